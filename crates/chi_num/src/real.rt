@@ -1,0 +1,33 @@
+ghost use Rattle.std.specs.Prelude.{◌≡◌};
+
+use std::marker::Model;
+
+/// A real of the language: a signed count of units of 10^-9, which contracts see as that count.
+#[derive(Clone, Copy, Debug, PartialEq, Eq, PartialOrd, Ord)]
+pub struct Real {
+    units: i64,
+}
+
+impl Model for Real {
+    ghost use Rattle.std.specs.Prelude.{ℤ};
+
+    ghost Value = { ℤ };
+
+    ghost view = { λ r. r.units };
+
+    ghost inverse = { λ z. record { units = z } };
+}
+
+impl Real {
+    pub fn from_units(units: i64) -> Real
+        ensures same { result ≡ units }
+    {
+        Real { units }
+    }
+
+    pub fn units(self) -> i64
+        ensures same { result ≡ self }
+    {
+        self.units
+    }
+}
