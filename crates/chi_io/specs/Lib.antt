@@ -1,0 +1,6 @@
+pub mod Counts
+pub mod MemShelfState
+pub mod MemSinkState
+pub mod Shelf
+pub mod Sink
+pub mod Streams

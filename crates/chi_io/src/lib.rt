@@ -1,2 +1,19 @@
 //! The outside world: a shelf of files that can be fetched, and sinks that bytes are put to.
 #![tactic(auto)]
+
+mod disk_shelf;
+mod mem_shelf;
+mod mem_sink;
+mod shelf;
+mod sink;
+mod std_sink;
+
+pub use disk_shelf::DiskShelf;
+pub use mem_shelf::MemShelf;
+pub use mem_sink::MemSink;
+pub use shelf::{Fetch, Shelf};
+pub use sink::{Put, Sink, SinkFailed, put_all};
+pub use std_sink::StdSink;
+
+#[cfg(test)]
+mod tests;

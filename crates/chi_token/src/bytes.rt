@@ -1,9 +1,8 @@
 ghost use Rattle.std.specs.Prelude.{◌≡◌, IfOk};
 
+use chi_base::NoMemory;
 use std::alloc::Global;
 use std::marker::Model;
-
-use chi_base::NoMemory;
 
 /// A text of the language: any bytes, which contracts see as their list.
 #[derive(Debug, Drop)]

@@ -1,0 +1,5 @@
+pub mod Lists
+pub mod Runs
+pub mod Settled
+pub mod Picks
+pub mod Time

@@ -1,0 +1,20 @@
+-- What stands between tokens: blanks and comments.
+use Rattle.std.specs.Prelude.{ℕ, ◌+◌, ◌==◌, ◌||◌, Bool, Option, Some, None, List, [], ◌∷◌, length, if◌then◌else◌}
+use Rattle.std.specs.List.{before_first}
+use Rattle.chi_token.specs.Characters.{tab, line_feed}
+use Rattle.chi_lex.specs.Places.{is_line_feed}
+
+-- a space, tab, carriage return or line feed
+abbrev pub is_blank : ℕ → Bool
+is_blank c = ((c == 32 || c == tab) || c == 13) || c == line_feed
+
+abbrev pub hash : ℕ
+hash = 35
+
+-- the length of the gap that the bytes begin with: a blank, or a comment, which goes on to before the next line feed or the end
+abbrev pub gap_of : List ℕ → Option ℕ
+gap_of [] = None
+gap_of (c ∷ cs) =
+    if is_blank c then Some 1
+    else if c == hash then Some (1 + length (before_first is_line_feed cs))
+    else None

@@ -1,0 +1,4 @@
+pub mod Faults
+pub mod Gaps
+pub mod Places
+pub mod Reading

@@ -1,0 +1,18 @@
+use chi_token::Place;
+use thiserror::Error;
+
+/// The first place of a source where no token can be read, or want of memory.
+#[derive(Clone, Copy, Debug, PartialEq, Eq, Error)]
+pub enum LexFault {
+    /// No token and no text has this byte where it stands.
+    #[error("bad byte")]
+    BadByte(Place),
+    /// The text that begins here ends neither on its line nor in the source.
+    #[error("open string")]
+    OpenString(Place),
+    /// The backslash here is followed by none of `n`, `t`, `"` and `\`.
+    #[error("bad escape")]
+    BadEscape(Place),
+    #[error("out of memory")]
+    NoMemory,
+}

@@ -1,0 +1,16 @@
+-- The canonical spelling of a token.
+use Rattle.std.specs.Prelude.{ℕ, List}
+use Rattle.chi_token.specs.declared.token.Token.{Token}
+use Rattle.chi_token.specs.declared.token.Token.TheVariants.{Word, Name, Int, Real, Text, Sign}
+use Rattle.chi_token.specs.Keywords.{word_of}
+use Rattle.chi_token.specs.Signs.{mark_of}
+use Rattle.chi_token.specs.Texts.{quoted}
+
+-- the bytes that spell a token: the word, name, digits or mark as it is, a text in quotes with its escapes
+abbrev pub spelled : Token → List ℕ
+spelled (Word keyword) = word_of keyword
+spelled (Name bytes) = bytes
+spelled (Int bytes) = bytes
+spelled (Real bytes) = bytes
+spelled (Text bytes) = quoted bytes
+spelled (Sign sign) = mark_of sign

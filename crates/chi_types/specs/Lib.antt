@@ -1,0 +1,5 @@
+pub mod Depth
+pub mod Fits
+pub mod Joined
+pub mod Plain
+pub mod Same
