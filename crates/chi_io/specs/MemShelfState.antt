@@ -34,14 +34,17 @@ abbrev pub AnswersExactly : Option (List ℕ) → ℕ → Type 0 → Fetch → T
 AnswersExactly file limit fails (Bytes bytes) =
     (¬ fails) × (file ≡ Some bytes.items) × (length bytes.items ≤ limit)
 AnswersExactly file limit fails NoSuch = (¬ fails) × (file ≡ None)
-AnswersExactly file limit fails TooLong = (¬ fails) × IsSomeAnd file (λ bytes. limit < length bytes)
+AnswersExactly file limit fails TooLong =
+    (¬ fails) × IsSomeAnd file (λ bytes. limit < length bytes)
 AnswersExactly file limit fails Failed = fails
-AnswersExactly file limit fails NoMemory = (¬ fails) × IsSomeAnd file (λ bytes. length bytes ≤ limit)
+AnswersExactly file limit fails NoMemory =
+    (¬ fails) × IsSomeAnd file (λ bytes. length bytes ≤ limit)
 
 -- the shelf after a call: one call more, and one failure more where it failed
 abbrev pub after_fetch : MemShelfState → Fetch → MemShelfState
 after_fetch shelf (Bytes bytes) = record shelf { calls = next_count shelf.calls }
 after_fetch shelf NoSuch = record shelf { calls = next_count shelf.calls }
 after_fetch shelf TooLong = record shelf { calls = next_count shelf.calls }
-after_fetch shelf Failed = record shelf { calls = next_count shelf.calls; faults = next_count shelf.faults }
+after_fetch shelf Failed =
+    record shelf { calls = next_count shelf.calls; faults = next_count shelf.faults }
 after_fetch shelf NoMemory = record shelf { calls = next_count shelf.calls }

@@ -1,4 +1,4 @@
--- What a sink in memory is: bounds on what it takes, what it has taken, and the puts that it has had.
+-- What a sink in memory is: bounds on what it takes, what it has taken, and its puts so far.
 use Rattle.std.specs.Prelude.{◌≡◌, ℕ, ◌+◌, ◌-◌, ◌≤◌, ◌⊎◌, min, List, ◌++◌, length, take, Contains}
 use Rattle.chi_io.specs.Counts.{next_count}
 use Rattle.chi_io.specs.declared.sink.Put.{Put}
@@ -32,4 +32,5 @@ PutsExactly bytes old new (Took n) =
     (¬ FailsNext old)
     × (n ≡ taken_of old (length bytes))
     × (new ≡ record old { bytes = old.bytes ++ take n bytes; puts = old.puts + 1 })
-PutsExactly bytes old new Failed = FailsNext old × (new ≡ record old { faults = next_count old.faults })
+PutsExactly bytes old new Failed =
+    FailsNext old × (new ≡ record old { faults = next_count old.faults })

@@ -19,7 +19,8 @@ Answers files name limit rose TooLong =
 Answers files name limit rose Failed = rose
 Answers files name limit rose NoMemory = Unit {0}
 
--- the count of a shelf that tells no files, after this answer: each refusal but for want of memory counts
+-- the count of a shelf that tells no files after this answer: each refusal counts but for want of
+-- memory
 abbrev pub count_after_fetch : ℕ → Fetch → ℕ
 count_after_fetch count (Bytes bytes) = count
 count_after_fetch count NoSuch = next_count count

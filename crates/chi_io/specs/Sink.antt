@@ -23,7 +23,8 @@ GrewByFront old new bytes = (front : List ℕ) × IsFrontOf front bytes × Grew 
 
 -- it grew by a front of these bytes, and not by all of them
 abbrev pub GrewByProperFront : Option (List ℕ) → Option (List ℕ) → List ℕ → Type 0
-GrewByProperFront old new bytes = (front : List ℕ) × IsProperFrontOf front bytes × Grew old new front
+GrewByProperFront old new bytes =
+    (front : List ℕ) × IsProperFrontOf front bytes × Grew old new front
 
 -- A put takes one byte or more and the sink goes on, or it takes nothing, the count rose, and the
 -- sink is stopped.
@@ -36,7 +37,7 @@ Puts bytes old new rose stopped Failed = rose × (new ≡ old) × (stopped ≡ t
 abbrev pub is_stopped : ℕ → Bool
 is_stopped faults = not (nat_eq faults 0)
 
--- the count after this put
+-- the count of a sink after this answer
 abbrev pub count_after_put : ℕ → Put → ℕ
 count_after_put count (Took n) = count
 count_after_put count Failed = next_count count

@@ -81,7 +81,8 @@ impl Shelf for MemShelf {
 
 /// What `name` has among `files`.
 fn look_up<'a>(files: &'a [(Vec<u8>, Vec<u8>)], name: &[u8]) -> Option<&'a Vec<u8>>
-    ensures { option_map (λ bytes. bytes.now.items) result ≡ contents (files_of files.now) name.now }
+    ensures { option_map (λ bytes. bytes.now.items) result
+        ≡ contents (files_of files.now) name.now }
 {
     for file in files {
         if file.0.as_slice() == name {

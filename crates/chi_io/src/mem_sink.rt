@@ -36,7 +36,8 @@ impl Model for MemSink {
     } };
 
     ghost invariant = { λ s.
-        (0 < s.most) × (vec_len s.bytes ≤ s.room) × (s.room ≤ vec_capacity s.bytes) × (s.puts ≤ vec_len s.bytes) };
+        (0 < s.most) × (s.puts ≤ vec_len s.bytes)
+        × (vec_len s.bytes ≤ s.room) × (s.room ≤ vec_capacity s.bytes) };
 }
 
 impl MemSink {

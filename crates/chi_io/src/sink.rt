@@ -1,4 +1,4 @@
-ghost use Rattle.std.specs.Prelude.{◌≡◌, ◌<◌, ◌≤◌, ℕ, Bool, true, false, List, [], length, Option, IsOk, OnOk, OnErr};
+ghost use Rattle.std.specs.Prelude.{◌≡◌, ◌<◌, ◌≤◌, ℕ, Bool, true, false, List, [], length, codes, Option, Some, IsOk, OnOk, OnErr};
 ghost use Rattle.chi_io.specs.Counts.{Rose};
 ghost use Rattle.chi_io.specs.Sink.{Grew, GrewByProperFront, Puts};
 
@@ -39,6 +39,8 @@ pub trait Sink {
 pub struct SinkFailed;
 
 impl fmt::Display for SinkFailed {
+    ghost output = { λ _. Some (codes "the sink failed") };
+
     fn fmt<W: fmt::Write>(&self, f: &mut fmt::Formatter<W>) -> fmt::Result {
         f.write_str("the sink failed")
     }
