@@ -30,11 +30,12 @@ MayPick-enabled pick turn config label e = by_actors (actors config) e
     by_advance : (o : Option Label) → o ≡ Some label → Contains (option_to_list o) label
     by_advance None e' = absurd (cc)
     by_advance (Some l) e' = (0, omega arith, cc)
+
     by_actors : (ps : List ℕ) → picked_among pick turn config ps ≡ Some label → Contains (enabled_of config ps) label
     by_actors [] e' = by_advance (advance_of (due_times config)) e'
     by_actors (p ∷ ps) e' =
         let r : (q : ℕ) × (picked_from pick (2 * turn) (p ∷ ps) ≡ Some q) × (picked_option pick turn config q ≡ Some label)
-              = picked_option-parts pick turn config label (picked_from pick (2 * turn) (p ∷ ps)) e' in
+        = picked_option-parts pick turn config label (picked_from pick (2 * turn) (p ∷ ps)) e' in
         Contains-flat_map (options config) (p ∷ ps) _ r.0 label r.1 (Contains-from_slice_get (options config r.0) _ label r.2)
 
 -- a label that a policy picks, and that has a step
@@ -54,9 +55,9 @@ picks_option core pick lawful turn config left h p ps some =
     let a = some_below (p ∷ ps) (pick (2 * turn) (length (p ∷ ps))) (lawful (2 * turn) (length (p ∷ ps)) (omega arith)) in
     let at : picked_from pick (2 * turn) (actors config) ≡ Some a.0 = ap (picked_from pick (2 * turn)) some ∙ a.1 in
     let has : nat_lt 0 (length (options config a.0)) ≡ true
-          = filter-passes (λ q. nat_lt 0 (length (options config q))) (numbers (length config.instances)) _ a.0 at in
+    = filter-passes (λ q. nat_lt 0 (length (options config q))) (numbers (length config.instances)) _ a.0 at in
     let o = some_below (options config a.0) (pick (2 * turn + 1) (length (options config a.0)))
-          (lawful (2 * turn + 1) (length (options config a.0)) (is_some_of _ has)) in
+    (lawful (2 * turn + 1) (length (options config a.0)) (is_some_of _ has)) in
     record {
       label = o.0;
       picked = ap (picked_among pick turn config) some ∙ ap (option_and_then (picked_option pick turn config)) a.1 ∙ o.1;
@@ -80,8 +81,8 @@ pub record PicksSome (core : Core) (pick : Pick) (turn : ℕ) (config : Config) 
 rests_there : (core : Core) (pick : Pick) (turn : ℕ) (config : Config) (left : ℕ) → enabled config ≡ [] → PicksSome core pick turn config left
 rests_there core pick turn config left none =
     let at_rest : IsAtRest config (end_at (rest_verdict config) config)
-          = let P : Option Verdict → Type 0 = λ o. IsSomeAnd o (λ v. end_at (rest_verdict config) config ≡ end_at v config) in
-            subst P (ap (λ ls. ending_of ls config) (sym none)) refl in
+    = let P : Option Verdict → Type 0 = λ o. IsSomeAnd o (λ v. end_at (rest_verdict config) config ≡ end_at v config) in
+    subst P (ap (λ ls. ending_of ls config) (sym none)) refl in
     record { labels = []; end = end_at (rest_verdict config) config; runs = Runs-rests (MayPick pick) core turn config left _ at_rest }
 
 -- the run from a configuration, where each shorter rest of the bound has one
@@ -108,11 +109,14 @@ picks_here core pick lawful turn config left settled below = by_actors (actors c
           end = after.end;
           runs = Runs-on (MayPick pick) core turn config left label new cost after.labels after.end m next after.runs;
         }
+
     by_one : PicksOne core pick turn config left → PicksSome core pick turn config left
     by_one o = by_step o.label o.picked o.has_step
+
     by_advance : actors config ≡ [] → (o : Option Label) → advance_of (due_times config) ≡ o → PicksSome core pick turn config left
     by_advance none None e = rests_there core pick turn config left (ap (enabled_of config) none ∙ ap option_to_list e)
     by_advance none (Some label) e = by_one (picks_advance core pick turn config left settled none label e)
+
     by_actors : (ps : List ℕ) → actors config ≡ ps → PicksSome core pick turn config left
     by_actors [] none = by_advance none (advance_of (due_times config)) refl
     by_actors (p ∷ ps) some = by_one (picks_option core pick lawful turn config left settled p ps some)
@@ -129,7 +133,7 @@ pub Picked-some : (core : Core) (pick : Pick) (bound : ℕ) → IsLawful pick
     → (labels : List Label) × (end : End) × Picked core pick bound labels end
 Picked-some core pick bound lawful =
     let r : PicksSome core pick 0 (start core) bound
-          = picks_some core pick lawful bound 0 (start core) bound (omega arith) (IsSettled-start core) in
+    = picks_some core pick lawful bound 0 (start core) bound (omega arith) (IsSettled-start core) in
     (r.labels, r.end, r.runs)
 
 pub Picked-derivation : (core : Core) (pick : Pick) (bound : ℕ) (labels : List Label) (end : End)
@@ -189,18 +193,18 @@ Runs-one core pick turn config left [] [] end end' (inr c) (inr c') = (refl, c.o
 Runs-one core pick turn config left [] (l' ∷ ls') end end' (inl r) s = absurd (rests_unpicked pick turn config end l' r s.0)
 Runs-one core pick turn config left [] (l' ∷ ls') end end' (inr c) s =
     absurd (spent_stops (λ new rest. Runs (MayPick pick) core (turn + 1) new rest ls' end') core config l' c.label left ls' end'
-         (same_label_picked pick turn config c.label l' c.may_come s.0) c.spent s.1)
+    (same_label_picked pick turn config c.label l' c.may_come s.0) c.spent s.1)
 Runs-one core pick turn config left (l ∷ ls) [] end end' s (inl r) = absurd (rests_unpicked pick turn config end' l r s.0)
 Runs-one core pick turn config left (l ∷ ls) [] end end' s (inr c) =
     absurd (spent_stops (λ new rest. Runs (MayPick pick) core (turn + 1) new rest ls end) core config l c.label left ls end
-         (same_label_picked pick turn config c.label l c.may_come s.0) c.spent s.1)
+    (same_label_picked pick turn config c.label l c.may_come s.0) c.spent s.1)
 Runs-one core pick turn config left (l ∷ ls) (l' ∷ ls') end end' s s' =
     let R : Config → ℕ → List Label → End → Type 0 = λ new rest. Runs (MayPick pick) core (turn + 1) new rest in
     let same : l ≡ l' = same_label_picked pick turn config l l' s.0 s'.0 in
     let P : Label → Type 0 = λ x. After (λ new rest. R new rest ls' end') (step core config x left) config left ls' end' in
     longer l l' ls ls' end end' same
-        (after_one R (step core config l left) config left ls ls' end end'
-            (λ new rest r r'. Runs-one core pick (turn + 1) new rest ls ls' end end' r r') s.1 (subst P (sym same) s'.1))
+    (after_one R (step core config l left) config left ls ls' end end'
+    (λ new rest r r'. Runs-one core pick (turn + 1) new rest ls ls' end end' r r') s.1 (subst P (sym same) s'.1))
 
 pub Picked-one : (core : Core) (pick : Pick) (bound : ℕ) (labels labels' : List Label) (end end' : End)
     → Picked core pick bound labels end → Picked core pick bound labels' end' → (labels ≡ labels') × (end ≡ end')

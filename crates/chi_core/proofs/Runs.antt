@@ -23,10 +23,11 @@ unfolding Runs
 Runs-map f core turn config left [] end (inl at_rest) = inl at_rest
 Runs-map f core turn config left [] end (inr cut) =
     inr (record { label = cut.label; may_come = f turn config cut.label cut.may_come; spent = cut.spent; out_of_steps = cut.out_of_steps })
-Runs-map f core turn config left (label ∷ labels) end r =
-    (f turn config label r.0,
-     After-map (step core config label left) config left labels end
-        (λ new rest h. Runs-map f core (turn + 1) new rest labels end h) r.1)
+Runs-map f core turn config left (label ∷ labels) end r = (
+  f turn config label r.0,
+  After-map (step core config label left) config left labels end
+      (λ new rest h. Runs-map f core (turn + 1) new rest labels end h) r.1,
+)
 
 -- the equations of a run, for use where it is opaque
 
@@ -45,9 +46,11 @@ pub Runs-on : (may : ℕ → Config → Label → Type 0) (core : Core) (turn : 
     → may turn config label → step core config label left ≡ Next new cost
     → Runs may core (turn + 1) new (left - cost) labels end → Runs may core turn config left (label ∷ labels) end
 unfolding Runs
-Runs-on may core turn config left label new cost labels end m e r =
-    (m, let P : Outcome → Type 0 = λ s. After (λ new' rest. Runs may core (turn + 1) new' rest labels end) s config left labels end in
-        subst P (sym e) r)
+Runs-on may core turn config left label new cost labels end m e r = (
+  m,
+  let P : Outcome → Type 0 = λ s. After (λ new' rest. Runs may core (turn + 1) new' rest labels end) s config left labels end in
+      subst P (sym e) r,
+)
 
 pub Runs-over : (may : ℕ → Config → Label → Type 0) (core : Core) (turn : ℕ) (config : Config) (left : ℕ) (label : Label)
     (verdict : Verdict) (output : List ℕ)
@@ -55,6 +58,8 @@ pub Runs-over : (may : ℕ → Config → Label → Type 0) (core : Core) (turn 
     → Runs may core turn config left (label ∷ []) (record { verdict = verdict; clock = config.clock; output = output })
 unfolding Runs
 Runs-over may core turn config left label verdict output m e =
-    let end : End = record { verdict = verdict; clock = config.clock; output = output } in
-    (m, let P : Outcome → Type 0 = λ s. After (λ new' rest. Runs may core (turn + 1) new' rest [] end) s config left [] end in
-        subst P (sym e) (refl, refl))
+    let end : End = record { verdict = verdict; clock = config.clock; output = output } in (
+      m,
+      let P : Outcome → Type 0 = λ s. After (λ new' rest. Runs may core (turn + 1) new' rest [] end) s config left [] end in
+          subst P (sym e) (refl, refl),
+    )

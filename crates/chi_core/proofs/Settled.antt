@@ -75,25 +75,26 @@ local-has_step core config p left i h at running = go i.term refl (h p i at)
         → (d : Done) → done config p (record i { term = rest }) (out-CStat s) ≡ d → DoesSettled d → HasStep core config (Local p) (suc left)
     by_done s rest e (Does new) is_done good =
         goes new 1
-            (ap (local core config p) at ∙ ap (first_done core config p i) e ∙ ap (after_local core config i (line_of (out-CStat s))) is_done)
-            (omega arith) (omega arith) good
+        (ap (local core config p) at ∙ ap (first_done core config p i) e ∙ ap (after_local core config i (line_of (out-CStat s))) is_done)
+        (omega arith) (omega arith) good
     by_done s rest e (Faults kind) is_done good =
         ends _ config.output
-            (ap (local core config p) at ∙ ap (first_done core config p i) e ∙ ap (after_local core config i (line_of (out-CStat s))) is_done)
+        (ap (local core config p) at ∙ ap (first_done core config p i) e ∙ ap (after_local core config i (line_of (out-CStat s))) is_done)
+
     go : (items : List Item) → i.term ≡ items → HasItem i.term i.state → HasStep core config (Local p) (suc left)
     go [] e has =
         absurd (subst (λ (s : State). HasItem [] s) running (subst (λ (t : List Item). HasItem t i.state) e has))
     go (Do s ∷ rest) e has =
         by_done s rest e (done config p (record i { term = rest }) (out-CStat s)) refl
-            (DoesSettled-done config p (record i { term = rest }) (out-CStat s) h)
+        (DoesSettled-done config p (record i { term = rest }) (out-CStat s) h)
 
 wake-has_step : (core : Core) (config : Config) (p a : ℕ) (left : ℕ) (i : Instance) (o : Offer) → IsSettled config
     → slice_get config.instances p ≡ Some i → slice_get (offers_in i.state) a ≡ Some o → HasStep core config (Wake p a) (suc left)
 wake-has_step core config p a left i (Delay due body) h at offered =
     goes (taken config p i body) 1
-        (ap (woken config p a) at ∙ ap (woken_by config p i) offered)
-        (omega arith) (omega arith)
-        (IsSettled-with_instance config p (record i { term = map Do body ++ i.term; state = Running }) h)
+    (ap (woken config p a) at ∙ ap (woken_by config p i) offered)
+    (omega arith) (omega arith)
+    (IsSettled-with_instance config p (record i { term = map Do body ++ i.term; state = Running }) h)
 
 -- an option of instance p is its own step, or the end of a delay that it offers
 pub data IsOption (config : Config) (p : ℕ) (label : Label) : Type 0 where
@@ -116,14 +117,16 @@ IsOption-from config p k label e = by_instance (slice_get config.instances p) re
         by_time : (b : Bool) → slice_get (cond b [] (Wake p a ∷ [])) j ≡ Some label → IsOption config p label
         by_time true g = absurd (cc)
         by_time false g = wakes i a (Delay due body) at offered (single (Wake p a) label j g)
+
     by_state : (i : Instance) → slice_get config.instances p ≡ Some i → (s : State) → i.state ≡ s
         → slice_get (options_in config p s) k ≡ Some label → IsOption config p label
     by_state i at Running is e' = own i at is (single (Local p) label k e')
     by_state i at (Waiting offers) is e' =
         let r : Joined (λ a. options_for config p a (slice_get offers a)) (numbers (length offers)) label
-              = slice_get-flat_map (λ a. options_for config p a (slice_get offers a)) (numbers (length offers)) k label e' in
+        = slice_get-flat_map (λ a. options_for config p a (slice_get offers a)) (numbers (length offers)) k label e' in
         by_offer i at r.from (slice_get offers r.from) (ap (λ s. slice_get (offers_in s) r.from) is) r.inner r.has
     by_state i at Finished is e' = absurd (cc)
+
     by_instance : (o : Option Instance) → slice_get config.instances p ≡ o → slice_get (options_of config p o) k ≡ Some label → IsOption config p label
     by_instance None at e' = absurd (cc)
     by_instance (Some i) at e' = by_state i at i.state refl e'

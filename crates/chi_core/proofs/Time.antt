@@ -58,20 +58,23 @@ not_due config none p i at a due body offered = by_state i.state refl
     has_none : options config p ≡ []
     has_none = none_of (options config p)
         (filter-none (λ q. nat_lt 0 (length (options config q))) (numbers (length config.instances)) p p none
-            (slice_get-numbers (length config.instances) p (slice_get_within config.instances p i at)))
+        (slice_get-numbers (length config.instances) p (slice_get_within config.instances p i at)))
+
     in_state : (s : State) → i.state ≡ s → options_in config p s ≡ []
     in_state s is = sym (ap (options_of config p) at ∙ ap (options_in config p) is) ∙ has_none
+
     by_time : (b : Bool) → cond b [] (Wake p a ∷ []) ≡ [] → b ≡ true
     by_time true e = refl
     by_time false e = absurd (cc)
+
     by_state : (s : State) → i.state ≡ s → int_lt config.clock due ≡ true
     by_state Running is = absurd (let h : Local p ∷ [] ≡ [] = in_state Running is in cc)
     by_state Finished is = absurd (let h : slice_get [] a ≡ Some (Delay due body) = ap (λ s. slice_get (offers_in s) a) (sym is) ∙ offered in cc)
     by_state (Waiting offers) is =
         let at_a : slice_get offers a ≡ Some (Delay due body) = ap (λ s. slice_get (offers_in s) a) (sym is) ∙ offered in
         let piece : options_for config p a (slice_get offers a) ≡ []
-              = flat_map-none (λ b. options_for config p b (slice_get offers b)) (numbers (length offers)) a a (in_state (Waiting offers) is)
-                  (slice_get-numbers (length offers) a (slice_get_within offers a _ at_a)) in
+        = flat_map-none (λ b. options_for config p b (slice_get offers b)) (numbers (length offers)) a a (in_state (Waiting offers) is)
+        (slice_get-numbers (length offers) a (slice_get_within offers a _ at_a)) in
         by_time (int_lt config.clock due) (ap (options_for config p a) (sym at_a) ∙ piece)
 
 pub not_after : (a b : ℤ) → int_lt a b ≡ true → a ≤ℤ b
@@ -88,6 +91,7 @@ due_later config none k t e = at_instance (slice_get-flat_map (λ i. flat_map du
         let P : ℤ → Type 0 = λ u. config.clock ≤ℤ u in
         subst P same (not_after config.clock due (not_due config none p i at a due body offered))
     at_offer i p at a (Delay due body) offered (suc j) e' = absurd (cc)
+
     at_instance : Joined (λ i. flat_map due_of (offers_in i.state)) config.instances t → config.clock ≤ℤ t
     at_instance r =
         let q : Joined due_of (offers_in r.from.state) t = slice_get-flat_map due_of (offers_in r.from.state) r.inner t r.has in
@@ -134,11 +138,12 @@ local-later core config p left (Some i) = by_term i.term
     by_done : (line : ℕ) (d : Done) → Keeps config d → GoesLater config (suc left) (after_local core config i line d)
     by_done line (Does new) k = (same_later config.clock new.clock k, omega arith, omega arith)
     by_done line (Faults kind) k = tt
+
     by_term : (items : List Item) → GoesLater config (suc left) (first_done core config p i items)
     by_term [] = tt
     by_term (Do s ∷ rest) =
         by_done (line_of (out-CStat s)) (done config p (record i { term = rest }) (out-CStat s))
-            (Keeps-done config p (record i { term = rest }) (out-CStat s))
+        (Keeps-done config p (record i { term = rest }) (out-CStat s))
 
 woken-later : (config : Config) (p a left : ℕ) (o : Option Instance) → GoesLater config (suc left) (woken config p a o)
 woken-later config p a left None = tt
@@ -203,11 +208,11 @@ never_falls core turn config left [] end (inl at_rest) =
 never_falls core turn config left [] end (inr cut) = same_later config.clock end.clock (ap (λ e. e.clock) cut.out_of_steps)
 never_falls core turn config left (label ∷ labels) end r =
     after_then (step core config label left) config left labels end (step-later core turn config label left r.0)
-        (λ new rest h. never_falls core (turn + 1) new rest labels end h) r.1
+    (λ new rest h. never_falls core (turn + 1) new rest labels end h) r.1
 
 pub costs_something : (core : Core) (config new : Config) (label : Label) (left cost : ℕ) → Contains (enabled config) label
     → step core config label left ≡ Next new cost → (0 < cost) × (cost ≤ left)
 costs_something core config new label left cost may e =
     let later : GoesLater config left (Next new cost)
-          = let P : Outcome → Type 0 = GoesLater config left in subst P e (step-later core 0 config label left may) in
+    = let P : Outcome → Type 0 = GoesLater config left in subst P e (step-later core 0 config label left may) in
     (later.1, later.2)

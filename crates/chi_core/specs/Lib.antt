@@ -5,3 +5,4 @@ pub mod Step
 pub mod Options
 pub mod Runs
 pub mod Picks
+pub mod VerdictLine

@@ -1,10 +1,11 @@
 -- Opening a select: what its alternatives offer, in order, or the first fault.
-use Rattle.std.specs.Prelude.{ℕ, ◌-◌, ◌^◌, ℤ, pos, ◌+ℤ◌, int_lt, List, [], ◌∷◌, if◌then◌else◌}
-
+use Rattle.std.specs.Prelude.{ℕ, ◌-◌, ◌^◌, ℤ, pos, negsuc, ◌+ℤ◌, ◌*ℤ◌, int_lt, Bool, not, ◌&&◌, Option, Some, None, List, [], ◌∷◌, if◌then◌else◌}
 use Rattle.chi_core.specs.declared.program.CStat.{CStat}
 use Rattle.chi_core.specs.declared.program.CAlt.{CAlt, CAlt-F, out-CAlt}
 use Rattle.chi_core.specs.declared.program.CComm.{CComm}
 use Rattle.chi_core.specs.declared.program.CComm.TheVariants as comm
+use Rattle.chi_core.specs.declared.program.CExpr.{CExpr}
+use Rattle.chi_core.specs.declared.program.CExpr.TheVariants as expression
 use Rattle.chi_core.specs.declared.fault.FaultKind.{FaultKind}
 use Rattle.chi_core.specs.declared.fault.FaultKind.TheVariants.{NegativeDelay, RealRange}
 use Rattle.chi_core.specs.Config.{Offer, Delay}
@@ -17,19 +18,25 @@ pub data Opened : Type 0 where
   Kept : List Offer → Opened
   Faulty : FaultKind → Opened
 
--- the greatest count of units of a real
-abbrev pub greatest : ℤ
-greatest = pos (2 ^ 63 - 1)
+-- the count of units is that of a real
+abbrev pub is_real : ℤ → Bool
+is_real units = not (int_lt units (negsuc (2 ^ 63 - 1))) && not (int_lt (pos (2 ^ 63 - 1)) units)
 
--- a delay is due so much after the clock. It isn't below 0, and its due time is a real.
-abbrev pub delayed : ℤ → ℤ → List CStat → Offered
-delayed clock delay body =
+-- the value of an expression, or none where it is out of range
+abbrev pub value_of : CExpr → Option ℤ
+value_of (expression.Lit real) = Some real
+value_of (expression.Widen int) = if is_real (int *ℤ pos 1_000_000_000) then Some (int *ℤ pos 1_000_000_000) else None
+
+-- a delay is due so much after the clock: it isn't below 0, and its due time is a real
+abbrev pub delayed : ℤ → Option ℤ → List CStat → Offered
+delayed clock None body = Refused RealRange
+delayed clock (Some delay) body =
     if int_lt delay (pos 0) then Refused NegativeDelay
-    else if int_lt greatest (clock +ℤ delay) then Refused RealRange
-    else Offers (Delay (clock +ℤ delay) body)
+    else if is_real (clock +ℤ delay) then Offers (Delay (clock +ℤ delay) body)
+    else Refused RealRange
 
 abbrev pub offered_by : ℤ → CComm → List CStat → Offered
-offered_by clock (comm.Delay delay) body = delayed clock delay body
+offered_by clock (comm.Delay delay) body = delayed clock (value_of delay) body
 
 abbrev pub offered_as : ℤ → CAlt-F CAlt CStat → Offered
 offered_as clock (CAlt-F.Guarded communication body) = offered_by clock communication body

@@ -2,7 +2,6 @@
 use Rattle.std.specs.Prelude.{ℕ, zero, suc, ℤ, List, [], ◌∷◌, ◌++◌, Option, Some, None, Bool, true, false, length, nat_lt, int_lt, filter, slice_get, if◌then◌else◌}
 use Rattle.std.specs.List.{flat_map, list_all}
 use Rattle.std.specs.Option.{option_to_list}
-
 use Rattle.chi_core.specs.declared.label.Label.{Label}
 use Rattle.chi_core.specs.declared.label.Label.TheVariants.{Local, Wake, Advance}
 use Rattle.chi_core.specs.declared.verdict.Verdict.{Verdict}

@@ -5,6 +5,7 @@
 mod fault;
 mod label;
 mod laws;
+mod line;
 mod program;
 mod verdict;
 
@@ -12,5 +13,6 @@ pub use chi_token::Bytes;
 pub use fault::FaultKind;
 pub use label::Label;
 pub use laws::{picked_law, time_law};
-pub use program::{CAlt, CComm, CStat, Core, ProcDef};
+pub use line::verdict_line;
+pub use program::{CAlt, CComm, CExpr, CStat, Core, ProcDef};
 pub use verdict::Verdict;

@@ -40,5 +40,13 @@ pub enum CAlt {
 #[derive(Debug, Drop)]
 pub enum CComm {
     /// To go on once so much time has passed.
-    Delay(Real),
+    Delay(CExpr),
+}
+
+/// An expression.
+#[derive(Clone, Copy, Debug, PartialEq, Eq)]
+pub enum CExpr {
+    Lit(Real),
+    /// An int, converted to a real.
+    Widen(i64),
 }

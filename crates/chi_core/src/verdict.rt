@@ -1,6 +1,5 @@
-use chi_token::Bytes;
-
 use crate::FaultKind;
+use chi_token::Bytes;
 
 /// How a run ends.
 #[derive(Debug, Drop)]

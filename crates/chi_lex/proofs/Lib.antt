@@ -1,0 +1,13 @@
+pub mod CharacterLemmas
+pub mod FaultLemmas
+pub mod NumberLemmas
+pub mod Prefixes
+pub mod Runs
+pub mod SignLemmas
+pub mod Sizes
+pub mod SpanLemmas
+pub mod TextLemmas
+pub mod TextLoop
+pub mod TextScan
+pub mod Turns
+pub mod WordLemmas

@@ -8,7 +8,7 @@ use Rattle.chi_lex.specs.declared.fault.LexFault.{LexFault}
 use Rattle.chi_lex.specs.declared.fault.LexFault.TheVariants.{BadByte, OpenString, BadEscape, NoMemory}
 use Rattle.chi_lex.specs.Places.{place_of}
 use Rattle.chi_lex.specs.Gaps.{gap_of}
-use Rattle.chi_lex.specs.Faults.{fault_at}
+use Rattle.chi_lex.specs.Faults.{stop_of, fault_of}
 
 -- a token of a source, from one offset to before another
 abbrev pub spanned : List ℕ → Token → ℕ → ℕ → Spanned
@@ -22,7 +22,7 @@ before token (Err fault) = Err fault
 -- What an offset begins with, and then the reading from there on. `read` is the reading from a later offset on.
 abbrev pub from_token : List ℕ → ℕ → (ℕ → Result (List Spanned) LexFault) → Option (Token × ℕ) → Result (List Spanned) LexFault
 from_token source offset read (Some found) = before (spanned source found.0 offset (offset + found.1)) (read (offset + found.1))
-from_token source offset read None = Err (fault_at source offset (drop offset source))
+from_token source offset read None = Err (fault_of source offset (stop_of (drop offset source)))
 
 abbrev pub from_gap : List ℕ → ℕ → (ℕ → Result (List Spanned) LexFault) → List ℕ → Option ℕ → Result (List Spanned) LexFault
 from_gap source offset read rest (Some gap) = read (offset + gap)

@@ -1,4 +1,9 @@
+ghost use Rattle.chi_lex.specs.declared.fault.LexFault.TheVariants as fault;
+ghost use Rattle.std.specs.Prelude.{◌≡◌};
+
+use chi_base::NoMemory;
 use chi_token::Place;
+use std::alloc::AllocFailed;
 use thiserror::Error;
 
 /// The first place of a source where no token can be read, or want of memory.
@@ -15,4 +20,20 @@ pub enum LexFault {
     BadEscape(Place),
     #[error("out of memory")]
     NoMemory,
+}
+
+impl From<NoMemory> for LexFault {
+    ghost from_gives = { λ _ e. e ≡ fault.NoMemory };
+
+    fn from(_refused: NoMemory) -> LexFault {
+        LexFault::NoMemory
+    }
+}
+
+impl<T: Drop> From<AllocFailed<T>> for LexFault {
+    ghost from_gives = { λ _ e. e ≡ fault.NoMemory };
+
+    fn from(_refused: AllocFailed<T>) -> LexFault {
+        LexFault::NoMemory
+    }
 }

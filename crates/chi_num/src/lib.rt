@@ -2,7 +2,30 @@
 #![tactic(auto)]
 
 mod dist;
+mod division;
+mod fault;
+mod fraction;
+mod ints;
+mod laws;
+mod power;
+mod product;
+mod quotient;
+mod range;
 mod real;
+mod reals;
+mod rounding;
 
 pub use dist::Dist;
+pub use division::{int_div, int_mod};
+pub use fault::NumFault;
+pub use ints::{int_abs, int_add, int_mul, int_neg, int_sub};
+pub use laws::{real_laws, remainder_laws, rounding_laws};
+pub use power::int_pow;
+pub use product::real_mul;
+pub use quotient::real_div;
 pub use real::Real;
+pub use reals::{real_abs, real_add, real_neg, real_of, real_sub};
+pub use rounding::{ceil, floor, round};
+
+#[cfg(test)]
+mod tests;

@@ -2,6 +2,9 @@ ghost use Rattle.std.specs.Prelude.{◌≡◌};
 
 use std::marker::Model;
 
+/// How many units of a real make 1.
+pub const UNITS_PER_ONE: i64 = 1_000_000_000;
+
 /// A real of the language: a signed count of units of 10^-9, which contracts see as that count.
 #[derive(Clone, Copy, Debug, PartialEq, Eq, PartialOrd, Ord)]
 pub struct Real {

@@ -1,6 +1,6 @@
 -- Which bytes spell which token.
-use Rattle.std.specs.Prelude.{ℕ, ◌≡◌, ◌==◌, ◌&&◌, nat_lt, Bool, Option, Some, None, List, [], ◌∷◌, length, option_map, if◌then◌else◌}
-use Rattle.std.specs.List.{list_all, before_first, after_first}
+use Rattle.std.specs.Prelude.{ℕ, ◌≡◌, ◌==◌, ◌&&◌, nat_lt, Bool, false, Option, Some, None, List, [], ◌∷◌, length, drop, option_map, if◌then◌else◌}
+use Rattle.std.specs.List.{list_all, prefix_len}
 use Rattle.chi_token.specs.declared.keyword.Keyword.{Keyword}
 use Rattle.chi_token.specs.declared.token.Token.{Token}
 use Rattle.chi_token.specs.declared.token.Token.TheVariants.{Word, Name, Int, Real, Text, Sign}
@@ -18,9 +18,14 @@ word_or_name None bytes = Name bytes
 abbrev pub is_digits : List ℕ → Bool
 is_digits bytes = nat_lt 0 (length bytes) && list_all is_digit bytes
 
+-- a point and digits
+abbrev pub is_fraction : List ℕ → Bool
+is_fraction [] = false
+is_fraction (c ∷ cs) = is_point c && is_digits cs
+
 -- digits, a point, digits
 abbrev pub is_real : List ℕ → Bool
-is_real bytes = is_digits (before_first is_point bytes) && is_digits (after_first is_point bytes)
+is_real bytes = nat_lt 0 (prefix_len is_digit bytes) && is_fraction (drop (prefix_len is_digit bytes) bytes)
 
 -- the number that the bytes spell
 abbrev pub number_of : List ℕ → Option Token

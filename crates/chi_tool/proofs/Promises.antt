@@ -1,0 +1,181 @@
+-- What follows of a call from how it was served.
+use Rattle.std.proofs.Common.{◌≡◌, ℕ, ◌<◌, ◌≤◌, Bool, true, false, List, [], ◌∷◌, Option, Some, None, length, ◌⊎◌, inl, inr, sym, ◌∙◌, ap, subst, refl, arith}
+use Rattle.std.specs.Prelude.{Result, Ok, Err, IfSome, IsSomeAnd}
+use Rattle.chi_io.specs.Counts.{Rose, Stood}
+use Rattle.chi_io.specs.Shelf.{Files}
+use Rattle.chi_token.specs.declared.place.Spanned.{Spanned}
+use Rattle.chi_lex.specs.declared.fault.LexFault.{LexFault}
+use Rattle.chi_lex.specs.declared.fault.LexFault.TheVariants as fault
+use Rattle.chi_lex.specs.declared.lexer.TheConstants.{MOST_BYTES}
+use Rattle.chi_lex.specs.Reading.{reading}
+use Rattle.chi_core.specs.declared.program.Core.{Core}
+use Rattle.chi_core.specs.declared.verdict.Verdict.{Verdict}
+use Rattle.chi_core.specs.declared.verdict.Verdict.TheVariants as verdict
+use Rattle.chi_core.specs.Runs.{End}
+use Rattle.chi_tool.specs.Words.{Request, Sim, request_of}
+use Rattle.chi_tool.specs.Form.{program_of}
+use Rattle.chi_tool.specs.Report.{Report, usage, no_such_file, file_too_long, refused, lexical_text, not_built, run_report, status_of, IsReportOfSource, IsReportOfReading, IsReportOfProgram, IsReportOfFile, IsReportOfRequest, IsReport}
+use Rattle.chi_tool.specs.Call.{Call, SinkUse, ShelfUse, Took, TookFront, TookSome, SinkRose, SinkStood, ShelfRose, ShelfStood}
+use Rattle.chi_tool.specs.Headline.{NothingFailed, IsReported, IsReportedOrLost, IsReportedInFront, IsRefusedByFault, Meets, Headline, IsAskedSource, IsAskedProgram, EndsWith, EndsAs, IsFault, HasLexicalFault, IsNotBuilt, IsUnfit, CannotBeRead, IsExactly, IsExactlyOf, Causes, IsComplete}
+use Rattle.chi_tool.specs.Delivery.{TookWhole, BrokeOff, Delivers, whole, out_broke, log_broke, DeliversReport, Serves, reported, missing, long, failed, lost}
+use Rattle.chi_tool.proofs.Sinks.{whole_front, none_front, broken_front, none_some, none_whole}
+use Rattle.chi_tool.proofs.Reports.{report_some, report_one}
+
+-- how a call may stand to the report of its words and files
+data Stands (r : Report) (call : Call) : Type 0 where
+  delivered : DeliversReport r call.status call.out call.log → Stands r call
+  misread : ShelfRose call.shelf → (refusal : Report) → (refusal ≡ no_such_file) ⊎ (refusal ≡ file_too_long)
+      → Delivers 4 [] refusal.log call.status call.out call.log → Stands r call
+  silent : ShelfRose call.shelf → call.status ≡ 4 → TookWhole call.out [] → TookWhole call.log [] → Stands r call
+  wanting : call.status ≡ 6 → TookWhole call.out [] → TookWhole call.log [] → Stands r call
+
+stood_rose : (before after : ℕ) → Rose before after → Stood before after → ⊥
+stood_rose before after rose stood = omega arith
+
+-- the delivery of a report, where no sink fails
+delivered_whole : (r : Report) (call : Call) → SinkStood call.out → SinkStood call.log → DeliversReport r call.status call.out call.log → IsReported r call
+delivered_whole r call out_stood log_stood (whole status out log) = record { status = status; out = out.took; log = log.took }
+delivered_whole r call out_stood log_stood (out_broke status out log) = absurd (stood_rose _ _ out.rose out_stood)
+delivered_whole r call out_stood log_stood (log_broke status out log) = absurd (stood_rose _ _ log.rose log_stood)
+
+meets-whole : (r : Report) (call : Call) → Stands r call → NothingFailed call → IsReportedOrLost r call
+meets-whole r call (delivered d) none = inr (delivered_whole r call none.out none.log d)
+meets-whole r call (misread rose refusal is d) none = absurd (stood_rose _ _ rose none.shelf)
+meets-whole r call (silent rose status out log) none = absurd (stood_rose _ _ rose none.shelf)
+meets-whole r call (wanting status out log) none = inl status
+
+meets-status : (r : Report) (call : Call) → Stands r call
+    → IsReported r call ⊎ ((call.status ≡ 4) ⊎ ((call.status ≡ 5) ⊎ (call.status ≡ 6)))
+meets-status r call (delivered (whole status out log)) = inl (record { status = status; out = out.took; log = log.took })
+meets-status r call (delivered (out_broke status out log)) = inr (inr (inl status))
+meets-status r call (delivered (log_broke status out log)) = inr (inr (inl status))
+meets-status r call (misread rose refusal is (whole status out log)) = inr (inl status)
+meets-status r call (misread rose refusal is (out_broke status out log)) = inr (inr (inl status))
+meets-status r call (misread rose refusal is (log_broke status out log)) = inr (inr (inl status))
+meets-status r call (silent rose status out log) = inr (inl status)
+meets-status r call (wanting status out log) = inr (inr (inr status))
+
+refusal_front : (call : Call) (refusal : Report) → (refusal ≡ no_such_file) ⊎ (refusal ≡ file_too_long) → TookFront call.log refusal.log
+    → TookFront call.log no_such_file.log ⊎ TookFront call.log file_too_long.log
+refusal_front call refusal (inl is) front = inl (let P : Report → Type 0 = λ x. TookFront call.log x.log in subst P is front)
+refusal_front call refusal (inr is) front = inr (let P : Report → Type 0 = λ x. TookFront call.log x.log in subst P is front)
+
+misread_fault : (call : Call) → ShelfRose call.shelf → (refusal : Report) → (refusal ≡ no_such_file) ⊎ (refusal ≡ file_too_long)
+    → Delivers 4 [] refusal.log call.status call.out call.log → IsRefusedByFault call
+misread_fault call rose refusal is (whole status out log) =
+    record { rose = rose; out = out.took; log = refusal_front call refusal is (whole_front call.log refusal.log log.took) }
+misread_fault call rose refusal is (out_broke status out log) = absurd (none_whole call.out out)
+misread_fault call rose refusal is (log_broke status out log) =
+    record { rose = rose; out = out.took; log = refusal_front call refusal is (broken_front call.log refusal.log log) }
+
+meets-fronts : (r : Report) (call : Call) → Stands r call → IsReportedInFront r call ⊎ IsRefusedByFault call
+meets-fronts r call (delivered (whole status out log)) =
+    inl (record { out = whole_front call.out r.out out.took; log = whole_front call.log r.log log.took })
+meets-fronts r call (delivered (out_broke status out log)) =
+    inl (record { out = broken_front call.out r.out out; log = none_front call.log r.log log.took })
+meets-fronts r call (delivered (log_broke status out log)) =
+    inl (record { out = whole_front call.out r.out out.took; log = broken_front call.log r.log log })
+meets-fronts r call (misread rose refusal is d) = inr (misread_fault call rose refusal is d)
+meets-fronts r call (silent rose status out log) =
+    inl (record { out = none_front call.out r.out out.took; log = none_front call.log r.log log.took })
+meets-fronts r call (wanting status out log) =
+    inl (record { out = none_front call.out r.out out.took; log = none_front call.log r.log log.took })
+
+meets-out_first : (r : Report) (call : Call) → Stands r call → TookSome call.log → Took call.out r.out ⊎ IsRefusedByFault call
+meets-out_first r call (delivered (whole status out log)) some = inl out.took
+meets-out_first r call (delivered (out_broke status out log)) some = absurd (none_some call.log log.took some)
+meets-out_first r call (delivered (log_broke status out log)) some = inl out.took
+meets-out_first r call (misread rose refusal is d) some = inr (misread_fault call rose refusal is d)
+meets-out_first r call (silent rose status out log) some = absurd (none_some call.log log.took some)
+meets-out_first r call (wanting status out log) some = absurd (none_some call.log log.took some)
+
+meets : (r : Report) (call : Call) → Stands r call → Meets r call
+meets r call s = record {
+  whole = meets-whole r call s;
+  status = meets-status r call s;
+  fronts = meets-fronts r call s;
+  out_first = meets-out_first r call s;
+}
+
+-- what a call met: a report of the words and files, where the shelf tells them
+abbrev pub MeetsOne : Call → Files → Type 0
+MeetsOne call files = (r : Report) × IsReport call.words files r × Meets r call
+
+by_report : (call : Call) (files : Files) (r : Report) → IsReport call.words files r → Stands r call → MeetsOne call files
+by_report call files r is s = (r, is, meets r call s)
+
+-- whatever the report is
+by_any : (call : Call) (files : Files) → ((r : Report) → Stands r call) → MeetsOne call files
+by_any call files s = let p = report_some call.words files in by_report call files p.0 p.1 (s p.0)
+
+pub is_report : (call : Call) (name : List ℕ) (files : Files) (o : Option (List ℕ)) (r : Report) → request_of call.words ≡ Some (Sim name)
+    → files name ≡ o → IsReportOfFile o r → IsReport call.words files r
+is_report call name files o r asked there is =
+    let at_request : Option Request → Type 0 = λ q. IsReportOfRequest q files r in
+    let at_file : Option (List ℕ) → Type 0 = λ x. IsReportOfFile x r in
+    subst at_request (sym asked) (subst at_file (sym there) is)
+
+pub served_told : (call : Call) (name : List ℕ) (files : Files) → request_of call.words ≡ Some (Sim name) → call.shelf.files ≡ Some files
+    → Serves name call.shelf call.status call.out call.log → MeetsOne call files
+served_told call name files asked told (reported source within is r report d) =
+    let P : Option Files → Type 0 = λ o. IfSome o (λ f. f name ≡ Some source) in
+    by_report call files r (is_report call name files (Some source) r asked (subst P told is) (inr (within, report))) (delivered d)
+served_told call name files asked told (missing (inr rose) d) = by_any call files (λ r. misread rose no_such_file (inl refl) d)
+served_told call name files asked told (missing (inl lacks) d) =
+    let P : Option Files → Type 0 = λ o. IsSomeAnd o (λ f. f name ≡ None) in
+    by_report call files no_such_file (is_report call name files None no_such_file asked (subst P told lacks) refl) (delivered d)
+served_told call name files asked told (long (inr rose) d) = by_any call files (λ r. misread rose file_too_long (inr refl) d)
+served_told call name files asked told (long (inl exceeds) d) =
+    let P : Option Files → Type 0 = λ o. IsSomeAnd o (λ f. IsSomeAnd (f name) (λ source. MOST_BYTES < length source)) in
+    by_file (files name) refl (subst P told exceeds)
+  where
+    by_file : (o : Option (List ℕ)) → files name ≡ o → IsSomeAnd o (λ source. MOST_BYTES < length source) → MeetsOne call files
+    by_file None there e = absurd e
+    by_file (Some source) there e =
+        by_report call files file_too_long (is_report call name files (Some source) file_too_long asked there (inl (e, refl))) (delivered d)
+served_told call name files asked told (failed rose status out log) = by_any call files (λ r. silent rose status out log)
+served_told call name files asked told (lost status out log) = by_any call files (λ r. wanting status out log)
+
+-- what holds where the shelf tells its files
+pub where_told : {P : Files → Type 0} (o : Option Files) → ((files : Files) → o ≡ Some files → P files) → IfSome o P
+where_told None p = tt
+where_told (Some files) p = p files refl
+
+pub goes_stopped : (sink : SinkUse) → sink.stopped ≡ false → sink.stopped ≡ true → ⊥
+goes_stopped sink goes stopped = cc
+
+delivered_stopped : (status result : ℕ) (output lines : List ℕ) (out log : SinkUse) → Delivers status output lines result out log
+    → out.stopped ≡ true → Took log []
+delivered_stopped status result output lines out log (whole s o l) stopped = absurd (goes_stopped out o.goes stopped)
+delivered_stopped status result output lines out log (out_broke s o l) stopped = l.took
+delivered_stopped status result output lines out log (log_broke s o l) stopped = absurd (goes_stopped out o.goes stopped)
+
+served_stopped : (call : Call) (name : List ℕ) → Serves name call.shelf call.status call.out call.log → call.out.stopped ≡ true → Took call.log []
+served_stopped call name (reported source within is r report d) stopped = delivered_stopped _ _ _ _ call.out call.log d stopped
+served_stopped call name (missing cause d) stopped = delivered_stopped _ _ _ _ call.out call.log d stopped
+served_stopped call name (long cause d) stopped = delivered_stopped _ _ _ _ call.out call.log d stopped
+served_stopped call name (failed rose status out log) stopped = log.took
+served_stopped call name (lost status out log) stopped = log.took
+
+pub not_none : (o : Option Request) (request : Request) → o ≡ Some request → o ≡ None → ⊥
+not_none o request some none = cc
+
+pub served-headline : (call : Call) (name : List ℕ) → request_of call.words ≡ Some (Sim name)
+    → Serves name call.shelf call.status call.out call.log → Headline call
+served-headline call name asked s = record {
+  report = where_told call.shelf.files (λ files told. served_told call name files asked told s);
+  no_request = λ none out log. absurd (not_none (request_of call.words) (Sim name) asked none);
+  out_stopped = served_stopped call name s;
+}
+
+pub usage_told : (call : Call) (files : Files) → request_of call.words ≡ None → DeliversReport usage call.status call.out call.log → MeetsOne call files
+usage_told call files none d =
+    let at_request : Option Request → Type 0 = λ q. IsReportOfRequest q files usage in
+    by_report call files usage (subst at_request (sym none) refl) (delivered d)
+
+pub usage-headline : (call : Call) → request_of call.words ≡ None → DeliversReport usage call.status call.out call.log → Headline call
+usage-headline call none d = record {
+  report = where_told call.shelf.files (λ files told. usage_told call files none d);
+  no_request = λ same out log. inr (delivered_whole usage call out log d);
+  out_stopped = delivered_stopped _ _ _ _ call.out call.log d;
+}

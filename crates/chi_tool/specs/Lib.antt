@@ -1,0 +1,6 @@
+pub mod Words
+pub mod Form
+pub mod Report
+pub mod Call
+pub mod Headline
+pub mod Delivery

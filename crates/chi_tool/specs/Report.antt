@@ -1,0 +1,101 @@
+-- The report of words and files: the status, and every byte that is written.
+use Rattle.std.specs.Prelude.{◌≡◌, ℕ, ◌<◌, ◌≤◌, ◌⊎◌, List, [], ◌∷◌, ◌++◌, length, codes, Option, Some, None, Result, Ok, Err}
+use Rattle.std.specs.Fmt.{decimal}
+use Rattle.chi_io.specs.Shelf.{Files}
+use Rattle.chi_token.specs.declared.place.Place.{Place}
+use Rattle.chi_token.specs.declared.place.Spanned.{Spanned}
+use Rattle.chi_lex.specs.declared.fault.LexFault.{LexFault}
+use Rattle.chi_lex.specs.declared.fault.LexFault.TheVariants as fault
+use Rattle.chi_lex.specs.declared.lexer.TheConstants.{MOST_BYTES}
+use Rattle.chi_lex.specs.Reading.{reading}
+use Rattle.chi_core.specs.declared.program.Core.{Core}
+use Rattle.chi_core.specs.declared.label.Label.{Label}
+use Rattle.chi_core.specs.declared.verdict.Verdict.{Verdict}
+use Rattle.chi_core.specs.declared.verdict.Verdict.TheVariants as verdict
+use Rattle.chi_core.specs.VerdictLine.{verdict_line_of}
+use Rattle.chi_core.specs.Runs.{End}
+use Rattle.chi_core.specs.Picks.{Pick, Picked}
+use Rattle.chi_tool.specs.Words.{Request, Sim, request_of}
+use Rattle.chi_tool.specs.Form.{program_of}
+
+pub record Report : Type 0 where
+  pub status : ℕ
+  pub out : List ℕ
+  pub log : List ℕ
+
+abbrev pub line : List ℕ → List ℕ
+line text = text ++ 10 ∷ []
+
+-- nothing but one line, in the log
+abbrev pub refused : ℕ → List ℕ → Report
+refused status text = record { status = status; out = []; log = line text }
+
+abbrev pub usage : Report
+usage = refused 3 (codes "usage: chi COMMAND [OPTIONS] FILE [ARGS]")
+
+abbrev pub no_such_file : Report
+no_such_file = refused 4 (codes "no such file")
+
+abbrev pub file_too_long : Report
+file_too_long = refused 4 (codes "file too long")
+
+abbrev pub placed : Place → List ℕ → List ℕ
+placed place what = codes "line " ++ decimal place.line ++ codes " column " ++ decimal place.column ++ codes ": " ++ what
+
+-- the line of a fault of a source's reading, of which want of memory is none
+abbrev pub lexical_text : LexFault → List ℕ
+lexical_text (fault.BadByte place) = placed place (codes "bad byte")
+lexical_text (fault.OpenString place) = placed place (codes "open string")
+lexical_text (fault.BadEscape place) = placed place (codes "bad escape")
+lexical_text fault.NoMemory = []
+
+abbrev pub not_built : Report
+not_built = refused 21 (codes "form not built")
+
+abbrev pub status_of : Verdict → ℕ
+status_of verdict.Completed = 0
+status_of verdict.Deadlock = 11
+status_of (verdict.Fault kind name line) = 12
+status_of verdict.OutOfSteps = 13
+
+-- what a run wrote, and its verdict
+abbrev pub run_report : End → Report
+run_report end = record { status = status_of end.verdict; out = end.output; log = verdict_line_of end.verdict end.clock }
+
+-- the policy that always takes the first choice
+abbrev pub first : Pick
+first turn count = 0
+
+-- the bound on the costs of all steps together
+abbrev pub most_steps : ℕ
+most_steps = 10_000_000
+
+-- a program's run, as the policy picks it
+abbrev pub IsRunReport : Core → Report → Type 0
+IsRunReport core r = (labels : List Label) × (end : End) × Picked core first most_steps labels end × (r ≡ run_report end)
+
+abbrev pub IsReportOfProgram : Option Core → Report → Type 0
+IsReportOfProgram None r = r ≡ not_built
+IsReportOfProgram (Some core) r = IsRunReport core r
+
+abbrev pub IsReportOfReading : Result (List Spanned) LexFault → Report → Type 0
+IsReportOfReading (Err fault) r = r ≡ refused 20 (lexical_text fault)
+IsReportOfReading (Ok tokens) r = IsReportOfProgram (program_of tokens) r
+
+-- a source's report: its first lexical fault, or else that it is no program yet, or else its run
+unfoldable pub IsReportOfSource : List ℕ → Report → Type 0
+IsReportOfSource source r = IsReportOfReading (reading source) r
+
+abbrev pub IsReportOfFile : Option (List ℕ) → Report → Type 0
+IsReportOfFile None r = r ≡ no_such_file
+IsReportOfFile (Some source) r =
+    ((MOST_BYTES < length source) × (r ≡ file_too_long)) ⊎ ((length source ≤ MOST_BYTES) × IsReportOfSource source r)
+
+abbrev pub IsReportOfRequest : Option Request → Files → Report → Type 0
+IsReportOfRequest None files r = r ≡ usage
+IsReportOfRequest (Some (Sim name)) files r = IsReportOfFile (files name) r
+
+-- r is the report of these words and files: the first refusal among words, file, tokens and program, or
+-- the output and verdict of the run
+abbrev pub IsReport : List (List ℕ) → Files → Report → Type 0
+IsReport words files r = IsReportOfRequest (request_of words) files r
