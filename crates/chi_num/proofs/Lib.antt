@@ -1,6 +1,13 @@
+pub mod Decimal
 pub mod Floors
 pub mod Nearest
+pub mod NearestWhole
 pub mod OneEach
 pub mod Powers
+pub mod ReadBack
+pub mod Reading
+pub mod RealText
 pub mod Rest
+pub mod Spelling
 pub mod Unique
+pub mod Units

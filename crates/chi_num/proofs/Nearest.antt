@@ -1,75 +1,97 @@
--- What makes a whole number the nearest to a fraction.
-use Rattle.std.proofs.Common.{◌≡◌, ℕ, zero, suc, ◌+◌, ◌*◌, ◌/◌, ◌<◌, ◌≤◌, ℤ, pos, negsuc, ◌-ℤ◌, ◌*ℤ◌, neg_ℤ, ◌≤ℤ◌, ◌<ℤ◌, ◌≢◌, ◌↔◌, arith}
-use Rattle.std.specs.Prelude.{unsigned_abs}
-use Rattle.std.proofs.lemmas.Int.{ints, unsigned_abs-mul}
-use Rattle.std.proofs.Math.IntN.{*ℤ-negsuc}
-use Rattle.std.proofs.Math.Nat.{le-div_iff_mul-le, mul-div-le, lt-mul-div-succ}
-use Rattle.chi_num.specs.Rounding.{IsNear, IsNearest}
+-- Rounding to the nearest whole number: there is one such number, and `nearest` is its size.
+use Rattle.std.proofs.Common.{◌≡◌, ℕ, ◌+◌, ◌*◌, ◌<◌, ◌≤◌, Bool, true, false, suc, zero, ℤ, pos, negsuc, neg_ℤ, ◌-ℤ◌, ◌*ℤ◌, refl, ap, sym, arith, rules, int_lt, ⊎_elim, nat_abs}
+use Rattle.std.proofs.Math.Nat.{mul-le-mul_right, le_antisymm}
+use Rattle.std.proofs.lemmas.Bool.{cases_lt}
+use Rattle.std.proofs.lemmas.Int.{ints}
+use Rattle.chi_num.specs.Decimal.{signed}
+use Rattle.chi_num.specs.Nearest.{IsNearest, nearest}
 
--- the size of the whole number that is nearest to m / e
-abbrev pub nearest_size : ℕ → ℕ → ℕ
-nearest_size m e = (m + e / 2) / e
+-- q is n / d, rounded, a tie up
+pub record Rounds (n d q : ℕ) : Type 0 where
+  pub least : 2 * (q * d) ≤ 2 * n + d
+  pub most : 2 * n + d < 2 * (q * d) + 2 * d
 
--- its product with e is within e / 2 of m
-size_above : (m e : ℕ) → 0 < e → 2 * (nearest_size m e * e) ≤ 2 * m + e
-size_above m e p = omega (arith, mul-div-le (m + e / 2) e)
+pub nearest_rounds : (n d : ℕ) → 0 < d → Rounds n d (nearest n d)
+nearest_rounds n d p = let some : 0 < 2 * d = omega arith in record { least = omega (arith, some); most = omega (arith, some) }
 
-size_below : (m e : ℕ) → 0 < e → 2 * m ≤ 2 * (nearest_size m e * e) + e
-size_below m e p = omega (arith, lt-mul-div-succ (m + e / 2) p)
+at_most : (n d p q : ℕ) → Rounds n d p → Rounds n d q → p ≤ q
+at_most n d p q a b = ⊎_elim (λ lt. let more : suc q * d ≤ p * d = mul-le-mul_right d lt in absurd (omega (arith, more))) (λ le. le) (cases_lt q p)
 
--- each size whose product with e is within e / 2 of m is at most that
-size_most : (m e j : ℕ) → 0 < e → 2 * (j * e) ≤ 2 * m + e → j ≤ nearest_size m e
-size_most m e j p h = (le-div_iff_mul-le {x = j} {y = m + e / 2} p).1 (omega (arith, h))
+pub nearest_is : (n d q : ℕ) → 0 < d → Rounds n d q → nearest n d ≡ q
+nearest_is n d q p r =
+    let here = nearest_rounds n d p in
+    let up = at_most n d (nearest n d) q here r in
+    let down = at_most n d q (nearest n d) r here in
+    omega arith
 
--- a number that is near has a product of about the size of n
-no_farther : (x n : ℤ) → unsigned_abs x ≤ unsigned_abs n + unsigned_abs (x -ℤ n)
-no_farther x n = omega (arith, ints)
+farther_up : (n d q : ℕ) → 0 < d → Rounds n d q → (s : ℤ) → 2 * nat_abs ((s *ℤ pos d) -ℤ pos n) ≤ d → nat_abs s ≤ q
+farther_up n d q p r (pos m) h =
+    ⊎_elim
+    (λ lt. let more : suc q * d ≤ m * d = mul-le-mul_right d lt in absurd (omega (arith, ints, more)))
+    (λ le. le)
+    (cases_lt q m)
+farther_up n d q p r (negsuc m) h = absurd (let one : 1 * d ≤ suc m * d = mul-le-mul_right d (omega arith) in omega (arith, ints, one))
 
-near_size : (n d s : ℤ) → IsNear n d s → 2 * (unsigned_abs s * unsigned_abs d) ≤ 2 * unsigned_abs n + unsigned_abs d
-near_size n d s h = omega (arith, h, unsigned_abs-mul s d, no_farther (s *ℤ d) n)
+pub up : (n d q : ℕ) → 0 < d → Rounds n d q → IsNearest (pos n) d (pos q)
+up n d q p r = record { near = omega (arith, ints); farther = farther_up n d q p r }
 
--- over a positive divisor, a number of each sign
-pub IsNearest-up : (n d : ℕ) → 0 < d → IsNearest (pos n) (pos d) (pos (nearest_size n d))
-IsNearest-up n d p =
-    record {
-      near = omega (arith, ints, size_above n d p, size_below n d p);
-      farther = λ s h. size_most n d (unsigned_abs s) p (near_size (pos n) (pos d) s h);
-    }
+abs_neg : (z : ℤ) → nat_abs (neg_ℤ z) ≡ nat_abs z
+abs_neg z = omega (arith, ints)
 
-down_near : (k d n : ℕ) → 2 * (k * d) ≤ 2 * suc n + d → 2 * suc n ≤ 2 * (k * d) + d → IsNear (negsuc n) (pos d) (neg_ℤ (pos k))
-down_near zero d n p q = omega (arith, ints, p, q)
-down_near (suc k) d n p q = omega (arith, ints, p, q)
+neg_apart : (n r : ℤ) (d : ℕ) → nat_abs ((neg_ℤ r *ℤ pos d) -ℤ neg_ℤ n) ≡ nat_abs ((r *ℤ pos d) -ℤ n)
+neg_apart n (pos zero) d = omega (arith, ints)
+neg_apart n (pos (suc m)) d = omega (arith, ints)
+neg_apart n (negsuc m) d = omega (arith, ints)
 
-neg_size : (k : ℕ) → unsigned_abs (neg_ℤ (pos k)) ≡ k
-neg_size k = omega (arith, ints)
+neg_apart_left : (n s : ℤ) (d : ℕ) → nat_abs ((neg_ℤ s *ℤ pos d) -ℤ n) ≡ nat_abs ((s *ℤ pos d) -ℤ neg_ℤ n)
+neg_apart_left n (pos zero) d = omega (arith, ints)
+neg_apart_left n (pos (suc m)) d = omega (arith, ints)
+neg_apart_left n (negsuc m) d = omega (arith, ints)
 
-pub IsNearest-down : (n d : ℕ) → 0 < d → IsNearest (negsuc n) (pos d) (neg_ℤ (pos (nearest_size (suc n) d)))
-IsNearest-down n d p =
-    record {
-      near = down_near (nearest_size (suc n) d) d n (size_above (suc n) d p) (size_below (suc n) d p);
-      farther = λ s h. omega (arith, neg_size (nearest_size (suc n) d), size_most (suc n) d (unsigned_abs s) p (near_size (negsuc n) (pos d) s h));
-    }
+-- rounding goes the same way below zero
+pub turned : (n r : ℤ) (d : ℕ) → IsNearest n d r → IsNearest (neg_ℤ n) d (neg_ℤ r)
+turned n r d i = record {
+  near = rw (neg_apart n r d) i.near;
+  farther = λ s h. rw (abs_neg r) (rw (abs_neg s) at (i.farther (neg_ℤ s) (rw (neg_apart_left n s d) h)));
+}
 
--- the same, of a result that has that size and the sign of n
-pub IsNearest-over_size : (n r size : ℤ) (d m : ℕ) → 0 < d → size ≡ pos (nearest_size m d) → m ≡ unsigned_abs n → (pos 0 ≤ℤ n → r ≡ size) → (n <ℤ pos 0 → r ≡ neg_ℤ size) → IsNearest n (pos d) r
-IsNearest-over_size (pos n) r size d m p e q up down = rw (up (omega (arith, ints)), e, q) (IsNearest-up n d p)
-IsNearest-over_size (negsuc n) r size d m p e q up down = rw (down (omega (arith, ints)), e, q) (IsNearest-down n d p)
+-- the number with that size and the sign of what is rounded
+pub nearest_signed : (minus : Bool) (n d q : ℕ) → 0 < d → nearest n d ≡ q → IsNearest (signed minus n) d (signed minus q)
+nearest_signed false n d q p e = up n d q p (rw (← e) (nearest_rounds n d p))
+nearest_signed true n d q p e = turned (pos n) (pos q) d (up n d q p (rw (← e) (nearest_rounds n d p)))
 
--- ---- both signs changed
+-- there is one
+pub some_nearest : (n : ℤ) (d : ℕ) → 0 < d → (r : ℤ) × IsNearest n d r
+some_nearest (pos n) d p = (pos (nearest n d), nearest_signed false n d (nearest n d) p refl)
+some_nearest (negsuc n) d p = (neg_ℤ (pos (nearest (suc n) d)), nearest_signed true (suc n) d (nearest (suc n) d) p refl)
 
--- over a negative divisor the nearest is that of the fraction with both signs changed
-near_turned : (n s : ℤ) (d : ℕ) → IsNear (neg_ℤ n) (pos (suc d)) s ↔ IsNear n (negsuc d) s
-near_turned n s d = (λ h. omega (arith, ints, h, *ℤ-negsuc s d), λ h. omega (arith, ints, h, *ℤ-negsuc s d))
+-- a number above zero and one below can't both be near
+apart : (n : ℤ) (d m k : ℕ) → 0 < d → 2 * nat_abs ((pos m *ℤ pos d) -ℤ n) ≤ d → 2 * nat_abs ((negsuc k *ℤ pos d) -ℤ n) ≤ d → m ≡ suc k → ⊥
+apart n d m k p a b e = let one : 1 * d ≤ suc k * d = mul-le-mul_right d (omega arith) in omega (arith, ints, one, ap (λ x. x * d) e)
 
-pub IsNearest-turned : (n r : ℤ) (d : ℕ) → IsNearest (neg_ℤ n) (pos (suc d)) r → IsNearest n (negsuc d) r
-IsNearest-turned n r d h =
-    record { near = (near_turned n r d).0 h.near; farther = λ s q. h.farther s ((near_turned n s d).1 q) }
+-- and no other
+pub one_nearest : (n : ℤ) (d : ℕ) (r s : ℤ) → 0 < d → IsNearest n d r → IsNearest n d s → r ≡ s
+one_nearest n d r s p a b = by_sign n d r s p a.near b.near (le_antisymm (b.farther r a.near) (a.farther s b.near))
+  where
+    by_sign : (n : ℤ) (d : ℕ) (r s : ℤ) → 0 < d → 2 * nat_abs ((r *ℤ pos d) -ℤ n) ≤ d → 2 * nat_abs ((s *ℤ pos d) -ℤ n) ≤ d → nat_abs r ≡ nat_abs s → r ≡ s
+    by_sign n d (pos m) (pos k) p a b e = ap pos e
+    by_sign n d (negsuc m) (negsuc k) p a b e = omega (arith, ints)
+    by_sign n d (pos m) (negsuc k) p a b e = absurd (apart n d m k p a b e)
+    by_sign n d (negsuc m) (pos k) p a b e = absurd (apart n d k m p b a (sym e))
 
--- the nearest over the size m of the divisor, of the number with its sign or the other
-pub IsNearest-of_size : (n d r n' r' : ℤ) (m : ℕ) → d ≢ pos 0 → m ≡ unsigned_abs d → (pos 0 ≤ℤ d → n' ≡ n) → (d <ℤ pos 0 → n' ≡ neg_ℤ n) → r' ≡ r → IsNearest n' (pos m) r' → IsNearest n d r
-IsNearest-of_size n (pos d) r n' r' m p q up down e h = rw (← e, ← up (omega (arith, ints)), ← q) h
-IsNearest-of_size n (negsuc d) r n' r' m p q up down e h = rw (← e) (IsNearest-turned n r' d (rw (← down (omega (arith, ints)), ← q) h))
+-- what is rounded by its size and its sign
+pub rounded_is : (units : ℤ) (d size : ℕ) → 0 < d → size ≡ nearest (nat_abs units) d → IsNearest units d (signed (int_lt units (pos 0)) size)
+rounded_is (pos n) d size p e = let above : int_lt (pos n) (pos 0) ≡ false = search rules in rw above (nearest_signed false n d size p (sym e))
+rounded_is (negsuc n) d size p e = nearest_signed true (suc n) d size p (sym e)
 
--- equal operands and results
-pub IsNearest-same : (n d r n' d' r' : ℤ) → IsNearest n' d' r' → n' ≡ n → d' ≡ d → r ≡ r' → IsNearest n d r
-IsNearest-same n d r n' d' r' h en ed er = rw (er, ← en, ← ed) h
+-- zero has no sign
+pub rounded_to_nothing : (units : ℤ) (d size : ℕ) → 0 < d → size ≡ nearest (nat_abs units) d → size ≡ 0 → IsNearest units d (pos size)
+rounded_to_nothing (pos n) d size p e none = nearest_signed false n d size p (sym e)
+rounded_to_nothing (negsuc n) d size p e none =
+    let zero_is : neg_ℤ (pos size) ≡ pos size = rw none refl in
+    rw (← zero_is) (nearest_signed true (suc n) d size p (sym e))
+
+pub is_minus : (minus : Bool) (size : ℕ) → 0 < size → int_lt (signed minus size) (pos 0) ≡ minus
+is_minus false size some = search rules
+is_minus true zero some = absurd (omega arith)
+is_minus true (suc n) some = refl

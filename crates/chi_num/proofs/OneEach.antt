@@ -6,7 +6,7 @@ use Rattle.chi_num.specs.Exactly.{ExactlyOne}
 use Rattle.chi_num.specs.Rounding.{IsFloor, IsCeiling, IsNearest}
 use Rattle.chi_num.proofs.Unique.{IsFloor-only, IsCeiling-only, IsNearest-only}
 use Rattle.chi_num.proofs.Floors.{IsFloor-euclid, IsFloor-turned, IsCeiling-from_floor, IsCeiling-turned}
-use Rattle.chi_num.proofs.Nearest.{IsNearest-up, IsNearest-down, IsNearest-turned}
+use Rattle.chi_num.proofs.NearestWhole.{IsNearest-up, IsNearest-down, IsNearest-turned}
 use Rattle.chi_num.proofs.Rest.{LiesBefore-rest}
 
 -- the floor

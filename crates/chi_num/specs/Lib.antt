@@ -1,8 +1,14 @@
+pub mod Decimal
 pub mod Division
 pub mod Exactly
+pub mod FixedText
+pub mod Nearest
 pub mod Power
 pub mod Product
 pub mod Quotient
 pub mod Range
+pub mod ReadInt
+pub mod ReadReal
+pub mod RealText
 pub mod Rounding
 pub mod Units

@@ -11,9 +11,12 @@ mod power;
 mod product;
 mod quotient;
 mod range;
+mod read;
 mod real;
 mod reals;
 mod rounding;
+mod text;
+mod text_laws;
 
 pub use dist::Dist;
 pub use division::{int_div, int_mod};
@@ -23,9 +26,14 @@ pub use laws::{real_laws, remainder_laws, rounding_laws};
 pub use power::int_pow;
 pub use product::real_mul;
 pub use quotient::real_div;
+pub use read::{ReadFault, read_int, read_real};
 pub use real::Real;
 pub use reals::{real_abs, real_add, real_neg, real_of, real_sub};
 pub use rounding::{ceil, floor, round};
+pub use text::{fixed_text, real_text};
+pub use text_laws::{one_number_is_meant, one_number_is_nearest, texts_read_back};
 
 #[cfg(test)]
 mod tests;
+#[cfg(test)]
+mod text_tests;

@@ -1,6 +1,6 @@
 use Rattle.std.proofs.Common.{arith}
 use Rattle.std.proofs.lemmas.Int.{ints}
-use Rattle.chi_num.proofs.Nearest.{IsNearest-over_size}
+use Rattle.chi_num.proofs.NearestWhole.{IsNearest-over_size}
 use Rattle.chi_num.proofs.fraction.nearest_over.Goals as goal
 
 pub returns-then-number-lt0 : goal.returns-then-number-lt0

@@ -1,6 +1,6 @@
 use Rattle.std.proofs.Common.{arith}
 use Rattle.std.proofs.lemmas.Int.{ints}
-use Rattle.chi_num.proofs.Nearest.{IsNearest-of_size}
+use Rattle.chi_num.proofs.NearestWhole.{IsNearest-of_size}
 use Rattle.chi_num.proofs.fraction.nearest_to.Goals as goal
 
 pub returns-then-divisor-lt0 : goal.returns-then-divisor-lt0

@@ -1,6 +1,6 @@
 use Rattle.std.proofs.Common.{arith}
 use Rattle.std.proofs.lemmas.Int.{ints}
-use Rattle.chi_num.proofs.Nearest.{IsNearest-same}
+use Rattle.chi_num.proofs.NearestWhole.{IsNearest-same}
 use Rattle.chi_num.proofs.rounding.round.Goals as goal
 
 pub returns : goal.returns
