@@ -31,7 +31,7 @@ pub use real::Real;
 pub use reals::{real_abs, real_add, real_neg, real_of, real_sub};
 pub use rounding::{ceil, floor, round};
 pub use text::{fixed_text, real_text};
-pub use text_laws::{one_number_is_meant, one_number_is_nearest, texts_read_back};
+pub use text_laws::{one_number_is_meant, texts_read_back};
 
 #[cfg(test)]
 mod tests;

@@ -1,19 +1,12 @@
 //! Laws of the definitions: what texts mean, and that it is one number. Nothing here runs.
 
-ghost use Rattle.std.specs.Prelude.{◌≡◌, ◌<◌, ◌≤◌, ◌*◌, ◌^◌, ◌-◌, ℕ, ℤ, pos, ◌*ℤ◌, List, FitsSigned};
+ghost use Rattle.std.specs.Prelude.{◌≡◌, ◌≤◌, ◌*◌, ◌^◌, ◌-◌, ℕ, ℤ, pos, ◌*ℤ◌, List, FitsSigned};
 ghost use Rattle.std.specs.Fmt.{signed_decimal};
 ghost use Rattle.std.specs.Int.{w64};
 ghost use Rattle.chi_num.specs.FixedText.{fixed_text_of};
-ghost use Rattle.chi_num.specs.Nearest.{IsNearest};
 ghost use Rattle.chi_num.specs.ReadInt.{HasIntForm, MeansInt};
 ghost use Rattle.chi_num.specs.ReadReal.{HasRealForm, MeansReal};
 ghost use Rattle.chi_num.specs.RealText.{real_text_of};
-
-/// Of each fraction there is exactly one nearest whole number.
-pub fn one_number_is_nearest()
-    ensures some { (n : ℤ) → (d : ℕ) → 0 < d → (r : ℤ) × IsNearest n d r }
-    ensures one { (n : ℤ) → (d : ℕ) → (r s : ℤ) → 0 < d → IsNearest n d r → IsNearest n d s → r ≡ s }
-{}
 
 /// A text of an int's form means exactly one whole number, and one of a real's form exactly one
 /// count of units.
