@@ -3,3 +3,4 @@ pub mod Runs
 pub mod Settled
 pub mod Picks
 pub mod Time
+pub mod Output

@@ -16,3 +16,6 @@ pub use laws::{picked_law, time_law};
 pub use line::verdict_line;
 pub use program::{CAlt, CComm, CExpr, CStat, Core, ProcDef};
 pub use verdict::Verdict;
+
+#[cfg(test)]
+mod tests;
