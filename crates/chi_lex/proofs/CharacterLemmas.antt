@@ -7,7 +7,7 @@ use Rattle.chi_token.specs.Texts.{meaning, escaped, before}
 use Rattle.chi_lex.specs.declared.text.Character.TheVariants.{Means, Unclosed, BadEscape, BadByte}
 use Rattle.chi_lex.specs.declared.piece.Stop.TheVariants.{Byte, Open, Escape}
 use Rattle.chi_lex.specs.Faults.{text_stop}
-use Rattle.chi_lex.specs.Pieces.{IsCharacter, StopsText}
+use Rattle.chi_lex.specs.TextParts.{IsCharacter, StopsText}
 use Rattle.chi_lex.proofs.TextLemmas.{meaning-plain, meaning-escape, meaning-lone, meaning-bad, meaning-empty}
 
 pub plain-character : (rest : List ℕ) (c : ℕ) → Some c ≡ slice_get rest 0 → is_plain c ≡ true → IsCharacter rest (Means c 1)

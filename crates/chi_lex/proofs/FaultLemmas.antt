@@ -1,5 +1,5 @@
 -- The places of faults.
-use Rattle.std.proofs.Common.{◌≡◌, ℕ, ◌+◌, ◌≤◌, List, ◌++◌, length, length-append, length-take, take, drop, append_assoc, sym, ap, subst, ◌∙◌, Err, arith}
+use Rattle.std.proofs.Common.{◌≡◌, ℕ, ◌+◌, ◌≤◌, List, ◌++◌, length, length-append, length-take, take, drop, append_assoc, append-nil, [], sym, ap, subst, ◌∙◌, Err, arith}
 use Rattle.std.proofs.lemmas.List.{take-append-drop}
 use Rattle.chi_token.specs.declared.place.Place.{Place}
 use Rattle.chi_lex.specs.declared.cursor.Cursor.{Cursor}
@@ -25,6 +25,10 @@ place_of-cursor done rest cursor place stands at =
     ap (λ l. here l place.column) (at.line ∙ stands.line)
     ∙ ap (λ c. here (line_of done) c) (at.column ∙ stands.column)
     ∙ sym (place_of-after done rest)
+
+pub place_of-end : (source : List ℕ) (cursor : Cursor) (place : Place) → StandsAfter source cursor → IsPlaceAt place cursor → place ≡ place_of source (length source)
+place_of-end source cursor place stands at =
+    place_of-cursor source [] cursor place stands at ∙ ap (λ xs. place_of xs (length source)) (append-nil source)
 
 pub place_of-opening : (done rest : List ℕ) (cursor : Cursor) (place : Place) → StandsAfter done cursor → IsPlaceAt place cursor → OpenString place ≡ fault_of (done ++ rest) (length done) Open
 place_of-opening done rest cursor place stands at =

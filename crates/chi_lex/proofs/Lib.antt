@@ -2,10 +2,12 @@ pub mod CharacterLemmas
 pub mod FaultLemmas
 pub mod NumberLemmas
 pub mod Prefixes
+pub mod QuoteLemmas
 pub mod Runs
 pub mod SignLemmas
 pub mod Sizes
 pub mod SpanLemmas
+pub mod SpellingLemmas
 pub mod TextLemmas
 pub mod TextLoop
 pub mod TextScan

@@ -11,7 +11,7 @@ use Rattle.chi_token.specs.declared.token.Token.TheVariants.{Int, Real}
 use Rattle.chi_token.specs.Characters.{is_name_start, is_digit, is_point, point}
 use Rattle.chi_token.specs.Prefixes.{longest_prefix}
 use Rattle.chi_token.specs.Tokens.{token_of, number_of, is_digits, is_real, is_fraction}
-use Rattle.chi_lex.specs.Pieces.{fraction_by, fraction_length}
+use Rattle.chi_lex.specs.Fractions.{fraction_by, fraction_length}
 use Rattle.chi_lex.proofs.Prefixes.{longest_prefix-at}
 use Rattle.chi_lex.proofs.Runs.{StopsAt, and_left, list_all-stop, list_all-take-prefix_len, StopsAt-drop-prefix_len, prefix_len-stop}
 
@@ -193,24 +193,26 @@ fraction-Fraction (x ∷ xs) n is some = by (is_point x) refl is
           size = omega (arith, sizes.0, length-prefix_len is_digit xs);
         }
 
+-- a real number and what follows it, by the names of its parts
+real-is : (rest ds es back digits : List ℕ) (size : ℕ) → Digits ds → Digits es → StopsAt is_digit back → (ds ++ point ∷ es) ++ back ≡ rest → length (ds ++ point ∷ es) ≡ size → digits ≡ take size rest → longest_prefix token_of (length rest) rest ≡ Some (Real digits, size)
+real-is rest ds es back digits size some fraction stops split long is =
+    let same : ds ++ point ∷ es ≡ digits =
+    sym (take-append_seam (ds ++ point ∷ es) back)
+    ∙ ap (λ xs. take (length (ds ++ point ∷ es)) xs) split
+    ∙ ap (λ n. take n rest) long
+    ∙ sym is in
+    subst (λ xs. longest_prefix token_of (length xs) xs ≡ Some (Real (ds ++ point ∷ es), length (ds ++ point ∷ es))) split (real-at ds es back some fraction stops)
+    ∙ ap (λ n. Some (Real (ds ++ point ∷ es), n)) long
+    ∙ ap (λ xs. Some (Real xs, size)) same
+
 pub longest-real : (rest back digits : List ℕ) (whole fraction : ℕ) → Parts rest back whole fraction → fraction ≢ 0 → digits ≡ take (whole + fraction) rest → longest_prefix token_of (length rest) rest ≡ Some (Real digits, whole + fraction)
 longest-real rest back digits whole fraction parts some is =
     let ds = take whole rest in
     let part = fraction-Fraction back fraction parts.fraction_is some in
-    let front = ds ++ point ∷ part.digits in
-    let split : front ++ part.more ≡ rest =
-    append_assoc ds (point ∷ part.digits) part.more
-    ∙ ap (λ xs. ds ++ xs) part.whole
-    ∙ front-back rest back whole fraction parts in
     let size_part = part.size in
-    let size : length front ≡ whole + fraction =
-    omega (arith, length-append ds (point ∷ part.digits), front-length rest back whole fraction parts) in
-    let same : front ≡ digits =
-    sym (take-append_seam front part.more)
-    ∙ ap (λ xs. take (length front) xs) split
-    ∙ ap (λ n. take n rest) size
-    ∙ sym is in
-    subst (λ xs. longest_prefix token_of (length xs) xs ≡ Some (Real front, length front)) split
-    (real-at ds part.digits part.more (front-Digits rest back whole fraction parts) part.some part.stops)
-    ∙ ap (λ n. Some (Real front, n)) size
-    ∙ ap (λ xs. Some (Real xs, whole + fraction)) same
+    real-is rest ds part.digits part.more digits (whole + fraction) (front-Digits rest back whole fraction parts) part.some part.stops
+    (append_assoc ds (point ∷ part.digits) part.more
+    ∙ ap (λ xs. ds ++ xs) part.whole
+    ∙ front-back rest back whole fraction parts)
+    (omega (arith, length-append ds (point ∷ part.digits), front-length rest back whole fraction parts))
+    is

@@ -5,7 +5,7 @@ use Rattle.std.proofs.Math.Seq.{take-append_seam, take-append-add}
 use Rattle.chi_token.specs.Prefixes.{longest_prefix, or_shorter}
 
 -- a prefix that has a meaning, where no longer one is looked at
-longest_prefix-whole : {A : Type 0} (f : List ℕ → Option A) (t : A) (bytes : List ℕ) (n : ℕ) → f (take n bytes) ≡ Some t → longest_prefix f n bytes ≡ Some (t, n)
+pub longest_prefix-whole : {A : Type 0} (f : List ℕ → Option A) (t : A) (bytes : List ℕ) (n : ℕ) → f (take n bytes) ≡ Some t → longest_prefix f n bytes ≡ Some (t, n)
 unfolding longest_prefix
 longest_prefix-whole f t bytes zero is = ap (λ o. option_map (λ m. (m, 0)) o) is
 longest_prefix-whole f t bytes (suc n) is = ap (λ o. or_shorter o (suc n) (longest_prefix f n bytes)) is

@@ -4,12 +4,19 @@ use Rattle.std.specs.List.{take_while}
 use Rattle.chi_token.specs.Characters.{tab, line_feed}
 use Rattle.chi_lex.specs.Places.{is_line_feed}
 
--- a space, tab, carriage return or line feed
-abbrev pub is_blank : ℕ → Bool
-is_blank c = ((c == 32 || c == tab) || c == 13) || c == line_feed
+-- bytes by their names
+abbrev pub space : ℕ
+space = 32
+
+abbrev pub carriage_return : ℕ
+carriage_return = 13
 
 abbrev pub hash : ℕ
 hash = 35
+
+-- a space, tab, carriage return or line feed
+abbrev pub is_blank : ℕ → Bool
+is_blank c = ((c == space || c == tab) || c == carriage_return) || c == line_feed
 
 -- a comment goes on with every byte but a line feed
 abbrev pub goes_on : ℕ → Bool

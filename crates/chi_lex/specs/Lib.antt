@@ -1,7 +1,9 @@
 pub mod Cursors
 pub mod Faults
+pub mod Fractions
 pub mod Gaps
 pub mod Pieces
 pub mod Places
 pub mod Reading
 pub mod Spans
+pub mod TextParts

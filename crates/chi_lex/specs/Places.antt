@@ -4,6 +4,7 @@ use Rattle.std.specs.List.{after_last}
 use Rattle.chi_token.specs.declared.place.Place.{Place}
 use Rattle.chi_token.specs.Characters.{line_feed}
 
+-- a line feed ends its line
 abbrev pub is_line_feed : ℕ → Bool
 is_line_feed c = c == line_feed
 

@@ -19,15 +19,17 @@ abbrev pub before : Spanned → Result (List Spanned) LexFault → Result (List 
 before token (Ok tokens) = Ok (token ∷ tokens)
 before token (Err fault) = Err fault
 
--- What an offset begins with, and then the reading from there on. `read` is the reading from a later offset on.
+-- the token that is found at an offset, or the fault there. `read` is the reading from a later offset on
 abbrev pub from_token : List ℕ → ℕ → (ℕ → Result (List Spanned) LexFault) → Option (Token × ℕ) → Result (List Spanned) LexFault
 from_token source offset read (Some found) = before (spanned source found.0 offset (offset + found.1)) (read (offset + found.1))
 from_token source offset read None = Err (fault_of source offset (stop_of (drop offset source)))
 
+-- the gap at an offset, or the longest token where there is none
 abbrev pub from_gap : List ℕ → ℕ → (ℕ → Result (List Spanned) LexFault) → List ℕ → Option ℕ → Result (List Spanned) LexFault
 from_gap source offset read rest (Some gap) = read (offset + gap)
 from_gap source offset read rest None = from_token source offset read (longest_prefix token_of (length rest) rest)
 
+-- nothing at the end, else a gap or a token
 abbrev pub from_rest : List ℕ → ℕ → (ℕ → Result (List Spanned) LexFault) → List ℕ → Result (List Spanned) LexFault
 from_rest source offset read [] = Ok []
 from_rest source offset read (c ∷ cs) = from_gap source offset read (c ∷ cs) (gap_of (c ∷ cs))

@@ -1,6 +1,8 @@
 -- Where the tokens of a source lie in it.
 use Rattle.std.specs.Prelude.{ℕ, ◌≡◌, ◌<◌, ◌≤◌, ⊤, Some, List, [], ◌∷◌, length, slice_range}
 use Rattle.chi_token.specs.declared.place.Spanned.{Spanned}
+use Rattle.chi_token.specs.declared.token.Token.{Token}
+use Rattle.chi_token.specs.Spelling.{spelled}
 use Rattle.chi_token.specs.Tokens.{token_of}
 use Rattle.chi_lex.specs.Places.{place_of}
 
@@ -15,3 +17,7 @@ pub record IsSpanOf (source : List ℕ) (t : Spanned) : Type 0 where
 abbrev pub SpanFrom : List ℕ → ℕ → List Spanned → Type 0
 SpanFrom source offset [] = ⊤
 SpanFrom source offset (t ∷ ts) = (offset ≤ t.start) × IsSpanOf source t × SpanFrom source t.stop ts
+
+-- a token that stands alone in a source, by its canonical spelling
+abbrev pub alone : Token → Spanned
+alone token = record { token = token; place = record { line = 1; column = 1 }; start = 0; stop = length (spelled token) }

@@ -2,6 +2,9 @@ ghost use Rattle.std.specs.Prelude.{◌+◌, ◌^◌, ◌<◌, ◌≤◌, List, 
 
 use chi_token::Place;
 
+/// The first line of a source, and the first column of a line.
+const FIRST: u32 = 1;
+
 /// How far the lexer has come in a source.
 #[derive(Clone, Copy)]
 pub struct Cursor {
@@ -25,8 +28,8 @@ impl Cursor {
     {
         Cursor {
             offset: 0,
-            line: 1,
-            column: 1,
+            line: FIRST,
+            column: FIRST,
         }
     }
 
@@ -52,7 +55,7 @@ impl Cursor {
             Cursor {
                 offset,
                 line: self.line + 1,
-                column: 1,
+                column: FIRST,
             }
         } else {
             Cursor {

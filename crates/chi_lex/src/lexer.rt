@@ -2,17 +2,26 @@ ghost use Rattle.std.specs.Prelude.{◌≡◌, ◌+◌, ◌^◌, ◌<◌, ◌≤
 ghost use Rattle.chi_token.specs.Tokens.{IsToken};
 ghost use Rattle.chi_lex.specs.Cursors.{StandsAfter};
 ghost use Rattle.chi_lex.specs.Faults.{fault_of, stop_of};
+ghost use Rattle.chi_lex.specs.Places.{place_of};
 ghost use Rattle.chi_lex.specs.Reading.{reading, IsFaultOf};
 
 use crate::cursor::Cursor;
 use crate::fault::LexFault;
 use crate::piece::{Piece, Stop};
 use crate::scan::scan;
-use chi_token::Spanned;
+use chi_token::{Place, Spanned};
 use std::alloc::Global;
 
 /// The most bytes of a source.
 pub const MOST_BYTES: usize = 1_048_576;
+
+/// The place after the last byte of a source.
+pub fn end_place(source: &[u8]) -> Place
+    requires { length source.now ≤ MOST_BYTES }
+    ensures { result ≡ place_of source.now (length source.now) }
+{
+    Cursor::at_start().past(source).place()
+}
 
 /// The fault of what stops the rest of a source.
 fn fault_at(cursor: Cursor, rest: &[u8], stop: Stop) -> LexFault

@@ -3,6 +3,7 @@
 
 mod cursor;
 mod fault;
+mod laws;
 mod lexer;
 mod number;
 mod piece;
@@ -12,4 +13,8 @@ mod text;
 mod word;
 
 pub use fault::LexFault;
-pub use lexer::{MOST_BYTES, lex};
+pub use laws::{span_law, spelling_law};
+pub use lexer::{MOST_BYTES, end_place, lex};
+
+#[cfg(test)]
+mod tests;

@@ -1,7 +1,8 @@
 ghost use Rattle.std.specs.Prelude.{◌≡◌, ◌<◌, ◌≤◌, IfOk, length, slice_index, true};
 ghost use Rattle.std.specs.List.{take_while};
 ghost use Rattle.chi_token.specs.Characters.{is_digit};
-ghost use Rattle.chi_lex.specs.Pieces.{IsTokenPiece, fraction_length};
+ghost use Rattle.chi_lex.specs.Fractions.{fraction_length};
+ghost use Rattle.chi_lex.specs.Pieces.{IsTokenPiece};
 
 use crate::piece::Piece;
 use chi_base::NoMemory;

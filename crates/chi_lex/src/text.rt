@@ -1,6 +1,7 @@
 ghost use Rattle.std.specs.Prelude.{◌≡◌, ◌<◌, IfOk, length, slice_index};
 ghost use Rattle.chi_token.specs.Characters.{backslash, is_plain, quote};
-ghost use Rattle.chi_lex.specs.Pieces.{IsCharacter, IsTokenPiece};
+ghost use Rattle.chi_lex.specs.Pieces.{IsTokenPiece};
+ghost use Rattle.chi_lex.specs.TextParts.{IsCharacter};
 
 use crate::piece::{Piece, Stop};
 use chi_base::NoMemory;

@@ -2,6 +2,7 @@
 use Rattle.std.specs.Prelude.{ℕ, Bool, ◌==◌, ◌||◌, ◌&&◌, not, nat_le}
 use Rattle.std.specs.Char.{is_ascii_digit, is_ascii_alphabetic}
 
+-- bytes by their names
 abbrev pub tab : ℕ
 tab = 9
 
@@ -20,9 +21,11 @@ backslash = 92
 abbrev pub underscore : ℕ
 underscore = 95
 
+-- a digit, 0 to 9
 abbrev pub is_digit : ℕ → Bool
 is_digit c = is_ascii_digit c
 
+-- a decimal point
 abbrev pub is_point : ℕ → Bool
 is_point c = c == point
 

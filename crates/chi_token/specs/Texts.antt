@@ -42,6 +42,7 @@ abbrev pub quoted_by : Option ℕ → ℕ → List ℕ
 quoted_by (Some letter) byte = backslash ∷ letter ∷ []
 quoted_by None byte = byte ∷ []
 
+-- the same by the table of escapes
 abbrev pub quoted_byte : ℕ → List ℕ
 quoted_byte byte = quoted_by (letter_for byte) byte
 
