@@ -1,13 +1,12 @@
 //! The program `chi`: the real files and streams, the words of the command line, and the top call.
 #![tactic(auto)]
 
+use chi_io::{DiskShelf, StdSink};
+use chi_tool::chi;
 use std::alloc::AllocError;
 use std::env;
 use std::io::ErrorKind;
 use std::process::ExitCode;
-
-use chi_io::{DiskShelf, StdSink};
-use chi_tool::chi;
 
 #[cfg(test)]
 mod tests;

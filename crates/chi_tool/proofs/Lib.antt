@@ -1,4 +1,6 @@
+pub mod LiteralLemmas
 pub mod FormLemmas
+pub mod TurnLemmas
 pub mod Reports
 pub mod Sinks
 pub mod Promises

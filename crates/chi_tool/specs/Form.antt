@@ -1,4 +1,4 @@
--- The sources that are built so far: one model that writes. It is read off the tokens until the parser takes
+-- The sources that are built so far: one model that writes and waits. It is read off the tokens until the parser takes
 -- its place, and goes away then.
 use Rattle.std.specs.Prelude.{ℕ, zero, suc, ◌==◌, ◌&&◌, ◌++◌, Bool, true, false, List, [], ◌∷◌, Option, Some, None, length, option_map, bytes_eq, if◌then◌else◌}
 use Rattle.std.specs.List.{list_any}
@@ -10,12 +10,16 @@ use Rattle.chi_token.specs.declared.place.Spanned.{Spanned}
 use Rattle.chi_token.specs.declared.token.Token.{Token}
 use Rattle.chi_token.specs.declared.token.Token.TheVariants.{Word, Name, Int, Real, Text, Sign}
 use Rattle.chi_token.specs.declared.keyword.Keyword.{Keyword}
-use Rattle.chi_token.specs.declared.keyword.Keyword.TheVariants.{ModelWord, EndWord, PassWord, WriteWord, WritelnWord}
+use Rattle.chi_token.specs.declared.keyword.Keyword.TheVariants.{ModelWord, EndWord, PassWord, WriteWord, WritelnWord, DelayWord}
 use Rattle.chi_token.specs.declared.sign.Sign as sign
 use Rattle.chi_token.specs.declared.sign.Sign.TheVariants.{LeftParen, RightParen, Colon, Semicolon}
 use Rattle.chi_core.specs.declared.program.Core.{Core}
 use Rattle.chi_core.specs.declared.program.CStat.{CStat}
-use Rattle.chi_core.specs.declared.program.CStat.TheVariants.{Pass, Write}
+use Rattle.chi_core.specs.declared.program.CStat.TheVariants.{Pass, Write, Select}
+use Rattle.chi_core.specs.declared.program.CAlt.TheVariants.{Guarded}
+use Rattle.chi_core.specs.declared.program.CComm.TheVariants.{Delay}
+use Rattle.chi_core.specs.declared.program.CExpr.{CExpr}
+use Rattle.chi_tool.specs.Literal.{literal_of}
 use Rattle.chi_tool.specs.declared.form.TheConstants.{PREDEFINED}
 
 -- a name to which the language gives a meaning of its own
@@ -74,12 +78,22 @@ written line ending (left ∷ text ∷ right ∷ rest) =
     else None
 written line ending _ = None
 
+-- the statement that waits as long as a literal says
+abbrev pub delay_of : ℕ → Option CExpr → List Spanned → Read
+delay_of line None rest = None
+delay_of line (Some length) rest = Some (Select line (Guarded (Delay length) [] ∷ []), rest)
+
+abbrev pub delayed : ℕ → List Spanned → Read
+delayed line [] = None
+delayed line (t ∷ rest) = delay_of line (literal_of t.token) rest
+
 -- the statement of a line that begins with a token
 abbrev pub statement_of : Token → ℕ → List Spanned → Read
 statement_of token line rest =
     if is_word PassWord token then Some (Pass line, rest)
     else if is_word WriteWord token then written line [] rest
     else if is_word WritelnWord token then written line (10 ∷ []) rest
+    else if is_word DelayWord token then delayed line rest
     else None
 
 abbrev pub statement_at : List Spanned → Read

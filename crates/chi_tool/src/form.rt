@@ -1,13 +1,15 @@
-ghost use Rattle.std.specs.Prelude.{◌≡◌, ◌<◌, bytes_eq, option_map, length, IfOk, IfSome, Some, ◌++◌};
+ghost use Rattle.std.specs.Prelude.{◌≡◌, ◌<◌, bytes_eq, option_map, length, IfOk, IfSome, Some, ◌++◌, ◌∷◌, []};
 ghost use Rattle.std.specs.List.{list_any};
-ghost use Rattle.chi_tool.specs.Form.{is_predefined, has_format, is_word, is_sign, name_of, text_of, ends, is_last, next_of, written,
+ghost use Rattle.chi_tool.specs.Form.{is_predefined, has_format, is_word, is_sign, name_of, text_of, ends, is_last, next_of, written, delayed,
     statement_at, statements_from, named, model_of, program_of};
 
 use std::alloc::Global;
 
 use chi_base::{Items, NoMemory};
-use chi_core::{CStat, Core, ProcDef};
+use chi_core::{CAlt, CComm, CExpr, CStat, Core, ProcDef};
 use chi_token::{Bytes, Keyword, Sign, Spanned, Token};
+
+use crate::literal::literal_of;
 
 /// The names to which the language gives a meaning of its own.
 pub static PREDEFINED: [&str; 23] = [
@@ -156,6 +158,32 @@ fn write_of(alloc: Global, line: u32, text: &[u8], ending: &[u8]) -> Result<CSta
     Ok(CStat::Write(line, whole))
 }
 
+fn delay_of(alloc: Global, line: u32, length: CExpr) -> Result<CStat, NoMemory>
+    ensures { IfOk result (λ statement. statement ≡ CStat.Select line (CAlt.Guarded (CComm.Delay length) [] ∷ [])) }
+{
+    let body = Items::of(alloc, Vec::new(alloc))?;
+    let mut alternatives = Vec::new(alloc);
+    alternatives.push(CAlt::Guarded(CComm::Delay(length), body))?;
+    let alternatives = Items::of(alloc, alternatives)?;
+    Ok(CStat::Select(line, alternatives))
+}
+
+fn delayed<'a>(alloc: Global, line: u32, tokens: &'a [Spanned]) -> Result<Option<Read<'a>>, NoMemory>
+    ensures read { IfOk result (λ read. option_map (λ r. (r.statement, r.rest.now)) read ≡ delayed line tokens.now) }
+    ensures shorter { IfOk result (λ read. IfSome read (λ r. length r.rest.now < length tokens.now)) }
+{
+    match tokens {
+        [] => Ok(None),
+        [first, rest @ ..] => match literal_of(&first.token) {
+            None => Ok(None),
+            Some(length) => {
+                let statement = delay_of(alloc, line, length)?;
+                Ok(Some(Read { statement, rest }))
+            }
+        },
+    }
+}
+
 fn statement_at<'a>(alloc: Global, tokens: &'a [Spanned]) -> Result<Option<Read<'a>>, NoMemory>
     ensures read {
         IfOk result (λ read. option_map (λ r. (r.statement, r.rest.now)) read ≡ statement_at tokens.now)
@@ -175,6 +203,9 @@ fn statement_at<'a>(alloc: Global, tokens: &'a [Spanned]) -> Result<Option<Read<
             }
             if is_word(&first.token, Keyword::WritelnWord) {
                 return written(alloc, line, b"\n", rest);
+            }
+            if is_word(&first.token, Keyword::DelayWord) {
+                return delayed(alloc, line, rest);
             }
             Ok(None)
         }

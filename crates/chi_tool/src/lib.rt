@@ -3,6 +3,7 @@
 
 mod deliver;
 mod form;
+mod literal;
 mod report;
 mod run;
 mod serve;
