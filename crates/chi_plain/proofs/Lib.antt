@@ -1,0 +1,9 @@
+pub mod Numbers
+pub mod Times
+pub mod Terms
+pub mod Lookups
+pub mod Selects
+pub mod Waits
+pub mod Enabled
+pub mod Takings
+pub mod Chosen

@@ -66,7 +66,7 @@ Steps core (At config) (At new) label left before after (Next cost) =
     → step core (showing config (written ++ before)) label left ≡ outcome.Next (showing new (written ++ after)) cost
 Steps core (At config) (Ended verdict new) label left before after Over =
     ((written : List ℕ)
-        → step core (showing config (written ++ before)) label left ≡ outcome.Over verdict (written ++ before))
+    → step core (showing config (written ++ before)) label left ≡ outcome.Over verdict (written ++ before))
     × (new ≡ config) × (after ≡ before)
 Steps core (At config) new label left before after Spent =
     ((written : List ℕ) → step core (showing config (written ++ before)) label left ≡ outcome.Spent)

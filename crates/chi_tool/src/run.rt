@@ -56,10 +56,10 @@ pub fn run(alloc: Global, core: &Core) -> Result<Reported, NoMemory>
     let mut out = Vec::new(alloc);
     let mut left = MOST_STEPS;
     'turn: loop {
-        if let Some(verdict) = plain.ending() {
-            return Ok(reported(alloc, verdict, plain.clock(), out)?);
-        }
-        let label = first_label(&plain);
+        let label = match plain.ending() {
+            Some(verdict) => return Ok(reported(alloc, verdict, plain.clock(), out)?),
+            None => first_label(&plain),
+        };
         match plain.plain_step(&label, left, &mut out) {
             Stepped::Next(cost) => left -= cost,
             Stepped::Over => {}

@@ -1,0 +1,26 @@
+ghost use Rattle.std.specs.Prelude.{◌≡◌};
+ghost use Rattle.chi_core.specs.Config.{body_of, name_of};
+
+use chi_core::{CStat, Core};
+
+#[tactic(auto, using(crate::proofs::Lookups::looking_up))]
+/// The statements of a definition, and none where there is no such definition.
+pub fn body_of(core: &Core, definition: u32) -> &[CStat]
+    ensures { result.now ≡ body_of core.now.procs definition }
+{
+    match core.procs.as_slice().get(definition as usize) {
+        Some(found) => found.body.as_slice(),
+        None => &[],
+    }
+}
+
+#[tactic(auto, using(crate::proofs::Lookups::looking_up))]
+/// The name of a definition, and an empty one where there is no such definition.
+pub fn name_of(core: &Core, definition: u32) -> &[u8]
+    ensures { result.now ≡ name_of core.now.procs definition }
+{
+    match core.procs.as_slice().get(definition as usize) {
+        Some(found) => found.name.as_slice(),
+        None => &[],
+    }
+}

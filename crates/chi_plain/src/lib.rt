@@ -1,0 +1,21 @@
+//! Runs a core by scanning: what may happen is found by going over all instances and all offers.
+//! It is slow and plain, and keeps to the semantics step by step.
+#![tactic(auto)]
+
+mod configuration;
+mod definitions;
+mod ending;
+mod instance;
+mod offer;
+mod opening;
+mod plain;
+mod standing;
+mod step;
+mod stepped;
+mod went;
+
+pub use plain::Plain;
+pub use stepped::Stepped;
+
+#[cfg(test)]
+mod tests;
