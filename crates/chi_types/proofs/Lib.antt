@@ -1,2 +1,5 @@
 pub mod Depths
+pub mod FitsLaws
+pub mod SameLaws
 pub mod Served
+pub mod ServedLaws

@@ -1,5 +1,5 @@
 -- When a value of a given type serves where a type is wanted.
-use Rattle.std.specs.Prelude.{ℕ, Bool, true, false, nat_eq, List, map, ◌&&◌, ◌||◌}
+use Rattle.std.specs.Prelude.{Bool, true, false, nat_eq, map, ◌&&◌, ◌||◌}
 use Rattle.chi_types.specs.declared.ty.Way.{Way}
 use Rattle.chi_types.specs.declared.ty.Way.TheVariants as way
 use Rattle.chi_types.specs.declared.ty.Ty.{Ty, Ty-F, para-Ty, out-Ty}

@@ -1,5 +1,5 @@
 -- The type that two types have in common.
-use Rattle.std.specs.Prelude.{Bool, true, false, Option, None, Some, ◌||◌, if◌then◌else◌}
+use Rattle.std.specs.Prelude.{Option, None, Some, ◌||◌, if◌then◌else◌}
 use Rattle.chi_types.specs.declared.ty.Ty.{Ty, out-Ty}
 use Rattle.chi_types.specs.declared.ty.Ty.TheVariants as ty
 use Rattle.chi_types.specs.Same.{same}

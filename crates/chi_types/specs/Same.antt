@@ -47,10 +47,10 @@ abbrev pub nameless : List (List ℕ × Ty) → List (List ℕ × Ty)
 nameless [] = []
 nameless (part ∷ parts) = ([], part.1) ∷ nameless parts
 
-abbrev pub unnamed_step : Ty-F Ty → Ty
-unnamed_step (Ty-F.TupleOf parts) = roll-Ty (Ty-F.TupleOf (nameless parts))
-unnamed_step layer = roll-Ty layer
+abbrev pub bare : Ty-F Ty → Ty-F Ty
+bare (Ty-F.TupleOf parts) = Ty-F.TupleOf (nameless parts)
+bare layer = layer
 
 -- a type without the names of the parts of its tuples
 abbrev pub unnamed : Ty → Ty
-unnamed = fold-Ty Ty unnamed_step
+unnamed = fold-Ty Ty (λ layer. roll-Ty (bare layer))

@@ -1,0 +1,5 @@
+pub mod AlikeLaws
+pub mod Growth
+pub mod OrderLaws
+pub mod Rest
+pub mod Turns

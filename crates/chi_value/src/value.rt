@@ -1,0 +1,31 @@
+use chi_num::{Dist, Real};
+use chi_token::Bytes;
+
+/// How many elements a container, or bytes a string, may have.
+pub const MOST_ELEMENTS: usize = 1_048_576;
+
+/// A finished list of values.
+pub type Items = chi_base::Items<Value>;
+
+#[derive(Debug, Drop)]
+pub enum Value {
+    Bool(bool),
+    Int(i64),
+    Real(Real),
+    Text(Bytes),
+    /// The number of an enumeration, and the position of one of its values.
+    Choice(u32, u32),
+    TupleOf(Items),
+    ListOf(Items),
+    /// The elements, ascending.
+    SetOf(Items),
+    /// The entries as tuples of a key and its value, their keys ascending.
+    DictOf(Items),
+    /// A channel, by its number.
+    Chan(u32),
+    Dist(Dist),
+    /// The time at which the timer is due, in units of 10^-9.
+    Timer(i64),
+    /// A started process, by the number of its instance, or none.
+    Inst(Option<u32>),
+}
