@@ -49,7 +49,6 @@ pub is_running : (config : Config) (label : Label) (p : ℕ) → label ≡ Local
     → IsSomeAnd (slice_get config.instances p) (λ i. i.state ≡ Running)
 is_running config label p is c = by_cases (enabled-cases config label c)
   where
-
     by_option : (q : ℕ) → IsOption config q label → IsSomeAnd (slice_get config.instances p) (λ i. i.state ≡ Running)
     by_option q (own i at running is') =
         let same : Local q ≡ Local p = sym is' ∙ is in

@@ -1,13 +1,12 @@
 -- When each status comes.
-use Rattle.std.proofs.Common.{◌≡◌, ◌≢◌, ℕ, ◌<◌, ◌≤◌, Bool, true, false, List, [], ◌∷◌, Option, Some, None, length, ◌⊎◌, inl, inr, sym, ◌∙◌, ap, subst, refl, arith}
-use Rattle.std.specs.Prelude.{Result, Ok, Err, IfSome, IsSomeAnd}
+use Rattle.std.proofs.Common.{◌≡◌, ◌≢◌, ℕ, ◌<◌, ◌≤◌, true, false, List, Option, Some, None, length, ◌⊎◌, inl, inr, sym, ◌∙◌, ap, subst, refl, arith}
+use Rattle.std.specs.Prelude.{Result, Ok, Err, IsSomeAnd}
 use Rattle.chi_io.specs.Shelf.{Files}
 use Rattle.chi_token.specs.declared.place.Spanned.{Spanned}
 use Rattle.chi_lex.specs.declared.fault.LexFault.{LexFault}
 use Rattle.chi_lex.specs.declared.lexer.TheConstants.{MOST_BYTES}
 use Rattle.chi_lex.specs.Reading.{reading}
 use Rattle.chi_core.specs.declared.program.Core.{Core}
-use Rattle.chi_core.specs.declared.label.Label.{Label}
 use Rattle.chi_core.specs.declared.verdict.Verdict.{Verdict}
 use Rattle.chi_core.specs.declared.verdict.Verdict.TheVariants as verdict
 use Rattle.chi_core.specs.Runs.{End}
@@ -15,9 +14,9 @@ use Rattle.chi_core.proofs.Picks.{Picked-some}
 use Rattle.chi_tool.specs.Words.{Request, Sim, request_of}
 use Rattle.chi_tool.specs.Form.{program_of}
 use Rattle.chi_tool.specs.Report.{Report, usage, no_such_file, file_too_long, refused, lexical_text, not_built, run_report, status_of, first, most_steps, IsReportOfSource, IsReportOfReading, IsReportOfProgram, IsReportOfFile, IsReportOfRequest, IsReport}
-use Rattle.chi_tool.specs.Call.{Call, SinkUse, ShelfUse, SinkRose, ShelfRose}
-use Rattle.chi_tool.specs.Headline.{NothingFailed, IsReported, IsReportedOrLost, Meets, IsAskedSource, IsAskedProgram, EndsWith, EndsAs, IsFault, HasLexicalFault, IsNotBuilt, IsUnfit, CannotBeRead, IsExactly, IsExactlyOf, Causes, IsComplete}
-use Rattle.chi_tool.specs.Delivery.{TookWhole, BrokeOff, Delivers, whole, out_broke, log_broke, DeliversReport, Serves, reported, missing, long, failed, lost}
+use Rattle.chi_tool.specs.Call.{Call, SinkUse, SinkRose}
+use Rattle.chi_tool.specs.Headline.{NothingFailed, IsReportedOrLost, IsAskedSource, IsAskedProgram, EndsWith, EndsAs, IsFault, HasLexicalFault, IsNotBuilt, IsUnfit, CannotBeRead, IsExactly, Causes, IsComplete}
+use Rattle.chi_tool.specs.Delivery.{Delivers, whole, out_broke, log_broke, DeliversReport, Serves, reported, missing, long, failed, lost}
 use Rattle.chi_tool.proofs.Reports.{report_one}
 use Rattle.chi_tool.proofs.Promises.{MeetsOne, is_report, where_told, served_told, usage_told, goes_stopped, not_none}
 
@@ -37,12 +36,12 @@ module _ (call : Call) (files : Files) (r : Report) where
   program_case source asked tokens read None program is = is_unbuilt (source, tokens, asked, read, program) is
   program_case source asked tokens read (Some core) program is =
       runs is.1
-          (record {
-            core = core;
-            asked = record { source = source; asked = asked; tokens = tokens; read = read; program = program };
-            labels = is.0;
-            picked = is.2;
-          }) is.3
+      (record {
+        core = core;
+        asked = record { source = source; asked = asked; tokens = tokens; read = read; program = program };
+        labels = is.0;
+        picked = is.2;
+      }) is.3
 
   reading_case : (source : List ℕ) → IsAskedSource call files source → (o : Result (List Spanned) LexFault) → reading source ≡ o
       → IsReportOfReading o r → CaseOf call files r
@@ -95,8 +94,8 @@ run_is_report : (call : Call) (files : Files) (end : End) → EndsWith call file
 run_is_report call files end e =
     let a = e.asked in
     asked_report call files a.source (run_report end) a.asked
-        (reading_report a.source (Ok a.tokens) (run_report end) a.read
-            (program_report a.tokens (Some e.core) (run_report end) a.program (e.labels, end, e.picked, refl)))
+    (reading_report a.source (Ok a.tokens) (run_report end) a.read
+    (program_report a.tokens (Some e.core) (run_report end) a.program (e.labels, end, e.picked, refl)))
 
 -- the status of a report, by its case
 
@@ -185,38 +184,38 @@ module _ (call : Call) (files : Files) (one : MeetsOne call files) (none : Nothi
       → ((v : Verdict) → status_of v ≡ n → P v) → ((v : Verdict) → P v → status_of v ≡ n) → IsExactly call n (EndsAs call files P)
   run_exactly n P a b c d e to from =
       exactly one.0 call n (EndsAs call files P) c met
-          (λ is. let w = run_of call files one.0 n a b d e case is in (w.0, w.1, to w.0.verdict w.2))
-          (λ h. same_status (run_report h.0) (run_is_report call files h.0 h.1) ∙ from h.0.verdict h.2)
+      (λ is. let w = run_of call files one.0 n a b d e case is in (w.0, w.1, to w.0.verdict w.2))
+      (λ h. same_status (run_report h.0) (run_is_report call files h.0 h.1) ∙ from h.0.verdict h.2)
 
   completed_exactly : IsExactly call 0 (EndsAs call files (λ v. v ≡ verdict.Completed))
   completed_exactly =
       run_exactly 0 (λ v. v ≡ verdict.Completed) (λ e. omega arith) (λ e. omega arith) (λ e. omega arith) (λ e. omega arith) (λ e. omega arith)
-          completed_by (λ v e. ap status_of e)
+      completed_by (λ v e. ap status_of e)
 
   deadlock_exactly : IsExactly call 11 (EndsAs call files (λ v. v ≡ verdict.Deadlock))
   deadlock_exactly =
       run_exactly 11 (λ v. v ≡ verdict.Deadlock) (λ e. omega arith) (λ e. omega arith) (λ e. omega arith) (λ e. omega arith) (λ e. omega arith)
-          deadlock_by (λ v e. ap status_of e)
+      deadlock_by (λ v e. ap status_of e)
 
   fault_exactly : IsExactly call 12 (EndsAs call files IsFault)
   fault_exactly =
       run_exactly 12 IsFault (λ e. omega arith) (λ e. omega arith) (λ e. omega arith) (λ e. omega arith) (λ e. omega arith)
-          fault_by (λ v e. ap status_of e.3)
+      fault_by (λ v e. ap status_of e.3)
 
   out_of_steps_exactly : IsExactly call 13 (EndsAs call files (λ v. v ≡ verdict.OutOfSteps))
   out_of_steps_exactly =
       run_exactly 13 (λ v. v ≡ verdict.OutOfSteps) (λ e. omega arith) (λ e. omega arith) (λ e. omega arith) (λ e. omega arith) (λ e. omega arith)
-          out_of_steps_by (λ v e. ap status_of e)
+      out_of_steps_by (λ v e. ap status_of e)
 
   lexical_exactly : IsExactly call 20 (HasLexicalFault call files)
   lexical_exactly =
       exactly one.0 call 20 (HasLexicalFault call files) (λ e. omega arith) met
-          (λ is. fault_of call files one.0 case is) (λ h. same_status _ (lexical_report call files h))
+      (λ is. fault_of call files one.0 case is) (λ h. same_status _ (lexical_report call files h))
 
   not_built_exactly : IsExactly call 21 (IsNotBuilt call files)
   not_built_exactly =
       exactly one.0 call 21 (IsNotBuilt call files) (λ e. omega arith) met
-          (λ is. unbuilt_of call files one.0 case is) (λ h. same_status _ (unbuilt_report call files h))
+      (λ is. unbuilt_of call files one.0 case is) (λ h. same_status _ (unbuilt_report call files h))
 
   ends_complete : (core : Core) → IsAskedProgram call files core → EndsAs call files (λ v. (call.status ≡ status_of v) ⊎ (call.status ≡ 6))
   ends_complete core asked =
@@ -353,15 +352,15 @@ pub served-causes : (call : Call) (name : List ℕ) → request_of call.words �
     → Serves name call.shelf call.status call.out call.log → Causes call
 served-causes call name asked s =
     causes call (λ files told. served_told call name files asked told s) (served_breaks call name s)
-        (λ out log. ((λ is. absurd (served_request call name s is)), λ none. absurd (not_none (request_of call.words) (Sim name) asked none)))
-        (λ is. let P : Option Request → Type 0 = CannotBeRead call.shelf in subst P (sym asked) (served_unread call name s is))
+    (λ out log. ((λ is. absurd (served_request call name s is)), λ none. absurd (not_none (request_of call.words) (Sim name) asked none)))
+    (λ is. let P : Option Request → Type 0 = CannotBeRead call.shelf in subst P (sym asked) (served_unread call name s is))
 
 pub served-complete : (call : Call) (name : List ℕ) → request_of call.words ≡ Some (Sim name)
     → Serves name call.shelf call.status call.out call.log → IsComplete call
 served-complete call name asked s =
     complete call (λ files told. served_told call name files asked told s) (served_breaks call name s)
-        (λ out log. ((λ is. absurd (served_request call name s is)), λ none. absurd (not_none (request_of call.words) (Sim name) asked none)))
-        (λ is. let P : Option Request → Type 0 = CannotBeRead call.shelf in subst P (sym asked) (served_unread call name s is))
+    (λ out log. ((λ is. absurd (served_request call name s is)), λ none. absurd (not_none (request_of call.words) (Sim name) asked none)))
+    (λ is. let P : Option Request → Type 0 = CannotBeRead call.shelf in subst P (sym asked) (served_unread call name s is))
 
 usage_exactly : (call : Call) → request_of call.words ≡ None → DeliversReport usage call.status call.out call.log
     → call.out.stopped ≡ false → call.log.stopped ≡ false → IsExactly call 3 (request_of call.words ≡ None)
@@ -376,9 +375,9 @@ usage_unread call d is = absurd (delivered_status _ 4 _ _ _ call.out call.log (�
 pub usage-causes : (call : Call) → request_of call.words ≡ None → DeliversReport usage call.status call.out call.log → Causes call
 usage-causes call none d =
     causes call (λ files told. usage_told call files none d) (delivered_breaks _ _ _ _ call.out call.log (λ e. omega arith) d)
-        (usage_exactly call none d) (usage_unread call d)
+    (usage_exactly call none d) (usage_unread call d)
 
 pub usage-complete : (call : Call) → request_of call.words ≡ None → DeliversReport usage call.status call.out call.log → IsComplete call
 usage-complete call none d =
     complete call (λ files told. usage_told call files none d) (delivered_breaks _ _ _ _ call.out call.log (λ e. omega arith) d)
-        (usage_exactly call none d) (usage_unread call d)
+    (usage_exactly call none d) (usage_unread call d)

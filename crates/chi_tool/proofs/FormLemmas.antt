@@ -1,5 +1,5 @@
 -- Statements one after another.
-use Rattle.std.proofs.Common.{◌≡◌, ℕ, zero, suc, ◌<◌, ◌≤◌, List, [], ◌∷◌, ◌++◌, Option, Some, None, Bool, true, false, length, ap, sym, ◌∙◌, refl, arith, append_assoc}
+use Rattle.std.proofs.Common.{◌≡◌, ℕ, zero, suc, ◌<◌, ◌≤◌, List, [], ◌∷◌, ◌++◌, Option, Some, None, true, false, length, ap, sym, ◌∙◌, refl, arith, append_assoc}
 use Rattle.std.specs.Prelude.{option_map, cond}
 use Rattle.std.specs.Option.{option_and_then}
 use Rattle.chi_token.specs.declared.place.Spanned.{Spanned}

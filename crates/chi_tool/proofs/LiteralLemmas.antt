@@ -1,6 +1,6 @@
 -- Number literals: what their digits mean is what is read.
-use Rattle.std.proofs.Common.{rules, ◌≡◌, ℕ, zero, suc, ◌+◌, ◌*◌, ◌^◌, ◌<◌, ◌≤◌, ◌&&◌, ◌↔◌, ℤ, pos, List, [], ◌∷◌, ◌++◌, Option, Some, None, Bool, true, false, length, cond, ◌⊎◌, inl, inr, sym, ◌∙◌, ap, subst, refl, arith, append-nil, FitsSigned, nat_lt}
-use Rattle.std.specs.Prelude.{◌==◌, IsTrue, Result, Ok, Err, IfOk}
+use Rattle.std.proofs.Common.{rules, ◌≡◌, ℕ, zero, suc, ◌^◌, ◌<◌, ◌≤◌, ◌&&◌, ℤ, pos, List, [], ◌∷◌, ◌++◌, Some, None, Bool, true, false, length, cond, sym, ◌∙◌, ap, subst, refl, arith, append-nil, FitsSigned, nat_lt}
+use Rattle.std.specs.Prelude.{◌==◌, Ok, Err}
 use Rattle.std.specs.Int.{w64}
 use Rattle.std.proofs.lemmas.Int.{ints}
 use Rattle.std.specs.List.{list_all}
@@ -8,11 +8,9 @@ use Rattle.std.specs.Char.{is_ascii_digit}
 use borrow.Author.Tests.{ltb-true, ltb-false}
 use Rattle.std.proofs.lemmas.Bool.{eqb-true}
 use Rattle.chi_num.specs.declared.read.fault.ReadFault.{ReadFault}
-use Rattle.chi_num.specs.declared.read.fault.ReadFault.TheVariants.{Form, Range}
-use Rattle.chi_num.specs.Decimal.{AreDigits, number_of, spelling, sign_text, point_and, signed}
-use Rattle.chi_num.specs.Nearest.{nearest}
-use Rattle.chi_num.specs.ReadReal.{IsDecimal, HasRealForm, MeansReal}
-use Rattle.chi_num.specs.ReadInt.{IsInt, HasIntForm, MeansInt}
+use Rattle.chi_num.specs.Decimal.{AreDigits, number_of, point_and}
+use Rattle.chi_num.specs.ReadReal.{IsDecimal, MeansReal}
+use Rattle.chi_num.specs.ReadInt.{MeansInt}
 use Rattle.chi_num.proofs.Reading.{real_means}
 use Rattle.chi_num.proofs.Spelling.{and_both, one_int, one_real}
 use Rattle.chi_core.specs.declared.program.CExpr.{CExpr}
@@ -54,6 +52,7 @@ rest-point (c ∷ cs) e = by_point (c == 46) refl (rest-point cs) e
     some_of : (fs : List ℕ) → are_digits fs ≡ true → 46 ∷ fs ≡ point_and fs
     some_of [] e = absurd (cc)
     some_of (f ∷ fs) e = refl
+
     by_point : (b : Bool) → (c == 46) ≡ b → (is_fraction (rest_of cs) ≡ true → rest_of cs ≡ point_and (fraction_of cs))
         → is_fraction (cond b (c ∷ cs) (rest_of cs)) ≡ true → cond b (c ∷ cs) (rest_of cs) ≡ point_and (without_point (cond b (c ∷ cs) (rest_of cs)))
     by_point true is later e = ap (λ x. x ∷ cs) (eqb-true c 46 is) ∙ some_of cs e
@@ -100,8 +99,8 @@ parts-is_decimal text w f d =
     let whole : whole_of text ≡ w = ap whole_of d.spelled ∙ whole-cut w f d.digits in
     let rest : rest_of text ≡ point_and f = ap rest_of d.spelled ∙ rest-cut w f d.digits in
     both_true (are_digits (whole_of text)) (is_fraction (rest_of text))
-        (ap are_digits whole ∙ both_true (nat_lt 0 (length w)) (list_all is_ascii_digit w) (lt_some _ d.some) d.digits)
-        (ap is_fraction rest ∙ digits-point f d.decimals)
+    (ap are_digits whole ∙ both_true (nat_lt 0 (length w)) (list_all is_ascii_digit w) (lt_some _ d.some) d.digits)
+    (ap is_fraction rest ∙ digits-point f d.decimals)
 
 minus_starts : (text w f : List ℕ) → IsDecimal text true w f → has_minus text ≡ true
 minus_starts text w f d = ap has_minus d.spelled
@@ -176,6 +175,7 @@ real-minus digits m = by_form (is_decimal digits) refl
         let same : c ≡ 45 = eqb-true c 45 at in
         let digit : is_ascii_digit c ≡ true = (and_both (is_ascii_digit c) (list_all is_ascii_digit cs) d.digits).0 in
         cc
+
     by_form : (b : Bool) → is_decimal digits ≡ b → None ≡ real_literal digits
     by_form false f = sym (real-isn't digits f)
     by_form true f = absurd (starts digits _ _ (is_decimal-parts digits f) m)

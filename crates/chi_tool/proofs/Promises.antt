@@ -1,25 +1,16 @@
 -- What follows of a call from how it was served.
-use Rattle.std.proofs.Common.{◌≡◌, ℕ, ◌<◌, ◌≤◌, Bool, true, false, List, [], ◌∷◌, Option, Some, None, length, ◌⊎◌, inl, inr, sym, ◌∙◌, ap, subst, refl, arith}
-use Rattle.std.specs.Prelude.{Result, Ok, Err, IfSome, IsSomeAnd}
+use Rattle.std.proofs.Common.{◌≡◌, ℕ, ◌<◌, true, false, List, [], Option, Some, None, length, ◌⊎◌, inl, inr, sym, subst, refl, arith}
+use Rattle.std.specs.Prelude.{IfSome, IsSomeAnd}
 use Rattle.chi_io.specs.Counts.{Rose, Stood}
 use Rattle.chi_io.specs.Shelf.{Files}
-use Rattle.chi_token.specs.declared.place.Spanned.{Spanned}
-use Rattle.chi_lex.specs.declared.fault.LexFault.{LexFault}
-use Rattle.chi_lex.specs.declared.fault.LexFault.TheVariants as fault
 use Rattle.chi_lex.specs.declared.lexer.TheConstants.{MOST_BYTES}
-use Rattle.chi_lex.specs.Reading.{reading}
-use Rattle.chi_core.specs.declared.program.Core.{Core}
-use Rattle.chi_core.specs.declared.verdict.Verdict.{Verdict}
-use Rattle.chi_core.specs.declared.verdict.Verdict.TheVariants as verdict
-use Rattle.chi_core.specs.Runs.{End}
 use Rattle.chi_tool.specs.Words.{Request, Sim, request_of}
-use Rattle.chi_tool.specs.Form.{program_of}
-use Rattle.chi_tool.specs.Report.{Report, usage, no_such_file, file_too_long, refused, lexical_text, not_built, run_report, status_of, IsReportOfSource, IsReportOfReading, IsReportOfProgram, IsReportOfFile, IsReportOfRequest, IsReport}
-use Rattle.chi_tool.specs.Call.{Call, SinkUse, ShelfUse, Took, TookFront, TookSome, SinkRose, SinkStood, ShelfRose, ShelfStood}
-use Rattle.chi_tool.specs.Headline.{NothingFailed, IsReported, IsReportedOrLost, IsReportedInFront, IsRefusedByFault, Meets, Headline, IsAskedSource, IsAskedProgram, EndsWith, EndsAs, IsFault, HasLexicalFault, IsNotBuilt, IsUnfit, CannotBeRead, IsExactly, IsExactlyOf, Causes, IsComplete}
-use Rattle.chi_tool.specs.Delivery.{TookWhole, BrokeOff, Delivers, whole, out_broke, log_broke, DeliversReport, Serves, reported, missing, long, failed, lost}
+use Rattle.chi_tool.specs.Report.{Report, usage, no_such_file, file_too_long, IsReportOfFile, IsReportOfRequest, IsReport}
+use Rattle.chi_tool.specs.Call.{Call, SinkUse, Took, TookFront, TookSome, SinkStood, ShelfRose}
+use Rattle.chi_tool.specs.Headline.{NothingFailed, IsReported, IsReportedOrLost, IsReportedInFront, IsRefusedByFault, Meets, Headline}
+use Rattle.chi_tool.specs.Delivery.{TookWhole, Delivers, whole, out_broke, log_broke, DeliversReport, Serves, reported, missing, long, failed, lost}
 use Rattle.chi_tool.proofs.Sinks.{whole_front, none_front, broken_front, none_some, none_whole}
-use Rattle.chi_tool.proofs.Reports.{report_some, report_one}
+use Rattle.chi_tool.proofs.Reports.{report_some}
 
 -- how a call may stand to the report of its words and files
 data Stands (r : Report) (call : Call) : Type 0 where

@@ -1,5 +1,5 @@
 -- Words and files have exactly one report, and its status tells what it is.
-use Rattle.std.proofs.Common.{◌≡◌, ℕ, ◌<◌, ◌≤◌, List, [], ◌∷◌, Option, Some, None, length, ◌⊎◌, inl, inr, sym, ◌∙◌, ap, subst, refl, arith}
+use Rattle.std.proofs.Common.{◌≡◌, ℕ, ◌<◌, ◌≤◌, List, Option, Some, None, length, ◌⊎◌, inl, inr, sym, ◌∙◌, ap, refl, arith}
 use Rattle.std.specs.Prelude.{Result, Ok, Err}
 use Rattle.chi_io.specs.Shelf.{Files}
 use Rattle.chi_token.specs.declared.place.Spanned.{Spanned}
@@ -7,14 +7,10 @@ use Rattle.chi_lex.specs.declared.fault.LexFault.{LexFault}
 use Rattle.chi_lex.specs.declared.lexer.TheConstants.{MOST_BYTES}
 use Rattle.chi_lex.specs.Reading.{reading}
 use Rattle.chi_core.specs.declared.program.Core.{Core}
-use Rattle.chi_core.specs.declared.label.Label.{Label}
-use Rattle.chi_core.specs.declared.verdict.Verdict.{Verdict}
-use Rattle.chi_core.specs.Runs.{End}
-use Rattle.chi_core.specs.Picks.{Picked}
 use Rattle.chi_core.proofs.Picks.{Picked-some, Picked-one}
 use Rattle.chi_tool.specs.Words.{Request, Sim, request_of}
 use Rattle.chi_tool.specs.Form.{program_of}
-use Rattle.chi_tool.specs.Report.{Report, refused, usage, no_such_file, file_too_long, lexical_text, not_built, run_report, first, most_steps, IsRunReport, IsReportOfProgram, IsReportOfReading, IsReportOfSource, IsReportOfFile, IsReportOfRequest, IsReport}
+use Rattle.chi_tool.specs.Report.{Report, refused, usage, no_such_file, file_too_long, lexical_text, not_built, run_report, first, most_steps, IsReportOfProgram, IsReportOfReading, IsReportOfSource, IsReportOfFile, IsReportOfRequest, IsReport}
 
 -- there is one
 

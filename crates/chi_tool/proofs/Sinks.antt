@@ -1,9 +1,9 @@
 -- What a sink took: all, a front, or nothing.
-use Rattle.std.proofs.Common.{◌≡◌, ℕ, ◌<◌, ◌+◌, List, [], ◌∷◌, ◌++◌, Option, Some, None, length, sym, ◌∙◌, ap, refl, arith, length-append, append-nil}
+use Rattle.std.proofs.Common.{◌≡◌, ℕ, ◌<◌, List, [], ◌++◌, Option, Some, None, length, ap, refl, arith, length-append, append-nil}
 use Rattle.std.specs.Prelude.{IsSomeAnd}
-use Rattle.chi_io.specs.Sink.{IsFrontOf, Grew, GrewByFront}
+use Rattle.chi_io.specs.Sink.{Grew}
 use Rattle.chi_tool.specs.Call.{SinkUse, Took, TookFront, TookSome}
-use Rattle.chi_tool.specs.Delivery.{TookWhole, BrokeOff}
+use Rattle.chi_tool.specs.Delivery.{BrokeOff}
 
 pub whole_front : (sink : SinkUse) (bytes : List ℕ) → Took sink bytes → TookFront sink bytes
 whole_front sink bytes took = (bytes, ([], append-nil bytes), took)

@@ -1,6 +1,6 @@
 -- The turns of a run: what each of them leaves of it.
-use Rattle.std.proofs.Common.{◌≡◌, ℕ, zero, suc, ◌+◌, ◌*◌, ◌-◌, ◌<◌, ◌≤◌, ℤ, List, [], ◌∷◌, ◌++◌, Option, Some, None, Bool, true, false, length, ◌⊎◌, inl, inr, sym, ◌∙◌, ap, subst, refl, arith}
-use Rattle.std.specs.Prelude.{nat_lt, IsSomeAnd, Contains}
+use Rattle.std.proofs.Common.{◌≡◌, ℕ, zero, suc, ◌+◌, ◌*◌, ◌-◌, ◌<◌, ◌≤◌, ℤ, List, [], ◌∷◌, ◌++◌, Option, Some, None, true, length, sym, ◌∙◌, ap, subst, refl, arith}
+use Rattle.std.specs.Prelude.{nat_lt, IsSomeAnd}
 use Rattle.std.specs.List.{slice_get}
 use Rattle.std.specs.Option.{option_and_then}
 use Rattle.chi_core.specs.declared.program.Core.{Core}
@@ -11,16 +11,16 @@ use Rattle.chi_core.specs.declared.verdict.Verdict.TheVariants.{OutOfSteps}
 use Rattle.chi_core.specs.Config.{Config, start}
 use Rattle.chi_core.specs.Step as outcome
 use Rattle.chi_core.specs.Step.{due_times, step}
-use Rattle.chi_core.specs.Options.{numbers, options, actors, advance_of, enabled_of, enabled, rest_verdict, ending, ending_of}
+use Rattle.chi_core.specs.Options.{numbers, options, actors, advance_of, enabled_of, rest_verdict, ending, ending_of}
 use Rattle.chi_core.specs.Runs.{End, end_at, IsAtRest}
-use Rattle.chi_core.specs.Picks.{MayPick, picked_among, picked_option, PicksFrom, Picked}
+use Rattle.chi_core.specs.Picks.{MayPick, picked_among, picked_option, PicksFrom}
 use Rattle.chi_core.proofs.Lists.{filter-passes}
 use Rattle.chi_core.proofs.Runs.{Runs-rests, Runs-cut, Runs-on, Runs-over}
 use Rattle.chi_core.proofs.Picks.{MayPick-enabled}
 use Rattle.chi_core.proofs.Time.{costs_something}
 use Rattle.chi_core.proofs.Output.{ending-showing, picked_label-showing}
 use Rattle.chi_plain.specs.declared.stepped.Stepped.{Stepped}
-use Rattle.chi_plain.specs.declared.stepped.Stepped.TheVariants.{Next, Over, Spent, NoMemory}
+use Rattle.chi_plain.specs.declared.stepped.Stepped.TheVariants.{Next, Over, Spent}
 use Rattle.chi_plain.specs.Stage.{Stage, Runner, At, Ended, Lost, showing, actors_at, options_at, ending_at, IsTimeAt, MayStep, Steps}
 use Rattle.chi_tool.specs.Report.{first, most_steps}
 use Rattle.chi_tool.specs.Turns.{GoesOn, PicksFirst, RunsTo}
@@ -63,11 +63,12 @@ first-advance (At config) goes e = λ turn. ap (picked_among first turn config) 
   where
     none : actors config ≡ []
     none = none_of (actors config) e
+
     by_due : (ts : List ℤ) → due_times config ≡ ts → advance_of ts ≡ Some Advance
     by_due (t ∷ ts) is = refl
     by_due [] is =
         let rests : ending config ≡ Some (rest_verdict config)
-              = ap (λ ps. ending_of (enabled_of config ps) config) none ∙ ap (λ ts. ending_of (Rattle.std.specs.Option.option_to_list (advance_of ts)) config) is in
+        = ap (λ ps. ending_of (enabled_of config ps) config) none ∙ ap (λ ts. ending_of (Rattle.std.specs.Option.option_to_list (advance_of ts)) config) is in
         absurd (let h : None ≡ Some (rest_verdict config) = sym goes ∙ rests in cc)
 first-advance (Ended verdict config) goes e = absurd goes
 first-advance Lost goes e = absurd goes
@@ -110,8 +111,8 @@ rests core runner left output verdict clock k e time = by_stage runner.stage k.l
         → RunsTo core (record { verdict = verdict; clock = clock; output = output })
     by_stage (At config) l e' t =
         let there : IsAtRest (showing config output) (record { verdict = verdict; clock = clock; output = output })
-              = let P : Option Verdict → Type 0 = λ o. IsSomeAnd o (λ v. record { verdict = verdict; clock = clock; output = output } ≡ end_at v (showing config output)) in
-                subst P (sym (ending-showing config output ∙ e')) (λ i. record { verdict = verdict; clock = t i; output = output }) in
+        = let P : Option Verdict → Type 0 = λ o. IsSomeAnd o (λ v. record { verdict = verdict; clock = clock; output = output } ≡ end_at v (showing config output)) in
+        subst P (sym (ending-showing config output ∙ e')) (λ i. record { verdict = verdict; clock = t i; output = output }) in
         l.1 [] _ (Runs-rests (MayPick first) core l.0 (showing config output) left _ there)
     by_stage (Ended v config) l e' t =
         let same : v ≡ verdict = cc in
@@ -142,14 +143,15 @@ spends core old new label left before after clock k t time =
   where
     stays : (config : Config) (stage' : Stage) → Leads core (At config) left before → PicksFirst (At config) label
         → ((written : List ℕ) → step core (showing config (written ++ before)) label left ≡ outcome.Spent)
-          × (stage' ≡ At config) × (after ≡ before)
+        × (stage' ≡ At config) × (after ≡ before)
         → IsTimeAt stage' clock → RunsTo core (record { verdict = OutOfSteps; clock = clock; output = after })
     stays config stage' l p s time' =
         let same_time : clock ≡ config.clock = let P : Stage → Type 0 = λ x. IsTimeAt x clock in subst P s.1 time' in
         let P : End → Type 0 = RunsTo core in
         subst P (λ i. record { verdict = OutOfSteps; clock = sym same_time i; output = sym s.2 i })
-            (l.1 [] _ (Runs-cut (MayPick first) core l.0 (showing config before) left (end_at OutOfSteps (showing config before))
-                (record { label = label; may_come = may_pick config before label p l.0; spent = s.0 []; out_of_steps = refl })))
+        (l.1 [] _ (Runs-cut (MayPick first) core l.0 (showing config before) left (end_at OutOfSteps (showing config before))
+        (record { label = label; may_come = may_pick config before label p l.0; spent = s.0 []; out_of_steps = refl })))
+
     by_stage : (stage stage' : Stage) → Leads core stage left before → PicksFirst stage label → Steps core stage stage' label left before after Spent
         → IsTimeAt stage' clock → RunsTo core (record { verdict = OutOfSteps; clock = clock; output = after })
     by_stage (Ended verdict config) stage' l p s time' = absurd p
@@ -171,10 +173,12 @@ goes-next core old new label left cost before after k t = record {
     by_stage Lost stage' l p s = absurd p
     by_stage (At config) (Ended verdict config') l p s = absurd s
     by_stage (At config) Lost l p s = absurd s
-    by_stage (At config) (At config') l p s =
-        (l.0 + 1, λ labels end r. l.1 (label ∷ labels) end
-            (Runs-on (MayPick first) core l.0 (showing config before) left label (showing config' after) cost labels end
-                (may_pick config before label p l.0) (s []) r))
+    by_stage (At config) (At config') l p s = (
+      l.0 + 1,
+      λ labels end r. l.1 (label ∷ labels) end
+          (Runs-on (MayPick first) core l.0 (showing config before) left label (showing config' after) cost labels end
+          (may_pick config before label p l.0) (s []) r),
+    )
 
 pub costs-next : (core : Core) (old new : Runner) (label : Label) (left cost : ℕ) (before after : List ℕ) → Keeps core old left before
     → Took core old new label left before after (Next cost) → (0 < cost) × (cost ≤ left) × (turns_left (left - cost) new.stage < turns_left left old.stage)
@@ -189,8 +193,8 @@ costs-next core old new label left cost before after k t =
     by_stage (At config) Lost p s = absurd s
     by_stage (At config) (At config') p s =
         let c : (0 < cost) × (cost ≤ left)
-              = costs_something core (showing config before) (showing config' after) label left cost
-                  (MayPick-enabled first 0 (showing config before) label (may_pick config before label p 0)) (s []) in
+        = costs_something core (showing config before) (showing config' after) label left cost
+        (MayPick-enabled first 0 (showing config before) label (may_pick config before label p 0)) (s []) in
         let some = c.0 in let within = c.1 in (some, within, omega arith)
 
 pub goes-over : (core : Core) (old new : Runner) (label : Label) (left : ℕ) (before after : List ℕ) → Keeps core old left before
@@ -206,8 +210,9 @@ goes-over core old new label left before after k t =
     by_stage (At config) (At config') l p s = absurd s
     by_stage (At config) Lost l p s = absurd s
     by_stage (At config) (Ended verdict config') l p s =
-        let P : End → Type 0 = RunsTo core in
-        (subst P (λ i. record { verdict = verdict; clock = (sym s.1 i).clock; output = sym s.2 i })
-            (l.1 (label ∷ []) _
-                (Runs-over (MayPick first) core l.0 (showing config before) left label verdict before (may_pick config before label p l.0) (s.0 []))),
-         omega arith)
+        let P : End → Type 0 = RunsTo core in (
+          subst P (λ i. record { verdict = verdict; clock = (sym s.1 i).clock; output = sym s.2 i })
+              (l.1 (label ∷ []) _
+              (Runs-over (MayPick first) core l.0 (showing config before) left label verdict before (may_pick config before label p l.0) (s.0 []))),
+          omega arith,
+        )

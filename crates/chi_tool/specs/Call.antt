@@ -1,5 +1,5 @@
 -- What a call of the program was given, and what it did.
-use Rattle.std.specs.Prelude.{◌≡◌, ℕ, ◌<◌, ◌⊎◌, Bool, List, [], ◌++◌, length, Option, Some, IsSomeAnd}
+use Rattle.std.specs.Prelude.{◌≡◌, ℕ, ◌<◌, Bool, List, ◌++◌, length, Option, Some, IsSomeAnd}
 use Rattle.chi_io.specs.Counts.{Rose, Stood}
 use Rattle.chi_io.specs.Shelf.{Files}
 use Rattle.chi_io.specs.Sink.{Grew, GrewByFront}

@@ -1,7 +1,6 @@
 -- The ways in which the delivery of a report ends, and in which a file is served.
-use Rattle.std.specs.Prelude.{◌≡◌, ℕ, ◌≤◌, ◌<◌, ◌⊎◌, Bool, true, false, List, [], length, Option, Some, None, IfSome, IsSomeAnd}
+use Rattle.std.specs.Prelude.{◌≡◌, ℕ, ◌≤◌, ◌<◌, ◌⊎◌, true, false, List, [], length, Some, None, IfSome, IsSomeAnd}
 use Rattle.chi_io.specs.Sink.{GrewByProperFront}
-use Rattle.chi_io.specs.Shelf.{Files}
 use Rattle.chi_lex.specs.declared.lexer.TheConstants.{MOST_BYTES}
 use Rattle.chi_tool.specs.Report.{Report, no_such_file, file_too_long, IsReportOfSource}
 use Rattle.chi_tool.specs.Call.{SinkUse, ShelfUse, Took, SinkRose, ShelfRose}

@@ -8,7 +8,7 @@ use Rattle.chi_token.specs.contracts.keyword.Keyword as keyword_type
 use Rattle.chi_token.specs.contracts.sign.Sign as sign_type
 use Rattle.chi_token.specs.declared.place.Spanned.{Spanned}
 use Rattle.chi_token.specs.declared.token.Token.{Token}
-use Rattle.chi_token.specs.declared.token.Token.TheVariants.{Word, Name, Int, Real, Text, Sign}
+use Rattle.chi_token.specs.declared.token.Token.TheVariants.{Word, Name, Text, Sign}
 use Rattle.chi_token.specs.declared.keyword.Keyword.{Keyword}
 use Rattle.chi_token.specs.declared.keyword.Keyword.TheVariants.{ModelWord, EndWord, PassWord, WriteWord, WritelnWord, DelayWord}
 use Rattle.chi_token.specs.declared.sign.Sign as sign

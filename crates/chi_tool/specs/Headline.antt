@@ -1,5 +1,5 @@
 -- What the program promises of each call.
-use Rattle.std.specs.Prelude.{◌≡◌, ℕ, ◌<◌, ◌≤◌, ◌⊎◌, ◌↔◌, Bool, true, false, List, [], length, Option, Some, None, Result, Ok, Err, IfSome, IsSomeAnd}
+use Rattle.std.specs.Prelude.{◌≡◌, ℕ, ◌<◌, ◌≤◌, ◌⊎◌, ◌↔◌, true, false, List, [], length, Option, Some, None, Ok, Err, IfSome, IsSomeAnd}
 use Rattle.chi_io.specs.Shelf.{Files}
 use Rattle.chi_token.specs.declared.place.Spanned.{Spanned}
 use Rattle.chi_lex.specs.declared.fault.LexFault.{LexFault}
@@ -15,7 +15,7 @@ use Rattle.chi_core.specs.Picks.{Picked}
 use Rattle.chi_tool.specs.Words.{Request, Sim, request_of}
 use Rattle.chi_tool.specs.Form.{program_of}
 use Rattle.chi_tool.specs.Report.{Report, usage, no_such_file, file_too_long, status_of, first, most_steps, IsReport}
-use Rattle.chi_tool.specs.Call.{Call, ShelfUse, SinkUse, Took, TookFront, TookSome, SinkRose, SinkStood, ShelfRose, ShelfStood}
+use Rattle.chi_tool.specs.Call.{Call, ShelfUse, Took, TookFront, TookSome, SinkRose, SinkStood, ShelfRose, ShelfStood}
 
 -- no object that was handed in failed
 pub record NothingFailed (call : Call) : Type 0 where
@@ -135,4 +135,4 @@ pub record Causes (call : Call) : Type 0 where
 abbrev pub IsComplete : Call → Type 0
 IsComplete call =
     IfSome call.shelf.files (λ files. NothingFailed call → (core : Core) → IsAskedProgram call files core
-        → EndsAs call files (λ v. (call.status ≡ status_of v) ⊎ (call.status ≡ 6)))
+    → EndsAs call files (λ v. (call.status ≡ status_of v) ⊎ (call.status ≡ 6)))

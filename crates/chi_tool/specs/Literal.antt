@@ -5,7 +5,7 @@ use Rattle.std.specs.Char.{is_ascii_digit}
 use Rattle.chi_num.specs.Decimal.{number_of}
 use Rattle.chi_num.specs.Nearest.{nearest}
 use Rattle.chi_token.specs.declared.token.Token.{Token}
-use Rattle.chi_token.specs.declared.token.Token.TheVariants.{Word, Name, Int, Real, Text, Sign}
+use Rattle.chi_token.specs.declared.token.Token.TheVariants.{Int, Real}
 use Rattle.chi_core.specs.declared.program.CExpr.{CExpr}
 use Rattle.chi_core.specs.declared.program.CExpr.TheVariants.{Lit, Widen}
 

@@ -8,13 +8,17 @@ use chi_io::{Sink, put_all};
 pub const NOT_WRITTEN: u8 = 5;
 
 /// Puts the output and then the log. The first failure ends it.
-pub fn deliver<O: Sink, L: Sink>(status: u8, out: &mut O, output: &[u8], log: &mut L, lines: &[u8]) -> u8
+pub fn deliver<O: Sink, L: Sink>(
+    status: u8,
+    out: &mut O,
+    output: &[u8],
+    log: &mut L,
+    lines: &[u8],
+) -> u8
     requires out_goes { O.stopped out.old ≡ false }
     requires log_goes { L.stopped log.old ≡ false }
-    ensures {
-        Delivers status output.now lines.now result
-            (sink_use O.taken O.faults O.stopped out.old out.new) (sink_use L.taken L.faults L.stopped log.old log.new)
-    }
+    ensures { Delivers status output.now lines.now result
+        (sink_use O.taken O.faults O.stopped out.old out.new) (sink_use L.taken L.faults L.stopped log.old log.new) }
 {
     if put_all(out, output).is_err() {
         return NOT_WRITTEN;

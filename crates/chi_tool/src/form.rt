@@ -1,21 +1,55 @@
 ghost use Rattle.std.specs.Prelude.{◌≡◌, ◌<◌, bytes_eq, option_map, length, IfOk, IfSome, Some, ◌++◌, ◌∷◌, []};
 ghost use Rattle.std.specs.List.{list_any};
-ghost use Rattle.chi_tool.specs.Form.{is_predefined, has_format, is_word, is_sign, name_of, text_of, ends, is_last, next_of, written, delayed,
-    statement_at, statements_from, named, model_of, program_of};
+ghost use Rattle.chi_tool.specs.Form.{
+  is_predefined,
+  has_format,
+  is_word,
+  is_sign,
+  name_of,
+  text_of,
+  ends,
+  is_last,
+  next_of,
+  written,
+  delayed,
+  statement_at,
+  statements_from,
+  named,
+  model_of,
+  program_of,
+};
 
-use std::alloc::Global;
-
+use crate::literal::literal_of;
 use chi_base::{Items, NoMemory};
 use chi_core::{CAlt, CComm, CExpr, CStat, Core, ProcDef};
 use chi_token::{Bytes, Keyword, Sign, Spanned, Token};
-
-use crate::literal::literal_of;
+use std::alloc::Global;
 
 /// The names to which the language gives a meaning of its own.
 pub static PREDEFINED: [&str; 23] = [
-    "abs", "sign", "min", "max", "floor", "ceil", "round", "size", "empty", "pop", "del", "insert",
-    "range", "enumerate", "dict_keys", "dict_values", "constant", "uniform", "bernoulli", "binomial",
-    "ready", "finished", "exponential",
+    "abs",
+    "sign",
+    "min",
+    "max",
+    "floor",
+    "ceil",
+    "round",
+    "size",
+    "empty",
+    "pop",
+    "del",
+    "insert",
+    "range",
+    "enumerate",
+    "dict_keys",
+    "dict_values",
+    "constant",
+    "uniform",
+    "bernoulli",
+    "binomial",
+    "ready",
+    "finished",
+    "exponential",
 ];
 
 fn is_among(name: &[u8], names: &[&str]) -> bool
@@ -78,7 +112,8 @@ fn ends(tokens: &[Spanned]) -> bool
 {
     match tokens {
         [end] => is_word(&end.token, Keyword::EndWord),
-        [end, semicolon] => is_word(&end.token, Keyword::EndWord) && is_sign(&semicolon.token, Sign::Semicolon),
+        [end, semicolon] => is_word(&end.token, Keyword::EndWord)
+            && is_sign(&semicolon.token, Sign::Semicolon),
         _ => false,
     }
 }
@@ -123,10 +158,13 @@ struct Read<'a> {
     rest: &'a [Spanned],
 }
 
-fn written<'a>(alloc: Global, line: u32, ending: &[u8], tokens: &'a [Spanned]) -> Result<Option<Read<'a>>, NoMemory>
-    ensures read {
-        IfOk result (λ read. option_map (λ r. (r.statement, r.rest.now)) read ≡ written line ending.now tokens.now)
-    }
+fn written<'a>(
+    alloc: Global,
+    line: u32,
+    ending: &[u8],
+    tokens: &'a [Spanned],
+) -> Result<Option<Read<'a>>, NoMemory>
+    ensures read { IfOk result (λ read. option_map (λ r. (r.statement, r.rest.now)) read ≡ written line ending.now tokens.now) }
     ensures shorter { IfOk result (λ read. IfSome read (λ r. length r.rest.now < length tokens.now)) }
 {
     match tokens {
@@ -168,7 +206,11 @@ fn delay_of(alloc: Global, line: u32, length: CExpr) -> Result<CStat, NoMemory>
     Ok(CStat::Select(line, alternatives))
 }
 
-fn delayed<'a>(alloc: Global, line: u32, tokens: &'a [Spanned]) -> Result<Option<Read<'a>>, NoMemory>
+fn delayed<'a>(
+    alloc: Global,
+    line: u32,
+    tokens: &'a [Spanned],
+) -> Result<Option<Read<'a>>, NoMemory>
     ensures read { IfOk result (λ read. option_map (λ r. (r.statement, r.rest.now)) read ≡ delayed line tokens.now) }
     ensures shorter { IfOk result (λ read. IfSome read (λ r. length r.rest.now < length tokens.now)) }
 {
@@ -185,9 +227,7 @@ fn delayed<'a>(alloc: Global, line: u32, tokens: &'a [Spanned]) -> Result<Option
 }
 
 fn statement_at<'a>(alloc: Global, tokens: &'a [Spanned]) -> Result<Option<Read<'a>>, NoMemory>
-    ensures read {
-        IfOk result (λ read. option_map (λ r. (r.statement, r.rest.now)) read ≡ statement_at tokens.now)
-    }
+    ensures read { IfOk result (λ read. option_map (λ r. (r.statement, r.rest.now)) read ≡ statement_at tokens.now) }
     ensures shorter { IfOk result (λ read. IfSome read (λ r. length r.rest.now < length tokens.now)) }
 {
     match tokens {
@@ -222,7 +262,10 @@ fn statements(alloc: Global, tokens: &[Spanned]) -> Result<Option<Items<CStat>>,
         match read {
             None => return Ok(None),
             Some(read) => {
-                let Read { statement, rest: after } = read;
+                let Read {
+                    statement,
+                    rest: after,
+                } = read;
                 found.push(statement)?;
                 if is_last(after) {
                     return Ok(Some(Items::of(alloc, found)?));

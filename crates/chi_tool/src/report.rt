@@ -3,14 +3,12 @@ ghost use Rattle.std.specs.Fmt.{decimal};
 ghost use Rattle.chi_tool.specs.Form.{program_of};
 ghost use Rattle.chi_tool.specs.Report.{IsReportOfProgram, IsReportOfReading, IsReportOfSource, refused, placed};
 
-use std::alloc::Global;
-
+use crate::form::program_of;
+use crate::run::run;
 use chi_base::NoMemory;
 use chi_lex::{LexFault, MOST_BYTES, lex};
 use chi_token::{Place, Spanned};
-
-use crate::form::program_of;
-use crate::run::run;
+use std::alloc::Global;
 
 /// The status of a source with a lexical fault.
 const LEXICAL: u8 = 20;
@@ -42,9 +40,7 @@ pub fn report_of(alloc: Global, source: &[u8]) -> Result<Reported, NoMemory>
 }
 
 fn report_of_tokens(alloc: Global, tokens: &[Spanned]) -> Result<Reported, NoMemory>
-    ensures {
-        IfOk result (λ r. IsReportOfProgram (program_of tokens.now) (record { status = r.status; out = r.out.items; log = r.log.items }))
-    }
+    ensures { IfOk result (λ r. IsReportOfProgram (program_of tokens.now) (record { status = r.status; out = r.out.items; log = r.log.items })) }
 {
     let program = program_of(alloc, tokens)?;
     match program {
@@ -54,9 +50,7 @@ fn report_of_tokens(alloc: Global, tokens: &[Spanned]) -> Result<Reported, NoMem
 }
 
 fn lexical(alloc: Global, place: Place, what: &str) -> Result<Reported, NoMemory>
-    ensures {
-        IfOk result (λ r. record { status = r.status; out = r.out.items; log = r.log.items } ≡ refused LEXICAL (placed place what.now))
-    }
+    ensures { IfOk result (λ r. record { status = r.status; out = r.out.items; log = r.log.items } ≡ refused LEXICAL (placed place what.now)) }
 {
     let mut text = Vec::new(alloc);
     text.extend_from_slice(b"line ")?;
@@ -71,9 +65,7 @@ fn lexical(alloc: Global, place: Place, what: &str) -> Result<Reported, NoMemory
 }
 
 fn refused(alloc: Global, status: u8, text: &[u8]) -> Result<Reported, NoMemory>
-    ensures {
-        IfOk result (λ r. record { status = r.status; out = r.out.items; log = r.log.items } ≡ refused status text.now)
-    }
+    ensures { IfOk result (λ r. record { status = r.status; out = r.out.items; log = r.log.items } ≡ refused status text.now) }
 {
     let mut log = Vec::from_slice(alloc, text)?;
     log.push(b'\n')?;

@@ -3,13 +3,11 @@ ghost use Rattle.chi_core.specs.VerdictLine.{verdict_line_of};
 ghost use Rattle.chi_tool.specs.Report.{IsRunReport, run_report, status_of};
 ghost use Rattle.chi_tool.specs.Turns.{GoesOn, PicksFirst};
 
-use std::alloc::Global;
-
+use crate::report::Reported;
 use chi_base::NoMemory;
 use chi_core::{Core, Label, Verdict, verdict_line};
 use chi_plain::{Plain, Stepped};
-
-use crate::report::Reported;
+use std::alloc::Global;
 
 /// The bound on the costs of all steps together.
 const MOST_STEPS: u64 = 10_000_000;
@@ -25,15 +23,22 @@ fn status_of(verdict: &Verdict) -> u8
     }
 }
 
-fn reported(alloc: Global, verdict: &Verdict, clock: i64, out: Vec<u8>) -> Result<Reported, NoMemory>
-    ensures {
-        IfOk result (λ r. record { status = r.status; out = r.out.items; log = r.log.items }
-            ≡ run_report (record { verdict = verdict.now; clock = clock; output = out.items }))
-    }
+fn reported(
+    alloc: Global,
+    verdict: &Verdict,
+    clock: i64,
+    out: Vec<u8>,
+) -> Result<Reported, NoMemory>
+    ensures { IfOk result (λ r. record { status = r.status; out = r.out.items; log = r.log.items }
+        ≡ run_report (record { verdict = verdict.now; clock = clock; output = out.items })) }
 {
     let mut log = Vec::new(alloc);
     verdict_line(alloc, verdict, clock, &mut log)?;
-    Ok(Reported { status: status_of(verdict), out, log })
+    Ok(Reported {
+        status: status_of(verdict),
+        out,
+        log,
+    })
 }
 
 /// The label that comes next where the first choice is taken each time.

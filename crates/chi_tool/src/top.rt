@@ -2,50 +2,60 @@ ghost use Rattle.std.specs.Prelude.{◌≡◌, false, map};
 ghost use Rattle.chi_tool.specs.Call.{Call, sink_use, shelf_use};
 ghost use Rattle.chi_tool.specs.Headline.{Headline, Causes, IsComplete};
 
-use std::alloc::Global;
-
-use chi_io::{Shelf, Sink};
-
 use crate::deliver::deliver;
 use crate::serve::serve;
 use crate::words::asked_file;
+use chi_io::{Shelf, Sink};
+use std::alloc::Global;
 
 /// The status where the words are no request.
 const NO_REQUEST: u8 = 3;
 
 /// Does what the words ask for, and answers the status. `words` are those of the command line without
 /// the program's name.
-pub fn chi<H: Shelf, O: Sink, L: Sink>(alloc: Global, words: &[&str], shelf: &mut H, out: &mut O, log: &mut L) -> u8
+pub fn chi<H: Shelf, O: Sink, L: Sink>(
+    alloc: Global,
+    words: &[&str],
+    shelf: &mut H,
+    out: &mut O,
+    log: &mut L,
+) -> u8
     requires out_goes { O.stopped out.old ≡ false }
     requires log_goes { L.stopped log.old ≡ false }
 
     // The status and every byte are those of the report of these words and files.
-    ensures headline {
-        Headline (record {
-            words = map (λ word. word.now) words.now; status = result;
-            shelf = shelf_use H.files H.faults shelf.old shelf.new;
-            out = sink_use O.taken O.faults O.stopped out.old out.new;
-            log = sink_use L.taken L.faults L.stopped log.old log.new })
-    }
+    ensures headline { Headline (record {
+      words = map (λ word. word.now) words.now;
+      status = result;
+      shelf = shelf_use H.files H.faults shelf.old shelf.new;
+      out = sink_use O.taken O.faults O.stopped out.old out.new;
+      log = sink_use L.taken L.faults L.stopped log.old log.new;
+    }) }
     // Each status has its cause.
-    ensures causes {
-        Causes (record {
-            words = map (λ word. word.now) words.now; status = result;
-            shelf = shelf_use H.files H.faults shelf.old shelf.new;
-            out = sink_use O.taken O.faults O.stopped out.old out.new;
-            log = sink_use L.taken L.faults L.stopped log.old log.new })
-    }
+    ensures causes { Causes (record {
+      words = map (λ word. word.now) words.now;
+      status = result;
+      shelf = shelf_use H.files H.faults shelf.old shelf.new;
+      out = sink_use O.taken O.faults O.stopped out.old out.new;
+      log = sink_use L.taken L.faults L.stopped log.old log.new;
+    }) }
     // A program that is asked for is run to its end.
-    ensures complete {
-        IsComplete (record {
-            words = map (λ word. word.now) words.now; status = result;
-            shelf = shelf_use H.files H.faults shelf.old shelf.new;
-            out = sink_use O.taken O.faults O.stopped out.old out.new;
-            log = sink_use L.taken L.faults L.stopped log.old log.new })
-    }
+    ensures complete { IsComplete (record {
+      words = map (λ word. word.now) words.now;
+      status = result;
+      shelf = shelf_use H.files H.faults shelf.old shelf.new;
+      out = sink_use O.taken O.faults O.stopped out.old out.new;
+      log = sink_use L.taken L.faults L.stopped log.old log.new;
+    }) }
 {
     match asked_file(words) {
         Some(file) => serve(alloc, file.as_bytes(), shelf, out, log),
-        None => deliver(NO_REQUEST, out, b"", log, b"usage: chi COMMAND [OPTIONS] FILE [ARGS]\n"),
+        None => deliver(
+            NO_REQUEST,
+            out,
+            b"",
+            log,
+            b"usage: chi COMMAND [OPTIONS] FILE [ARGS]\n",
+        ),
     }
 }

@@ -1,4 +1,4 @@
-use Rattle.std.proofs.Common.{rules, sym, ◌∙◌, w64, FitsSigned}
+use Rattle.std.proofs.Common.{rules, sym, w64, FitsSigned}
 use Rattle.chi_tool.proofs.LiteralLemmas.{real-ok, real-none, real-minus}
 use Rattle.chi_tool.proofs.literal.real_literal.Goals as goal
 

@@ -1,4 +1,4 @@
-use Rattle.chi_tool.proofs.TurnLemmas.{has_option, first-advance, first-option}
+use Rattle.chi_tool.proofs.TurnLemmas.{has_option}
 use Rattle.chi_tool.proofs.run.first_label.Goals as goal
 
 pub option_at-requires : goal.option_at-requires

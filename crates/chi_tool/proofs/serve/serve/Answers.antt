@@ -8,8 +8,8 @@ returns-in-Ok g c =
     let report : Report = record { status = c.in-Ok.report.status; out = c.in-Ok.report.out.items; log = c.in-Ok.report.log.items } in
     let P : List ℕ → Type 0 = λ source. IsReportOfSource source report in
     reported c.in-Bytes.source.items c.in-Bytes.ensures.answer.0 c.in-Bytes.ensures.answer.1 report
-        (subst P c.deref.ensures.value c.in-Ok.ensures)
-        (rw (c.deref-in-Ok.ensures.value, c.deref-in-Ok-2.ensures.value) at c.deliver.ensures)
+    (subst P c.deref.ensures.value c.in-Ok.ensures)
+    (rw (c.deref-in-Ok.ensures.value, c.deref-in-Ok-2.ensures.value) at c.deliver.ensures)
 
 pub returns-in-NoSuch : goal.returns-in-NoSuch
 returns-in-NoSuch g c = missing c.in-NoSuch.ensures.answer c.deliver-in-NoSuch.ensures

@@ -1,6 +1,6 @@
 use Rattle.std.proofs.Common.{sym}
 use Rattle.chi_tool.proofs.Promises.{served-headline, usage-headline}
-use Rattle.chi_tool.proofs.Causes.{served-causes, served-complete, usage-causes, usage-complete}
+use Rattle.chi_tool.proofs.Causes.{served-causes, served-complete, usage-causes}
 use Rattle.chi_tool.proofs.top.chi.Goals as goal
 
 pub returns-in-Some-clause-headline : goal.returns-in-Some-clause-headline
