@@ -1,5 +1,5 @@
 -- Facts on lists: elements by their places.
-use Rattle.std.proofs.Common.{◌≡◌, ℕ, zero, suc, ◌+◌, ◌<◌, List, [], ◌∷◌, ◌++◌, Option, Some, None, Bool, true, false, length, get_or, ◌⊎◌, inl, inr, sym, ◌∙◌, ap, subst, refl, arith}
+use Rattle.std.proofs.Common.{◌≡◌, ℕ, zero, suc, ◌<◌, List, [], ◌∷◌, ◌++◌, Some, Bool, true, false, length, ◌⊎◌, inl, inr, subst, refl, arith}
 use Rattle.std.specs.Prelude.{filter, cond, slice_set}
 use Rattle.std.specs.List.{slice_get, Contains, flat_map}
 use Rattle.std.proofs.lemmas.Option.{slice_get_within, get_or_from_slice_get}

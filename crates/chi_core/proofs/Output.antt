@@ -1,13 +1,12 @@
 -- What may come next doesn't depend on what was written.
-use Rattle.std.proofs.Common.{◌≡◌, ℕ, zero, suc, ◌+◌, ◌*◌, List, [], ◌∷◌, Option, Some, None, length, refl, ◌∙◌, ap}
+use Rattle.std.proofs.Common.{◌≡◌, ℕ, ◌+◌, ◌*◌, List, [], ◌∷◌, Option, Some, None, length, refl, ◌∙◌, ap}
 use Rattle.std.specs.Prelude.{nat_lt, filter}
 use Rattle.std.specs.List.{slice_get, flat_map}
 use Rattle.std.specs.Option.{option_and_then}
 use Rattle.chi_core.specs.declared.label.Label.{Label}
-use Rattle.chi_core.specs.declared.verdict.Verdict.{Verdict}
 use Rattle.chi_core.specs.Config.{Config, Instance, Offer, Delay, State, Running, Waiting, Finished}
 use Rattle.chi_core.specs.Options.{numbers, options_for, options_in, options_of, options, actors, enabled_of, enabled, ending_of, ending}
-use Rattle.chi_core.specs.Picks.{Pick, picked_from, picked_option, picked_among, picked_label}
+use Rattle.chi_core.specs.Picks.{Pick, picked_from, picked_among, picked_label}
 
 -- the configuration, where so much was written
 abbrev pub showing : Config → List ℕ → Config

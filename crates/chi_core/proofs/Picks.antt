@@ -1,21 +1,20 @@
 -- What a policy picks: an enabled label, where there is one, and so exactly one run.
-use Rattle.std.proofs.Common.{◌≡◌, ℕ, zero, suc, ◌+◌, ◌*◌, ◌-◌, ◌<◌, ◌≤◌, ℤ, List, [], ◌∷◌, ◌++◌, Option, Some, None, Bool, true, false, length, ◌⊎◌, inl, inr, sym, ◌∙◌, ap, subst, refl, arith}
+use Rattle.std.proofs.Common.{◌≡◌, ℕ, zero, suc, ◌+◌, ◌*◌, ◌-◌, ◌<◌, ◌≤◌, List, [], ◌∷◌, Option, Some, None, true, length, inl, inr, sym, ◌∙◌, ap, subst, refl, arith}
 use Rattle.std.specs.Prelude.{nat_lt, IsSomeAnd}
-use Rattle.std.specs.List.{slice_get, Contains, flat_map}
+use Rattle.std.specs.List.{Contains}
 use Rattle.std.specs.Option.{option_and_then, option_to_list}
 use Rattle.chi_core.specs.declared.program.Core.{Core}
 use Rattle.chi_core.specs.declared.label.Label.{Label}
-use Rattle.chi_core.specs.declared.label.Label.TheVariants.{Advance}
 use Rattle.chi_core.specs.declared.verdict.Verdict.{Verdict}
 use Rattle.chi_core.specs.declared.verdict.Verdict.TheVariants.{OutOfSteps}
 use Rattle.chi_core.specs.Config.{Config, start}
 use Rattle.chi_core.specs.Step.{Outcome, Next, Over, Spent, Wrong, due_times, step}
 use Rattle.chi_core.specs.Options.{numbers, options, actors, advance_of, enabled_of, enabled, rest_verdict, ending, ending_of}
-use Rattle.chi_core.specs.Runs.{End, end_at, After, IsAtRest, IsCutOff, Runs, MayDerive, Derivation}
-use Rattle.chi_core.specs.Picks.{Pick, IsLawful, picked_from, picked_option, picked_among, picked_label, MayPick, PicksFrom, Picked}
+use Rattle.chi_core.specs.Runs.{End, end_at, After, IsAtRest, Runs, MayDerive, Derivation}
+use Rattle.chi_core.specs.Picks.{Pick, IsLawful, picked_from, picked_option, picked_among, MayPick, PicksFrom, Picked}
 use Rattle.chi_core.proofs.Lists.{Contains-from_slice_get, Contains-flat_map, filter-passes, some_below}
 use Rattle.chi_core.proofs.Runs.{Runs-map, Runs-rests, Runs-cut, Runs-on, Runs-over}
-use Rattle.chi_core.proofs.Settled.{IsSettled, IsSettled-start, HasStep, goes, ends, stops, IsOption, IsOption-from, option-has_step, advance-has_step}
+use Rattle.chi_core.proofs.Settled.{IsSettled, IsSettled-start, HasStep, goes, ends, stops, IsOption-from, option-has_step, advance-has_step}
 
 -- what is picked of two lists in turn
 picked_option-parts : (pick : Pick) (turn : ℕ) (config : Config) (label : Label) (o : Option ℕ)

@@ -1,5 +1,5 @@
 -- Laws of runs in general.
-use Rattle.std.proofs.Common.{◌≡◌, ℕ, ◌+◌, ◌-◌, List, [], ◌∷◌, ◌⊎◌, inl, inr, sym, ◌∙◌, ap, subst, refl}
+use Rattle.std.proofs.Common.{◌≡◌, ℕ, ◌+◌, ◌-◌, List, [], ◌∷◌, inl, inr, sym, subst, refl}
 use Rattle.chi_core.specs.declared.program.Core.{Core}
 use Rattle.chi_core.specs.declared.label.Label.{Label}
 use Rattle.chi_core.specs.declared.verdict.Verdict.{Verdict}

@@ -1,7 +1,7 @@
 -- Configurations in which no Running instance is without an item: those that runs meet. In them each
 -- enabled label has a step.
-use Rattle.std.proofs.Common.{◌≡◌, ℕ, zero, suc, ◌+◌, ◌-◌, ◌<◌, ◌≤◌, ℤ, List, [], ◌∷◌, ◌++◌, Option, Some, None, Bool, true, false, cond, ◌⊎◌, inl, inr, sym, ◌∙◌, ap, subst, refl, arith}
-use Rattle.std.specs.List.{slice_get, slice_set, flat_map}
+use Rattle.std.proofs.Common.{◌≡◌, ℕ, zero, suc, ◌<◌, ◌≤◌, ℤ, List, [], ◌∷◌, ◌++◌, Option, Some, None, Bool, true, false, cond, ◌⊎◌, inl, inr, sym, ◌∙◌, ap, subst, refl, arith}
+use Rattle.std.specs.List.{slice_get}
 use Rattle.std.specs.Prelude.{int_lt, length, map}
 use Rattle.chi_core.specs.declared.program.Core.{Core}
 use Rattle.chi_core.specs.declared.program.CStat.{CStat, CStat-F, out-CStat}
@@ -9,10 +9,9 @@ use Rattle.chi_core.specs.declared.program.CAlt.{CAlt}
 use Rattle.chi_core.specs.declared.label.Label.{Label}
 use Rattle.chi_core.specs.declared.label.Label.TheVariants.{Local, Wake, Advance}
 use Rattle.chi_core.specs.declared.verdict.Verdict.{Verdict}
-use Rattle.chi_core.specs.declared.fault.FaultKind.{FaultKind}
 use Rattle.chi_core.specs.Config.{Config, Instance, Item, Do, Offer, Delay, State, Running, Waiting, Finished, settled, rested, with_instance, started, start}
 use Rattle.chi_core.specs.Opening.{Opened, Kept, Faulty, opened}
-use Rattle.chi_core.specs.Step.{Outcome, Next, Over, Spent, Wrong, Done, Does, Faults, waits, done, line_of, after_local, first_done, local, taken, woken_by, woken, offers_in, due_times, least_of, advanced, step}
+use Rattle.chi_core.specs.Step.{Next, Over, Spent, Done, Does, Faults, waits, done, line_of, after_local, first_done, local, taken, woken_by, woken, offers_in, due_times, least_of, advanced, step}
 use Rattle.chi_core.specs.Options.{numbers, options_for, options_in, options_of, options, advance_of}
 use Rattle.chi_core.proofs.Lists.{Joined, slice_get-flat_map, slice_get-set_cases}
 

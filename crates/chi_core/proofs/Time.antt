@@ -2,7 +2,6 @@
 use Rattle.std.proofs.Common.{◌≡◌, ℕ, zero, suc, ◌+◌, ◌-◌, ◌<◌, ◌≤◌, ℤ, List, [], ◌∷◌, ◌++◌, Option, Some, None, Bool, true, false, cond, length, ◌⊎◌, inl, inr, sym, ◌∙◌, ap, subst, refl, arith, length-append}
 use Rattle.std.specs.Prelude.{nat_lt, int_lt, ◌≤ℤ◌, IsSomeAnd}
 use borrow.Author.Tests.{ltb-false}
-use Rattle.std.specs.Int.{int_min}
 use Rattle.std.specs.Int.Signed.{≤ℤ_refl}
 use Rattle.std.proofs.lemmas.Int.{ints}
 use Rattle.std.specs.List.{slice_get, Contains, flat_map}
@@ -16,7 +15,7 @@ use Rattle.chi_core.specs.declared.verdict.Verdict.{Verdict}
 use Rattle.chi_core.specs.Config.{Config, Instance, Item, Do, Offer, Delay, State, Running, Waiting, Finished}
 use Rattle.chi_core.specs.Opening.{Opened, Kept, Faulty, opened}
 use Rattle.chi_core.specs.Step.{Outcome, Next, Over, Spent, Wrong, Done, Does, Faults, waits, done, line_of, after_local, first_done, local, woken_by, woken, offers_in, due_of, due_times, least_of, advanced, step}
-use Rattle.chi_core.specs.Options.{numbers, options_for, options_in, options_of, options, actors, advance_of, enabled_of, enabled, ending}
+use Rattle.chi_core.specs.Options.{numbers, options_for, options_in, options_of, options, actors, enabled_of, enabled, ending}
 use Rattle.chi_core.specs.Runs.{End, end_at, After, Runs, MayDerive}
 use Rattle.chi_core.proofs.Lists.{Joined, slice_get-flat_map, flat_map-none, filter-none}
 use Rattle.chi_core.proofs.Settled.{IsOption, own, wakes, IsOption-from}

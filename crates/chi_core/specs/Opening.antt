@@ -1,5 +1,5 @@
 -- Opening a select: what its alternatives offer, in order, or the first fault.
-use Rattle.std.specs.Prelude.{ℕ, ◌-◌, ◌^◌, ℤ, pos, negsuc, ◌+ℤ◌, ◌*ℤ◌, int_lt, Bool, not, ◌&&◌, Option, Some, None, List, [], ◌∷◌, if◌then◌else◌}
+use Rattle.std.specs.Prelude.{◌-◌, ◌^◌, ℤ, pos, negsuc, ◌+ℤ◌, ◌*ℤ◌, int_lt, Bool, not, ◌&&◌, Option, Some, None, List, [], ◌∷◌, if◌then◌else◌}
 use Rattle.chi_core.specs.declared.program.CStat.{CStat}
 use Rattle.chi_core.specs.declared.program.CAlt.{CAlt, CAlt-F, out-CAlt}
 use Rattle.chi_core.specs.declared.program.CComm.{CComm}

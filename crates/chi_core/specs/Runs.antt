@@ -1,5 +1,5 @@
 -- Runs: labels taken in turn, up to an end. A derivation takes any enabled label.
-use Rattle.std.specs.Prelude.{◌≡◌, ◌⊎◌, ℕ, ℤ, ◌+◌, ◌-◌, List, [], ◌∷◌, Option, Some, Contains, IsSomeAnd}
+use Rattle.std.specs.Prelude.{◌≡◌, ◌⊎◌, ℕ, ℤ, ◌+◌, ◌-◌, List, [], ◌∷◌, Contains, IsSomeAnd}
 use Rattle.chi_core.specs.declared.program.Core.{Core}
 use Rattle.chi_core.specs.declared.label.Label.{Label}
 use Rattle.chi_core.specs.declared.verdict.Verdict.{Verdict}

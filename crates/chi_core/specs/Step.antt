@@ -1,5 +1,5 @@
 -- Steps: what each label does to a configuration, and what it costs.
-use Rattle.std.specs.Prelude.{ℕ, zero, suc, ℤ, List, [], ◌∷◌, ◌++◌, Option, Some, None, map, slice_get, if◌then◌else◌}
+use Rattle.std.specs.Prelude.{ℕ, zero, suc, ℤ, List, [], ◌∷◌, ◌++◌, Option, Some, None, map, slice_get}
 use Rattle.std.specs.List.{flat_map}
 use Rattle.std.specs.Int.{int_min}
 use Rattle.chi_core.specs.declared.program.Core.{Core}
@@ -10,7 +10,7 @@ use Rattle.chi_core.specs.declared.label.Label.TheVariants.{Local, Wake, Advance
 use Rattle.chi_core.specs.declared.fault.FaultKind.{FaultKind}
 use Rattle.chi_core.specs.declared.verdict.Verdict.{Verdict}
 use Rattle.chi_core.specs.declared.verdict.Verdict.TheVariants.{Fault}
-use Rattle.chi_core.specs.Config.{Config, Instance, Item, Do, Offer, Delay, State, Running, Waiting, Finished, settled, with_instance, name_of}
+use Rattle.chi_core.specs.Config.{Config, Instance, Item, Do, Offer, Delay, State, Running, Waiting, Finished, with_instance, name_of}
 use Rattle.chi_core.specs.Opening.{Opened, Kept, Faulty, opened}
 
 -- A step goes on in a configuration, at a cost; or the run is over, with a verdict and an output; or the
