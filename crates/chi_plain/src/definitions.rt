@@ -3,8 +3,8 @@ ghost use Rattle.chi_core.specs.Config.{body_of, name_of};
 
 use chi_core::{CStat, Core};
 
-#[tactic(auto, using(crate::proofs::Lookups::looking_up))]
 /// The statements of a definition, and none where there is no such definition.
+#[tactic(auto, using(crate::proofs::Lookups::looking_up))]
 pub fn body_of(core: &Core, definition: u32) -> &[CStat]
     ensures { result.now ≡ body_of core.now.procs definition }
 {
@@ -14,8 +14,8 @@ pub fn body_of(core: &Core, definition: u32) -> &[CStat]
     }
 }
 
-#[tactic(auto, using(crate::proofs::Lookups::looking_up))]
 /// The name of a definition, and an empty one where there is no such definition.
+#[tactic(auto, using(crate::proofs::Lookups::looking_up))]
 pub fn name_of(core: &Core, definition: u32) -> &[u8]
     ensures { result.now ≡ name_of core.now.procs definition }
 {

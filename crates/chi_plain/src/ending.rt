@@ -9,8 +9,8 @@ use crate::offer::earlier;
 use chi_core::Verdict;
 
 impl<'a> Configuration<'a> {
-    #[tactic(auto, using(crate::proofs::Times::steps))]
     /// The least due time of all offers.
+    #[tactic(auto, using(crate::proofs::Times::steps))]
     pub fn least_due(&self) -> Option<i64>
         ensures { result ≡ least_in (due_times self.now) }
     {

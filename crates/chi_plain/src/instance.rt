@@ -46,8 +46,8 @@ impl<'a> Model for Instance<'a> {
     ghost invariant = { λ i. IsKept (todo i.term.items) (state_of i.state) };
 }
 
-#[tactic(auto, using(crate::proofs::Terms::terms))]
 /// Puts a body before what is left to do.
+#[tactic(auto, using(crate::proofs::Terms::terms))]
 fn put_first<'a>(term: &mut Vec<&'a CStat>, body: &'a [CStat]) -> Result<(), NoMemory>
     ensures { OnOk result (todo term.new.items ≡ map Do body.now ++ todo term.old.items) }
 {
@@ -59,8 +59,8 @@ fn put_first<'a>(term: &mut Vec<&'a CStat>, body: &'a [CStat]) -> Result<(), NoM
     Ok(())
 }
 
-#[tactic(auto, using(crate::proofs::Terms::terms))]
 /// What a Running instance is with so much left to do.
+#[tactic(auto, using(crate::proofs::Terms::terms))]
 fn running_or_finished<'a>(term: &[&'a CStat]) -> State<'a>
     ensures { state_of result ≡ rested (todo term.now) config.Running }
 {

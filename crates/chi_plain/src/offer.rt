@@ -65,8 +65,8 @@ pub fn due_count(offers: &[Offer], clock: i64) -> u64
     count
 }
 
-#[tactic(auto, using(crate::proofs::Numbers::due_counting))]
 /// The number of the alternative that is due as number `i` of those that are.
+#[tactic(auto, using(crate::proofs::Numbers::due_counting))]
 pub fn due_at(offers: &[Offer], clock: i64, i: u64) -> u32
     requires numbered { length offers.now < 2 ^ 32 }
     requires some { i < length (due_places clock offers.now) }
@@ -95,8 +95,8 @@ pub fn earlier(one: Option<i64>, other: Option<i64>) -> Option<i64>
     }
 }
 
-#[tactic(auto, using(crate::proofs::Times::steps))]
 /// The least due time.
+#[tactic(auto, using(crate::proofs::Times::steps))]
 pub fn least_due(offers: &[Offer]) -> Option<i64>
     ensures { result ≡ least_in (flat_map due_of offers.now) }
 {

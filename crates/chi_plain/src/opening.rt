@@ -67,8 +67,8 @@ fn offer_of(clock: i64, alternative: &CAlt) -> Offered<'_>
     }
 }
 
-#[tactic(auto, using(crate::proofs::Selects::keeping))]
 /// A select that is opened at a time.
+#[tactic(auto, using(crate::proofs::Selects::keeping))]
 pub fn open_select<'a>(
     alloc: Global,
     clock: i64,
