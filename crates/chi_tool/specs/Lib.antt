@@ -2,6 +2,7 @@ pub mod Words
 pub mod Literal
 pub mod Form
 pub mod Report
+pub mod Reported
 pub mod Call
 pub mod Headline
 pub mod Delivery

@@ -1,6 +1,7 @@
 ghost use Rattle.std.specs.Prelude.{◌≡◌, ◌≤◌, ◌∷◌, ◌++◌, [], codes, IfOk, length};
 ghost use Rattle.std.specs.Fmt.{decimal};
 ghost use Rattle.chi_tool.specs.Form.{program_of};
+ghost use Rattle.chi_tool.specs.Reported.{report_in};
 ghost use Rattle.chi_tool.specs.Report.{IsReportOfProgram, IsReportOfReading, IsReportOfSource, refused, placed};
 
 use crate::form::program_of;
@@ -28,7 +29,7 @@ pub struct Reported {
 #[tactic(auto, unfolding(crate::specs::Report::IsReportOfSource))]
 pub fn report_of(alloc: Global, source: &[u8]) -> Result<Reported, NoMemory>
     requires { length source.now ≤ MOST_BYTES }
-    ensures { IfOk result (λ r. IsReportOfSource source.now (record { status = r.status; out = r.out.items; log = r.log.items })) }
+    ensures { IfOk result (λ r. IsReportOfSource source.now (report_in r)) }
 {
     match lex(alloc, source) {
         Ok(tokens) => Ok(report_of_tokens(alloc, &tokens)?),
@@ -40,7 +41,7 @@ pub fn report_of(alloc: Global, source: &[u8]) -> Result<Reported, NoMemory>
 }
 
 fn report_of_tokens(alloc: Global, tokens: &[Spanned]) -> Result<Reported, NoMemory>
-    ensures { IfOk result (λ r. IsReportOfProgram (program_of tokens.now) (record { status = r.status; out = r.out.items; log = r.log.items })) }
+    ensures { IfOk result (λ r. IsReportOfProgram (program_of tokens.now) (report_in r)) }
 {
     let program = program_of(alloc, tokens)?;
     match program {
@@ -50,7 +51,7 @@ fn report_of_tokens(alloc: Global, tokens: &[Spanned]) -> Result<Reported, NoMem
 }
 
 fn lexical(alloc: Global, place: Place, what: &str) -> Result<Reported, NoMemory>
-    ensures { IfOk result (λ r. record { status = r.status; out = r.out.items; log = r.log.items } ≡ refused LEXICAL (placed place what.now)) }
+    ensures { IfOk result (λ r. report_in r ≡ refused LEXICAL (placed place what.now)) }
 {
     let mut text = Vec::new(alloc);
     text.extend_from_slice(b"line ")?;
@@ -65,7 +66,7 @@ fn lexical(alloc: Global, place: Place, what: &str) -> Result<Reported, NoMemory
 }
 
 fn refused(alloc: Global, status: u8, text: &[u8]) -> Result<Reported, NoMemory>
-    ensures { IfOk result (λ r. record { status = r.status; out = r.out.items; log = r.log.items } ≡ refused status text.now) }
+    ensures { IfOk result (λ r. report_in r ≡ refused status text.now) }
 {
     let mut log = Vec::from_slice(alloc, text)?;
     log.push(b'\n')?;

@@ -1,5 +1,6 @@
 ghost use Rattle.std.specs.Prelude.{◌≡◌, IfOk};
 ghost use Rattle.chi_core.specs.VerdictLine.{verdict_line_of};
+ghost use Rattle.chi_tool.specs.Reported.{report_in};
 ghost use Rattle.chi_tool.specs.Report.{IsRunReport, run_report, status_of};
 ghost use Rattle.chi_tool.specs.Turns.{GoesOn, PicksFirst};
 
@@ -29,7 +30,7 @@ fn reported(
     clock: i64,
     out: Vec<u8>,
 ) -> Result<Reported, NoMemory>
-    ensures { IfOk result (λ r. record { status = r.status; out = r.out.items; log = r.log.items }
+    ensures { IfOk result (λ r. report_in r
         ≡ run_report (record { verdict = verdict.now; clock = clock; output = out.items })) }
 {
     let mut log = Vec::new(alloc);
@@ -55,7 +56,7 @@ fn first_label(plain: &Plain<'_>) -> Label
 
 /// The report of a program's run, in which the first choice is taken each time.
 pub fn run(alloc: Global, core: &Core) -> Result<Reported, NoMemory>
-    ensures { IfOk result (λ r. IsRunReport core.now (record { status = r.status; out = r.out.items; log = r.log.items })) }
+    ensures { IfOk result (λ r. IsRunReport core.now (report_in r)) }
 {
     let mut plain = Plain::new(alloc, core)?;
     let mut out = Vec::new(alloc);
