@@ -1,0 +1,10 @@
+pub mod Rooms
+pub mod Rules
+pub mod Trees
+pub mod Fronts
+pub mod Exact
+pub mod Lookahead
+pub mod Fine
+pub mod Runs
+pub mod Reads
+pub mod Sample
