@@ -56,14 +56,14 @@ slice_range-all : {A : Type 0} (ts : List A) → slice_range ts 0 (length ts) �
 slice_range-all ts = let all : length ts - 0 ≡ length ts = omega arith in ap (λ n. take n ts) all ∙ take-length ts
 
 module _ {A S : Type 0} (g : Grammar A S) (tokens : List A) (r : Rule A S) where
-  all_to : (any : Room) (t : Tree A S) → Is g any r t → spelling t ≡ tokens → TreeTo g tokens any r 0 (length tokens)
+  pub all_to : (any : Room) (t : Tree A S) → Is g any r t → spelling t ≡ tokens → TreeTo g tokens any r 0 (length tokens)
   all_to any t p e = record {
     tree = t;
     is = p;
     stands = record { ordered = omega arith; inside = omega arith; same = slice_range-all tokens ∙ sym e };
   }
 
-  front_of : (any : Room) (at k : ℕ) → TreeTo g tokens any r at k → FrontTo g tokens any r at k
+  pub front_of : (any : Room) (at k : ℕ) → TreeTo g tokens any r at k → FrontTo g tokens any r at k
   front_of any at k t = record { begins = spelling t.tree; is = front.whole t.is refl; stands = t.stands }
 
   -- a tree that goes up to the last token

@@ -17,6 +17,9 @@ pub mod Answers
 pub mod Exact
 pub mod OneTree
 pub mod OneAnswer
+pub mod OneWhole
+pub mod Ends
+pub mod SomeWhole
 pub mod Prefixes
 pub mod Exits
 pub mod Loops

@@ -5,7 +5,7 @@ ghost use Rattle.chi_grammar.specs.declared.room.Room.{Room};
 ghost use Rattle.chi_grammar.specs.Rules.{Grammar, Rule, Tree, spelling};
 ghost use Rattle.chi_grammar.specs.Trees.{Is};
 ghost use Rattle.chi_grammar.specs.Fronts.{Front};
-ghost use Rattle.chi_grammar.specs.Exact.{Parses};
+ghost use Rattle.chi_grammar.specs.Exact.{Parses, ParsesAll};
 ghost use Rattle.chi_grammar.specs.Lookahead.{Table};
 ghost use Rattle.chi_grammar.specs.Fine.{Fine, is_decided};
 
@@ -39,5 +39,18 @@ pub fn one_answer_law<A, S, T>()
         → (r : Rule A S) → is_decided table r ≡ true
         → (view : Tree A S → T) (tokens : List A) (room : Room) (at : ℕ) (result other : Result (T × ℕ) ParseFault)
         → Parses g tokens view room r at result → Parses g tokens view room r at other
+        → (result ≡ Err NoMemory) ⊎ ((other ≡ Err NoMemory) ⊎ (result ≡ other)) }
+{}
+
+/// In a grammar that one token decides, the same holds of an answer for all the tokens, and there is one.
+pub fn whole_answer_law<A, S, T>()
+    ensures some { (g : Grammar A S) (table : Table S) → Fine g table
+        → (r : Rule A S) → is_decided table r ≡ true
+        → (view : Tree A S → T) (tokens : List A) (room : Room)
+        → (result : Result T ParseFault) × (result ≡ Err NoMemory → ⊥) × ParsesAll g tokens view room r result }
+    ensures one { (g : Grammar A S) (table : Table S) → Fine g table
+        → (r : Rule A S) → is_decided table r ≡ true
+        → (view : Tree A S → T) (tokens : List A) (room : Room) (result other : Result T ParseFault)
+        → ParsesAll g tokens view room r result → ParsesAll g tokens view room r other
         → (result ≡ Err NoMemory) ⊎ ((other ≡ Err NoMemory) ⊎ (result ≡ other)) }
 {}

@@ -7,7 +7,7 @@ mod laws;
 mod room;
 
 pub use fault::ParseFault;
-pub use laws::{front_law, one_answer_law, one_tree_law, room_law};
+pub use laws::{front_law, one_answer_law, one_tree_law, room_law, whole_answer_law};
 pub use room::{Nesting, Room};
 
 #[cfg(test)]

@@ -1,5 +1,7 @@
 use crate::sums::{parse_all, parse_line, parse_sum};
-use crate::{Nesting, ParseFault, Room, front_law, one_answer_law, one_tree_law, room_law};
+use crate::{
+    Nesting, ParseFault, Room, front_law, one_answer_law, one_tree_law, room_law, whole_answer_law,
+};
 use chi_base::NoMemory;
 use std::test::Fail;
 
@@ -89,4 +91,5 @@ fn the_laws_hold_of_any_grammar() {
     front_law::<u8, u8>();
     room_law::<u8, u8>();
     one_answer_law::<u8, u8, bool>();
+    whole_answer_law::<u8, u8, bool>();
 }

@@ -1,0 +1,17 @@
+pub mod Fine
+pub mod ExprWords
+pub mod BuiltTokens
+pub mod ClassTokens
+pub mod ExprTokens
+pub mod Made
+pub mod ShownTokens
+pub mod ExprSpelling
+pub mod StatementTokens
+pub mod StatementSpelling
+pub mod ProgramSpelling
+pub mod ShownFormed
+pub mod ExprFormed
+pub mod FormedBuilt
+pub mod ExprLaw
+pub mod Rest
+pub mod SlicePut

@@ -1,0 +1,15 @@
+pub mod Classes
+pub mod Parts
+pub mod Tokens
+pub mod View
+pub mod Statements
+pub mod Rules
+pub mod Begins
+pub mod GoesOn
+pub mod Tables
+pub mod Limits
+pub mod Words
+pub mod Levels
+pub mod Formed
+pub mod Spell
+pub mod SpellStatements

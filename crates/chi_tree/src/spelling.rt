@@ -1,0 +1,32 @@
+//! The tokens of a tree, one after the other.
+
+mod definitions;
+mod elements;
+mod exprs;
+mod parts;
+mod speller;
+mod statements;
+mod types;
+mod words;
+
+ghost use Rattle.std.specs.Prelude.{◌≡◌, IfOk};
+ghost use Rattle.chi_tree.specs.SpellStatements.{spelled};
+
+use crate::definition::Program;
+use chi_base::NoMemory;
+use chi_token::Token;
+use speller::Speller;
+use std::alloc::Global;
+
+/// The tokens of a source.
+pub fn spell(alloc: Global, tree: &Program) -> Result<Vec<Token>, NoMemory>
+    ensures spelled { IfOk result (λ tokens. tokens.items ≡ spelled tree.now) }
+{
+    let mut speller = Speller {
+        alloc,
+        tokens: Vec::new(alloc),
+    };
+    speller.items(tree.items.as_slice())?;
+    let Speller { tokens, .. } = speller;
+    Ok(tokens)
+}

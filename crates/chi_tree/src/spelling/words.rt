@@ -1,0 +1,82 @@
+ghost use Rattle.std.specs.Prelude.{◌≡◌};
+ghost use Rattle.chi_tree.specs.Words.{operator_token, relation_token, prefix_token, cast_token, type_token, truth_token};
+
+use crate::operator::{CastWord, Operator, PrefixSign, RelationSign};
+use crate::type_tree::TypeWord;
+use chi_token::{Keyword, Sign, Token};
+
+pub(super) fn operator_token(operator: Operator) -> Token
+    ensures { result ≡ operator_token operator }
+{
+    match operator {
+        Operator::Or => Token::Word(Keyword::OrWord),
+        Operator::And => Token::Word(Keyword::AndWord),
+        Operator::Add => Token::Sign(Sign::Plus),
+        Operator::Subtract => Token::Sign(Sign::Minus),
+        Operator::Multiply => Token::Sign(Sign::Star),
+        Operator::Divide => Token::Sign(Sign::Slash),
+        Operator::DivideWhole => Token::Word(Keyword::DivWord),
+        Operator::Remainder => Token::Word(Keyword::ModWord),
+    }
+}
+
+pub(super) fn relation_token(sign: RelationSign) -> Token
+    ensures { result ≡ relation_token sign }
+{
+    match sign {
+        RelationSign::Less => Token::Sign(Sign::Less),
+        RelationSign::LessEqual => Token::Sign(Sign::LessEqual),
+        RelationSign::Equal => Token::Sign(Sign::Equal),
+        RelationSign::NotEqual => Token::Sign(Sign::NotEqual),
+        RelationSign::Greater => Token::Sign(Sign::Greater),
+        RelationSign::GreaterEqual => Token::Sign(Sign::GreaterEqual),
+        RelationSign::In => Token::Word(Keyword::InWord),
+        RelationSign::Sub => Token::Word(Keyword::SubWord),
+    }
+}
+
+pub(super) fn prefix_token(sign: PrefixSign) -> Token
+    ensures { result ≡ prefix_token sign }
+{
+    match sign {
+        PrefixSign::Not => Token::Word(Keyword::NotWord),
+        PrefixSign::Minus => Token::Sign(Sign::Minus),
+        PrefixSign::Plus => Token::Sign(Sign::Plus),
+        PrefixSign::Sample => Token::Word(Keyword::SampleWord),
+    }
+}
+
+pub(super) fn cast_token(word: CastWord) -> Token
+    ensures { result ≡ cast_token word }
+{
+    match word {
+        CastWord::Int => Token::Word(Keyword::IntWord),
+        CastWord::Real => Token::Word(Keyword::RealWord),
+        CastWord::Text => Token::Word(Keyword::StringWord),
+        CastWord::Bool => Token::Word(Keyword::BoolWord),
+        CastWord::Timer => Token::Word(Keyword::TimerWord),
+    }
+}
+
+pub(super) fn type_token(word: TypeWord) -> Token
+    ensures { result ≡ type_token word }
+{
+    match word {
+        TypeWord::Bool => Token::Word(Keyword::BoolWord),
+        TypeWord::Int => Token::Word(Keyword::IntWord),
+        TypeWord::Real => Token::Word(Keyword::RealWord),
+        TypeWord::Text => Token::Word(Keyword::StringWord),
+        TypeWord::Timer => Token::Word(Keyword::TimerWord),
+        TypeWord::Inst => Token::Word(Keyword::InstWord),
+    }
+}
+
+pub(super) fn truth_token(truth: bool) -> Token
+    ensures { result ≡ truth_token truth }
+{
+    if truth {
+        Token::Word(Keyword::TrueWord)
+    } else {
+        Token::Word(Keyword::FalseWord)
+    }
+}

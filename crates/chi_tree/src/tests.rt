@@ -1,0 +1,149 @@
+use crate::{
+    Class, Definition, Expr, Formal, Item, Link, MOST_BLOCKS, MOST_EXPRESSIONS, Name, Operator,
+    Postfix, PrefixSign, Program, Statement, Step, Target, TypeTree, TypeWord, formed_law, spell,
+    spelling_law, whole_room,
+};
+use chi_base::{Boxed, Items, NoMemory};
+use chi_token::{Bytes, Keyword, Place, Sign, Token, spelling};
+use std::alloc::Global;
+use std::test::Fail;
+
+const HERE: Place = Place { line: 1, column: 1 };
+
+fn name(alloc: Global, text: &[u8]) -> Result<Name, NoMemory> {
+    Ok(Name {
+        text: Bytes::copy_of(alloc, text)?,
+        place: HERE,
+    })
+}
+
+fn named(alloc: Global, text: &[u8]) -> Result<Boxed<Expr>, NoMemory> {
+    Ok(Boxed::new(alloc, Expr::Named(name(alloc, text)?))?)
+}
+
+fn int(alloc: Global, digits: &[u8]) -> Result<Boxed<Expr>, NoMemory> {
+    Ok(Boxed::new(alloc, Expr::Int(Bytes::copy_of(alloc, digits)?, HERE))?)
+}
+
+/// `x [ : 2 : ] - - y`
+fn difference(alloc: Global) -> Result<Expr, NoMemory> {
+    let mut parts = Vec::new(alloc);
+    parts.push(Postfix::Slice(HERE, None, Some(int(alloc, b"2")?), true, None))?;
+    let whole = Expr::Part(named(alloc, b"x")?, Items::of(alloc, parts)?);
+    let mut links = Vec::new(alloc);
+    links.push(Link {
+        operator: Operator::Subtract,
+        place: HERE,
+        operand: Expr::Prefix(PrefixSign::Minus, HERE, named(alloc, b"y")?),
+    })?;
+    Ok(Expr::Chain(Boxed::new(alloc, whole)?, Items::of(alloc, links)?))
+}
+
+/// `tuple ( int a , b )`
+fn two_fields(alloc: Global) -> Result<TypeTree, NoMemory> {
+    let mut fields = Vec::new(alloc);
+    fields.push(Formal {
+        ty: Some(Boxed::new(alloc, TypeTree::Word(TypeWord::Int, HERE))?),
+        name: name(alloc, b"a")?,
+    })?;
+    fields.push(Formal {
+        ty: None,
+        name: name(alloc, b"b")?,
+    })?;
+    Ok(TypeTree::Tuple(HERE, Items::of(alloc, fields)?))
+}
+
+/// `while true : x = 2 ; break end`
+fn loop_of_two(alloc: Global) -> Result<Statement, NoMemory> {
+    let mut targets = Vec::new(alloc);
+    targets.push(Target {
+        name: name(alloc, b"x")?,
+        steps: Items::of(alloc, Vec::new(alloc))?,
+    })?;
+    let mut values = Vec::new(alloc);
+    values.push(Boxed::into_inner(int(alloc, b"2")?))?;
+    let mut steps = Vec::new(alloc);
+    steps.push(Step {
+        statement: Statement::Assign(Items::of(alloc, targets)?, HERE, Items::of(alloc, values)?),
+        semicolon: true,
+    })?;
+    steps.push(Step {
+        statement: Statement::Break(HERE),
+        semicolon: false,
+    })?;
+    Ok(Statement::While(HERE, Expr::Bool(true, HERE), Items::of(alloc, steps)?))
+}
+
+fn source(alloc: Global) -> Result<Program, NoMemory> {
+    let mut block = Vec::new(alloc);
+    block.push(Step {
+        statement: loop_of_two(alloc)?,
+        semicolon: false,
+    })?;
+    let mut items = Vec::new(alloc);
+    items.push(Item {
+        definition: Definition::Type(HERE, name(alloc, b"pair")?, two_fields(alloc)?),
+        semicolon: true,
+    })?;
+    let real = TypeTree::Word(TypeWord::Real, HERE);
+    items.push(Item {
+        definition: Definition::Const(HERE, real, name(alloc, b"c")?, HERE, difference(alloc)?),
+        semicolon: false,
+    })?;
+    items.push(Item {
+        definition: Definition::Xper(HERE, name(alloc, b"e")?, Items::of(alloc, block)?),
+        semicolon: false,
+    })?;
+    Ok(Program {
+        items: Items::of(alloc, items)?,
+        last: HERE,
+    })
+}
+
+#[test]
+fn a_tree_is_spelled_token_by_token(rt: HostRuntime) -> Result<(), Fail> {
+    let alloc = rt.alloc();
+    let tree = source(alloc)?;
+    let mut text = Vec::new(alloc);
+    for token in spell(alloc, &tree)?.as_slice() {
+        spelling(alloc, token, &mut text)?;
+        text.push(b' ')?;
+    }
+    let wanted =
+        "type pair = tuple ( int a , b ) ; const real c = x [ : 2 : ] - - y xper e ( ) : while true : x = 2 ; break end end ";
+    assert_eq!(rt; text.as_slice(), wanted.as_bytes());
+    Ok(())
+}
+
+#[test]
+fn each_class_has_a_number_of_its_own(rt: HostRuntime) -> Result<(), Fail> {
+    let alloc = rt.alloc();
+    let name = Token::Name(Bytes::copy_of(alloc, b"x")?);
+    assert_eq!(rt; Class::of(&name), Class::Name);
+    assert_eq!(rt;
+        Class::of(&Token::Word(Keyword::AltWord)),
+        Class::Word(Keyword::AltWord)
+    );
+    assert_eq!(rt; Class::Name.number(), 0);
+    assert_eq!(rt; Class::Sign(Sign::Dot).number(), 27);
+    assert_eq!(rt; Class::Word(Keyword::AltWord).number(), 64);
+    Ok(())
+}
+
+#[test]
+fn the_whole_room_is_64_blocks_and_200_expressions(rt: HostRuntime) -> Result<(), Fail> {
+    let room = whole_room();
+    assert_eq!(rt; (room.blocks, room.expressions), (64, 200));
+    assert_eq!(rt;
+        (room.blocks, room.expressions),
+        (MOST_BLOCKS, MOST_EXPRESSIONS)
+    );
+    Ok(())
+}
+
+#[test]
+fn the_laws_hold(_rt: HostRuntime) -> Result<(), Fail> {
+    spelling_law();
+    formed_law();
+    Ok(())
+}

@@ -1,0 +1,58 @@
+use crate::expr::Expr;
+use chi_base::{Boxed, Items};
+use chi_token::{Bytes, Place};
+
+/// A name where it stands.
+#[derive(Debug, Drop)]
+pub struct Name {
+    pub text: Bytes,
+    pub place: Place,
+}
+
+/// A type that is one word.
+#[derive(Clone, Copy, Debug, PartialEq, Eq)]
+pub enum TypeWord {
+    Bool,
+    Int,
+    Real,
+    Text,
+    Timer,
+    Inst,
+}
+
+/// What a channel may be used for.
+#[derive(Clone, Copy, Debug, PartialEq, Eq)]
+pub enum Way {
+    Both,
+    /// `chan!`
+    Send,
+    /// `chan?`
+    Receive,
+}
+
+/// A type as it is written. The place is that of its first token.
+#[derive(Debug, Drop)]
+#[cycle(expr)]
+pub enum TypeTree {
+    Word(TypeWord, Place),
+    /// By the name of its definition.
+    Defined(Name),
+    /// With its size in brackets, where one is written.
+    List(Place, Option<Boxed<Expr>>, Boxed<TypeTree>),
+    Set(Place, Boxed<TypeTree>),
+    Dist(Place, Boxed<TypeTree>),
+    /// The keys' type and the values'.
+    Dict(Place, Boxed<TypeTree>, Boxed<TypeTree>),
+    /// Two fields at least.
+    Tuple(Place, Items<Formal>),
+    /// What is sent, and none for `void`.
+    Chan(Place, Way, Option<Boxed<TypeTree>>),
+}
+
+/// A formal or a field. Its type stands before it, or it stands after a comma and has the type of the one before it.
+#[derive(Debug, Drop)]
+#[cycle(expr)]
+pub struct Formal {
+    pub ty: Option<Boxed<TypeTree>>,
+    pub name: Name,
+}
