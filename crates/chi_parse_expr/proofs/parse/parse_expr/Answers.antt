@@ -1,0 +1,15 @@
+use Rattle.std.proofs.Common.{refl, ap, subst}
+use Rattle.chi_grammar.specs.Reads.{Reads}
+use Rattle.chi_grammar.specs.Rules.{part}
+use Rattle.chi_grammar.proofs.Exact.{parses}
+use Rattle.chi_tree.specs.Parts as s
+use Rattle.chi_tree.specs.Rules.{grammar}
+use Rattle.chi_tree.specs.Tables.{table}
+use Rattle.chi_tree.specs.View.{expr_of}
+use Rattle.chi_tree.proofs.Fine.{grammar_fine}
+use Rattle.chi_parse_expr.proofs.parse.parse_expr.Goals as goal
+
+pub returns : goal.returns
+returns c =
+    parses grammar table grammar_fine expr_of _ _ (part s.Expr) refl _ c.requires.inside _
+    (subst (λ room. Reads grammar table c.args.tokens.now expr_of room (part s.Expr) c.args.at c.expr.result) c.room_inside.ensures c.expr.ensures)

@@ -1,0 +1,123 @@
+//! What single tokens stand for in the tree, and nodes with one or two expressions below them.
+ghost use Rattle.std.specs.Prelude.{◌≡◌, IfOk};
+ghost use Rattle.chi_tree.specs.Tokens.{bytes_of, operator_of, relation_of, prefix_of, cast_of, type_word_of, way_of, literal_of};
+ghost use Rattle.chi_tree.specs.View.{chained, parted};
+
+use crate::look::bytes_of;
+use chi_base::{Boxed, Items, NoMemory};
+use chi_token::{Bytes, Keyword, Place, Sign, Spanned, Token};
+use chi_tree::{CastWord, Expr, Link, Operator, Postfix, PrefixSign, RelationSign, TypeWord, Way};
+use std::alloc::Global;
+
+pub fn operator_of(token: &Token) -> Operator
+    ensures { result ≡ operator_of token.now }
+{
+    match token {
+        Token::Word(Keyword::OrWord) => Operator::Or,
+        Token::Word(Keyword::AndWord) => Operator::And,
+        Token::Word(Keyword::DivWord) => Operator::DivideWhole,
+        Token::Sign(Sign::Plus) => Operator::Add,
+        Token::Sign(Sign::Minus) => Operator::Subtract,
+        Token::Sign(Sign::Star) => Operator::Multiply,
+        Token::Sign(Sign::Slash) => Operator::Divide,
+        _ => Operator::Remainder,
+    }
+}
+
+pub fn relation_of(token: &Token) -> RelationSign
+    ensures { result ≡ relation_of token.now }
+{
+    match token {
+        Token::Word(Keyword::InWord) => RelationSign::In,
+        Token::Sign(Sign::Less) => RelationSign::Less,
+        Token::Sign(Sign::LessEqual) => RelationSign::LessEqual,
+        Token::Sign(Sign::Equal) => RelationSign::Equal,
+        Token::Sign(Sign::NotEqual) => RelationSign::NotEqual,
+        Token::Sign(Sign::Greater) => RelationSign::Greater,
+        Token::Sign(Sign::GreaterEqual) => RelationSign::GreaterEqual,
+        _ => RelationSign::Sub,
+    }
+}
+
+pub fn prefix_of(token: &Token) -> PrefixSign
+    ensures { result ≡ prefix_of token.now }
+{
+    match token {
+        Token::Sign(Sign::Minus) => PrefixSign::Minus,
+        Token::Sign(Sign::Plus) => PrefixSign::Plus,
+        Token::Word(Keyword::SampleWord) => PrefixSign::Sample,
+        _ => PrefixSign::Not,
+    }
+}
+
+pub fn cast_of(token: &Token) -> CastWord
+    ensures { result ≡ cast_of token.now }
+{
+    match token {
+        Token::Word(Keyword::IntWord) => CastWord::Int,
+        Token::Word(Keyword::RealWord) => CastWord::Real,
+        Token::Word(Keyword::StringWord) => CastWord::Text,
+        Token::Word(Keyword::BoolWord) => CastWord::Bool,
+        _ => CastWord::Timer,
+    }
+}
+
+pub fn type_word_of(token: &Token) -> TypeWord
+    ensures { result ≡ type_word_of token.now }
+{
+    match token {
+        Token::Word(Keyword::BoolWord) => TypeWord::Bool,
+        Token::Word(Keyword::IntWord) => TypeWord::Int,
+        Token::Word(Keyword::RealWord) => TypeWord::Real,
+        Token::Word(Keyword::StringWord) => TypeWord::Text,
+        Token::Word(Keyword::TimerWord) => TypeWord::Timer,
+        _ => TypeWord::Inst,
+    }
+}
+
+pub fn way_of(token: &Token) -> Way
+    ensures { result ≡ way_of token.now }
+{
+    match token {
+        Token::Sign(Sign::Bang) => Way::Send,
+        Token::Sign(Sign::Question) => Way::Receive,
+        _ => Way::Both,
+    }
+}
+
+/// A literal of one token.
+pub fn literal_of(alloc: Global, spanned: &Spanned) -> Result<Expr, NoMemory>
+    ensures { IfOk result (λ e. e ≡ literal_of spanned.now.token spanned.now.place) }
+{
+    let place = spanned.place;
+    match &spanned.token {
+        Token::Int(digits) => Ok(Expr::Int(Bytes::copy_of(alloc, digits.as_slice())?, place)),
+        Token::Real(digits) => Ok(Expr::Real(Bytes::copy_of(alloc, digits.as_slice())?, place)),
+        Token::Text(text) => Ok(Expr::Text(Bytes::copy_of(alloc, text.as_slice())?, place)),
+        Token::Word(Keyword::TrueWord) => Ok(Expr::Bool(true, place)),
+        Token::Word(Keyword::FalseWord) => Ok(Expr::Bool(false, place)),
+        _ => Ok(Expr::Time(place)),
+    }
+}
+
+/// An expression with the links after it, where there are any.
+pub fn chained(alloc: Global, first: Expr, links: Items<Link>) -> Result<Expr, NoMemory>
+    ensures { IfOk result (λ e. e ≡ chained first links) }
+{
+    if links.as_slice().is_empty() {
+        return Ok(first);
+    }
+    let boxed = Boxed::new(alloc, first)?;
+    Ok(Expr::Chain(boxed, links))
+}
+
+/// An expression with the indexes, slices and fields after it, where there are any.
+pub fn parted(alloc: Global, whole: Expr, parts: Items<Postfix>) -> Result<Expr, NoMemory>
+    ensures { IfOk result (λ e. e ≡ parted whole parts) }
+{
+    if parts.as_slice().is_empty() {
+        return Ok(whole);
+    }
+    let boxed = Boxed::new(alloc, whole)?;
+    Ok(Expr::Part(boxed, parts))
+}
