@@ -1,0 +1,4 @@
+pub mod Shapes
+pub mod Loops
+pub mod Stretch
+pub mod Ending

@@ -1,0 +1,22 @@
+use Rattle.chi_grammar.specs.Rules.{part}
+use Rattle.chi_grammar.specs.Runs as runs
+use Rattle.chi_grammar.proofs.Exits.{read, run_word, run_no_word, failed}
+use Rattle.chi_tree.specs.declared.statement.Communication.TheVariants as communication
+use Rattle.chi_tree.specs.Parts as s
+use Rattle.chi_tree.specs.Rules.{grammar}
+use Rattle.chi_tree.specs.Tables.{table}
+use Rattle.chi_tree.specs.Statements.{communication_of}
+use Rattle.chi_parse.proofs.communications.delay.Goals as goal
+
+pub returns-in_err-word : goal.returns-in_err-word
+returns-in_err-word c = failed grammar table _ communication_of _ (part s.Delay) _ _ _ c.from_residual.ensures.1
+    (runs.part_fails (runs.first_fails (run_no_word grammar table _ c.in_err-word.ensures)))
+
+pub returns-in_err-time : goal.returns-in_err-time
+returns-in_err-time c = failed grammar table _ communication_of _ (part s.Delay) _ _ _ c.from_residual-in_err-time.ensures.1
+    (runs.part_fails (runs.next_fails (run_word grammar table _ c.in_ok-word.ensures) c.in_err-time.ensures))
+
+pub returns : goal.returns
+returns c = read grammar table _ (communication_of) c.requires.inside
+    (runs.part (runs.both (run_word grammar table _ c.in_ok-word.ensures) c.in_ok-time.ensures.runs))
+    (λ i. communication.Delay c.in_ok-word.word.now.place (c.in_ok-time.ensures.shows i))

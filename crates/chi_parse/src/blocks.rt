@@ -1,0 +1,366 @@
+ghost use Rattle.std.specs.Prelude.{◌^◌, ◌<◌, ◌≤◌, ◌∷◌, length};
+ghost use Rattle.chi_grammar.specs.Rules.{many, maybe, part, ◌▸◌};
+ghost use Rattle.chi_grammar.specs.Reads.{Reads};
+ghost use Rattle.chi_tree.specs.Parts as s;
+ghost use Rattle.chi_tree.specs.Rules.{grammar, keyword};
+ghost use Rattle.chi_tree.specs.Tables.{table};
+ghost use Rattle.chi_token.specs.declared.keyword.Keyword.TheVariants.{AltWord};
+ghost use Rattle.chi_tree.specs.Statements.{alternative_body_of, alternative_of, alternatives_of, block_of, body_of, branch_of, elifs_of, else_of, inner_of, more_alternatives_of, statement_of};
+ghost use Rattle.chi_parse.specs.Heads.{shown, statement};
+
+use crate::classes::{FIRST_OF_ALTERNATIVES, FIRST_OF_BLOCK, FIRST_OF_CLOSED, FIRST_OF_LAUNCH};
+use crate::launches::launch;
+use crate::look::optional_semicolon;
+use crate::offers::offer;
+use crate::simple::open;
+use crate::walks::walk;
+use chi_base::Items;
+use chi_grammar::{Nesting, ParseFault, Room};
+use chi_parse_expr::{begins, enter, expr, take};
+use chi_token::{Keyword, Sign, Spanned};
+use chi_tree::{Alternative, Block, Branch, Class, Statement, Step};
+use std::alloc::Global;
+
+/// Statements in turn. The `;` after one may be left out where its last token is `end`.
+#[cycle(blocks)]
+fn block(alloc: Global, tokens: &[Spanned], at: u32, room: Room) -> Result<(Block, u32), ParseFault>
+    requires short { length tokens.now < 2 ^ 32 }
+    requires inside { at ≤ length tokens.now }
+    ensures { Reads grammar table tokens.now block_of room (part s.Block) at result }
+{
+    let mut steps = Vec::new(alloc);
+    let mut end = at;
+    let mut more = true;
+    'turn: while more {
+        let ((statement, ends), middle) = statement(alloc, tokens, end, room)?;
+        let (semicolon, stop) = optional_semicolon(tokens, middle);
+        steps.push(Step {
+            statement,
+            semicolon,
+        })?;
+        let goes_on = begins(tokens, stop, &FIRST_OF_BLOCK);
+        more = (ends | semicolon) & goes_on;
+        end = stop;
+    }
+    Ok((Items::of(alloc, steps)?, end))
+}
+
+/// A statement, and whether its last token is `end`.
+#[cycle(blocks)]
+fn statement(
+    alloc: Global,
+    tokens: &[Spanned],
+    at: u32,
+    room: Room,
+) -> Result<((Statement, bool), u32), ParseFault>
+    requires short { length tokens.now < 2 ^ 32 }
+    requires inside { at ≤ length tokens.now }
+    ensures { Reads grammar table tokens.now shown room statement at result }
+{
+    if begins(tokens, at, &FIRST_OF_CLOSED) {
+        let (statement, end) = closed(alloc, tokens, at, room)?;
+        return Ok(((statement, true), end));
+    }
+    if begins(tokens, at, &FIRST_OF_LAUNCH) {
+        return launch(alloc, tokens, at, room);
+    }
+    let (statement, end) = open(alloc, tokens, at, room)?;
+    Ok(((statement, false), end))
+}
+
+/// A statement that always ends in `end`.
+#[cycle(blocks)]
+fn closed(
+    alloc: Global,
+    tokens: &[Spanned],
+    at: u32,
+    room: Room,
+) -> Result<(Statement, u32), ParseFault>
+    requires short { length tokens.now < 2 ^ 32 }
+    requires inside { at ≤ length tokens.now }
+    ensures { Reads grammar table tokens.now statement_of room (part s.Closed) at result }
+{
+    if begins(tokens, at, &[Class::Word(Keyword::SelectWord)]) {
+        return select(alloc, tokens, at, room);
+    }
+    if begins(tokens, at, &[Class::Word(Keyword::IfWord)]) {
+        return branching(alloc, tokens, at, room);
+    }
+    if begins(tokens, at, &[Class::Word(Keyword::WhileWord)]) {
+        return repetition(alloc, tokens, at, room);
+    }
+    walking(alloc, tokens, at, room)
+}
+
+/// A block inside another part: one level deeper.
+#[cycle(blocks)]
+fn inner(alloc: Global, tokens: &[Spanned], at: u32, room: Room) -> Result<(Block, u32), ParseFault>
+    requires short { length tokens.now < 2 ^ 32 }
+    requires inside { at ≤ length tokens.now }
+    ensures { Reads grammar table tokens.now inner_of room (part s.Inner) at result }
+{
+    let inner = enter(tokens, at, room, Nesting::Block, &FIRST_OF_BLOCK)?;
+    block(alloc, tokens, at, inner)
+}
+
+/// A block between `:` and `end`.
+#[cycle(blocks)]
+pub fn body(
+    alloc: Global,
+    tokens: &[Spanned],
+    at: u32,
+    room: Room,
+) -> Result<(Block, u32), ParseFault>
+    requires short { length tokens.now < 2 ^ 32 }
+    requires inside { at ≤ length tokens.now }
+    ensures { Reads grammar table tokens.now body_of room (part s.Body) at result }
+{
+    let (_, start) = take(tokens, at, Class::Sign(Sign::Colon))?;
+    let (block, middle) = inner(alloc, tokens, start, room)?;
+    let (_, end) = take(tokens, middle, Class::Word(Keyword::EndWord))?;
+    Ok((block, end))
+}
+
+#[cycle(blocks)]
+fn branch(
+    alloc: Global,
+    tokens: &[Spanned],
+    at: u32,
+    room: Room,
+) -> Result<(Branch, u32), ParseFault>
+    requires short { length tokens.now < 2 ^ 32 }
+    requires inside { at ≤ length tokens.now }
+    ensures { Reads grammar table tokens.now branch_of room (part s.Branch) at result }
+{
+    let (condition, middle) = expr(alloc, tokens, at, room)?;
+    let (_, start) = take(tokens, middle, Class::Sign(Sign::Colon))?;
+    let (block, end) = inner(alloc, tokens, start, room)?;
+    Ok((Branch { condition, block }, end))
+}
+
+/// The branches after a first one.
+#[cycle(blocks)]
+fn more_branches(
+    alloc: Global,
+    tokens: &[Spanned],
+    at: u32,
+    room: Room,
+    first: Branch,
+) -> Result<(Items<Branch>, u32), ParseFault>
+    requires short { length tokens.now < 2 ^ 32 }
+    requires inside { at ≤ length tokens.now }
+    ensures { Reads grammar table tokens.now (λ bs. first ∷ elifs_of bs) room (many (part s.Elif)) at result }
+{
+    let mut branches = Vec::new(alloc);
+    branches.push(first)?;
+    let mut end = at;
+    'turn: while begins(tokens, end, &[Class::Word(Keyword::ElifWord)]) {
+        let (_, after) = take(tokens, end, Class::Word(Keyword::ElifWord))?;
+        let (next, stop) = branch(alloc, tokens, after, room)?;
+        branches.push(next)?;
+        end = stop;
+    }
+    Ok((Items::of(alloc, branches)?, end))
+}
+
+/// The block of `else`, empty where there is none.
+#[cycle(blocks)]
+fn otherwise(
+    alloc: Global,
+    tokens: &[Spanned],
+    at: u32,
+    room: Room,
+) -> Result<(Block, u32), ParseFault>
+    requires short { length tokens.now < 2 ^ 32 }
+    requires inside { at ≤ length tokens.now }
+    ensures { Reads grammar table tokens.now else_of room (maybe (part s.Else)) at result }
+{
+    if !begins(tokens, at, &[Class::Word(Keyword::ElseWord)]) {
+        return Ok((Items::of(alloc, Vec::new(alloc))?, at));
+    }
+    let (_, middle) = take(tokens, at, Class::Word(Keyword::ElseWord))?;
+    let (_, start) = take(tokens, middle, Class::Sign(Sign::Colon))?;
+    inner(alloc, tokens, start, room)
+}
+
+#[cycle(blocks)]
+fn branching(
+    alloc: Global,
+    tokens: &[Spanned],
+    at: u32,
+    room: Room,
+) -> Result<(Statement, u32), ParseFault>
+    requires short { length tokens.now < 2 ^ 32 }
+    requires inside { at ≤ length tokens.now }
+    ensures { Reads grammar table tokens.now statement_of room (part s.If) at result }
+{
+    let (word, start) = take(tokens, at, Class::Word(Keyword::IfWord))?;
+    let (first, middle) = branch(alloc, tokens, start, room)?;
+    let (branches, next) = more_branches(alloc, tokens, middle, room, first)?;
+    let (other, last) = otherwise(alloc, tokens, next, room)?;
+    let (_, end) = take(tokens, last, Class::Word(Keyword::EndWord))?;
+    Ok((Statement::If(word.place, branches, other), end))
+}
+
+#[cycle(blocks)]
+fn repetition(
+    alloc: Global,
+    tokens: &[Spanned],
+    at: u32,
+    room: Room,
+) -> Result<(Statement, u32), ParseFault>
+    requires short { length tokens.now < 2 ^ 32 }
+    requires inside { at ≤ length tokens.now }
+    ensures { Reads grammar table tokens.now statement_of room (part s.While) at result }
+{
+    let (word, start) = take(tokens, at, Class::Word(Keyword::WhileWord))?;
+    let (condition, middle) = expr(alloc, tokens, start, room)?;
+    let (block, end) = body(alloc, tokens, middle, room)?;
+    Ok((Statement::While(word.place, condition, block), end))
+}
+
+#[cycle(blocks)]
+fn walking(
+    alloc: Global,
+    tokens: &[Spanned],
+    at: u32,
+    room: Room,
+) -> Result<(Statement, u32), ParseFault>
+    requires short { length tokens.now < 2 ^ 32 }
+    requires inside { at ≤ length tokens.now }
+    ensures { Reads grammar table tokens.now statement_of room (part s.For) at result }
+{
+    let (word, start) = take(tokens, at, Class::Word(Keyword::ForWord))?;
+    let (walk, middle) = walk(alloc, tokens, start, room)?;
+    let (block, end) = body(alloc, tokens, middle, room)?;
+    Ok((Statement::For(word.place, walk, block), end))
+}
+
+#[cycle(blocks)]
+fn select(
+    alloc: Global,
+    tokens: &[Spanned],
+    at: u32,
+    room: Room,
+) -> Result<(Statement, u32), ParseFault>
+    requires short { length tokens.now < 2 ^ 32 }
+    requires inside { at ≤ length tokens.now }
+    ensures { Reads grammar table tokens.now statement_of room (part s.Select) at result }
+{
+    let (word, start) = take(tokens, at, Class::Word(Keyword::SelectWord))?;
+    let (alternatives, middle) = alternatives(alloc, tokens, start, room)?;
+    let (_, end) = take(tokens, middle, Class::Word(Keyword::EndWord))?;
+    Ok((Statement::Select(word.place, alternatives), end))
+}
+
+#[cycle(blocks)]
+fn alternatives(
+    alloc: Global,
+    tokens: &[Spanned],
+    at: u32,
+    room: Room,
+) -> Result<(Items<Alternative>, u32), ParseFault>
+    requires short { length tokens.now < 2 ^ 32 }
+    requires inside { at ≤ length tokens.now }
+    ensures { Reads grammar table tokens.now alternatives_of room (part s.Alternatives) at result }
+{
+    let (first, middle) = alternative(alloc, tokens, at, room)?;
+    more_alternatives(alloc, tokens, middle, room, first)
+}
+
+/// The alternatives after a first one.
+#[cycle(blocks)]
+fn more_alternatives(
+    alloc: Global,
+    tokens: &[Spanned],
+    at: u32,
+    room: Room,
+    first: Alternative,
+) -> Result<(Items<Alternative>, u32), ParseFault>
+    requires short { length tokens.now < 2 ^ 32 }
+    requires inside { at ≤ length tokens.now }
+    ensures { Reads grammar table tokens.now (λ xs. first ∷ more_alternatives_of xs) room (many (keyword AltWord ▸ part s.Alternative)) at result }
+{
+    let mut alternatives = Vec::new(alloc);
+    alternatives.push(first)?;
+    let mut end = at;
+    'turn: while begins(tokens, end, &[Class::Word(Keyword::AltWord)]) {
+        let (_, after) = take(tokens, end, Class::Word(Keyword::AltWord))?;
+        let (next, stop) = alternative(alloc, tokens, after, room)?;
+        alternatives.push(next)?;
+        end = stop;
+    }
+    Ok((Items::of(alloc, alternatives)?, end))
+}
+
+#[cycle(blocks)]
+fn alternative(
+    alloc: Global,
+    tokens: &[Spanned],
+    at: u32,
+    room: Room,
+) -> Result<(Alternative, u32), ParseFault>
+    requires short { length tokens.now < 2 ^ 32 }
+    requires inside { at ≤ length tokens.now }
+    ensures { Reads grammar table tokens.now alternative_of room (part s.Alternative) at result }
+{
+    if begins(tokens, at, &[Class::Word(Keyword::UnwindWord)]) {
+        return unwound_alternatives(alloc, tokens, at, room);
+    }
+    guarded_alternative(alloc, tokens, at, room)
+}
+
+#[cycle(blocks)]
+fn unwound_alternatives(
+    alloc: Global,
+    tokens: &[Spanned],
+    at: u32,
+    room: Room,
+) -> Result<(Alternative, u32), ParseFault>
+    requires short { length tokens.now < 2 ^ 32 }
+    requires inside { at ≤ length tokens.now }
+    ensures { Reads grammar table tokens.now alternative_of room (part s.UnwoundAlternatives) at result }
+{
+    let (word, start) = take(tokens, at, Class::Word(Keyword::UnwindWord))?;
+    let (walk, middle) = walk(alloc, tokens, start, room)?;
+    let (_, from) = take(tokens, middle, Class::Sign(Sign::Colon))?;
+    let inner = enter(tokens, from, room, Nesting::Block, &FIRST_OF_ALTERNATIVES)?;
+    let (alternatives, last) = alternatives(alloc, tokens, from, inner)?;
+    let (_, end) = take(tokens, last, Class::Word(Keyword::EndWord))?;
+    Ok((Alternative::Unwind(word.place, walk, alternatives), end))
+}
+
+#[cycle(blocks)]
+fn guarded_alternative(
+    alloc: Global,
+    tokens: &[Spanned],
+    at: u32,
+    room: Room,
+) -> Result<(Alternative, u32), ParseFault>
+    requires short { length tokens.now < 2 ^ 32 }
+    requires inside { at ≤ length tokens.now }
+    ensures { Reads grammar table tokens.now alternative_of room (part s.GuardedAlternative) at result }
+{
+    let ((guard, communication), middle) = offer(alloc, tokens, at, room)?;
+    let (block, end) = alternative_body(alloc, tokens, middle, room)?;
+    Ok((Alternative::Guarded(guard, communication, block), end))
+}
+
+/// The block of an alternative, empty where there is none.
+#[cycle(blocks)]
+fn alternative_body(
+    alloc: Global,
+    tokens: &[Spanned],
+    at: u32,
+    room: Room,
+) -> Result<(Block, u32), ParseFault>
+    requires short { length tokens.now < 2 ^ 32 }
+    requires inside { at ≤ length tokens.now }
+    ensures { Reads grammar table tokens.now alternative_body_of room (maybe (part s.AlternativeBody)) at result }
+{
+    if !begins(tokens, at, &[Class::Sign(Sign::Colon)]) {
+        return Ok((Items::of(alloc, Vec::new(alloc))?, at));
+    }
+    let (_, start) = take(tokens, at, Class::Sign(Sign::Colon))?;
+    inner(alloc, tokens, start, room)
+}

@@ -1,0 +1,211 @@
+ghost use Rattle.std.specs.Prelude.{◌^◌, ◌<◌, ◌≤◌, length};
+ghost use Rattle.chi_grammar.specs.Rules.{part};
+ghost use Rattle.chi_grammar.specs.Reads.{Reads};
+ghost use Rattle.chi_tree.specs.Parts as s;
+ghost use Rattle.chi_tree.specs.Rules.{grammar};
+ghost use Rattle.chi_tree.specs.Tables.{table};
+ghost use Rattle.chi_tree.specs.Statements.{definition_of, item_of};
+
+use crate::blocks::body;
+use crate::formal::{head, parameters};
+use crate::look::optional_semicolon;
+use crate::walks::names;
+use chi_grammar::{Nesting, ParseFault, Room};
+use chi_parse_expr::{any_type, begins, enter, expr, take, take_name};
+use chi_token::{Keyword, Sign, Spanned};
+use chi_tree::{Class, Definition, Item};
+use std::alloc::Global;
+
+fn enumeration(
+    alloc: Global,
+    tokens: &[Spanned],
+    at: u32,
+    room: Room,
+) -> Result<(Definition, u32), ParseFault>
+    requires short { length tokens.now < 2 ^ 32 }
+    requires inside { at ≤ length tokens.now }
+    ensures { Reads grammar table tokens.now definition_of room (part s.EnumDef) at result }
+{
+    let (word, start) = take(tokens, at, Class::Word(Keyword::EnumWord))?;
+    let (name, middle) = take_name(alloc, tokens, start)?;
+    let (_, from) = take(tokens, middle, Class::Sign(Sign::Assign))?;
+    let inner = enter(
+        tokens,
+        from,
+        room,
+        Nesting::Expression,
+        &[Class::Sign(Sign::LeftBrace)],
+    )?;
+    let (_, next) = take(tokens, from, Class::Sign(Sign::LeftBrace))?;
+    let (names, last) = names(alloc, tokens, next)?;
+    let (_, end) = take(tokens, last, Class::Sign(Sign::RightBrace))?;
+    Ok((Definition::Enum(word.place, name, names), end))
+}
+
+fn constant(
+    alloc: Global,
+    tokens: &[Spanned],
+    at: u32,
+    room: Room,
+) -> Result<(Definition, u32), ParseFault>
+    requires short { length tokens.now < 2 ^ 32 }
+    requires inside { at ≤ length tokens.now }
+    ensures { Reads grammar table tokens.now definition_of room (part s.ConstDef) at result }
+{
+    let (word, start) = take(tokens, at, Class::Word(Keyword::ConstWord))?;
+    let (ty, middle) = any_type(alloc, tokens, start, room)?;
+    let (name, next) = take_name(alloc, tokens, middle)?;
+    let (sign, from) = take(tokens, next, Class::Sign(Sign::Assign))?;
+    let (value, end) = expr(alloc, tokens, from, room)?;
+    Ok((
+        Definition::Const(word.place, ty, name, sign.place, value),
+        end,
+    ))
+}
+
+fn type_name(
+    alloc: Global,
+    tokens: &[Spanned],
+    at: u32,
+    room: Room,
+) -> Result<(Definition, u32), ParseFault>
+    requires short { length tokens.now < 2 ^ 32 }
+    requires inside { at ≤ length tokens.now }
+    ensures { Reads grammar table tokens.now definition_of room (part s.TypeDef) at result }
+{
+    let (word, start) = take(tokens, at, Class::Word(Keyword::TypeWord))?;
+    let (name, middle) = take_name(alloc, tokens, start)?;
+    let (_, from) = take(tokens, middle, Class::Sign(Sign::Assign))?;
+    let (ty, end) = any_type(alloc, tokens, from, room)?;
+    Ok((Definition::Type(word.place, name, ty), end))
+}
+
+fn function(
+    alloc: Global,
+    tokens: &[Spanned],
+    at: u32,
+    room: Room,
+) -> Result<(Definition, u32), ParseFault>
+    requires short { length tokens.now < 2 ^ 32 }
+    requires inside { at ≤ length tokens.now }
+    ensures { Reads grammar table tokens.now definition_of room (part s.FuncDef) at result }
+{
+    let (word, start) = take(tokens, at, Class::Word(Keyword::FuncWord))?;
+    let (ty, middle) = any_type(alloc, tokens, start, room)?;
+    let (name, next) = take_name(alloc, tokens, middle)?;
+    let (formals, last) = parameters(alloc, tokens, next, room)?;
+    let (block, end) = body(alloc, tokens, last, room)?;
+    Ok((Definition::Func(word.place, ty, name, formals, block), end))
+}
+
+fn process(
+    alloc: Global,
+    tokens: &[Spanned],
+    at: u32,
+    room: Room,
+) -> Result<(Definition, u32), ParseFault>
+    requires short { length tokens.now < 2 ^ 32 }
+    requires inside { at ≤ length tokens.now }
+    ensures { Reads grammar table tokens.now definition_of room (part s.ProcDef) at result }
+{
+    let (word, start) = take(tokens, at, Class::Word(Keyword::ProcWord))?;
+    let ((ty, name), middle) = head(alloc, tokens, start, room)?;
+    let (formals, last) = parameters(alloc, tokens, middle, room)?;
+    let (block, end) = body(alloc, tokens, last, room)?;
+    Ok((Definition::Proc(word.place, ty, name, formals, block), end))
+}
+
+fn model(
+    alloc: Global,
+    tokens: &[Spanned],
+    at: u32,
+    room: Room,
+) -> Result<(Definition, u32), ParseFault>
+    requires short { length tokens.now < 2 ^ 32 }
+    requires inside { at ≤ length tokens.now }
+    ensures { Reads grammar table tokens.now definition_of room (part s.ModelDef) at result }
+{
+    let (word, start) = take(tokens, at, Class::Word(Keyword::ModelWord))?;
+    let ((ty, name), middle) = head(alloc, tokens, start, room)?;
+    let (formals, last) = parameters(alloc, tokens, middle, room)?;
+    let (block, end) = body(alloc, tokens, last, room)?;
+    Ok((Definition::Model(word.place, ty, name, formals, block), end))
+}
+
+fn experiment(
+    alloc: Global,
+    tokens: &[Spanned],
+    at: u32,
+    room: Room,
+) -> Result<(Definition, u32), ParseFault>
+    requires short { length tokens.now < 2 ^ 32 }
+    requires inside { at ≤ length tokens.now }
+    ensures { Reads grammar table tokens.now definition_of room (part s.XperDef) at result }
+{
+    let (word, start) = take(tokens, at, Class::Word(Keyword::XperWord))?;
+    let (name, middle) = take_name(alloc, tokens, start)?;
+    let _inner = enter(
+        tokens,
+        middle,
+        room,
+        Nesting::Expression,
+        &[Class::Sign(Sign::LeftParen)],
+    )?;
+    let (_, next) = take(tokens, middle, Class::Sign(Sign::LeftParen))?;
+    let (_, last) = take(tokens, next, Class::Sign(Sign::RightParen))?;
+    let (block, end) = body(alloc, tokens, last, room)?;
+    Ok((Definition::Xper(word.place, name, block), end))
+}
+
+fn defined(
+    alloc: Global,
+    tokens: &[Spanned],
+    at: u32,
+    room: Room,
+) -> Result<(Definition, u32), ParseFault>
+    requires short { length tokens.now < 2 ^ 32 }
+    requires inside { at ≤ length tokens.now }
+    ensures { Reads grammar table tokens.now definition_of room (part s.Defined) at result }
+{
+    if begins(tokens, at, &[Class::Word(Keyword::EnumWord)]) {
+        return enumeration(alloc, tokens, at, room);
+    }
+    if begins(tokens, at, &[Class::Word(Keyword::ConstWord)]) {
+        return constant(alloc, tokens, at, room);
+    }
+    if begins(tokens, at, &[Class::Word(Keyword::TypeWord)]) {
+        return type_name(alloc, tokens, at, room);
+    }
+    if begins(tokens, at, &[Class::Word(Keyword::FuncWord)]) {
+        return function(alloc, tokens, at, room);
+    }
+    if begins(tokens, at, &[Class::Word(Keyword::ProcWord)]) {
+        return process(alloc, tokens, at, room);
+    }
+    if begins(tokens, at, &[Class::Word(Keyword::ModelWord)]) {
+        return model(alloc, tokens, at, room);
+    }
+    experiment(alloc, tokens, at, room)
+}
+
+/// A definition, and whether a `;` stands after it.
+pub fn definition(
+    alloc: Global,
+    tokens: &[Spanned],
+    at: u32,
+    room: Room,
+) -> Result<(Item, u32), ParseFault>
+    requires short { length tokens.now < 2 ^ 32 }
+    requires inside { at ≤ length tokens.now }
+    ensures { Reads grammar table tokens.now item_of room (part s.Definition) at result }
+{
+    let (definition, middle) = defined(alloc, tokens, at, room)?;
+    let (semicolon, end) = optional_semicolon(tokens, middle);
+    Ok((
+        Item {
+            definition,
+            semicolon,
+        },
+        end,
+    ))
+}

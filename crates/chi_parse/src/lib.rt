@@ -1,0 +1,21 @@
+//! The parser: makes of a source's tokens the tree of which they are the spelling, or says which token is the first
+//! that none has there.
+#![tactic(auto)]
+
+mod blocks;
+mod classes;
+mod communications;
+mod declared;
+mod definitions;
+mod formal;
+mod launches;
+mod laws;
+mod look;
+mod offers;
+mod program;
+mod simple;
+mod targets;
+mod walks;
+
+pub use laws::one_program_law;
+pub use program::parse;

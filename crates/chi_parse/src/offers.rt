@@ -1,0 +1,123 @@
+ghost use Rattle.std.specs.Prelude.{◌≡◌, ◌^◌, ◌<◌, ◌≤◌, true, IfOk, List, Some, length};
+ghost use Rattle.chi_grammar.specs.Rules.{part};
+ghost use Rattle.chi_grammar.specs.Reads.{Reads};
+ghost use Rattle.chi_tree.specs.Parts as s;
+ghost use Rattle.chi_tree.specs.Rules.{grammar};
+ghost use Rattle.chi_tree.specs.Tables.{table};
+ghost use Rattle.chi_tree.specs.declared.expr.Expr.{out-Expr};
+ghost use Rattle.chi_tree.specs.declared.expr.Postfix.{Postfix, out-Postfix};
+ghost use Rattle.chi_tree.specs.Statements.{as_target, is_some, is_step_in, name_target, offer_of, offered};
+
+use crate::communications::{communication, communication_end, delay};
+use chi_base::{Items, NoMemory};
+use chi_grammar::{ParseFault, Room};
+use chi_parse_expr::{begins, expr, take};
+use chi_token::{Keyword, Sign, Spanned};
+use chi_tree::{Class, Communication, Expr, Postfix, Target};
+use std::alloc::Global;
+
+/// A guard, where there is one, and a communication.
+type Offer = (Option<Expr>, Communication);
+
+/// Whether an expression is a name alone.
+fn is_named(e: &Expr) -> bool
+    ensures { (steps : List Postfix) → result ≡ is_some (name_target (out-Expr e.now) steps) }
+{
+    matches!(e, Expr::Named(_))
+}
+
+/// Whether a part of an expression may be one of a target.
+fn is_step(step: &Postfix) -> bool
+    ensures { result ≡ is_step_in (out-Postfix step.now) }
+{
+    matches!(step, Postfix::Index(_, _) | Postfix::Field(_))
+}
+
+/// Whether an expression is a name, or parts of one by indexes and fields.
+fn is_target(e: &Expr) -> bool
+    ensures { result ≡ is_some (as_target e.now) }
+{
+    match e {
+        Expr::Named(_) => true,
+        Expr::Part(base, steps) => is_named(base.get())
+            && steps.as_slice().iter().all(|step| is_step(step)),
+        _ => false,
+    }
+}
+
+/// The target that an expression is.
+fn into_target(alloc: Global, e: Expr) -> Result<Target, NoMemory>
+    requires { is_some (as_target e) ≡ true }
+    ensures { IfOk result (λ target. as_target e ≡ Some target) }
+{
+    match e {
+        Expr::Named(name) => {
+            let steps = Items::of(alloc, Vec::new(alloc))?;
+            Ok(Target { name, steps })
+        }
+        Expr::Part(base, steps) => match base.into_inner() {
+            Expr::Named(name) => Ok(Target { name, steps }),
+            _ => unreachable!(),
+        },
+        _ => unreachable!(),
+    }
+}
+
+/// A guard and a communication, of which the guard has been read.
+fn guarded(
+    alloc: Global,
+    tokens: &[Spanned],
+    at: u32,
+    room: Room,
+    guard: Expr,
+) -> Result<(Offer, u32), ParseFault>
+    requires short { length tokens.now < 2 ^ 32 }
+    requires inside { at ≤ length tokens.now }
+    ensures { Reads grammar table tokens.now (offered guard) room (part s.Guarded) at result }
+{
+    let (_, start) = take(tokens, at, Class::Sign(Sign::Comma))?;
+    let (communication, end) = communication(alloc, tokens, start, room)?;
+    Ok(((Some(guard), communication), end))
+}
+
+/// What stands after an expression that is a target: it is a guard, or that of a communication.
+fn offered(
+    alloc: Global,
+    tokens: &[Spanned],
+    at: u32,
+    room: Room,
+    first: Expr,
+) -> Result<(Offer, u32), ParseFault>
+    requires short { length tokens.now < 2 ^ 32 }
+    requires inside { at ≤ length tokens.now }
+    requires target { is_some (as_target first) ≡ true }
+    ensures { Reads grammar table tokens.now (offered first) room (part s.Offered) at result }
+{
+    if begins(tokens, at, &[Class::Sign(Sign::Comma)]) {
+        return guarded(alloc, tokens, at, room, first);
+    }
+    let target = into_target(alloc, first)?;
+    let (communication, end) = communication_end(alloc, tokens, at, room, target)?;
+    Ok(((None, communication), end))
+}
+
+pub fn offer(
+    alloc: Global,
+    tokens: &[Spanned],
+    at: u32,
+    room: Room,
+) -> Result<(Offer, u32), ParseFault>
+    requires short { length tokens.now < 2 ^ 32 }
+    requires inside { at ≤ length tokens.now }
+    ensures { Reads grammar table tokens.now offer_of room (part s.Offer) at result }
+{
+    if begins(tokens, at, &[Class::Word(Keyword::DelayWord)]) {
+        let (communication, end) = delay(alloc, tokens, at, room)?;
+        return Ok(((None, communication), end));
+    }
+    let (first, middle) = expr(alloc, tokens, at, room)?;
+    if is_target(&first) {
+        return offered(alloc, tokens, middle, room, first);
+    }
+    guarded(alloc, tokens, middle, room, first)
+}

@@ -1,0 +1,265 @@
+ghost use Rattle.std.specs.Prelude.{◌≡◌, ◌^◌, ◌<◌, ◌≤◌, length, if◌then◌else◌};
+ghost use Rattle.chi_grammar.specs.Rules.{part};
+ghost use Rattle.chi_grammar.specs.Reads.{Reads};
+ghost use Rattle.chi_grammar.specs.declared.room.Room.{Room};
+ghost use Rattle.chi_tree.specs.Parts as s;
+ghost use Rattle.chi_tree.specs.Rules.{grammar};
+ghost use Rattle.chi_tree.specs.Statements.{led, statement_of};
+ghost use Rattle.chi_tree.specs.Tables.{table};
+ghost use Rattle.chi_tree.specs.Tokens.{ends_line, jump_of};
+
+use crate::classes::{FIRST_OF_COMMUNICATION_END, FIRST_OF_JUMP, FIRST_OF_WRITE};
+use crate::communications::{communication_end, delay, optional_expr};
+use crate::declared::variables;
+use crate::targets::{is_bare, more_targets, target};
+use chi_grammar::{Nesting, ParseFault, Room};
+use chi_parse_expr::{
+    FIRST_OF_BUILT_TYPE, begins, built_type, bytes_of, enter, expr, exprs, more_exprs, take,
+    take_one_of,
+};
+use chi_token::{Bytes, Keyword, Place, Sign, Spanned, Token};
+use chi_tree::{Class, Statement, Target, TypeTree};
+use std::alloc::Global;
+
+/// A declaration of a type that is no name.
+fn declaration(
+    alloc: Global,
+    tokens: &[Spanned],
+    at: u32,
+    room: Room,
+) -> Result<(Statement, u32), ParseFault>
+    requires short { length tokens.now < 2 ^ 32 }
+    requires inside { at ≤ length tokens.now }
+    ensures { Reads grammar table tokens.now statement_of room (part s.Declaration) at result }
+{
+    let (ty, middle) = built_type(alloc, tokens, at, room)?;
+    let (variables, end) = variables(alloc, tokens, middle, room)?;
+    Ok((Statement::Declare(ty, variables), end))
+}
+
+/// A statement that begins with a target.
+fn name_led(
+    alloc: Global,
+    tokens: &[Spanned],
+    at: u32,
+    room: Room,
+) -> Result<(Statement, u32), ParseFault>
+    requires short { length tokens.now < 2 ^ 32 }
+    requires inside { at ≤ length tokens.now }
+    ensures { Reads grammar table tokens.now statement_of room (part s.NameLed) at result }
+{
+    let (target, middle) = target(alloc, tokens, at, room)?;
+    if is_bare(&target) {
+        return after_name(alloc, tokens, middle, room, target);
+    }
+    after_target(alloc, tokens, middle, room, target)
+}
+
+/// What stands after a name with which a statement begins.
+fn after_name(
+    alloc: Global,
+    tokens: &[Spanned],
+    at: u32,
+    room: Room,
+    target: Target,
+) -> Result<(Statement, u32), ParseFault>
+    requires short { length tokens.now < 2 ^ 32 }
+    requires inside { at ≤ length tokens.now }
+    ensures { Reads grammar table tokens.now (led target) room (part s.AfterName) at result }
+{
+    if !begins(tokens, at, &[Class::Name]) {
+        return after_target(alloc, tokens, at, room, target);
+    }
+    let (variables, end) = variables(alloc, tokens, at, room)?;
+    let Target { name, steps: _ } = target;
+    Ok((Statement::Declare(TypeTree::Defined(name), variables), end))
+}
+
+/// What stands after the target with which a statement begins.
+fn after_target(
+    alloc: Global,
+    tokens: &[Spanned],
+    at: u32,
+    room: Room,
+    target: Target,
+) -> Result<(Statement, u32), ParseFault>
+    requires short { length tokens.now < 2 ^ 32 }
+    requires inside { at ≤ length tokens.now }
+    ensures { Reads grammar table tokens.now (led target) room (part s.AfterTarget) at result }
+{
+    if !begins(tokens, at, &FIRST_OF_COMMUNICATION_END) {
+        return assignment(alloc, tokens, at, room, target);
+    }
+    let (communication, end) = communication_end(alloc, tokens, at, room, target)?;
+    Ok((Statement::Communicate(communication), end))
+}
+
+/// The rest of an assignment after its first target.
+fn assignment(
+    alloc: Global,
+    tokens: &[Spanned],
+    at: u32,
+    room: Room,
+    target: Target,
+) -> Result<(Statement, u32), ParseFault>
+    requires short { length tokens.now < 2 ^ 32 }
+    requires inside { at ≤ length tokens.now }
+    ensures { Reads grammar table tokens.now (led target) room (part s.Assignment) at result }
+{
+    let (targets, middle) = more_targets(alloc, tokens, at, room, target)?;
+    let (sign, start) = take(tokens, middle, Class::Sign(Sign::Assign))?;
+    let (values, end) = exprs(alloc, tokens, start, room)?;
+    Ok((Statement::Assign(targets, sign.place, values), end))
+}
+
+fn timed(
+    alloc: Global,
+    tokens: &[Spanned],
+    at: u32,
+    room: Room,
+) -> Result<(Statement, u32), ParseFault>
+    requires short { length tokens.now < 2 ^ 32 }
+    requires inside { at ≤ length tokens.now }
+    ensures { Reads grammar table tokens.now statement_of room (part s.Timed) at result }
+{
+    let (communication, end) = delay(alloc, tokens, at, room)?;
+    Ok((Statement::Communicate(communication), end))
+}
+
+fn jump_of(token: &Token, place: Place) -> Statement
+    ensures { result ≡ jump_of token.now place }
+{
+    match token {
+        Token::Word(Keyword::BreakWord) => Statement::Break(place),
+        Token::Word(Keyword::ContinueWord) => Statement::Continue(place),
+        _ => Statement::Pass(place),
+    }
+}
+
+fn jump(tokens: &[Spanned], at: u32) -> Result<(Statement, u32), ParseFault>
+    requires short { length tokens.now < 2 ^ 32 }
+    requires inside { at ≤ length tokens.now }
+    ensures { (room : Room) → Reads grammar table tokens.now statement_of room (part s.Jump) at result }
+{
+    let (word, end) = take_one_of(tokens, at, &FIRST_OF_JUMP)?;
+    Ok((jump_of(&word.token, word.place), end))
+}
+
+fn returned(
+    alloc: Global,
+    tokens: &[Spanned],
+    at: u32,
+    room: Room,
+) -> Result<(Statement, u32), ParseFault>
+    requires short { length tokens.now < 2 ^ 32 }
+    requires inside { at ≤ length tokens.now }
+    ensures { Reads grammar table tokens.now statement_of room (part s.Return) at result }
+{
+    let (word, start) = take(tokens, at, Class::Word(Keyword::ReturnWord))?;
+    let (value, end) = expr(alloc, tokens, start, room)?;
+    Ok((Statement::Return(word.place, value), end))
+}
+
+fn exit(
+    alloc: Global,
+    tokens: &[Spanned],
+    at: u32,
+    room: Room,
+) -> Result<(Statement, u32), ParseFault>
+    requires short { length tokens.now < 2 ^ 32 }
+    requires inside { at ≤ length tokens.now }
+    ensures { Reads grammar table tokens.now statement_of room (part s.Exit) at result }
+{
+    let (word, start) = take(tokens, at, Class::Word(Keyword::ExitWord))?;
+    let (value, end) = optional_expr(alloc, tokens, start, room)?;
+    Ok((Statement::Exit(word.place, value), end))
+}
+
+fn finish(
+    alloc: Global,
+    tokens: &[Spanned],
+    at: u32,
+    room: Room,
+) -> Result<(Statement, u32), ParseFault>
+    requires short { length tokens.now < 2 ^ 32 }
+    requires inside { at ≤ length tokens.now }
+    ensures { Reads grammar table tokens.now statement_of room (part s.Finish) at result }
+{
+    let (word, start) = take(tokens, at, Class::Word(Keyword::FinishWord))?;
+    let (instances, end) = exprs(alloc, tokens, start, room)?;
+    Ok((Statement::Finish(word.place, instances), end))
+}
+
+fn ends_line(token: &Token) -> bool
+    ensures { result ≡ ends_line token.now }
+{
+    matches!(token, Token::Word(Keyword::WritelnWord))
+}
+
+fn write(
+    alloc: Global,
+    tokens: &[Spanned],
+    at: u32,
+    room: Room,
+) -> Result<(Statement, u32), ParseFault>
+    requires short { length tokens.now < 2 ^ 32 }
+    requires inside { at ≤ length tokens.now }
+    ensures { Reads grammar table tokens.now statement_of room (part s.Write) at result }
+{
+    let (word, start) = take_one_of(tokens, at, &FIRST_OF_WRITE)?;
+    let inner = enter(
+        tokens,
+        start,
+        room,
+        Nesting::Expression,
+        &[Class::Sign(Sign::LeftParen)],
+    )?;
+    let (_, from) = take(tokens, start, Class::Sign(Sign::LeftParen))?;
+    let (text, middle) = take(tokens, from, Class::Text)?;
+    let (values, last) = more_exprs(alloc, tokens, middle, inner, Vec::new(alloc))?;
+    let (_, end) = take(tokens, last, Class::Sign(Sign::RightParen))?;
+    let format = Bytes::copy_of(alloc, bytes_of(&text.token))?;
+    let statement = Statement::Write(
+        word.place,
+        ends_line(&word.token),
+        format,
+        text.place,
+        values,
+    );
+    Ok((statement, end))
+}
+
+/// A statement whose last token is never taken for the `end` of one.
+pub fn open(
+    alloc: Global,
+    tokens: &[Spanned],
+    at: u32,
+    room: Room,
+) -> Result<(Statement, u32), ParseFault>
+    requires short { length tokens.now < 2 ^ 32 }
+    requires inside { at ≤ length tokens.now }
+    ensures { Reads grammar table tokens.now statement_of room (part s.Open) at result }
+{
+    if begins(tokens, at, &FIRST_OF_BUILT_TYPE) {
+        return declaration(alloc, tokens, at, room);
+    }
+    if begins(tokens, at, &[Class::Name]) {
+        return name_led(alloc, tokens, at, room);
+    }
+    if begins(tokens, at, &[Class::Word(Keyword::DelayWord)]) {
+        return timed(alloc, tokens, at, room);
+    }
+    if begins(tokens, at, &FIRST_OF_JUMP) {
+        return jump(tokens, at);
+    }
+    if begins(tokens, at, &[Class::Word(Keyword::ReturnWord)]) {
+        return returned(alloc, tokens, at, room);
+    }
+    if begins(tokens, at, &[Class::Word(Keyword::ExitWord)]) {
+        return exit(alloc, tokens, at, room);
+    }
+    if begins(tokens, at, &[Class::Word(Keyword::FinishWord)]) {
+        return finish(alloc, tokens, at, room);
+    }
+    write(alloc, tokens, at, room)
+}

@@ -1,0 +1,9 @@
+//! Tests of both parsers, over sources.
+#![tactic(auto)]
+
+#[cfg(test)]
+mod expressions;
+#[cfg(test)]
+mod programs;
+#[cfg(test)]
+mod shapes;

@@ -1,0 +1,220 @@
+use chi_grammar::ParseFault;
+use chi_lex::{MOST_BYTES, lex};
+use chi_parse::parse;
+use chi_tree::{Alternative, Communication, Definition, Element, Program, Statement};
+use std::alloc::Global;
+use std::test::Fail;
+
+/// Parts of a source, each with how often it stands there.
+type Parts<'a> = &'a [(&'a str, usize)];
+
+fn source_of(alloc: Global, parts: Parts) -> Result<Vec<u8>, Fail> {
+    let mut source = Vec::new(alloc);
+    for (text, count) in parts {
+        for _ in 0..*count {
+            source.extend_from_slice(text.as_bytes())?;
+        }
+    }
+    Ok(source)
+}
+
+fn parsed(alloc: Global, source: &[u8]) -> Result<Result<Program, ParseFault>, Fail> {
+    if source.len() > MOST_BYTES {
+        return Ok(Err(ParseFault::NoMemory));
+    }
+    let tokens = lex(alloc, source)?;
+    if tokens.len() > MOST_BYTES {
+        return Ok(Err(ParseFault::NoMemory));
+    }
+    Ok(parse(alloc, tokens.as_slice()))
+}
+
+/// The fault of a source that is made of parts, and none where it is read.
+fn fault_of(alloc: Global, parts: Parts) -> Result<Option<ParseFault>, Fail> {
+    let source = source_of(alloc, parts)?;
+    Ok(parsed(alloc, source.as_slice())?.err())
+}
+
+#[test]
+fn a_refusal_names_the_first_token_that_no_tree_has(rt: HostRuntime) -> Result<(), Fail> {
+    let rows: [(&str, u32); 28] = [
+        ("", 0),
+        ("model M(): end", 5),
+        ("model M(): chan int a; int x; select a?x alt", 17),
+        ("model M(): int x =", 8),
+        ("model M(): a!1 a!2 end", 8),
+        ("model M(): x = 1 < 2 < 3 end", 10),
+        ("model M(): pass end end", 7),
+        ("model M(): pass pass end", 6),
+        ("model M(): pass;; end", 7),
+        ("model M(): run P() pass end", 9),
+        ("model M(): run unwind i in x: P() end, Q() pass end", 19),
+        ("model M(): if x: pass else pass end", 10),
+        ("model M(): if x: pass elif: pass end end", 10),
+        ("model M(): select a!1: pass else pass end end", 11),
+        ("model M(): select 1!2 end end", 7),
+        ("model M(): select a[1 : 2]!2 end end", 12),
+        ("model M(): select f(1)!2 end end", 10),
+        ("model M(): a.b x end", 8),
+        ("model M(): a[1] = end", 10),
+        ("model M(): start x.y(1) end", 9),
+        ("model M(): write(x) end", 7),
+        ("model M(): for 1 in x: pass end end", 6),
+        ("proc int list(): pass end", 2),
+        ("proc A B C(): pass end", 3),
+        ("xper X(int a): pass end", 3),
+        ("enum e = { }", 4),
+        ("const int c", 3),
+        ("type t = int end", 4),
+    ];
+    for (source, index) in rows {
+        let fault = parsed(rt.alloc(), source.as_bytes())?.err();
+        assert_eq!(rt; fault, Some(ParseFault::Syntax(index)), "{source}");
+    }
+    Ok(())
+}
+
+#[test]
+fn each_production_is_read(rt: HostRuntime) -> Result<(), Fail> {
+    let rows = [
+        "enum e = { a }; enum f = { a, b, c } const int c = 1 + 2; type t = list int; type u = t;",
+        "func int f(): return 1 end; func t f(int a, b; real c): return a; end",
+        "proc P(): pass end proc t P(chan int a): pass end proc int P(chan? void a): pass end",
+        "model M(int n): pass end model int M(): exit 1 end model t M(): exit end xper X(): pass; end;",
+        "model M(): int x; list(3) real y = z, u; t v; t w = 1, q end",
+        "model M(): x = 1; x, y[1], z.a[2].b = 1, 2, 3; a[1]!x; a!; b.c?x; b?; delay 1.0; pass; break; continue end",
+        "model M(): if x: pass end if x: pass elif y: pass elif z: pass end; if x: pass; else: pass end end",
+        "model M(): while x: pass end for i in x: pass end for i, j in x: pass end return 1; exit; finish a, b end",
+        "model M(): write(\"a\"); writeln(\"%d %d\", 1, 2); end",
+        "model M(): select a!1 end select a?x: pass end select delay 1 alt x > 1, a[1]!x: pass; alt x, b? alt x, delay 2 end end",
+        "model M(): select unwind i, j in x: a!1 alt unwind k in y: b?: pass end end alt a! end end",
+        "model M(): run P(), x = Q(1, 2), x.y[1] = R(); start P(1) end",
+        "model M(): run unwind i in x: P(), unwind j in y: z[i] = Q() end end pass end",
+    ];
+    for source in rows {
+        let fault = parsed(rt.alloc(), source.as_bytes())?.err();
+        assert_eq!(rt; fault, None, "{source}");
+    }
+    Ok(())
+}
+
+#[test]
+fn a_tree_has_what_its_tokens_say(rt: HostRuntime) -> Result<(), Fail> {
+    let source =
+        "model M(): select x, a?y: pass alt b[1]! end; run unwind i in x: P() end exit end;";
+    let program = parsed(rt.alloc(), source.as_bytes())?.map_err(|_| "refused")?;
+    assert_eq!(rt; program.last.column, 82);
+    let item = program.items.as_slice().first().ok_or("no item")?;
+    assert!(rt; item.semicolon);
+    let Definition::Model(_, None, _, formals, block) = &item.definition else {
+        return Err(Fail::from("no model"));
+    };
+    assert!(rt; formals.as_slice().is_empty());
+    let [select, run, exit] = block.as_slice() else {
+        return Err(Fail::from("not three statements"));
+    };
+    assert!(rt; select.semicolon && !run.semicolon && !exit.semicolon);
+    assert!(rt; matches!(exit.statement, Statement::Exit(_, None)));
+    let Statement::Run(_, elements) = &run.statement else {
+        return Err(Fail::from("no run"));
+    };
+    assert!(rt; matches!(elements.as_slice(), [Element::Unwind(_, _, _)]));
+    let Statement::Select(_, alternatives) = &select.statement else {
+        return Err(Fail::from("no select"));
+    };
+    let [first, second] = alternatives.as_slice() else {
+        return Err(Fail::from("not two alternatives"));
+    };
+    assert!(rt;
+        matches!(
+            first,
+            Alternative::Guarded(Some(_), Communication::Receive(_, _, Some(_)), _)
+        )
+    );
+    assert!(rt;
+        matches!(
+            second,
+            Alternative::Guarded(None, Communication::Send(_, _, None), _)
+        )
+    );
+    Ok(())
+}
+
+#[test]
+fn nesting_has_its_limits(rt: HostRuntime) -> Result<(), Fail> {
+    let open = "model M(): int x = ";
+    let deep = Some(ParseFault::TooDeep(208));
+    let blocks = Some(ParseFault::TooDeep(197));
+    let start = "model M(): ";
+    let rows: [(Parts, Option<ParseFault>); 9] = [
+        (
+            &[(open, 1), ("(", 201), ("1", 1), (")", 201), (" end", 1)],
+            deep,
+        ),
+        (
+            &[(open, 1), ("(", 200), ("1", 1), (")", 200), (" end", 1)],
+            None,
+        ),
+        (&[(open, 1), ("-", 201), ("1 end", 1)], deep),
+        (&[(open, 1), ("-", 200), ("1 end", 1)], None),
+        (
+            &[(start, 1), ("if true: ", 64), ("pass", 1), (" end", 65)],
+            blocks,
+        ),
+        (
+            &[(start, 1), ("if true: ", 63), ("pass", 1), (" end", 64)],
+            None,
+        ),
+        (
+            &[(start, 1), ("while x: ", 64), ("pass", 1), (" end", 65)],
+            blocks,
+        ),
+        (
+            &[
+                (start, 1),
+                ("if x: pass else: ", 64),
+                ("pass", 1),
+                (" end", 65),
+            ],
+            Some(ParseFault::TooDeep(386)),
+        ),
+        (&[(start, 1), ("list ", 32), ("int x end", 1)], None),
+    ];
+    for (parts, fault) in rows {
+        assert_eq!(rt; fault_of(rt.alloc(), parts)?, fault);
+    }
+    Ok(())
+}
+
+#[test]
+fn a_source_of_brackets_is_answered(rt: HostRuntime) -> Result<(), Fail> {
+    let fault = fault_of(rt.alloc(), &[("(", MOST_BYTES)])?;
+    assert_eq!(rt; fault, Some(ParseFault::Syntax(0)));
+    let fault = fault_of(rt.alloc(), &[("model M(): x = ", 1), ("(", 1_048_561)])?;
+    assert_eq!(rt; fault, Some(ParseFault::TooDeep(207)));
+    Ok(())
+}
+
+#[test]
+fn a_source_of_prefixes_is_answered(rt: HostRuntime) -> Result<(), Fail> {
+    let fault = fault_of(rt.alloc(), &[("model M(): x = ", 1), ("-", 1_048_561)])?;
+    assert_eq!(rt; fault, Some(ParseFault::TooDeep(207)));
+    Ok(())
+}
+
+#[test]
+fn a_source_of_blocks_is_answered(rt: HostRuntime) -> Result<(), Fail> {
+    let fault = fault_of(rt.alloc(), &[("model M(): ", 1), ("if true: ", 116_507)])?;
+    assert_eq!(rt; fault, Some(ParseFault::TooDeep(197)));
+    Ok(())
+}
+
+#[test]
+fn a_source_of_statements_is_answered(rt: HostRuntime) -> Result<(), Fail> {
+    let fault = fault_of(
+        rt.alloc(),
+        &[("model M(): ", 1), ("x!1;", 262_140), ("end", 1)],
+    )?;
+    assert_eq!(rt; fault, None);
+    Ok(())
+}
