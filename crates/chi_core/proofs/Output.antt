@@ -4,7 +4,7 @@ use Rattle.std.specs.Prelude.{nat_lt, filter}
 use Rattle.std.specs.List.{slice_get, flat_map}
 use Rattle.std.specs.Option.{option_and_then}
 use Rattle.chi_core.specs.declared.label.Label.{Label}
-use Rattle.chi_core.specs.Config.{Config, Instance, Offer, Delay, State, Running, Waiting, Finished}
+use Rattle.chi_core.specs.Config.{Config, Instance, Offer, Send, Receive, Delay, State, Running, Waiting, Finished}
 use Rattle.chi_core.specs.Options.{numbers, options_for, options_in, options_of, options, actors, enabled_of, enabled, ending_of, ending}
 use Rattle.chi_core.specs.Picks.{Pick, picked_from, picked_among, picked_label}
 
@@ -15,6 +15,8 @@ showing config output = record config { output = output }
 module _ (config : Config) (output : List ℕ) where
   options_for-showing : (p a : ℕ) (offer : Option Offer) → options_for (showing config output) p a offer ≡ options_for config p a offer
   options_for-showing p a None = refl
+  options_for-showing p a (Some (Send channel v body)) = refl
+  options_for-showing p a (Some (Receive channel slot body)) = refl
   options_for-showing p a (Some (Delay due body)) = refl
 
   options_in-showing : (p : ℕ) (state : State) → options_in (showing config output) p state ≡ options_in config p state

@@ -14,7 +14,10 @@ use Rattle.chi_core.specs.Runs.{End, end_at, After, IsAtRest, Runs, MayDerive, D
 use Rattle.chi_core.specs.Picks.{Pick, IsLawful, picked_from, picked_option, picked_among, MayPick, PicksFrom, Picked}
 use Rattle.chi_core.proofs.Lists.{Contains-from_slice_get, Contains-flat_map, filter-passes, some_below}
 use Rattle.chi_core.proofs.Runs.{Runs-map, Runs-rests, Runs-cut, Runs-on, Runs-over}
-use Rattle.chi_core.proofs.Settled.{IsSettled, IsSettled-start, HasStep, goes, ends, stops, IsOption-from, option-has_step, advance-has_step}
+use Rattle.chi_core.specs.Sound.{Sound}
+use Rattle.chi_core.specs.Kinded.{Kinded, GoesKinded}
+use Rattle.chi_core.proofs.Kinded.{Kinded-start, Kinded-step}
+use Rattle.chi_core.proofs.Time.{GoesLater, step-later}
 
 -- what is picked of two lists in turn
 picked_option-parts : (pick : Pick) (turn : ℕ) (config : Config) (label : Label) (o : Option ℕ)
@@ -37,20 +40,36 @@ MayPick-enabled pick turn config label e = by_actors (actors config) e
         = picked_option-parts pick turn config label (picked_from pick (2 * turn) (p ∷ ps)) e' in
         Contains-flat_map (options config) (p ∷ ps) _ r.0 label r.1 (Contains-from_slice_get (options config r.0) _ label r.2)
 
--- a label that a policy picks, and that has a step
-pub record PicksOne (core : Core) (pick : Pick) (turn : ℕ) (config : Config) (left : ℕ) : Type 0 where
+-- A label has a step: it goes on, at a cost within what is left, or ends the run, or costs more than is left.
+data HasStep (core : Core) (config : Config) (label : Label) (left : ℕ) : Type 0 where
+  goes : (new : Config) (cost : ℕ) → step core config label left ≡ Next new cost → 0 < cost → cost ≤ left → Kinded core new → HasStep core config label left
+  ends : (verdict : Verdict) (output : List ℕ) → step core config label left ≡ Over verdict output → HasStep core config label left
+  stops : step core config label left ≡ Spent → HasStep core config label left
+
+has_step : (core : Core) (turn : ℕ) (config : Config) (label : Label) (left : ℕ) → Sound core → Kinded core config → MayDerive turn config label
+    → HasStep core config label left
+has_step core turn config label left sound kinded may =
+    by_outcome (step core config label left) refl (Kinded-step core config label left sound kinded may) (step-later core turn config label left may)
+  where
+    by_outcome : (s : Outcome) → step core config label left ≡ s → GoesKinded core s → GoesLater config left s → HasStep core config label left
+    by_outcome (Next new cost) is good later = goes new cost is later.1 later.2 good
+    by_outcome (Over verdict output) is good later = ends verdict output is
+    by_outcome Spent is good later = stops is
+    by_outcome Wrong is good later = absurd good
+
+-- a label that a policy picks
+pub record PicksOne (pick : Pick) (turn : ℕ) (config : Config) : Type 0 where
   pub label : Label
   pub picked : MayPick pick turn config label
-  pub has_step : HasStep core config label left
 
 is_some_of : (n : ℕ) → nat_lt 0 n ≡ true → 0 < n
 is_some_of zero e = absurd (cc)
 is_some_of (suc n) e = omega arith
 
 -- where an instance has an option, a lawful policy picks one
-picks_option : (core : Core) (pick : Pick) → IsLawful pick → (turn : ℕ) (config : Config) (left : ℕ) → IsSettled config
-    → (p : ℕ) (ps : List ℕ) → actors config ≡ p ∷ ps → PicksOne core pick turn config left
-picks_option core pick lawful turn config left h p ps some =
+picks_option : (pick : Pick) → IsLawful pick → (turn : ℕ) (config : Config)
+    → (p : ℕ) (ps : List ℕ) → actors config ≡ p ∷ ps → PicksOne pick turn config
+picks_option pick lawful turn config p ps some =
     let a = some_below (p ∷ ps) (pick (2 * turn) (length (p ∷ ps))) (lawful (2 * turn) (length (p ∷ ps)) (omega arith)) in
     let at : picked_from pick (2 * turn) (actors config) ≡ Some a.0 = ap (picked_from pick (2 * turn)) some ∙ a.1 in
     let has : nat_lt 0 (length (options config a.0)) ≡ true
@@ -60,15 +79,13 @@ picks_option core pick lawful turn config left h p ps some =
     record {
       label = o.0;
       picked = ap (picked_among pick turn config) some ∙ ap (option_and_then (picked_option pick turn config)) a.1 ∙ o.1;
-      has_step = option-has_step core config a.0 o.0 left h (IsOption-from config a.0 _ o.0 o.1);
     }
 
-picks_advance : (core : Core) (pick : Pick) (turn : ℕ) (config : Config) (left : ℕ) → IsSettled config
-    → actors config ≡ [] → (label : Label) → advance_of (due_times config) ≡ Some label → PicksOne core pick turn config left
-picks_advance core pick turn config left h none label e = record {
+picks_advance : (pick : Pick) (turn : ℕ) (config : Config)
+    → actors config ≡ [] → (label : Label) → advance_of (due_times config) ≡ Some label → PicksOne pick turn config
+picks_advance pick turn config none label e = record {
   label = label;
   picked = ap (picked_among pick turn config) none ∙ e;
-  has_step = advance-has_step core config label left h e;
 }
 
 -- a run that ends, of the labels that a policy picks
@@ -85,10 +102,10 @@ rests_there core pick turn config left none =
     record { labels = []; end = end_at (rest_verdict config) config; runs = Runs-rests (MayPick pick) core turn config left _ at_rest }
 
 -- the run from a configuration, where each shorter rest of the bound has one
-picks_here : (core : Core) (pick : Pick) → IsLawful pick → (turn : ℕ) (config : Config) (left : ℕ) → IsSettled config
-    → ((new : Config) (rest : ℕ) → rest < left → IsSettled new → PicksSome core pick (turn + 1) new rest)
+picks_here : (core : Core) (pick : Pick) → Sound core → IsLawful pick → (turn : ℕ) (config : Config) (left : ℕ) → Kinded core config
+    → ((new : Config) (rest : ℕ) → rest < left → Kinded core new → PicksSome core pick (turn + 1) new rest)
     → PicksSome core pick turn config left
-picks_here core pick lawful turn config left settled below = by_actors (actors config) refl
+picks_here core pick sound lawful turn config left kinded below = by_actors (actors config) refl
   where
     by_step : (label : Label) → MayPick pick turn config label → HasStep core config label left → PicksSome core pick turn config left
     by_step label m (stops spent) = record {
@@ -109,30 +126,32 @@ picks_here core pick lawful turn config left settled below = by_actors (actors c
           runs = Runs-on (MayPick pick) core turn config left label new cost after.labels after.end m next after.runs;
         }
 
-    by_one : PicksOne core pick turn config left → PicksSome core pick turn config left
-    by_one o = by_step o.label o.picked o.has_step
+    by_one : PicksOne pick turn config → PicksSome core pick turn config left
+    by_one o =
+        by_step o.label o.picked
+        (has_step core turn config o.label left sound kinded (MayPick-enabled pick turn config o.label o.picked))
 
     by_advance : actors config ≡ [] → (o : Option Label) → advance_of (due_times config) ≡ o → PicksSome core pick turn config left
     by_advance none None e = rests_there core pick turn config left (ap (enabled_of config) none ∙ ap option_to_list e)
-    by_advance none (Some label) e = by_one (picks_advance core pick turn config left settled none label e)
+    by_advance none (Some label) e = by_one (picks_advance pick turn config none label e)
 
     by_actors : (ps : List ℕ) → actors config ≡ ps → PicksSome core pick turn config left
     by_actors [] none = by_advance none (advance_of (due_times config)) refl
-    by_actors (p ∷ ps) some = by_one (picks_option core pick lawful turn config left settled p ps some)
+    by_actors (p ∷ ps) some = by_one (picks_option pick lawful turn config p ps some)
 
-picks_some : (core : Core) (pick : Pick) → IsLawful pick → (n turn : ℕ) (config : Config) (left : ℕ) → left ≤ n → IsSettled config
+picks_some : (core : Core) (pick : Pick) → Sound core → IsLawful pick → (n turn : ℕ) (config : Config) (left : ℕ) → left ≤ n → Kinded core config
     → PicksSome core pick turn config left
-picks_some core pick lawful zero turn config left most settled =
-    picks_here core pick lawful turn config left settled (λ new rest h s. absurd (omega arith))
-picks_some core pick lawful (suc n) turn config left most settled =
-    picks_here core pick lawful turn config left settled (λ new rest h s. picks_some core pick lawful n (turn + 1) new rest (omega arith) s)
+picks_some core pick sound lawful zero turn config left most kinded =
+    picks_here core pick sound lawful turn config left kinded (λ new rest h s. absurd (omega arith))
+picks_some core pick sound lawful (suc n) turn config left most kinded =
+    picks_here core pick sound lawful turn config left kinded (λ new rest h s. picks_some core pick sound lawful n (turn + 1) new rest (omega arith) s)
 
--- a lawful policy picks a run of a program
-pub Picked-some : (core : Core) (pick : Pick) (bound : ℕ) → IsLawful pick
+-- a lawful policy picks a run of a sound program
+pub Picked-some : (core : Core) (pick : Pick) (bound : ℕ) → Sound core → IsLawful pick
     → (labels : List Label) × (end : End) × Picked core pick bound labels end
-Picked-some core pick bound lawful =
+Picked-some core pick bound sound lawful =
     let r : PicksSome core pick 0 (start core) bound
-    = picks_some core pick lawful bound 0 (start core) bound (omega arith) (IsSettled-start core) in
+    = picks_some core pick sound lawful bound 0 (start core) bound (omega arith) (Kinded-start core sound) in
     (r.labels, r.end, r.runs)
 
 pub Picked-derivation : (core : Core) (pick : Pick) (bound : ℕ) (labels : List Label) (end : End)

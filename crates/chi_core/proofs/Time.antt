@@ -10,15 +10,19 @@ use Rattle.chi_core.specs.declared.program.Core.{Core}
 use Rattle.chi_core.specs.declared.program.CStat.{CStat, CStat-F, out-CStat}
 use Rattle.chi_core.specs.declared.program.CAlt.{CAlt}
 use Rattle.chi_core.specs.declared.label.Label.{Label}
-use Rattle.chi_core.specs.declared.label.Label.TheVariants.{Local, Wake, Advance}
+use Rattle.chi_core.specs.declared.label.Label.TheVariants.{Local, Pair, Wake, Advance}
 use Rattle.chi_core.specs.declared.verdict.Verdict.{Verdict}
-use Rattle.chi_core.specs.Config.{Config, Instance, Item, Do, Offer, Delay, State, Running, Waiting, Finished}
-use Rattle.chi_core.specs.Opening.{Opened, Kept, Faulty, opened}
-use Rattle.chi_core.specs.Step.{Outcome, Next, Over, Spent, Wrong, Done, Does, Faults, waits, done, line_of, after_local, first_done, local, woken_by, woken, offers_in, due_of, due_times, least_of, advanced, step}
+use Rattle.chi_core.specs.Config.{Config, Instance, Item, Do, Offer, Send, Receive, Delay, State, Running, Waiting, Finished, with_instance}
+use Rattle.chi_core.specs.Answer.{Answer, Gives, Fails, Amiss, and_then}
+use Rattle.chi_core.specs.Values.{initial_of}
+use Rattle.chi_core.specs.Writing.{written}
+use Rattle.chi_core.specs.Opening.{opened}
+use Rattle.chi_core.specs.Starting.{made}
+use Rattle.chi_core.specs.Step.{Outcome, Next, Over, Spent, Wrong, declares, writes, waits, adds, done, line_of, after_local, first_done, local, paired_as, paired, woken_by, woken, offers_in, due_of, due_times, least_of, advanced, step}
 use Rattle.chi_core.specs.Options.{numbers, options_for, options_in, options_of, options, actors, enabled_of, enabled, ending}
 use Rattle.chi_core.specs.Runs.{End, end_at, After, Runs, MayDerive}
 use Rattle.chi_core.proofs.Lists.{Joined, slice_get-flat_map, flat_map-none, filter-none}
-use Rattle.chi_core.proofs.Settled.{IsOption, own, wakes, IsOption-from}
+use Rattle.chi_core.proofs.Enabled.{IsOption, own, pairs, wakes, IsOption-from}
 
 append-get : {A : Type 0} (xs ys : List A) (k : ℕ) (x : A) → slice_get xs k ≡ Some x → slice_get (xs ++ ys) k ≡ Some x
 append-get [] ys k x e = absurd (cc)
@@ -85,6 +89,8 @@ due_later config none k t e = at_instance (slice_get-flat_map (λ i. flat_map du
   where
     at_offer : (i : Instance) (p : ℕ) → slice_get config.instances p ≡ Some i → (a : ℕ) (o : Offer) → slice_get (offers_in i.state) a ≡ Some o
         → (j : ℕ) → slice_get (due_of o) j ≡ Some t → config.clock ≤ℤ t
+    at_offer i p at a (Send channel v body) offered j e' = absurd (cc)
+    at_offer i p at a (Receive channel slot body) offered j e' = absurd (cc)
     at_offer i p at a (Delay due body) offered zero e' =
         let same : due ≡ t = cc in
         let P : ℤ → Type 0 = λ u. config.clock ≤ℤ u in
@@ -107,18 +113,27 @@ least-later c t (u ∷ us) h all =
     by_min false g = h
 
 -- what a label leaves of the clock
-abbrev Keeps : Config → Done → Type 0
-Keeps config (Does new) = new.clock ≡ config.clock
-Keeps config (Faults kind) = Unit {0}
+abbrev Keeps : Config → Answer Config → Type 0
+Keeps config (Gives new) = new.clock ≡ config.clock
+Keeps config (Fails kind) = Unit {0}
+Keeps config Amiss = Unit {0}
 
-Keeps-done : (config : Config) (p : ℕ) (i : Instance) (s : CStat-F CAlt CStat) → Keeps config (done config p i s)
-Keeps-done config p i (CStat-F.Pass line) = refl
-Keeps-done config p i (CStat-F.Write line text) = refl
-Keeps-done config p i (CStat-F.Select line alternatives) = by_opened (opened config.clock alternatives)
-  where
-    by_opened : (o : Opened) → Keeps config (waits config p i o)
-    by_opened (Kept offers) = refl
-    by_opened (Faulty kind) = tt
+Keeps-then : {A : Type 0} (config : Config) (f : A → Answer Config) (answer : Answer A) → ((x : A) → Keeps config (f x))
+    → Keeps config (and_then f answer)
+Keeps-then config f (Gives x) h = h x
+Keeps-then config f (Fails kind) h = tt
+Keeps-then config f Amiss h = tt
+
+Keeps-done : (core : Core) (config : Config) (p : ℕ) (i : Instance) (s : CStat-F CAlt CStat) → Keeps config (done core config p i s)
+Keeps-done core config p i (CStat-F.Declare line slot e) =
+    Keeps-then config (declares config p i slot) (initial_of config.channels i.variables e) (λ x. refl)
+Keeps-done core config p i (CStat-F.Pass line) = refl
+Keeps-done core config p i (CStat-F.Write line pieces values) =
+    Keeps-then config (writes (with_instance config p i)) (written i.variables pieces values) (λ x. refl)
+Keeps-done core config p i (CStat-F.Select line alternatives) =
+    Keeps-then config (waits config p i) (opened config.clock i.variables alternatives) (λ x. refl)
+Keeps-done core config p i (CStat-F.Start line elements) =
+    Keeps-then config (adds (with_instance config p i)) (made core i.variables (length config.instances) elements) (λ x. refl)
 
 -- an outcome that isn't before the clock, and costs something within what is left
 abbrev pub GoesLater : Config → ℕ → Outcome → Type 0
@@ -134,15 +149,30 @@ local-later : (core : Core) (config : Config) (p left : ℕ) (o : Option Instanc
 local-later core config p left None = tt
 local-later core config p left (Some i) = by_term i.term
   where
-    by_done : (line : ℕ) (d : Done) → Keeps config d → GoesLater config (suc left) (after_local core config i line d)
-    by_done line (Does new) k = (same_later config.clock new.clock k, omega arith, omega arith)
-    by_done line (Faults kind) k = tt
+    by_done : (line : ℕ) (d : Answer Config) → Keeps config d → GoesLater config (suc left) (after_local core config i line d)
+    by_done line (Gives new) k = (same_later config.clock new.clock k, omega arith, omega arith)
+    by_done line (Fails kind) k = tt
+    by_done line Amiss k = tt
 
     by_term : (items : List Item) → GoesLater config (suc left) (first_done core config p i items)
     by_term [] = tt
     by_term (Do s ∷ rest) =
-        by_done (line_of (out-CStat s)) (done config p (record i { term = rest }) (out-CStat s))
-        (Keeps-done config p (record i { term = rest }) (out-CStat s))
+        by_done (line_of (out-CStat s)) (done core config p (record i { term = rest }) (out-CStat s))
+        (Keeps-done core config p (record i { term = rest }) (out-CStat s))
+
+paired-later : (config : Config) (p a q b left : ℕ) (o other : Option Instance) → GoesLater config (suc left) (paired config p a o q b other)
+paired-later config p a q b left None other = tt
+paired-later config p a q b left (Some i) None = tt
+paired-later config p a q b left (Some i) (Some j) = by_offers (slice_get (offers_in i.state) a) (slice_get (offers_in j.state) b)
+  where
+    by_offers : (o o' : Option Offer) → GoesLater config (suc left) (paired_as config p i o q j o')
+    by_offers None o' = tt
+    by_offers (Some (Send channel v body)) None = tt
+    by_offers (Some (Send channel v body)) (Some (Send channel' v' body')) = tt
+    by_offers (Some (Send channel v body)) (Some (Receive channel' slot after)) = (≤ℤ_refl config.clock, omega arith, omega arith)
+    by_offers (Some (Send channel v body)) (Some (Delay due after)) = tt
+    by_offers (Some (Receive channel slot body)) o' = tt
+    by_offers (Some (Delay due body)) o' = tt
 
 woken-later : (config : Config) (p a left : ℕ) (o : Option Instance) → GoesLater config (suc left) (woken config p a o)
 woken-later config p a left None = tt
@@ -150,6 +180,8 @@ woken-later config p a left (Some i) = by_offer (slice_get (offers_in i.state) a
   where
     by_offer : (o : Option Offer) → GoesLater config (suc left) (woken_by config p i o)
     by_offer None = tt
+    by_offer (Some (Send channel v body)) = tt
+    by_offer (Some (Receive channel slot body)) = tt
     by_offer (Some (Delay due body)) = (≤ℤ_refl config.clock, omega arith, omega arith)
 
 advanced-later : (config : Config) (left : ℕ) (ts : List ℤ)
@@ -164,7 +196,8 @@ option-not_advance config p k e = by_option (IsOption-from config p k Advance e)
   where
     by_option : IsOption config p Advance → ⊥
     by_option (own i at running is) = cc
-    by_option (wakes i a o at offered is) = cc
+    by_option (pairs a q b pair is) = cc
+    by_option (wakes a wake is) = cc
 
 pub advance_last : (config : Config) → Contains (enabled config) Advance → actors config ≡ []
 advance_last config c = by_actors (actors config) refl c
@@ -180,6 +213,8 @@ pub step-later : (core : Core) (turn : ℕ) (config : Config) (label : Label) (l
     → GoesLater config left (step core config label left)
 step-later core turn config label zero may = tt
 step-later core turn config (Local p) (suc left) may = local-later core config p left (slice_get config.instances p)
+step-later core turn config (Pair p a q b) (suc left) may =
+    paired-later config p a q b left (slice_get config.instances p) (slice_get config.instances q)
 step-later core turn config (Wake p a) (suc left) may = woken-later config p a left (slice_get config.instances p)
 step-later core turn config Advance (suc left) may =
     advanced-later config left (due_times config) (due_later config (advance_last config may))

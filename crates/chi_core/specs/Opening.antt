@@ -1,52 +1,49 @@
 -- Opening a select: what its alternatives offer, in order, or the first fault.
-use Rattle.std.specs.Prelude.{◌-◌, ◌^◌, ℤ, pos, negsuc, ◌+ℤ◌, ◌*ℤ◌, int_lt, Bool, not, ◌&&◌, Option, Some, None, List, [], ◌∷◌, if◌then◌else◌}
+use Rattle.std.specs.Prelude.{ℕ, ℤ, pos, ◌+ℤ◌, int_lt, nat_lt, List, if◌then◌else◌}
+use Rattle.chi_value.specs.declared.value.Value.{Value, Value-F, out-Value}
+use Rattle.chi_core.specs.declared.limits.TheConstants.{MOST_OFFERS}
 use Rattle.chi_core.specs.declared.program.CStat.{CStat}
 use Rattle.chi_core.specs.declared.program.CAlt.{CAlt, CAlt-F, out-CAlt}
 use Rattle.chi_core.specs.declared.program.CComm.{CComm}
 use Rattle.chi_core.specs.declared.program.CComm.TheVariants as comm
-use Rattle.chi_core.specs.declared.program.CExpr.{CExpr}
-use Rattle.chi_core.specs.declared.program.CExpr.TheVariants as expression
-use Rattle.chi_core.specs.declared.fault.FaultKind.{FaultKind}
-use Rattle.chi_core.specs.declared.fault.FaultKind.TheVariants.{NegativeDelay, RealRange}
-use Rattle.chi_core.specs.Config.{Offer, Delay}
+use Rattle.chi_core.specs.declared.fault.FaultKind.TheVariants.{NegativeDelay, RealRange, TooLarge}
+use Rattle.chi_core.specs.Answer.{Answer, Gives, Fails, Amiss, and_then, both, in_turn}
+use Rattle.chi_core.specs.Values.{Variables, is_real, value_of, channel_of}
+use Rattle.chi_core.specs.Config.{Offer, Send, Receive, Delay}
 
-pub data Offered : Type 0 where
-  Offers : Offer → Offered
-  Refused : FaultKind → Offered
+abbrev pub sends : List CStat → ℕ × Value → Answer Offer
+sends body sent = Gives (Send sent.0 sent.1 body)
 
-pub data Opened : Type 0 where
-  Kept : List Offer → Opened
-  Faulty : FaultKind → Opened
-
--- the count of units is that of a real
-abbrev pub is_real : ℤ → Bool
-is_real units = not (int_lt units (negsuc (2 ^ 63 - 1))) && not (int_lt (pos (2 ^ 63 - 1)) units)
-
--- the value of an expression, or none where it is out of range
-abbrev pub value_of : CExpr → Option ℤ
-value_of (expression.Lit real) = Some real
-value_of (expression.Widen int) = if is_real (int *ℤ pos 1_000_000_000) then Some (int *ℤ pos 1_000_000_000) else None
+abbrev pub receives : ℕ → List CStat → ℕ → Answer Offer
+receives slot body channel = Gives (Receive channel slot body)
 
 -- a delay is due so much after the clock: it isn't below 0, and its due time is a real
-abbrev pub delayed : ℤ → Option ℤ → List CStat → Offered
-delayed clock None body = Refused RealRange
-delayed clock (Some delay) body =
-    if int_lt delay (pos 0) then Refused NegativeDelay
-    else if is_real (clock +ℤ delay) then Offers (Delay (clock +ℤ delay) body)
-    else Refused RealRange
+abbrev pub delayed : ℤ → List CStat → Value-F Value → Answer Offer
+delayed clock body (Value-F.Real delay) =
+    if int_lt delay (pos 0) then Fails NegativeDelay
+    else if is_real (clock +ℤ delay) then Gives (Delay (clock +ℤ delay) body)
+    else Fails RealRange
+delayed clock body _ = Amiss
 
-abbrev pub offered_by : ℤ → CComm → List CStat → Offered
-offered_by clock (comm.Delay delay) body = delayed clock (value_of delay) body
+abbrev pub delays : ℤ → List CStat → Value → Answer Offer
+delays clock body v = delayed clock body (out-Value v)
 
-abbrev pub offered_as : ℤ → CAlt-F CAlt CStat → Offered
-offered_as clock (CAlt-F.Guarded communication body) = offered_by clock communication body
+-- what is offered at a time: a channel is evaluated before the value that is sent
+abbrev pub offered_by : ℤ → Variables → CComm → List CStat → Answer Offer
+offered_by clock variables (comm.Send target e) body =
+    and_then (sends body) (both (channel_of variables target) (value_of variables e))
+offered_by clock variables (comm.Receive target slot) body = and_then (receives slot body) (channel_of variables target)
+offered_by clock variables (comm.Delay e) body = and_then (delays clock body) (value_of variables e)
 
-abbrev pub first_of_opened : Offered → Opened → Opened
-first_of_opened (Refused kind) rest = Faulty kind
-first_of_opened (Offers offer) (Faulty kind) = Faulty kind
-first_of_opened (Offers offer) (Kept offers) = Kept (offer ∷ offers)
+abbrev pub offered_as : ℤ → Variables → CAlt-F CAlt CStat → Answer Offer
+offered_as clock variables (CAlt-F.Guarded communication body) = offered_by clock variables communication body
 
-abbrev pub opened : ℤ → List CAlt → Opened
-opened clock [] = Kept []
-opened clock (alternative ∷ alternatives) =
-    first_of_opened (offered_as clock (out-CAlt alternative)) (opened clock alternatives)
+-- offer number n is kept where there may be so many
+abbrev pub kept : ℕ → Offer → Answer Offer
+kept n offer = if nat_lt n MOST_OFFERS then Gives offer else Fails TooLarge
+
+abbrev pub offered : ℤ → Variables → ℕ → CAlt → Answer Offer
+offered clock variables n alternative = and_then (kept n) (offered_as clock variables (out-CAlt alternative))
+
+abbrev pub opened : ℤ → Variables → List CAlt → Answer (List Offer)
+opened clock variables alternatives = in_turn (offered clock variables) 0 alternatives

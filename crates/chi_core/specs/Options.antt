@@ -1,22 +1,46 @@
 -- Options: which labels may come next.
-use Rattle.std.specs.Prelude.{ℕ, zero, suc, ℤ, List, [], ◌∷◌, ◌++◌, Option, Some, None, Bool, true, false, length, nat_lt, int_lt, filter, slice_get, if◌then◌else◌}
+use Rattle.std.specs.Prelude.{ℕ, zero, suc, ℤ, List, [], ◌∷◌, ◌++◌, Option, Some, None, Bool, true, false, length, nat_eq, nat_lt, int_lt, filter, map, slice_get, if◌then◌else◌}
 use Rattle.std.specs.List.{flat_map, list_all}
 use Rattle.std.specs.Option.{option_to_list}
 use Rattle.chi_core.specs.declared.label.Label.{Label}
-use Rattle.chi_core.specs.declared.label.Label.TheVariants.{Local, Wake, Advance}
+use Rattle.chi_core.specs.declared.label.Label.TheVariants.{Local, Pair, Wake, Advance}
 use Rattle.chi_core.specs.declared.verdict.Verdict.{Verdict}
 use Rattle.chi_core.specs.declared.verdict.Verdict.TheVariants.{Completed, Deadlock}
-use Rattle.chi_core.specs.Config.{Config, Instance, Offer, Delay, State, Running, Waiting, Finished}
-use Rattle.chi_core.specs.Step.{due_times}
+use Rattle.chi_core.specs.Config.{Config, Instance, Offer, Send, Receive, Delay, State, Running, Waiting, Finished}
+use Rattle.chi_core.specs.Step.{offers_in, due_times}
 
 -- the numbers below n, ascending
 abbrev pub numbers : ℕ → List ℕ
 numbers zero = []
 numbers (suc n) = numbers n ++ n ∷ []
 
--- the options of instance p for its alternative a: a delay may end once its due time isn't after the clock
+abbrev pub receives_on : ℕ → Option Offer → Bool
+receives_on channel None = false
+receives_on channel (Some (Send number v body)) = false
+receives_on channel (Some (Receive number slot body)) = nat_eq number channel
+receives_on channel (Some (Delay due body)) = false
+
+-- the alternatives among these offers that receive from a channel, ascending
+abbrev pub receivers : ℕ → List Offer → List ℕ
+receivers channel offers = filter (λ b. receives_on channel (slice_get offers b)) (numbers (length offers))
+
+-- what instance p, which sends on a channel as its alternative a, may do together with instance q
+abbrev pub pairs_with : ℕ → ℕ → ℕ → ℕ → Option Instance → List Label
+pairs_with p a channel q None = []
+pairs_with p a channel q (Some j) =
+    if nat_eq q p then [] else map (λ b. Pair p a q b) (receivers channel (offers_in j.state))
+
+-- and together with every other instance, in order
+abbrev pub pairs : Config → ℕ → ℕ → ℕ → List Label
+pairs config p a channel =
+    flat_map (λ q. pairs_with p a channel q (slice_get config.instances q)) (numbers (length config.instances))
+
+-- The options of instance p for its alternative a: a send may happen with each receive on its channel, and
+-- a delay may end once its due time isn't after the clock. A receive waits for its sender.
 abbrev pub options_for : Config → ℕ → ℕ → Option Offer → List Label
 options_for config p a None = []
+options_for config p a (Some (Send channel v body)) = pairs config p a channel
+options_for config p a (Some (Receive channel slot body)) = []
 options_for config p a (Some (Delay due body)) = if int_lt config.clock due then [] else Wake p a ∷ []
 
 abbrev pub options_in : Config → ℕ → State → List Label

@@ -3,7 +3,7 @@ use Rattle.std.specs.Prelude.{◌≡◌, ℕ, ◌+◌, ◌*◌, ◌-◌, ◌<◌
 use Rattle.std.specs.Option.{option_and_then}
 use Rattle.chi_core.specs.declared.program.Core.{Core}
 use Rattle.chi_core.specs.declared.label.Label.{Label}
-use Rattle.chi_core.specs.declared.label.Label.TheVariants.{Local, Wake, Advance}
+use Rattle.chi_core.specs.declared.label.Label.TheVariants.{Local, Pair, Wake, Advance}
 use Rattle.chi_core.specs.declared.verdict.Verdict.{Verdict}
 use Rattle.chi_core.specs.declared.verdict.Verdict.TheVariants.{Completed, Deadlock, Fault, OutOfSteps}
 use Rattle.chi_core.specs.Config.{Config, start}
@@ -50,6 +50,7 @@ Picked core pick bound labels end = PicksFrom core pick 0 (start core) bound lab
 
 abbrev pub same_label : Label → Label → Bool
 same_label (Local p) (Local q) = p == q
+same_label (Pair p a q b) (Pair r c s d) = (p == r) && (a == c) && (q == s) && (b == d)
 same_label (Wake p a) (Wake q b) = (p == q) && (a == b)
 same_label Advance Advance = true
 same_label _ _ = false
@@ -66,6 +67,7 @@ places_of config p label =
 -- the two numbers by which a label is picked: 0 and 0 for Advance, which is taken unasked
 abbrev pub numbers_of : Config → Label → List ℕ
 numbers_of config (Local p) = places_of config p (Local p)
+numbers_of config (Pair p a q b) = places_of config p (Pair p a q b)
 numbers_of config (Wake p a) = places_of config p (Wake p a)
 numbers_of config Advance = 0 ∷ 0 ∷ []
 

@@ -1,20 +1,30 @@
 ghost use Rattle.std.specs.Prelude.{◌≡◌, ℕ, ◌<◌, ◌≤◌, ◌≤ℤ◌, List, [], Contains};
 ghost use Rattle.chi_core.specs.declared.program.Core.{Core};
 ghost use Rattle.chi_core.specs.declared.label.Label.{Label};
-ghost use Rattle.chi_core.specs.Config.{Config};
+ghost use Rattle.chi_core.specs.Config.{Config, start};
 ghost use Rattle.chi_core.specs.Step.{step};
 ghost use Rattle.chi_core.specs.Options.{actors, enabled};
+ghost use Rattle.chi_core.specs.Sound.{Sound};
+ghost use Rattle.chi_core.specs.Kinded.{Kinded, GoesKinded};
 ghost use Rattle.chi_core.specs.Runs.{End, Runs, MayDerive, Derivation};
 ghost use Rattle.chi_core.specs.Picks.{Pick, IsLawful, Picked};
 ghost use Rattle.chi_core.specs.Step as outcome;
 
-/// What a policy picks is a derivation, and a lawful policy picks exactly one, whatever the program
-/// and the bound.
+/// A sound program starts kinded, and each step keeps it so and goes well: a value of another kind or a
+/// variable that isn't set is never met.
+pub fn kinded_law()
+    ensures starts { (core : Core) → Sound core → Kinded core (start core) }
+    ensures keeps { (core : Core) (config : Config) (label : Label) (left : ℕ) → Sound core → Kinded core config
+        → Contains (enabled config) label → GoesKinded core (step core config label left) }
+{}
+
+/// What a policy picks is a derivation, and for a sound program a lawful policy picks exactly one,
+/// whatever the bound.
 pub fn picked_law()
     ensures derivation { (core : Core) (pick : Pick) (bound : ℕ) (labels : List Label) (end : End)
         → Picked core pick bound labels end → Derivation core bound labels end }
     ensures some { (core : Core) (pick : Pick) (bound : ℕ)
-        → IsLawful pick → (labels : List Label) × (end : End) × Picked core pick bound labels end }
+        → Sound core → IsLawful pick → (labels : List Label) × (end : End) × Picked core pick bound labels end }
     ensures one { (core : Core) (pick : Pick) (bound : ℕ) (labels labels2 : List Label) (end end2 : End)
         → Picked core pick bound labels end → Picked core pick bound labels2 end2
         → (labels ≡ labels2) × (end ≡ end2) }

@@ -6,48 +6,32 @@ use Rattle.std.specs.Option.{option_to_list}
 use Rattle.std.proofs.lemmas.Bool.{eqb-true}
 use Rattle.std.proofs.lemmas.Option.{slice_get_within, slice_get-get_or}
 use Rattle.chi_core.specs.declared.label.Label.{Label}
-use Rattle.chi_core.specs.declared.label.Label.TheVariants.{Local, Wake, Advance}
+use Rattle.chi_core.specs.declared.label.Label.TheVariants.{Local, Pair, Wake, Advance}
 use Rattle.chi_core.specs.declared.verdict.Verdict.{Verdict}
-use Rattle.chi_core.specs.Config.{Config, Instance, Running}
+use Rattle.chi_core.specs.Config.{Config, Instance, Offer, Running}
 use Rattle.chi_core.specs.Step.{offers_in, due_times}
 use Rattle.chi_core.specs.Options.{numbers, options, actors, advance_of, enabled, enabled_of, ending, ending_of, rest_verdict}
-use Rattle.chi_core.proofs.Lists.{Joined, slice_get-flat_map, filter-passes}
-use Rattle.chi_core.proofs.Settled.{IsOption, own, wakes, IsOption-from}
+use Rattle.chi_core.proofs.Lists.{filter-passes}
+use Rattle.chi_core.proofs.Enabled.{IsPair, IsWake, IsOption, own, pairs, wakes, IsDelayed, IsEnabled, option, advance, IsEnabled-from}
 use Rattle.chi_core.proofs.Time.{advance_last}
-use Rattle.chi_plain.specs.Offers.{least_in}
+use Rattle.chi_plain.specs.Offers.{IsSend, IsReceive, least_in}
+use Rattle.chi_plain.specs.Configurations.{OffersAt, SendsAt, ReceivesAt}
 
--- some offer is a delay
-pub record IsDelayed (config : Config) : Type 0 where
-  pub time : ℤ
-  pub later : List ℤ
-  pub due : due_times config ≡ time ∷ later
-
--- an enabled label is an option of an instance, or Advance
-enabled-cases : (config : Config) (label : Label) → Contains (enabled config) label
-    → ((p : ℕ) × IsOption config p label) ⊎ ((label ≡ Advance) × IsDelayed config)
-enabled-cases config label c = by_actors (actors config) c
+pub is_delayed : (config : Config) (label : Label) → label ≡ Advance → Contains (enabled config) label → IsDelayed config
+is_delayed config label is c = by_cases (IsEnabled-from config label c)
   where
-    by_place : (t : ℤ) (ts : List ℤ) → due_times config ≡ t ∷ ts → Contains (Advance ∷ []) label
-        → ((p : ℕ) × IsOption config p label) ⊎ ((label ≡ Advance) × IsDelayed config)
-    by_place t ts is (zero, within, at) = inr (sym at, record { time = t; later = ts; due = is })
-    by_place t ts is (suc k, within, at) = absurd (omega arith)
+    by_option : (q : ℕ) → IsOption config q label → IsDelayed config
+    by_option q (own i at running is') = absurd (let no : Local q ≡ Advance = sym is' ∙ is in cc)
+    by_option q (pairs a r b pair is') = absurd (let no : Pair q a r b ≡ Advance = sym is' ∙ is in cc)
+    by_option q (wakes a wake is') = absurd (let no : Wake q a ≡ Advance = sym is' ∙ is in cc)
 
-    by_due : (ts : List ℤ) → due_times config ≡ ts → Contains (option_to_list (advance_of ts)) label
-        → ((p : ℕ) × IsOption config p label) ⊎ ((label ≡ Advance) × IsDelayed config)
-    by_due [] is c' = absurd (let h : c'.0 < 0 = c'.1 in omega arith)
-    by_due (t ∷ ts) is c' = by_place t ts is c'
-
-    by_actors : (ps : List ℕ) → Contains (enabled_of config ps) label
-        → ((p : ℕ) × IsOption config p label) ⊎ ((label ≡ Advance) × IsDelayed config)
-    by_actors [] c' = by_due (due_times config) refl c'
-    by_actors (p ∷ ps) c' =
-        let r : Joined (options config) (p ∷ ps) label
-        = slice_get-flat_map (options config) (p ∷ ps) c'.0 label (slice_get-get_or _ c'.0 label c'.1 ∙ ap Some c'.2) in
-        inl (r.from, IsOption-from config r.from r.inner label r.has)
+    by_cases : IsEnabled config label → IsDelayed config
+    by_cases (option p o) = by_option p o
+    by_cases (advance is' d) = d
 
 pub is_running : (config : Config) (label : Label) (p : ℕ) → label ≡ Local p → Contains (enabled config) label
     → IsSomeAnd (slice_get config.instances p) (λ i. i.state ≡ Running)
-is_running config label p is c = by_cases (enabled-cases config label c)
+is_running config label p is c = by_cases (IsEnabled-from config label c)
   where
     by_option : (q : ℕ) → IsOption config q label → IsSomeAnd (slice_get config.instances p) (λ i. i.state ≡ Running)
     by_option q (own i at running is') =
@@ -55,43 +39,80 @@ is_running config label p is c = by_cases (enabled-cases config label c)
         let there : q ≡ p = cc in
         let Q : Option Instance → Type 0 = λ o. IsSomeAnd o (λ i. i.state ≡ Running) in
         subst Q (sym at ∙ ap (slice_get config.instances) there) running
-    by_option q (wakes i a o at offered is') = absurd (let no : Wake q a ≡ Local p = sym is' ∙ is in cc)
+    by_option q (pairs a r b pair is') = absurd (let no : Pair q a r b ≡ Local p = sym is' ∙ is in cc)
+    by_option q (wakes a wake is') = absurd (let no : Wake q a ≡ Local p = sym is' ∙ is in cc)
 
-    by_cases : ((q : ℕ) × IsOption config q label) ⊎ ((label ≡ Advance) × IsDelayed config)
-        → IsSomeAnd (slice_get config.instances p) (λ i. i.state ≡ Running)
-    by_cases (inl o) = by_option o.0 o.1
-    by_cases (inr a) = absurd (let no : Advance ≡ Local p = sym a.0 ∙ is in cc)
+    by_cases : IsEnabled config label → IsSomeAnd (slice_get config.instances p) (λ i. i.state ≡ Running)
+    by_cases (option q o) = by_option q o
+    by_cases (advance is' d) = absurd (let no : Advance ≡ Local p = sym is' ∙ is in cc)
 
-pub offers_it : (config : Config) (label : Label) (p a : ℕ) → label ≡ Wake p a → Contains (enabled config) label
-    → IsSomeAnd (slice_get config.instances p) (λ i. a < length (offers_in i.state))
-offers_it config label p a is c = by_cases (enabled-cases config label c)
+-- the number of the first is below that of the places
+place-within : {A : Type 0} (xs : List A) (k : ℕ) (x : A) → slice_get xs k ≡ Some x → k < length xs
+place-within xs k x e = slice_get_within xs k x e
+
+offering : (config : Config) (p a q b : ℕ) (i : Instance) (o : Offer) → slice_get config.instances p ≡ Some i
+    → slice_get (offers_in i.state) a ≡ Some o → p ≡ q → a ≡ b → OffersAt config q b
+offering config p a q b i o at has same there =
+    let Q : Option Instance → Type 0 = λ x. IsSomeAnd x (λ i. b < length (offers_in i.state)) in
+    let R : ℕ → Type 0 = λ n. n < length (offers_in i.state) in
+    subst Q (sym at ∙ ap (slice_get config.instances) same) (subst R there (place-within (offers_in i.state) a o has))
+
+pub wake-is : (config : Config) (label : Label) (p a : ℕ) → label ≡ Wake p a → Contains (enabled config) label → IsWake config p a
+wake-is config label p a is c = by_cases (IsEnabled-from config label c)
   where
-    by_option : (q : ℕ) → IsOption config q label → IsSomeAnd (slice_get config.instances p) (λ i. a < length (offers_in i.state))
+    by_option : (q : ℕ) → IsOption config q label → IsWake config p a
     by_option q (own i at running is') = absurd (let no : Local q ≡ Wake p a = sym is' ∙ is in cc)
-    by_option q (wakes i b o at offered is') =
+    by_option q (pairs b r d pair is') = absurd (let no : Pair q b r d ≡ Wake p a = sym is' ∙ is in cc)
+    by_option q (wakes b wake is') =
         let same : Wake q b ≡ Wake p a = sym is' ∙ is in
-        let there : q ≡ p = cc in
-        let it : b ≡ a = cc in
-        let Q : Option Instance → Type 0 = λ o. IsSomeAnd o (λ i. a < length (offers_in i.state)) in
-        let within : b < length (offers_in i.state) = slice_get_within (offers_in i.state) b o offered in
-        let R : ℕ → Type 0 = λ n. n < length (offers_in i.state) in
-        subst Q (sym at ∙ ap (slice_get config.instances) there) (subst R it within)
+        let one : q ≡ p = cc in
+        let two : b ≡ a = cc in
+        let P : ℕ → Type 0 = λ n. IsWake config n b in
+        let Q : ℕ → Type 0 = λ n. IsWake config p n in
+        subst Q two (subst P one wake)
 
-    by_cases : ((q : ℕ) × IsOption config q label) ⊎ ((label ≡ Advance) × IsDelayed config)
-        → IsSomeAnd (slice_get config.instances p) (λ i. a < length (offers_in i.state))
-    by_cases (inl o) = by_option o.0 o.1
-    by_cases (inr d) = absurd (let no : Advance ≡ Wake p a = sym d.0 ∙ is in cc)
+    by_cases : IsEnabled config label → IsWake config p a
+    by_cases (option q o) = by_option q o
+    by_cases (advance is' d) = absurd (let no : Advance ≡ Wake p a = sym is' ∙ is in cc)
 
-pub is_delayed : (config : Config) (label : Label) → label ≡ Advance → Contains (enabled config) label → IsDelayed config
-is_delayed config label is c = by_cases (enabled-cases config label c)
+pub wake-offers : (config : Config) (label : Label) (p a : ℕ) → label ≡ Wake p a → Contains (enabled config) label → OffersAt config p a
+wake-offers config label p a is c =
+    let wake = wake-is config label p a is c in
+    offering config p a p a wake.sleeper _ wake.sleeper_at wake.sleeps refl refl
+
+pub pair-is : (config : Config) (label : Label) (p a q b : ℕ) → label ≡ Pair p a q b → Contains (enabled config) label → IsPair config p a q b
+pair-is config label p a q b is c = by_cases (IsEnabled-from config label c)
   where
-    by_option : (q : ℕ) → IsOption config q label → IsDelayed config
-    by_option q (own i at running is') = absurd (let no : Local q ≡ Advance = sym is' ∙ is in cc)
-    by_option q (wakes i b o at offered is') = absurd (let no : Wake q b ≡ Advance = sym is' ∙ is in cc)
+    by_option : (r : ℕ) → IsOption config r label → IsPair config p a q b
+    by_option r (own i at running is') = absurd (let no : Local r ≡ Pair p a q b = sym is' ∙ is in cc)
+    by_option r (pairs x s y pair is') =
+        let same : Pair r x s y ≡ Pair p a q b = sym is' ∙ is in
+        let one : r ≡ p = cc in
+        let two : x ≡ a = cc in
+        let three : s ≡ q = cc in
+        let four : y ≡ b = cc in
+        let P : ℕ → Type 0 = λ n. IsPair config n x s y in
+        let Q : ℕ → Type 0 = λ n. IsPair config p n s y in
+        let R : ℕ → Type 0 = λ n. IsPair config p a n y in
+        let S : ℕ → Type 0 = λ n. IsPair config p a q n in
+        subst S four (subst R three (subst Q two (subst P one pair)))
+    by_option r (wakes x wake is') = absurd (let no : Wake r x ≡ Pair p a q b = sym is' ∙ is in cc)
 
-    by_cases : ((q : ℕ) × IsOption config q label) ⊎ ((label ≡ Advance) × IsDelayed config) → IsDelayed config
-    by_cases (inl o) = by_option o.0 o.1
-    by_cases (inr d) = d.1
+    by_cases : IsEnabled config label → IsPair config p a q b
+    by_cases (option r o) = by_option r o
+    by_cases (advance is' d) = absurd (let no : Advance ≡ Pair p a q b = sym is' ∙ is in cc)
+
+pub pair-sends : (config : Config) (p a q b : ℕ) → IsPair config p a q b → SendsAt config p a
+pair-sends config p a q b pair =
+    let Q : Option Instance → Type 0 = λ x. IsSomeAnd x (λ i. IsSomeAnd (slice_get (offers_in i.state) a) IsSend) in
+    let R : Option Offer → Type 0 = λ x. IsSomeAnd x IsSend in
+    subst Q (sym pair.sender_at) (subst R (sym pair.sends) tt)
+
+pub pair-receives : (config : Config) (p a q b : ℕ) → IsPair config p a q b → ReceivesAt config q b
+pair-receives config p a q b pair =
+    let Q : Option Instance → Type 0 = λ x. IsSomeAnd x (λ i. IsSomeAnd (slice_get (offers_in i.state) b) IsReceive) in
+    let R : Option Offer → Type 0 = λ x. IsSomeAnd x IsReceive in
+    subst Q (sym pair.receiver_at) (subst R (sym pair.receives) tt)
 
 none-of : {A : Type 0} (xs : List A) → length xs ≤ 0 → xs ≡ []
 none-of [] h = refl

@@ -6,6 +6,7 @@ use Rattle.std.specs.Borrow.{Bor}
 use Rattle.std.proofs.lemmas.Bool.{false≢true}
 use Rattle.std.proofs.lemmas.List.{append-nil, length-map, length-reverse, reverse-append, take-append-drop, drop_more, drop_all}
 use Rattle.chi_core.specs.declared.program.CStat.{CStat}
+use Rattle.chi_core.specs.Values.{Variables}
 use Rattle.chi_core.specs.Config.{Item, Do, Offer, State, Running, Waiting, Finished, Instance, rested, settled}
 use Rattle.chi_plain.specs.Instances.{todo}
 
@@ -91,34 +92,36 @@ rested-waiting [] offers = refl
 rested-waiting (i ∷ is) offers = refl
 
 -- an instance with these items left, at rest where there are none
-pub made : (d : ℕ) (term items : List Item) (state : State) → term ≡ items → state ≡ rested term Running
-    → (let new : Instance = record { definition = d; term = term; state = state } in new)
-    ≡ settled (record { definition = d; term = items; state = Running })
-made d term items state same rests =
+pub made : (d : ℕ) (variables set : Variables) (term items : List Item) (state : State) → variables ≡ set → term ≡ items
+    → state ≡ rested term Running
+    → (let new : Instance = record { definition = d; variables = variables; term = term; state = state } in new)
+    ≡ settled (record { definition = d; variables = set; term = items; state = Running })
+made d variables set term items state alike same rests =
     let now : state ≡ rested items Running = rests ∙ ap (λ t. rested t Running) same in
-    λ k. record { definition = d; term = same k; state = now k }
+    λ k. record { definition = d; variables = alike k; term = same k; state = now k }
 
 -- a running instance, once its next statement is done
-pub passed : (old : Instance) (d : ℕ) (before term : List Item) (s state : State)
-    → (let i : Instance = record { definition = d; term = before; state = s } in i) ≡ old → old.state ≡ Running
+pub passed : (old : Instance) (d : ℕ) (variables : Variables) (before term : List Item) (s state : State)
+    → (let i : Instance = record { definition = d; variables = variables; term = before; state = s } in i) ≡ old → old.state ≡ Running
     → term ≡ drop 1 before → state ≡ rested term Running
-    → (let new : Instance = record { definition = d; term = term; state = state } in new) ≡ settled (record old { term = drop 1 old.term })
-passed old d before term s state is running front rests =
+    → (let new : Instance = record { definition = d; variables = variables; term = term; state = state } in new)
+    ≡ settled (record old { term = drop 1 old.term })
+passed old d variables before term s state is running front rests =
     let runs : s ≡ Running = ap (λ (i : Instance). i.state) is ∙ running in
     let now : state ≡ rested (drop 1 before) s = rests ∙ ap (λ t. rested t Running) front ∙ ap (rested (drop 1 before)) (sym runs) in
-    let P : Instance → Type 0 = λ i. (let new : Instance = record { definition = d; term = term; state = state } in new)
+    let P : Instance → Type 0 = λ i. (let new : Instance = record { definition = d; variables = variables; term = term; state = state } in new)
     ≡ settled (record i { term = drop 1 i.term }) in
-    subst P is (λ k. record { definition = d; term = front k; state = now k })
+    subst P is (λ k. record { definition = d; variables = variables; term = front k; state = now k })
 
 -- an instance, once it waits
-pub waits : (old : Instance) (d : ℕ) (before term : List Item) (s : State) (offers : List Offer)
-    → (let i : Instance = record { definition = d; term = before; state = s } in i) ≡ old → term ≡ drop 1 before
-    → (let new : Instance = record { definition = d; term = term; state = Waiting offers } in new)
+pub waits : (old : Instance) (d : ℕ) (variables : Variables) (before term : List Item) (s : State) (offers : List Offer)
+    → (let i : Instance = record { definition = d; variables = variables; term = before; state = s } in i) ≡ old → term ≡ drop 1 before
+    → (let new : Instance = record { definition = d; variables = variables; term = term; state = Waiting offers } in new)
     ≡ settled (record old { term = drop 1 old.term; state = Waiting offers })
-waits old d before term s offers is front =
+waits old d variables before term s offers is front =
     let now : Waiting offers ≡ rested (drop 1 before) (Waiting offers) = sym (rested-waiting (drop 1 before) offers) in
-    let P : Instance → Type 0 = λ i. (let new : Instance = record { definition = d; term = term; state = Waiting offers } in new)
+    let P : Instance → Type 0 = λ i. (let new : Instance = record { definition = d; variables = variables; term = term; state = Waiting offers } in new)
     ≡ settled (record i { term = drop 1 i.term; state = Waiting offers }) in
-    subst P is (λ k. record { definition = d; term = front k; state = now k })
+    subst P is (λ k. record { definition = d; variables = variables; term = front k; state = now k })
 
 pub ruleset terms = (todo-put, rested-none, rested-some)

@@ -1,6 +1,7 @@
 -- What an instance stands for.
-use Rattle.std.specs.Prelude.{◌≡◌, ◌^◌, ◌<◌, List, map, reverse, length}
+use Rattle.std.specs.Prelude.{◌≡◌, ◌≤◌, Bool, true, false, List, map, reverse, length}
 use Rattle.std.specs.Borrow.{Bor}
+use Rattle.chi_core.specs.declared.limits.TheConstants.{MOST_OFFERS}
 use Rattle.chi_core.specs.declared.program.CStat.{CStat}
 use Rattle.chi_core.specs.Config as config
 use Rattle.chi_core.specs.Config.{Item, Do, rested}
@@ -17,7 +18,12 @@ state_of Running = config.Running
 state_of (Waiting offers) = config.Waiting offers.items
 state_of Finished = config.Finished
 
--- an instance as runs have it: its alternatives have numbers, and it is Finished once it has nothing left
+abbrev pub is_running : config.State → Bool
+is_running config.Running = true
+is_running (config.Waiting offers) = false
+is_running config.Finished = false
+
+-- an instance as runs have it: it has as many offers as there may be, and it is Finished once it has nothing left
 pub record IsKept (term : List Item) (state : config.State) : Type 0 where
-  pub numbered : length (offers_in state) < 2 ^ 32
+  pub numbered : length (offers_in state) ≤ MOST_OFFERS
   pub settled : rested term state ≡ state

@@ -1,6 +1,6 @@
 pub mod Stage
-pub mod Instances
+pub mod Stops
 pub mod Offers
+pub mod Instances
 pub mod Configurations
-pub mod Openings
 pub mod Standings

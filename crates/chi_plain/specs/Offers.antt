@@ -1,28 +1,55 @@
--- Offers by their due times.
-use Rattle.std.specs.Prelude.{ℕ, ℤ, List, [], ◌∷◌, Option, Some, None, Bool, false, length, int_lt, filter, slice_get, not}
+-- Offers as a runner keeps them.
+use Rattle.std.specs.Prelude.{ℕ, ℤ, List, [], ◌∷◌, Option, Some, None, Bool, false, nat_eq, filter, slice_get}
 use Rattle.std.specs.Int.{int_min}
+use Rattle.chi_value.specs.declared.value.Value.{Value}
 use Rattle.chi_core.specs.declared.program.CStat.{CStat}
-use Rattle.chi_core.specs.Config.{Offer, Delay}
+use Rattle.chi_core.specs.Config.{Offer, Send, Receive, Delay}
 use Rattle.chi_core.specs.Step.{least_of}
-use Rattle.chi_core.specs.Options.{numbers}
+use Rattle.chi_core.specs.Options.{numbers, receives_on}
+use Rattle.chi_plain.specs.declared.offer.Act.{Act}
+use Rattle.chi_plain.specs.declared.offer.Act.TheVariants as act
 
-abbrev pub is_due : ℤ → Offer → Bool
-is_due clock (Delay due body) = not (int_lt clock due)
+-- an act, and then a body
+abbrev pub offer_of : Act → List CStat → Offer
+offer_of (act.Send channel value) body = Send channel value body
+offer_of (act.Receive channel slot) body = Receive channel slot body
+offer_of (act.Delay due) body = Delay due body
 
 abbrev pub body_in : Offer → List CStat
+body_in (Send channel value body) = body
+body_in (Receive channel slot body) = body
 body_in (Delay due body) = body
 
-abbrev pub is_due_if_any : ℤ → Option Offer → Bool
-is_due_if_any clock None = false
-is_due_if_any clock (Some offer) = is_due clock offer
+-- the value that is sent
+abbrev pub value_in : Offer → Option Value
+value_in (Send channel value body) = Some value
+value_in (Receive channel slot body) = None
+value_in (Delay due body) = None
 
--- the alternatives below number n that are due, ascending
-unfoldable pub due_below : ℤ → List Offer → ℕ → List ℕ
-due_below clock offers n = filter (λ a. is_due_if_any clock (slice_get offers a)) (numbers n)
+-- the slot that receives
+abbrev pub slot_in : Offer → ℕ
+slot_in (Send channel value body) = 0
+slot_in (Receive channel slot body) = slot
+slot_in (Delay due body) = 0
 
--- all alternatives that are due
-abbrev pub due_places : ℤ → List Offer → List ℕ
-due_places clock offers = due_below clock offers (length offers)
+abbrev pub IsSend : Offer → Type 0
+IsSend (Send channel value body) = Unit {0}
+IsSend (Receive channel slot body) = ⊥
+IsSend (Delay due body) = ⊥
+
+abbrev pub IsReceive : Offer → Type 0
+IsReceive (Send channel value body) = ⊥
+IsReceive (Receive channel slot body) = Unit {0}
+IsReceive (Delay due body) = ⊥
+
+abbrev pub is_receiving : ℕ → Offer → Bool
+is_receiving channel (Send number value body) = false
+is_receiving channel (Receive number slot body) = nat_eq number channel
+is_receiving channel (Delay due body) = false
+
+-- the alternatives below number n that receive from a channel, ascending
+unfoldable pub receivers_below : ℕ → List Offer → ℕ → List ℕ
+receivers_below channel offers n = filter (λ b. receives_on channel (slice_get offers b)) (numbers n)
 
 -- the earlier of two times, each of which may be wanting
 unfoldable pub earlier : Option ℤ → Option ℤ → Option ℤ

@@ -52,6 +52,13 @@ IsTimeAt (At config) time = time ≡ config.clock
 IsTimeAt (Ended verdict config) time = time ≡ config.clock
 IsTimeAt Lost time = Unit {0}
 
+-- the label has a step there
+abbrev pub IsRight : outcome.Outcome → Type 0
+IsRight (outcome.Next config cost) = Unit {0}
+IsRight (outcome.Over verdict output) = Unit {0}
+IsRight outcome.Spent = Unit {0}
+IsRight outcome.Wrong = ⊥
+
 -- a label that the runner may be given: an enabled one, or any once memory was wanting
 abbrev pub MayStep : Stage → Label → Type 0
 MayStep (At config) label = Contains (enabled config) label

@@ -1,6 +1,9 @@
 -- How a runner stands.
 use Rattle.std.specs.Prelude.{◌≡◌}
+use Rattle.chi_core.specs.declared.program.Core.{Core}
 use Rattle.chi_core.specs.Config.{Config}
+use Rattle.chi_core.specs.Sound.{Sound}
+use Rattle.chi_core.specs.Kinded.{Kinded}
 use Rattle.chi_core.specs.Options.{ending}
 use Rattle.chi_plain.specs.declared.standing.Standing.{Standing}
 use Rattle.chi_plain.specs.declared.standing.Standing.TheVariants.{At, Ended, Lost}
@@ -17,3 +20,14 @@ abbrev pub IsKnown : Standing → Config → Type 0
 IsKnown (At rest) config = rest ≡ ending config
 IsKnown (Ended verdict) config = Unit {0}
 IsKnown Lost config = Unit {0}
+
+-- The program is sound, and where the run goes on the configuration is kinded.
+abbrev pub IsKindedAt : Core → Standing → Config → Type 0
+IsKindedAt core (At rest) config = Kinded core config
+IsKindedAt core (Ended verdict) config = Unit {0}
+IsKindedAt core Lost config = Unit {0}
+
+pub record IsRunner (core : Core) (standing : Standing) (config : Config) : Type 0 where
+  pub known : IsKnown standing config
+  pub sound : Sound core
+  pub kinded : IsKindedAt core standing config

@@ -1,11 +1,10 @@
 ghost use Rattle.std.specs.Prelude.{◌≡◌, ◌<◌, length, slice_get, IfOk};
 ghost use Rattle.chi_core.specs.Config.{start};
-ghost use Rattle.chi_core.specs.Options.{options, actors};
+ghost use Rattle.chi_core.specs.Options.{actors};
 
-use crate::definitions::body_of;
 use crate::instance::Instance;
 use chi_base::NoMemory;
-use chi_core::{Core, Label};
+use chi_core::Core;
 use std::alloc::Global;
 use std::marker::Model;
 
@@ -14,24 +13,28 @@ use std::marker::Model;
 pub struct Configuration<'a> {
     /// In units of a real.
     pub(crate) clock: i64,
+    /// How many channels there are.
+    pub(crate) channels: u32,
     pub(crate) instances: Vec<Instance<'a>>,
 }
 
 impl<'a> Model for Configuration<'a> {
-    ghost use Rattle.std.specs.Prelude.{◌<◌, ◌^◌, length};
+    ghost use Rattle.std.specs.Prelude.{◌≤◌, length};
     ghost use Rattle.std.specs.Coded.{codes};
     ghost use Rattle.chi_core.specs.contracts.program.CStat as statements;
+    ghost use Rattle.chi_value.specs.contracts.value.Value as values;
     ghost use Rattle.chi_core.specs.Config.{Config};
 
     ghost Value = { Config };
 
-    ghost coded = { Prim.hlevel (codes, statements.the_row.coded) };
+    ghost coded = { Prim.hlevel (codes, statements.the_row.coded, values.the_row.coded) };
 
+    ghost use Rattle.chi_core.specs.declared.limits.TheConstants.{MOST_INSTANCES};
     ghost use Rattle.chi_plain.specs.Configurations.{config_at};
 
-    ghost view = { λ c. config_at c.clock c.instances.items };
+    ghost view = { λ c. config_at c.clock c.channels c.instances.items };
 
-    ghost invariant = { λ c. length c.instances.items < 2 ^ 32 };
+    ghost invariant = { λ c. length c.instances.items ≤ MOST_INSTANCES };
 }
 
 impl<'a> Configuration<'a> {
@@ -39,10 +42,11 @@ impl<'a> Configuration<'a> {
         ensures { IfOk result (λ configuration. configuration ≡ start core.now) }
     {
         let mut instances = Vec::new(alloc);
-        let instance = Instance::start(alloc, core.model, body_of(core, core.model))?;
+        let instance = Instance::start(alloc, core, core.model, Vec::new(alloc))?;
         instances.push(instance)?;
         Ok(Configuration {
             clock: 0,
+            channels: 0,
             instances,
         })
     }
@@ -53,24 +57,8 @@ impl<'a> Configuration<'a> {
         self.clock
     }
 
-    pub fn option_count(&self, pid: u32) -> u64
-        ensures { result ≡ length (options self.now pid) }
-    {
-        match self.instances.get(pid as usize) {
-            Some(instance) => instance.option_count(self.clock),
-            None => 0,
-        }
-    }
-
-    pub fn option_at(&self, pid: u32, i: u64) -> Label
-        requires { i < length (options self.now pid) }
-        ensures { slice_get (options self.now pid) i ≡ Some result }
-    {
-        let instance = &self.instances[pid as usize];
-        instance.option_at(self.clock, pid, i)
-    }
-
-    #[tactic(auto, using(crate::proofs::Numbers::actor_counting))]
+    /// How many instances have an option.
+    #[tactic(auto, using(crate::proofs::Actors::actor_counting))]
     pub fn actor_count(&self) -> u32
         ensures { result ≡ length (actors self.now) }
     {
@@ -83,7 +71,8 @@ impl<'a> Configuration<'a> {
         count
     }
 
-    #[tactic(auto, using(crate::proofs::Numbers::actor_counting))]
+    /// Number `i` of the instances that have an option, ascending.
+    #[tactic(auto, using(crate::proofs::Actors::actor_counting))]
     pub fn actor_at(&self, i: u32) -> u32
         requires { i < length (actors self.now) }
         ensures { slice_get (actors self.now) i ≡ Some result }

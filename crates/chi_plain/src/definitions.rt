@@ -1,5 +1,5 @@
-ghost use Rattle.std.specs.Prelude.{◌≡◌};
-ghost use Rattle.chi_core.specs.Config.{body_of, name_of};
+ghost use Rattle.std.specs.Prelude.{◌≡◌, length};
+ghost use Rattle.chi_core.specs.Config.{body_of, name_of, slots_of};
 
 use chi_core::{CStat, Core};
 
@@ -22,5 +22,16 @@ pub fn name_of(core: &Core, definition: u32) -> &[u8]
     match core.procs.as_slice().get(definition as usize) {
         Some(found) => found.name.as_slice(),
         None => &[],
+    }
+}
+
+/// How many slots a definition has, and none where there is no such definition.
+#[tactic(auto, using(crate::proofs::Lookups::looking_up))]
+pub fn slot_count(core: &Core, definition: u32) -> usize
+    ensures { result ≡ length (slots_of core.now.procs definition) }
+{
+    match core.procs.as_slice().get(definition as usize) {
+        Some(found) => found.slots.as_slice().len(),
+        None => 0,
     }
 }

@@ -5,7 +5,7 @@ ghost use Rattle.chi_core.specs.Options.{all_finished, enabled, ending};
 ghost use Rattle.chi_plain.specs.Offers.{least_in};
 
 use crate::configuration::Configuration;
-use crate::offer::earlier;
+use crate::offer::{self, earlier};
 use chi_core::Verdict;
 
 impl<'a> Configuration<'a> {
@@ -16,7 +16,7 @@ impl<'a> Configuration<'a> {
     {
         let mut least = None;
         for instance in &self.instances {
-            least = earlier(least, instance.least_due());
+            least = earlier(least, offer::least_due(instance.offers()));
         }
         least
     }

@@ -1,15 +1,17 @@
-ghost use Rattle.std.specs.Prelude.{◌≡◌, ℕ, ◌<◌, ◌^◌, ◌∷◌, ◌++◌, map, drop, length, vec_len, slice_get, IfOk, OnOk, IfSome};
-ghost use Rattle.std.specs.List.{flat_map};
+ghost use Rattle.std.specs.Prelude.{◌≡◌, ◌<◌, ◌≤◌, Some, None, ◌∷◌, ◌++◌, map, drop, length, vec_len, slice_get, slice_set, IfOk, OnOk, IfSome};
+ghost use Rattle.chi_core.specs.declared.limits.TheConstants.{MOST_OFFERS};
 ghost use Rattle.chi_core.specs.Config as config;
-ghost use Rattle.chi_core.specs.Config.{Config, Do, rested, settled};
-ghost use Rattle.chi_core.specs.Step.{due_of, offers_in};
-ghost use Rattle.chi_core.specs.Options.{options_in, is_finished};
-ghost use Rattle.chi_plain.specs.Offers.{body_in, least_in};
-ghost use Rattle.chi_plain.specs.Instances.{todo, state_of};
+ghost use Rattle.chi_core.specs.Config.{Do, rested, settled, variables_of, started};
+ghost use Rattle.chi_core.specs.Step.{offers_in};
+ghost use Rattle.chi_core.specs.Options.{is_finished};
+ghost use Rattle.chi_plain.specs.Offers.{body_in};
+ghost use Rattle.chi_plain.specs.Instances.{todo, state_of, is_running};
 
-use crate::offer::{self, Offer};
+use crate::definitions::{body_of, slot_count};
+use crate::offer::Offer;
 use chi_base::NoMemory;
-use chi_core::{CStat, Label};
+use chi_core::{CStat, Core};
+use chi_value::Value;
 use std::alloc::Global;
 use std::marker::Model;
 
@@ -25,6 +27,8 @@ pub enum State<'a> {
 pub struct Instance<'a> {
     /// The number of its definition.
     definition: u32,
+    /// The value of each slot, once it is set.
+    variables: Vec<Option<Value>>,
     /// What it has left to do, the next statement last.
     term: Vec<&'a CStat>,
     state: State<'a>,
@@ -33,15 +37,21 @@ pub struct Instance<'a> {
 impl<'a> Model for Instance<'a> {
     ghost use Rattle.std.specs.Coded.{codes};
     ghost use Rattle.chi_core.specs.contracts.program.CStat as statements;
+    ghost use Rattle.chi_value.specs.contracts.value.Value as values;
     ghost use Rattle.chi_core.specs.Config.{Instance};
 
     ghost Value = { Instance };
 
-    ghost coded = { Prim.hlevel (codes, statements.the_row.coded) };
+    ghost coded = { Prim.hlevel (codes, statements.the_row.coded, values.the_row.coded) };
 
     ghost use Rattle.chi_plain.specs.Instances.{todo, state_of, IsKept};
 
-    ghost view = { λ i. record { definition = i.definition; term = todo i.term.items; state = state_of i.state } };
+    ghost view = { λ i. record {
+      definition = i.definition;
+      variables = i.variables.items;
+      term = todo i.term.items;
+      state = state_of i.state;
+    } };
 
     ghost invariant = { λ i. IsKept (todo i.term.items) (state_of i.state) };
 }
@@ -71,20 +81,41 @@ fn running_or_finished<'a>(term: &[&'a CStat]) -> State<'a>
     }
 }
 
+/// The variables at the start: the arguments in the first slots, and no other set.
+#[tactic(auto, using(crate::proofs::Slots::slots))]
+fn variables_of(
+    alloc: Global,
+    slots: usize,
+    arguments: Vec<Value>,
+) -> Result<Vec<Option<Value>>, NoMemory>
+    ensures { IfOk result (λ variables. variables.items ≡ variables_of slots arguments.items) }
+{
+    let mut variables = Vec::new(alloc);
+    for argument in arguments {
+        variables.push(Some(argument))?;
+    }
+    while variables.len() < slots {
+        variables.push(None)?;
+    }
+    Ok(variables)
+}
+
 impl<'a> Instance<'a> {
     pub fn start(
         alloc: Global,
+        core: &'a Core,
         definition: u32,
-        body: &'a [CStat],
+        arguments: Vec<Value>,
     ) -> Result<Instance<'a>, NoMemory>
-        ensures { IfOk result
-            (λ i. i ≡ settled (record { definition = definition; term = map Do body.now; state = config.Running })) }
+        ensures { IfOk result (λ i. i ≡ started core.now definition arguments.items) }
     {
+        let variables = variables_of(alloc, slot_count(core, definition), arguments)?;
         let mut term = Vec::new(alloc);
-        put_first(&mut term, body)?;
+        put_first(&mut term, body_of(core, definition))?;
         let state = running_or_finished(term.as_slice());
         Ok(Instance {
             definition,
+            variables,
             term,
             state,
         })
@@ -94,6 +125,22 @@ impl<'a> Instance<'a> {
         ensures { result ≡ self.now.definition }
     {
         self.definition
+    }
+
+    pub fn variables(&self) -> &[Option<Value>]
+        ensures { result.now ≡ self.now.variables }
+    {
+        self.variables.as_slice()
+    }
+
+    pub fn is_running(&self) -> bool
+        ensures { result ≡ is_running self.now.state }
+    {
+        match &self.state {
+            State::Running => true,
+            State::Waiting(_) => false,
+            State::Finished => false,
+        }
     }
 
     pub fn is_finished(&self) -> bool
@@ -106,38 +153,15 @@ impl<'a> Instance<'a> {
         }
     }
 
-    pub fn option_count(&self, clock: i64) -> u64
-        ensures { (config : Config) (p : ℕ) → config.clock ≡ clock
-            → result ≡ length (options_in config p self.now.state) }
+    /// What it offers, where it waits.
+    pub fn offers(&self) -> &[Offer<'a>]
+        ensures offers { result.now ≡ offers_in self.now.state }
+        ensures within { length (offers_in self.now.state) ≤ MOST_OFFERS }
     {
         match &self.state {
-            State::Running => 1,
-            State::Waiting(offers) => offer::due_count(offers.as_slice(), clock),
-            State::Finished => 0,
-        }
-    }
-
-    /// Option number `i` of this instance, which is number `pid`.
-    pub fn option_at(&self, clock: i64, pid: u32, i: u64) -> Label
-        requires { (config : Config) → config.clock ≡ clock
-            → i < length (options_in config pid self.now.state) }
-        ensures { (config : Config) → config.clock ≡ clock
-            → slice_get (options_in config pid self.now.state) i ≡ Some result }
-    {
-        match &self.state {
-            State::Running => Label::Local(pid),
-            State::Waiting(offers) => Label::Wake(pid, offer::due_at(offers.as_slice(), clock, i)),
-            State::Finished => unreachable!(),
-        }
-    }
-
-    pub fn least_due(&self) -> Option<i64>
-        ensures { result ≡ least_in (flat_map due_of (offers_in self.now.state)) }
-    {
-        match &self.state {
-            State::Running => None,
-            State::Waiting(offers) => offer::least_due(offers.as_slice()),
-            State::Finished => None,
+            State::Running => &[],
+            State::Waiting(offers) => offers.as_slice(),
+            State::Finished => &[],
         }
     }
 
@@ -158,9 +182,18 @@ impl<'a> Instance<'a> {
         self.state = running_or_finished(self.term.as_slice());
     }
 
+    /// The slot has the value then.
+    pub fn set(&mut self, slot: u32, value: Value)
+        ensures { self.new ≡ record self.old { variables = slice_set self.old.variables slot (Some value) } }
+    {
+        if let Some(variable) = self.variables.get_mut(slot as usize) {
+            *variable = Some(value);
+        }
+    }
+
     /// The select that came next is open.
     pub fn wait(&mut self, offers: Vec<Offer<'a>>)
-        requires { vec_len offers < 2 ^ 32 }
+        requires { length offers.items ≤ MOST_OFFERS }
         ensures { self.new ≡ settled (record self.old { term = drop 1 self.old.term; state = config.Waiting offers.entry.items }) }
     {
         let _ = self.term.pop();
@@ -168,7 +201,7 @@ impl<'a> Instance<'a> {
     }
 
     /// The offer of this number is taken.
-    pub fn wake(&mut self, number: u32) -> Result<(), NoMemory>
+    pub fn take(&mut self, number: u32) -> Result<(), NoMemory>
         requires { number < length (offers_in self.old.state) }
         ensures { OnOk result (IfSome (slice_get (offers_in self.old.state) number)
             (λ o. self.new ≡ settled (record self.old { term = map Do (body_in o) ++ self.old.term; state = config.Running }))) }

@@ -2,6 +2,7 @@
 //! It is slow and plain, and keeps to the semantics step by step.
 #![tactic(auto)]
 
+mod choices;
 mod configuration;
 mod definitions;
 mod ending;
@@ -10,9 +11,14 @@ mod offer;
 mod opening;
 mod plain;
 mod standing;
-mod step;
+mod starting;
+mod statement;
 mod stepped;
+mod stop;
+mod take;
+mod value;
 mod went;
+mod writing;
 
 pub use plain::Plain;
 pub use stepped::Stepped;

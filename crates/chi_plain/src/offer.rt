@@ -1,36 +1,57 @@
-ghost use Rattle.std.specs.Prelude.{◌≡◌, ◌<◌, ◌^◌, ◌∷◌, [], length, slice_get};
+ghost use Rattle.std.specs.Prelude.{◌≡◌, ◌<◌, ◌≤◌, length, slice_get};
 ghost use Rattle.std.specs.List.{flat_map};
-ghost use Rattle.chi_core.specs.Config.{Delay};
+ghost use Rattle.chi_core.specs.declared.limits.TheConstants.{MOST_OFFERS};
 ghost use Rattle.chi_core.specs.Step.{due_of};
-ghost use Rattle.chi_plain.specs.Offers.{is_due, body_in, due_places, earlier, least_in};
+ghost use Rattle.chi_core.specs.Options.{receivers};
+ghost use Rattle.chi_plain.specs.Offers.{offer_of, body_in, is_receiving, earlier, least_in};
 
 use chi_core::CStat;
+use chi_value::Value;
 use std::marker::Model;
 
-/// What a waiting instance offers: to go on at a due time, in units of a real. Then the body is done.
+/// What a waiting instance may do.
+#[derive(Debug, Drop)]
+pub enum Act {
+    /// To send the value on the channel.
+    Send(u32, Value),
+    /// To receive from the channel into the slot.
+    Receive(u32, u32),
+    /// To go on at a due time, in units of a real.
+    Delay(i64),
+}
+
+/// What a waiting instance offers. Then the body is done.
 #[derive(Debug, Drop)]
 pub struct Offer<'a> {
-    due: i64,
+    act: Act,
     body: &'a [CStat],
 }
 
 impl<'a> Model for Offer<'a> {
     ghost use Rattle.std.specs.Coded.{codes};
     ghost use Rattle.chi_core.specs.contracts.program.CStat as statements;
-    ghost use Rattle.chi_core.specs.Config.{Offer, Delay};
+    ghost use Rattle.chi_value.specs.contracts.value.Value as values;
+    ghost use Rattle.chi_core.specs.Config.{Offer};
+    ghost use Rattle.chi_plain.specs.Offers.{offer_of};
 
     ghost Value = { Offer };
 
-    ghost coded = { Prim.hlevel (codes, statements.the_row.coded) };
+    ghost coded = { Prim.hlevel (codes, statements.the_row.coded, values.the_row.coded) };
 
-    ghost view = { λ o. Delay o.due o.body.now };
+    ghost view = { λ o. offer_of o.act o.body.now };
 }
 
 impl<'a> Offer<'a> {
-    pub fn new(due: i64, body: &'a [CStat]) -> Offer<'a>
-        ensures { result ≡ Delay due body.now }
+    pub fn new(act: Act, body: &'a [CStat]) -> Offer<'a>
+        ensures { result ≡ offer_of act body.now }
     {
-        Offer { due, body }
+        Offer { act, body }
+    }
+
+    pub fn act(&self) -> &Act
+        ensures { self.now ≡ offer_of result.now (body_in self.now) }
+    {
+        &self.act
     }
 
     pub fn body(&self) -> &'a [CStat]
@@ -39,42 +60,55 @@ impl<'a> Offer<'a> {
         self.body
     }
 
-    fn due(&self) -> i64
-        ensures { due_of self.now ≡ result ∷ [] }
+    /// The due time of a delay.
+    #[tactic(auto, unfolding(crate::specs::Offers::least_in))]
+    fn due(&self) -> Option<i64>
+        ensures { result ≡ least_in (due_of self.now) }
     {
-        self.due
+        match &self.act {
+            Act::Send(_, _) => None,
+            Act::Receive(_, _) => None,
+            Act::Delay(due) => Some(*due),
+        }
     }
 
-    fn is_due(&self, clock: i64) -> bool
-        ensures { result ≡ is_due clock self.now }
+    fn receives_on(&self, channel: u32) -> bool
+        ensures { result ≡ is_receiving channel self.now }
     {
-        clock >= self.due
+        match &self.act {
+            Act::Send(_, _) => false,
+            Act::Receive(number, _) => *number == channel,
+            Act::Delay(_) => false,
+        }
     }
 }
 
-#[tactic(auto, using(crate::proofs::Numbers::due_counting))]
-pub fn due_count(offers: &[Offer], clock: i64) -> u64
-    ensures { result ≡ length (due_places clock offers.now) }
+/// How many of the offers receive from a channel.
+#[tactic(auto, using(crate::proofs::Numbers::receiver_counting))]
+pub fn receiver_count(offers: &[Offer], channel: u32) -> u64
+    requires { length offers.now ≤ MOST_OFFERS }
+    ensures count { result ≡ length (receivers channel offers.now) }
+    ensures within { result ≤ MOST_OFFERS }
 {
     let mut count = 0;
     for offer in offers {
-        if offer.is_due(clock) {
+        if offer.receives_on(channel) {
             count += 1;
         }
     }
     count
 }
 
-/// The number of the alternative that is due as number `i` of those that are.
-#[tactic(auto, using(crate::proofs::Numbers::due_counting))]
-pub fn due_at(offers: &[Offer], clock: i64, i: u64) -> u32
-    requires numbered { length offers.now < 2 ^ 32 }
-    requires some { i < length (due_places clock offers.now) }
-    ensures { slice_get (due_places clock offers.now) i ≡ Some result }
+/// The alternative that receives from a channel as number `i` of those that do.
+#[tactic(auto, using(crate::proofs::Numbers::receiver_counting))]
+pub fn receiver_at(offers: &[Offer], channel: u32, i: u64) -> u32
+    requires numbered { length offers.now ≤ MOST_OFFERS }
+    requires some { i < length (receivers channel offers.now) }
+    ensures { slice_get (receivers channel offers.now) i ≡ Some result }
 {
     let mut seen = 0;
     for (number, offer) in offers.iter().enumerate() {
-        if offer.is_due(clock) {
+        if offer.receives_on(channel) {
             if seen == i {
                 return number as u32;
             }
@@ -102,7 +136,7 @@ pub fn least_due(offers: &[Offer]) -> Option<i64>
 {
     let mut least = None;
     for offer in offers {
-        least = earlier(least, Some(offer.due()));
+        least = earlier(least, offer.due());
     }
     least
 }

@@ -2,6 +2,7 @@ ghost use Rattle.std.specs.Prelude.{◌≡◌, ◌<◌, ◌↔◌, length, slice
 ghost use Rattle.std.specs.Option.{option_copied};
 ghost use Rattle.chi_core.specs.declared.label.Label.TheVariants.{Advance};
 ghost use Rattle.chi_core.specs.Config.{start};
+ghost use Rattle.chi_core.specs.Sound.{Sound};
 ghost use Rattle.chi_plain.specs.Stage.{At, actors_at, options_at, enabled_at, ending_at, IsTimeAt, MayStep, Steps};
 
 use crate::configuration::Configuration;
@@ -25,22 +26,25 @@ pub struct Plain<'a> {
 impl<'a> Model for Plain<'a> {
     ghost use Rattle.std.specs.Coded.{codes};
     ghost use Rattle.chi_core.specs.contracts.program.CStat as statements;
+    ghost use Rattle.chi_value.specs.contracts.value.Value as values;
+    ghost use Rattle.chi_types.specs.contracts.ty.Ty as types;
     ghost use Rattle.chi_plain.specs.Stage.{Runner};
 
     ghost Value = { Runner };
 
-    ghost coded = { Prim.hlevel (codes, statements.the_row.coded) };
+    ghost coded = { Prim.hlevel (codes, statements.the_row.coded, values.the_row.coded, types.the_row.coded) };
 
-    ghost use Rattle.chi_plain.specs.Standings.{stage_of, IsKnown};
+    ghost use Rattle.chi_plain.specs.Standings.{stage_of, IsRunner};
 
     ghost view = { λ p. record { core = p.core.now; stage = stage_of p.standing p.configuration } };
 
-    ghost invariant = { λ p. IsKnown p.standing p.configuration };
+    ghost invariant = { λ p. IsRunner p.core.now p.standing p.configuration };
 }
 
 impl<'a> Plain<'a> {
     /// The start of a run.
     pub fn new(alloc: Global, core: &'a Core) -> Result<Plain<'a>, NoMemory>
+        requires { Sound core.now }
         ensures start { IfOk result (λ plain. plain ≡ record { core = core.now; stage = At (start core.now) }) }
     {
         let configuration = Configuration::start(alloc, core)?;

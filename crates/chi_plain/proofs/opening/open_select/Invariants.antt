@@ -1,8 +1,12 @@
-use Rattle.std.proofs.Common.{◌≡◌, drop}
-use Rattle.chi_core.specs.Opening.{opened}
-use Rattle.chi_plain.proofs.Selects.{kept_before}
+use Rattle.std.proofs.Common.{◌≡◌, ◌+◌, ◌≤◌, length, drop}
+use Rattle.chi_core.specs.declared.limits.TheConstants.{MOST_OFFERS}
+use Rattle.chi_core.specs.Answer.{in_turn}
+use Rattle.chi_core.specs.Opening.{offered, opened}
+use Rattle.chi_plain.proofs.Turns.{after}
 use Rattle.chi_plain.proofs.opening.open_select.Given as goal
 
 abbrev pub invariant-loop-alternative : goal.invariant-loop-alternative
 invariant-loop-alternative l =
-    opened l.fn.clock l.alternatives ≡ kept_before l.offers.items (opened l.fn.clock (drop l.alternative-index l.alternatives))
+    (opened l.fn.clock l.fn.variables l.alternatives
+    ≡ after l.offers.items (in_turn (offered l.fn.clock l.fn.variables) (0 + l.alternative-index) (drop l.alternative-index l.alternatives)))
+    × (length l.offers.items ≡ l.alternative-index) × (length l.offers.items ≤ MOST_OFFERS)

@@ -6,4 +6,4 @@ use Rattle.chi_plain.proofs.instance.Instance.wait.Goals as goal
 pub returns : goal.returns
 returns c =
     let n : vec_len c.self.inside.term ≡ length c.self.inside.term.items = grind (arith, common_steps) in
-    waits c.args.self.now _ _ _ _ _ c.self.view_is (todo-pop _ _ _ _ c.pop.ensures.items n c.pop.ensures.variant)
+    waits c.args.self.now _ _ _ _ _ _ c.self.view_is (todo-pop _ _ _ _ c.pop.ensures.items n c.pop.ensures.variant)
