@@ -1,0 +1,7 @@
+mod LiteralLemmas
+mod Arguments
+mod Turns
+mod SoundValues
+mod SoundStatements
+mod SoundBodies
+pub mod SoundPrograms

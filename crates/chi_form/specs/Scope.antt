@@ -1,0 +1,37 @@
+-- The names that are visible.
+use Rattle.std.specs.Prelude.{ℕ, not, ◌&&◌, Bool, bytes_eq, List, [], ◌∷◌, ◌++◌, length, Option, Some, None, if◌then◌else◌}
+use Rattle.std.specs.List.{find, list_any}
+use Rattle.chi_form.specs.declared.kind.Kind.{Kind}
+use Rattle.chi_form.specs.declared.scope.Local.{Local}
+use Rattle.chi_form.specs.declared.scope.Header.{Header}
+use Rattle.chi_form.specs.declared.scope.TheConstants.{PREDEFINED}
+use Rattle.chi_form.specs.Kinds.{fits}
+
+-- a name to which the language gives a meaning of its own
+unfoldable pub is_predefined : List ℕ → Bool
+is_predefined name = list_any (λ predefined. bytes_eq name predefined.now) PREDEFINED
+
+abbrev pub local_of : List Local → List ℕ → Option Local
+local_of locals name = find (λ l. bytes_eq l.name name) locals
+
+-- the definition of a name
+abbrev pub header_of : List Header → List ℕ → Option Header
+header_of headers name = find (λ h. bytes_eq h.name name) headers
+
+-- a name that may be given to something new: it is neither predefined nor visible
+unfoldable pub is_new : List Header → List Local → List ℕ → Bool
+is_new headers locals name =
+    not (is_predefined name) && not (list_any (λ h. bytes_eq h.name name) headers) && not (list_any (λ l. bytes_eq l.name name) locals)
+
+-- one variable more, in the next slot
+unfoldable pub with_local : List Header → List ℕ → Kind → List Local → Option (List Local)
+with_local headers name kind locals =
+    if is_new headers locals name then Some (locals ++ record { name = name; kind = kind; slot = length locals } ∷ []) else None
+
+abbrev pub slot_for : Kind → Option Local → Option ℕ
+slot_for wanted None = None
+slot_for wanted (Some l) = if fits l.kind wanted then Some l.slot else None
+
+-- the slot of a variable of which a kind is wanted
+unfoldable pub slot_as : List Local → Kind → List ℕ → Option ℕ
+slot_as locals wanted name = slot_for wanted (local_of locals name)

@@ -1,0 +1,17 @@
+//! The programs that are built so far: what a source's tree comes to, if it is of a form that runs. It goes away when
+//! the checker takes its place.
+#![tactic(auto)]
+
+mod body;
+mod declaration;
+mod definition;
+mod header;
+mod kind;
+mod literal;
+mod program;
+mod scope;
+mod statement;
+mod value;
+mod write;
+
+pub use program::program_of;

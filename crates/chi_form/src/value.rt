@@ -1,0 +1,117 @@
+ghost use Rattle.std.specs.Prelude.{◌≡◌, IfOk};
+ghost use Rattle.chi_form.specs.Values.{int_as, value_as, arguments_of, delay_of, channel_as, communication_of};
+
+use crate::kind::Kind;
+use crate::literal::{int_of, real_of};
+use crate::scope::{Local, Parameter, slot_as};
+use chi_base::{Items, NoMemory};
+use chi_core::{CComm, CExpr, CTarget};
+use chi_tree::{Communication, Expr, Target};
+use chi_types::Way;
+use chi_value::Value;
+use std::alloc::Global;
+
+#[tactic(auto, unfolding(crate::specs::Values::int_as))]
+fn int_as(wanted: Kind, digits: &[u8]) -> Option<CExpr>
+    ensures { result ≡ int_as wanted digits.now }
+{
+    if !Kind::Int.fits(wanted) {
+        return None;
+    }
+    let int = int_of(digits)?;
+    Some(CExpr::Lit(Value::Int(int)))
+}
+
+/// An int literal or the name of a variable, where a kind is wanted.
+#[tactic(auto, unfolding(crate::specs::Values::value_as))]
+pub fn value_as(locals: &[Local], wanted: Kind, value: &Expr) -> Option<CExpr>
+    ensures { result ≡ value_as locals.now wanted value.now }
+{
+    match value {
+        Expr::Int(digits, _) => int_as(wanted, digits.as_slice()),
+        Expr::Named(name) => {
+            let slot = slot_as(locals, wanted, name.text.as_slice())?;
+            Some(CExpr::Var(slot))
+        }
+        _ => None,
+    }
+}
+
+/// An argument for each parameter.
+pub fn arguments_of(
+    alloc: Global,
+    locals: &[Local],
+    parameters: &[Parameter],
+    values: &[Expr],
+) -> Result<Option<Items<CExpr>>, NoMemory>
+    ensures { IfOk result (λ arguments. arguments ≡ arguments_of locals.now parameters.now values.now) }
+{
+    let mut made = Vec::new(alloc);
+    let mut others = parameters;
+    for value in values {
+        let Some((parameter, rest)) = others.split_first() else {
+            return Ok(None);
+        };
+        let Some(argument) = value_as(locals, parameter.kind, value) else {
+            return Ok(None);
+        };
+        made.push(argument)?;
+        others = rest;
+    }
+    if !others.is_empty() {
+        return Ok(None);
+    }
+    Ok(Some(Items::of(alloc, made)?))
+}
+
+#[tactic(auto, unfolding(crate::specs::Values::delay_of))]
+fn delay_of(length: &Expr) -> Option<CExpr>
+    ensures { result ≡ delay_of length.now }
+{
+    match length {
+        Expr::Int(digits, _) => {
+            let int = int_of(digits.as_slice())?;
+            Some(CExpr::Widen(int))
+        }
+        Expr::Real(digits, _) => {
+            let real = real_of(digits.as_slice())?;
+            Some(CExpr::Lit(Value::Real(real)))
+        }
+        _ => None,
+    }
+}
+
+#[tactic(auto, unfolding(crate::specs::Values::channel_as))]
+fn channel_as(locals: &[Local], way: Way, target: &Target) -> Option<CTarget>
+    ensures { result ≡ channel_as locals.now way target.now }
+{
+    if !target.steps.as_slice().is_empty() {
+        return None;
+    }
+    let slot = slot_as(locals, Kind::Chan(way), target.name.text.as_slice())?;
+    Some(CTarget { slot })
+}
+
+/// A send, a receive, or a delay by a number literal.
+#[tactic(auto, unfolding(crate::specs::Values::communication_of))]
+pub fn communication_of(locals: &[Local], communication: &Communication) -> Option<CComm>
+    ensures { result ≡ communication_of locals.now communication.now }
+{
+    match communication {
+        Communication::Send(target, _, Some(value)) => {
+            let channel = channel_as(locals, Way::Send, target)?;
+            let value = value_as(locals, Kind::Int, value)?;
+            Some(CComm::Send(channel, value))
+        }
+        Communication::Receive(target, _, Some(name)) => {
+            let channel = channel_as(locals, Way::Receive, target)?;
+            let slot = slot_as(locals, Kind::Int, name.text.as_slice())?;
+            Some(CComm::Receive(channel, slot))
+        }
+        Communication::Delay(_, length) => {
+            let length = delay_of(length)?;
+            Some(CComm::Delay(length))
+        }
+        _ => None,
+    }
+}
