@@ -1,5 +1,8 @@
 //! The top call over files and sinks in memory: what is written, and the status.
 
+mod refusals;
+mod runs;
+
 use chi_io::{MemShelf, MemSink};
 use chi_tool::chi;
 use std::alloc::{AllocError, Global};
@@ -24,15 +27,26 @@ const fn row(
     (source, Wanted { out, log, status })
 }
 
+/// A source: texts one after another, each so many times.
+fn written(alloc: Global, texts: &[(&str, usize)]) -> Result<Vec<u8>, AllocError> {
+    let mut source = Vec::new(alloc);
+    for (text, times) in texts {
+        for _ in 0..*times {
+            source.extend_from_slice(text.as_bytes())?;
+        }
+    }
+    Ok(source)
+}
+
 /// A shelf with one file.
 fn shelf_of(
     alloc: Global,
     name: &str,
-    source: &str,
+    source: &[u8],
     failing: Vec<u64>,
 ) -> Result<MemShelf, AllocError> {
     let name = Vec::from_slice(alloc, name.as_bytes())?;
-    let source = Vec::from_slice(alloc, source.as_bytes())?;
+    let source = Vec::from_slice(alloc, source)?;
     let mut files = Vec::new(alloc);
     files.push((name, source))?;
     Ok(MemShelf::new(files, failing))
@@ -47,21 +61,52 @@ fn expect(
     rt: &impl Abort,
     alloc: Global,
     words: &[&str],
-    source: &str,
+    source: &[u8],
+    about: &str,
     wanted: Wanted,
 ) -> Result<(), Fail> {
     let mut shelf = shelf_of(alloc, "m.chi", source, Vec::new(alloc))?;
     let mut out = MemSink::new(alloc, 65_536, 65_536, Vec::new(alloc))?;
     let mut log = MemSink::new(alloc, 65_536, 65_536, Vec::new(alloc))?;
     let status = chi(alloc, words, &mut shelf, &mut out, &mut log);
+    assert_eq!(rt; log.bytes(), wanted.log.as_bytes(), "the log of {about:?}");
     assert_eq!(rt;
         out.bytes(),
         wanted.out.as_bytes(),
-        "the output of {source:?}"
+        "the output of {about:?}"
     );
-    assert_eq!(rt; log.bytes(), wanted.log.as_bytes(), "the log of {source:?}");
-    assert_eq!(rt; status, wanted.status, "the status of {source:?}");
+    assert_eq!(rt; status, wanted.status, "the status of {about:?}");
     Ok(())
+}
+
+/// Simulates each source.
+fn expect_rows(
+    rt: &impl Abort,
+    alloc: Global,
+    rows: &[(&'static str, Wanted)],
+) -> Result<(), Fail> {
+    for (source, wanted) in rows {
+        expect(
+            rt,
+            alloc,
+            &["sim", "m.chi"],
+            source.as_bytes(),
+            source,
+            *wanted,
+        )?;
+    }
+    Ok(())
+}
+
+/// Simulates a source that is made of repeated texts.
+fn expect_written(
+    rt: &impl Abort,
+    alloc: Global,
+    texts: &[(&str, usize)],
+    wanted: Wanted,
+) -> Result<(), Fail> {
+    let source = written(alloc, texts)?;
+    expect(rt, alloc, &["sim", "m.chi"], &source, wanted.log, wanted)
 }
 
 const WORKS: &str = "model M(): write(\"It works!\\n\") end";
@@ -79,101 +124,28 @@ const MISSING: Wanted = Wanted {
 };
 
 #[test]
-fn sources_have_their_reports(rt: HostRuntime) -> Result<(), Fail> {
-    for (source, wanted) in [
-        row(WORKS, "It works!\n", "completed at time 0.0\n", 0),
-        row(
-            "# two\nmodel M():\n pass; writeln(\"a\\tb\");\n write(\"\") ; end;",
-            "a\tb\n",
-            "completed at time 0.0\n",
-            0,
-        ),
-        row(
-            "model M(): delay 0.000000001 end",
-            "",
-            "completed at time 0.000000001\n",
-            0,
-        ),
-        row(
-            "model M(): delay 0.0; delay 0; write(\"now\") end",
-            "now",
-            "completed at time 0.0\n",
-            0,
-        ),
-        row(
-            "model M(): delay 1.5; write(\"a\"); delay 2; write(\"b\") end",
-            "ab",
-            "completed at time 3.5\n",
-            0,
-        ),
-        row(
-            "model M(): delay 9223372036.854775807 end",
-            "",
-            "completed at time 9223372036.854775807\n",
-            0,
-        ),
-        row(
-            "model M(): delay 9000000000.0; delay 9000000000.0 end",
-            "",
-            "fault RealRange in M line 1 at time 9000000000.0\n",
-            12,
-        ),
-        row(
-            "model Mill():\n  write(\"before\");\n  delay 9999999999;\n  write(\"after\")\nend",
-            "before",
-            "fault RealRange in Mill line 3 at time 0.0\n",
-            12,
-        ),
-    ] {
-        expect(&rt, rt.alloc(), &["sim", "m.chi"], source, wanted)?;
-    }
-    Ok(())
-}
-
-#[test]
-fn sources_are_refused(rt: HostRuntime) -> Result<(), Fail> {
-    for (source, wanted) in [
-        row(
-            "model M(): write(\"a) end",
-            "",
-            "line 1 column 18: open string\n",
-            20,
-        ),
-        row("model M(): @ end", "", "line 1 column 12: bad byte\n", 20),
-        row(
-            "model M(): write(\"\\q\") end",
-            "",
-            "line 1 column 19: bad escape\n",
-            20,
-        ),
-        row("", "", "form not built\n", 21),
-        row("model M(): end", "", "form not built\n", 21),
-        row("model abs(): pass end", "", "form not built\n", 21),
-        row("model M(): write(\"%d\") end", "", "form not built\n", 21),
-        row(
-            "model M(): delay 9223372036.854775808 end",
-            "",
-            "form not built\n",
-            21,
-        ),
-        row("model M(): delay -1 end", "", "form not built\n", 21),
-        row("model M(): pass pass end", "", "form not built\n", 21),
-        row("model M(): pass end end", "", "form not built\n", 21),
-    ] {
-        expect(&rt, rt.alloc(), &["sim", "m.chi"], source, wanted)?;
-    }
-    Ok(())
-}
-
-#[test]
 fn words_are_read(rt: HostRuntime) -> Result<(), Fail> {
-    expect(&rt, rt.alloc(), &[], WORKS, USAGE)?;
-    expect(&rt, rt.alloc(), &["sim"], WORKS, USAGE)?;
-    expect(&rt, rt.alloc(), &["run", "m.chi"], WORKS, USAGE)?;
-    expect(&rt, rt.alloc(), &["sim", "-x"], WORKS, USAGE)?;
-    expect(&rt, rt.alloc(), &["sim", "m.chi", "m.chi"], WORKS, USAGE)?;
-    expect(&rt, rt.alloc(), &["sim", "-"], WORKS, MISSING)?;
-    expect(&rt, rt.alloc(), &["sim", ""], WORKS, MISSING)
+    let rows: [(&[&str], Wanted); 8] = [
+        (&[], USAGE),
+        (&["sim"], USAGE),
+        (&["run", "m.chi"], USAGE),
+        (&["sim", "-x"], USAGE),
+        (&["sim", "m.chi", "m.chi"], USAGE),
+        (&["sim", "--steps", "x", "m.chi"], USAGE),
+        (&["sim", "-"], MISSING),
+        (&["sim", ""], MISSING),
+    ];
+    for (words, wanted) in rows {
+        expect(
+            &rt,
+            rt.alloc(),
+            words,
+            WORKS.as_bytes(),
+            "the words",
+            wanted,
+        )?;
+    }
+    Ok(())
 }
 
 /// Runs the first model over objects that fail at the calls of these numbers.
@@ -186,7 +158,7 @@ fn expect_failing(
     log_put: &[u64],
     wanted: Wanted,
 ) -> Result<(), Fail> {
-    let mut shelf = shelf_of(alloc, "m.chi", WORKS, numbers(alloc, fetch)?)?;
+    let mut shelf = shelf_of(alloc, "m.chi", WORKS.as_bytes(), numbers(alloc, fetch)?)?;
     let most = most.max(1);
     let mut out = MemSink::new(alloc, 65_536, most, numbers(alloc, out_put)?)?;
     let mut log = MemSink::new(alloc, 65_536, most, numbers(alloc, log_put)?)?;

@@ -6,111 +6,37 @@ use Rattle.chi_token.specs.declared.place.Spanned.{Spanned}
 use Rattle.chi_lex.specs.declared.fault.LexFault.{LexFault}
 use Rattle.chi_lex.specs.declared.lexer.TheConstants.{MOST_BYTES}
 use Rattle.chi_lex.specs.Reading.{reading}
+use Rattle.chi_form.specs.Form.{built}
 use Rattle.chi_core.specs.declared.program.Core.{Core}
 use Rattle.chi_core.specs.declared.verdict.Verdict.{Verdict}
 use Rattle.chi_core.specs.declared.verdict.Verdict.TheVariants as verdict
 use Rattle.chi_core.specs.Runs.{End}
 use Rattle.chi_core.proofs.Picks.{Picked-some}
 use Rattle.chi_tool.specs.Words.{Request, Sim, request_of}
-use Rattle.chi_tool.specs.Form.{program_of}
-use Rattle.chi_tool.specs.Report.{Report, usage, no_such_file, file_too_long, refused, lexical_text, not_built, run_report, status_of, first, most_steps, IsReportOfSource, IsReportOfReading, IsReportOfProgram, IsReportOfFile, IsReportOfRequest, IsReport}
+use Rattle.chi_tool.specs.Report.{Report, usage, run_report, status_of, first, most_steps, IsReportOfSource, IsReportOfReading, IsReportOfTokens, of_tree, of_fault, IsReportOfBuilt, IsReport}
 use Rattle.chi_tool.specs.Call.{Call, SinkUse, SinkRose}
-use Rattle.chi_tool.specs.Headline.{NothingFailed, IsReportedOrLost, IsAskedSource, IsAskedProgram, EndsWith, EndsAs, IsFault, HasLexicalFault, IsNotBuilt, IsUnfit, CannotBeRead, IsExactly, Causes, IsComplete}
+use Rattle.chi_tool.specs.Headline.{NothingFailed, IsReportedOrLost, IsAskedProgram, EndsWith, EndsAs, IsFault, HasLexicalFault, HasSyntaxFault, IsNotBuilt, IsUnfit, CannotBeRead, IsExactly, Causes, IsComplete}
 use Rattle.chi_tool.specs.Delivery.{Delivers, whole, out_broke, log_broke, DeliversReport, Serves, reported, missing, long, failed, lost}
+use Rattle.chi_tool.proofs.Built.{built-Sound}
 use Rattle.chi_tool.proofs.Reports.{report_one}
-use Rattle.chi_tool.proofs.Promises.{MeetsOne, is_report, where_told, served_told, usage_told, goes_stopped, not_none}
-
--- what a report is of
-data CaseOf (call : Call) (files : Files) (r : Report) : Type 0 where
-  asks_nothing : request_of call.words ≡ None → r ≡ usage → CaseOf call files r
-  is_missing : r ≡ no_such_file → CaseOf call files r
-  is_long : r ≡ file_too_long → CaseOf call files r
-  is_faulty : (source : List ℕ) → (fault : LexFault) → IsAskedSource call files source → reading source ≡ Err fault
-      → r ≡ refused 20 (lexical_text fault) → CaseOf call files r
-  is_unbuilt : IsNotBuilt call files → r ≡ not_built → CaseOf call files r
-  runs : (end : End) → EndsWith call files end → r ≡ run_report end → CaseOf call files r
-
-module _ (call : Call) (files : Files) (r : Report) where
-  program_case : (source : List ℕ) → IsAskedSource call files source → (tokens : List Spanned) → reading source ≡ Ok tokens
-      → (o : Option Core) → program_of tokens ≡ o → IsReportOfProgram o r → CaseOf call files r
-  program_case source asked tokens read None program is = is_unbuilt (source, tokens, asked, read, program) is
-  program_case source asked tokens read (Some core) program is =
-      runs is.1
-      (record {
-        core = core;
-        asked = record { source = source; asked = asked; tokens = tokens; read = read; program = program };
-        labels = is.0;
-        picked = is.2;
-      }) is.3
-
-  reading_case : (source : List ℕ) → IsAskedSource call files source → (o : Result (List Spanned) LexFault) → reading source ≡ o
-      → IsReportOfReading o r → CaseOf call files r
-  reading_case source asked (Err fault) read is = is_faulty source fault asked read is
-  reading_case source asked (Ok tokens) read is = program_case source asked tokens read (program_of tokens) refl is
-
-  source_case : (source : List ℕ) → IsAskedSource call files source → IsReportOfSource source r → CaseOf call files r
-  unfolding IsReportOfSource
-  source_case source asked is = reading_case source asked (reading source) refl is
-
-  file_case : (name : List ℕ) → request_of call.words ≡ Some (Sim name) → (o : Option (List ℕ)) → files name ≡ o → IsReportOfFile o r
-      → CaseOf call files r
-  file_case name asked None there is = is_missing is
-  file_case name asked (Some source) there (inl is) = is_long is.1
-  file_case name asked (Some source) there (inr is) =
-      source_case source (record { name = name; asked = asked; there = there; within = is.0 }) is.1
-
-  request_case : (o : Option Request) → request_of call.words ≡ o → IsReportOfRequest o files r → CaseOf call files r
-  request_case None asked is = asks_nothing asked is
-  request_case (Some (Sim name)) asked is = file_case name asked (files name) refl is
-
-case_of : (call : Call) (files : Files) (r : Report) → IsReport call.words files r → CaseOf call files r
-case_of call files r is = request_case call files r (request_of call.words) refl is
-
--- the other way round
-
-asked_report : (call : Call) (files : Files) (source : List ℕ) (r : Report) → IsAskedSource call files source → IsReportOfSource source r
-    → IsReport call.words files r
-asked_report call files source r asked is =
-    is_report call asked.name files (Some source) r asked.asked asked.there (inr (asked.within, is))
-
-reading_report : (source : List ℕ) (o : Result (List Spanned) LexFault) (r : Report) → reading source ≡ o → IsReportOfReading o r
-    → IsReportOfSource source r
-unfolding IsReportOfSource
-reading_report source o r e is =
-    let P : Result (List Spanned) LexFault → Type 0 = λ x. IsReportOfReading x r in subst P (sym e) is
-
-lexical_report : (call : Call) (files : Files) (h : HasLexicalFault call files) → IsReport call.words files (refused 20 (lexical_text h.1))
-lexical_report call files h = asked_report call files h.0 _ h.2 (reading_report h.0 (Err h.1) _ h.3 refl)
-
-program_report : (tokens : List Spanned) (o : Option Core) (r : Report) → program_of tokens ≡ o → IsReportOfProgram o r
-    → IsReportOfReading (Ok tokens) r
-program_report tokens o r e is = let P : Option Core → Type 0 = λ x. IsReportOfProgram x r in subst P (sym e) is
-
-unbuilt_report : (call : Call) (files : Files) → IsNotBuilt call files → IsReport call.words files not_built
-unbuilt_report call files h =
-    asked_report call files h.0 not_built h.2 (reading_report h.0 (Ok h.1) not_built h.3 (program_report h.1 None not_built h.4 refl))
-
-run_is_report : (call : Call) (files : Files) (end : End) → EndsWith call files end → IsReport call.words files (run_report end)
-run_is_report call files end e =
-    let a = e.asked in
-    asked_report call files a.source (run_report end) a.asked
-    (reading_report a.source (Ok a.tokens) (run_report end) a.read
-    (program_report a.tokens (Some e.core) (run_report end) a.program (e.labels, end, e.picked, refl)))
+use Rattle.chi_tool.proofs.ReportCases.{CaseOf, asks_nothing, is_missing, is_long, is_faulty, is_no_program, is_unbuilt, runs, case_of, lexical_report, syntax_report, unbuilt_report, run_is_report}
+use Rattle.chi_tool.proofs.Promises.{MeetsOne, where_told, served_told, usage_told, goes_stopped, not_none}
 
 -- the status of a report, by its case
 
 status_ap : (r s : Report) → r ≡ s → r.status ≡ s.status
 status_ap r s e = ap (λ x. x.status) e
 
--- a report that isn't a run has one of four statuses
-run_of : (call : Call) (files : Files) (r : Report) (n : ℕ) → n ≢ 3 → n ≢ 4 → n ≢ 20 → n ≢ 21 → CaseOf call files r → r.status ≡ n
+-- a report that isn't a run has one of five statuses
+run_of : (call : Call) (files : Files) (r : Report) (n : ℕ) → n ≢ 3 → n ≢ 4 → n ≢ 20 → n ≢ 21 → n ≢ 22 → CaseOf call files r → r.status ≡ n
     → (end : End) × EndsWith call files end × (status_of end.verdict ≡ n)
-run_of call files r n a b c d (asks_nothing none e) is = absurd (a (sym is ∙ status_ap r _ e))
-run_of call files r n a b c d (is_missing e) is = absurd (b (sym is ∙ status_ap r _ e))
-run_of call files r n a b c d (is_long e) is = absurd (b (sym is ∙ status_ap r _ e))
-run_of call files r n a b c d (is_faulty source fault asked read e) is = absurd (c (sym is ∙ status_ap r _ e))
-run_of call files r n a b c d (is_unbuilt h e) is = absurd (d (sym is ∙ status_ap r _ e))
-run_of call files r n a b c d (runs end ends e) is = (end, ends, sym (status_ap r _ e) ∙ is)
+run_of call files r n a b c d g (asks_nothing none e) is = absurd (a (sym is ∙ status_ap r _ e))
+run_of call files r n a b c d g (is_missing e) is = absurd (b (sym is ∙ status_ap r _ e))
+run_of call files r n a b c d g (is_long e) is = absurd (b (sym is ∙ status_ap r _ e))
+run_of call files r n a b c d g (is_faulty source fault asked read e) is = absurd (c (sym is ∙ status_ap r _ e))
+run_of call files r n a b c d g (is_no_program h e) is = absurd (d (sym is ∙ status_ap r _ e))
+run_of call files r n a b c d g (is_unbuilt h e) is = absurd (g (sym is ∙ status_ap r _ e))
+run_of call files r n a b c d g (runs end ends e) is = (end, ends, sym (status_ap r _ e) ∙ is)
 
 status_bound : (v : Verdict) → ((status_of v ≡ 0) ⊎ ((11 ≤ status_of v) × (status_of v ≤ 13)))
 status_bound verdict.Completed = inl refl
@@ -123,15 +49,27 @@ fault_of call files r (asks_nothing none e) is = let h = status_ap r _ e in absu
 fault_of call files r (is_missing e) is = let h = status_ap r _ e in absurd (omega arith)
 fault_of call files r (is_long e) is = let h = status_ap r _ e in absurd (omega arith)
 fault_of call files r (is_faulty source fault asked read e) is = (source, fault, asked, read)
+fault_of call files r (is_no_program u e) is = let h = status_ap r _ e in absurd (omega arith)
 fault_of call files r (is_unbuilt u e) is = let h = status_ap r _ e in absurd (omega arith)
 fault_of call files r (runs end ends e) is =
     let h : r.status ≡ status_of end.verdict = status_ap r _ e in let b = status_bound end.verdict in absurd (grind arith)
 
-unbuilt_of : (call : Call) (files : Files) (r : Report) → CaseOf call files r → r.status ≡ 21 → IsNotBuilt call files
+syntax_of : (call : Call) (files : Files) (r : Report) → CaseOf call files r → r.status ≡ 21 → HasSyntaxFault call files
+syntax_of call files r (asks_nothing none e) is = let h = status_ap r _ e in absurd (omega arith)
+syntax_of call files r (is_missing e) is = let h = status_ap r _ e in absurd (omega arith)
+syntax_of call files r (is_long e) is = let h = status_ap r _ e in absurd (omega arith)
+syntax_of call files r (is_faulty source fault asked read e) is = let h = status_ap r _ e in absurd (omega arith)
+syntax_of call files r (is_no_program u e) is = u
+syntax_of call files r (is_unbuilt u e) is = let h = status_ap r _ e in absurd (omega arith)
+syntax_of call files r (runs end ends e) is =
+    let h : r.status ≡ status_of end.verdict = status_ap r _ e in let b = status_bound end.verdict in absurd (grind arith)
+
+unbuilt_of : (call : Call) (files : Files) (r : Report) → CaseOf call files r → r.status ≡ 22 → IsNotBuilt call files
 unbuilt_of call files r (asks_nothing none e) is = let h = status_ap r _ e in absurd (omega arith)
 unbuilt_of call files r (is_missing e) is = let h = status_ap r _ e in absurd (omega arith)
 unbuilt_of call files r (is_long e) is = let h = status_ap r _ e in absurd (omega arith)
 unbuilt_of call files r (is_faulty source fault asked read e) is = let h = status_ap r _ e in absurd (omega arith)
+unbuilt_of call files r (is_no_program u e) is = let h = status_ap r _ e in absurd (omega arith)
 unbuilt_of call files r (is_unbuilt u e) is = u
 unbuilt_of call files r (runs end ends e) is =
     let h : r.status ≡ status_of end.verdict = status_ap r _ e in let b = status_bound end.verdict in absurd (grind arith)
@@ -180,31 +118,31 @@ module _ (call : Call) (files : Files) (one : MeetsOne call files) (none : Nothi
   same_status s is = status_ap one.0 s (report_one call.words files one.0 s one.1 is)
 
   -- the run ends with a verdict of which P holds, exactly where the status is n
-  run_exactly : (n : ℕ) (P : Verdict → Type 0) → n ≢ 3 → n ≢ 4 → n ≢ 6 → n ≢ 20 → n ≢ 21
+  run_exactly : (n : ℕ) (P : Verdict → Type 0) → n ≢ 3 → n ≢ 4 → n ≢ 6 → n ≢ 20 → n ≢ 21 → n ≢ 22
       → ((v : Verdict) → status_of v ≡ n → P v) → ((v : Verdict) → P v → status_of v ≡ n) → IsExactly call n (EndsAs call files P)
-  run_exactly n P a b c d e to from =
+  run_exactly n P a b c d e f to from =
       exactly one.0 call n (EndsAs call files P) c met
-      (λ is. let w = run_of call files one.0 n a b d e case is in (w.0, w.1, to w.0.verdict w.2))
+      (λ is. let w = run_of call files one.0 n a b d e f case is in (w.0, w.1, to w.0.verdict w.2))
       (λ h. same_status (run_report h.0) (run_is_report call files h.0 h.1) ∙ from h.0.verdict h.2)
 
   completed_exactly : IsExactly call 0 (EndsAs call files (λ v. v ≡ verdict.Completed))
   completed_exactly =
-      run_exactly 0 (λ v. v ≡ verdict.Completed) (λ e. omega arith) (λ e. omega arith) (λ e. omega arith) (λ e. omega arith) (λ e. omega arith)
+      run_exactly 0 (λ v. v ≡ verdict.Completed) (λ e. omega arith) (λ e. omega arith) (λ e. omega arith) (λ e. omega arith) (λ e. omega arith) (λ e. omega arith)
       completed_by (λ v e. ap status_of e)
 
   deadlock_exactly : IsExactly call 11 (EndsAs call files (λ v. v ≡ verdict.Deadlock))
   deadlock_exactly =
-      run_exactly 11 (λ v. v ≡ verdict.Deadlock) (λ e. omega arith) (λ e. omega arith) (λ e. omega arith) (λ e. omega arith) (λ e. omega arith)
+      run_exactly 11 (λ v. v ≡ verdict.Deadlock) (λ e. omega arith) (λ e. omega arith) (λ e. omega arith) (λ e. omega arith) (λ e. omega arith) (λ e. omega arith)
       deadlock_by (λ v e. ap status_of e)
 
   fault_exactly : IsExactly call 12 (EndsAs call files IsFault)
   fault_exactly =
-      run_exactly 12 IsFault (λ e. omega arith) (λ e. omega arith) (λ e. omega arith) (λ e. omega arith) (λ e. omega arith)
+      run_exactly 12 IsFault (λ e. omega arith) (λ e. omega arith) (λ e. omega arith) (λ e. omega arith) (λ e. omega arith) (λ e. omega arith)
       fault_by (λ v e. ap status_of e.3)
 
   out_of_steps_exactly : IsExactly call 13 (EndsAs call files (λ v. v ≡ verdict.OutOfSteps))
   out_of_steps_exactly =
-      run_exactly 13 (λ v. v ≡ verdict.OutOfSteps) (λ e. omega arith) (λ e. omega arith) (λ e. omega arith) (λ e. omega arith) (λ e. omega arith)
+      run_exactly 13 (λ v. v ≡ verdict.OutOfSteps) (λ e. omega arith) (λ e. omega arith) (λ e. omega arith) (λ e. omega arith) (λ e. omega arith) (λ e. omega arith)
       out_of_steps_by (λ v e. ap status_of e)
 
   lexical_exactly : IsExactly call 20 (HasLexicalFault call files)
@@ -212,14 +150,19 @@ module _ (call : Call) (files : Files) (one : MeetsOne call files) (none : Nothi
       exactly one.0 call 20 (HasLexicalFault call files) (λ e. omega arith) met
       (λ is. fault_of call files one.0 case is) (λ h. same_status _ (lexical_report call files h))
 
-  not_built_exactly : IsExactly call 21 (IsNotBuilt call files)
+  syntax_exactly : IsExactly call 21 (HasSyntaxFault call files)
+  syntax_exactly =
+      exactly one.0 call 21 (HasSyntaxFault call files) (λ e. omega arith) met
+      (λ is. syntax_of call files one.0 case is) (λ h. same_status _ (syntax_report call files h))
+
+  not_built_exactly : IsExactly call 22 (IsNotBuilt call files)
   not_built_exactly =
-      exactly one.0 call 21 (IsNotBuilt call files) (λ e. omega arith) met
+      exactly one.0 call 22 (IsNotBuilt call files) (λ e. omega arith) met
       (λ is. unbuilt_of call files one.0 case is) (λ h. same_status _ (unbuilt_report call files h))
 
   ends_complete : (core : Core) → IsAskedProgram call files core → EndsAs call files (λ v. (call.status ≡ status_of v) ⊎ (call.status ≡ 6))
   ends_complete core asked =
-      let p = Picked-some core first most_steps (λ turn count some. some) in
+      let p = Picked-some core first most_steps (built-Sound asked.tree core asked.program) (λ turn count some. some) in
       let ends : EndsWith call files p.1 = record { core = core; asked = asked; labels = p.0; picked = p.2 } in
       let same : one.0.status ≡ status_of p.1.verdict = same_status (run_report p.1) (run_is_report call files p.1 ends) in
       (p.1, ends, by_met p.1.verdict same met)
@@ -234,26 +177,30 @@ pub record IsOfSource (n : ℕ) : Type 0 where
   pub is_read : n ≢ 4
   pub is_written : n ≢ 5
 
-numeral_of_source : (n m : ℕ) → n ≡ m → (m ≡ 0) ⊎ ((11 ≤ m) × (m ≤ 21)) → IsOfSource n
+numeral_of_source : (n m : ℕ) → n ≡ m → (m ≡ 0) ⊎ ((11 ≤ m) × (m ≤ 22)) → IsOfSource n
 numeral_of_source n m e (inl z) = record { is_request = λ h. omega arith; is_read = λ h. omega arith; is_written = λ h. omega arith }
 numeral_of_source n m e (inr b) =
     let low = b.0 in record { is_request = λ h. omega arith; is_read = λ h. omega arith; is_written = λ h. omega arith }
 
-program_status : (o : Option Core) (r : Report) → IsReportOfProgram o r → IsOfSource r.status
-program_status None r is = numeral_of_source r.status 21 (status_ap r _ is) (inr (omega arith, omega arith))
-program_status (Some core) r is = numeral_of_source r.status (status_of is.1.verdict) (status_ap r _ is.3) (wider (status_bound is.1.verdict))
+built_status : (o : Option Core) (r : Report) → IsReportOfBuilt o r → IsOfSource r.status
+built_status None r is = numeral_of_source r.status 22 (status_ap r _ is) (inr (omega arith, omega arith))
+built_status (Some core) r is = numeral_of_source r.status (status_of is.1.verdict) (status_ap r _ is.3) (wider (status_bound is.1.verdict))
   where
-    wider : {m : ℕ} → (m ≡ 0) ⊎ ((11 ≤ m) × (m ≤ 13)) → (m ≡ 0) ⊎ ((11 ≤ m) × (m ≤ 21))
+    wider : {m : ℕ} → (m ≡ 0) ⊎ ((11 ≤ m) × (m ≤ 13)) → (m ≡ 0) ⊎ ((11 ≤ m) × (m ≤ 22))
     wider (inl z) = inl z
     wider (inr b) = let high = b.1 in inr (b.0, omega arith)
 
-reading_status : (o : Result (List Spanned) LexFault) (r : Report) → IsReportOfReading o r → IsOfSource r.status
-reading_status (Err fault) r is = numeral_of_source r.status 20 (status_ap r _ is) (inr (omega arith, omega arith))
-reading_status (Ok tokens) r is = program_status (program_of tokens) r is
+tokens_status : (source : List ℕ) (tokens : List Spanned) (r : Report) → IsReportOfTokens source tokens r → IsOfSource r.status
+tokens_status source tokens r (of_tree tree has is) = built_status (built tree) r is
+tokens_status source tokens r (of_fault fault has is) = numeral_of_source r.status 21 (status_ap r _ is) (inr (omega arith, omega arith))
+
+reading_status : (source : List ℕ) (o : Result (List Spanned) LexFault) (r : Report) → IsReportOfReading source o r → IsOfSource r.status
+reading_status source (Err fault) r is = numeral_of_source r.status 20 (status_ap r _ is) (inr (omega arith, omega arith))
+reading_status source (Ok tokens) r is = tokens_status source tokens r is
 
 source_status : (source : List ℕ) (r : Report) → IsReportOfSource source r → IsOfSource r.status
 unfolding IsReportOfSource
-source_status source r is = reading_status (reading source) r is
+source_status source r is = reading_status source (reading source) r is
 
 -- a status that a delivery doesn't have by itself tells which of the sinks broke off
 delivered_status : (status n : ℕ) (output lines : List ℕ) (result : ℕ) (out log : SinkUse) → status ≢ n → n ≢ 5
@@ -338,6 +285,7 @@ module _ (call : Call) (told : (files : Files) → call.shelf.files ≡ Some fil
     fault = where_told call.shelf.files (λ files is none. fault_exactly call files (told files is) none);
     out_of_steps = where_told call.shelf.files (λ files is none. out_of_steps_exactly call files (told files is) none);
     lexical = where_told call.shelf.files (λ files is none. lexical_exactly call files (told files is) none);
+    syntax = where_told call.shelf.files (λ files is none. syntax_exactly call files (told files is) none);
     not_built = where_told call.shelf.files (λ files is none. not_built_exactly call files (told files is) none);
     no_request = request;
     not_read = unread;

@@ -1,7 +1,10 @@
-pub mod LiteralLemmas
-pub mod FormLemmas
+pub mod Sizes
+pub mod Built
+pub mod OneReading
+pub mod TokenReports
 pub mod TurnLemmas
 pub mod Reports
 pub mod Sinks
 pub mod Promises
+pub mod ReportCases
 pub mod Causes

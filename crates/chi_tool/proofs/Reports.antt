@@ -1,32 +1,44 @@
 -- Words and files have exactly one report, and its status tells what it is.
-use Rattle.std.proofs.Common.{◌≡◌, ℕ, ◌<◌, ◌≤◌, List, Option, Some, None, length, ◌⊎◌, inl, inr, sym, ◌∙◌, ap, refl, arith}
+use Rattle.std.proofs.Common.{◌≡◌, ℕ, ◌<◌, ◌≤◌, List, Option, Some, None, length, ◌⊎◌, inl, inr, sym, ◌∙◌, ap, subst, refl, arith}
 use Rattle.std.specs.Prelude.{Result, Ok, Err}
 use Rattle.chi_io.specs.Shelf.{Files}
 use Rattle.chi_token.specs.declared.place.Spanned.{Spanned}
 use Rattle.chi_lex.specs.declared.fault.LexFault.{LexFault}
 use Rattle.chi_lex.specs.declared.lexer.TheConstants.{MOST_BYTES}
 use Rattle.chi_lex.specs.Reading.{reading}
+use Rattle.chi_grammar.specs.declared.fault.ParseFault.{ParseFault}
+use Rattle.chi_tree.specs.declared.definition.Program.{Program}
+use Rattle.chi_form.specs.Form.{built}
 use Rattle.chi_core.specs.declared.program.Core.{Core}
 use Rattle.chi_core.proofs.Picks.{Picked-some, Picked-one}
 use Rattle.chi_tool.specs.Words.{Request, Sim, request_of}
-use Rattle.chi_tool.specs.Form.{program_of}
-use Rattle.chi_tool.specs.Report.{Report, refused, usage, no_such_file, file_too_long, lexical_text, not_built, run_report, first, most_steps, IsReportOfProgram, IsReportOfReading, IsReportOfSource, IsReportOfFile, IsReportOfRequest, IsReport}
+use Rattle.chi_tool.specs.Syntax.{HasTree, HasFault, syntax_text}
+use Rattle.chi_tool.specs.Report.{Report, refused, usage, no_such_file, file_too_long, lexical_text, not_built, run_report, first, most_steps, IsReportOfBuilt, IsReportOfTokens, of_tree, of_fault, IsReportOfReading, IsReportOfSource, IsReportOfFile, IsReportOfRequest, IsReport}
+use Rattle.chi_tool.proofs.Built.{built-Sound}
+use Rattle.chi_tool.proofs.OneReading.{Answers, answer_some, answer_one}
 
 -- there is one
 
-program_some : (o : Option Core) → (r : Report) × IsReportOfProgram o r
-program_some None = (not_built, refl)
-program_some (Some core) =
-    let p = Picked-some core first most_steps (λ turn count some. some) in
+built_some : (tree : Program) (o : Option Core) → built tree ≡ o → (r : Report) × IsReportOfBuilt o r
+built_some tree None e = (not_built, refl)
+built_some tree (Some core) e =
+    let p = Picked-some core first most_steps (built-Sound tree core e) (λ turn count some. some) in
     (run_report p.1, (p.0, p.1, p.2, refl))
 
-reading_some : (o : Result (List Spanned) LexFault) → (r : Report) × IsReportOfReading o r
-reading_some (Err fault) = (refused 20 (lexical_text fault), refl)
-reading_some (Ok tokens) = program_some (program_of tokens)
+tokens_some : (source : List ℕ) (tokens : List Spanned) → (r : Report) × IsReportOfTokens source tokens r
+tokens_some source tokens = let a = answer_some tokens in by a.0 a.1
+  where
+    by : (result : Result Program ParseFault) → Answers tokens result → (r : Report) × IsReportOfTokens source tokens r
+    by (Ok tree) has = let p = built_some tree (built tree) refl in (p.0, of_tree tree has p.1)
+    by (Err fault) has = (refused 21 (syntax_text source tokens fault), of_fault fault has refl)
+
+reading_some : (source : List ℕ) (o : Result (List Spanned) LexFault) → (r : Report) × IsReportOfReading source o r
+reading_some source (Err fault) = (refused 20 (lexical_text fault), refl)
+reading_some source (Ok tokens) = tokens_some source tokens
 
 pub source_some : (source : List ℕ) → (r : Report) × IsReportOfSource source r
 unfolding IsReportOfSource
-source_some source = reading_some (reading source)
+source_some source = reading_some source (reading source)
 
 file_some : (o : Option (List ℕ)) → (r : Report) × IsReportOfFile o r
 file_some None = (no_such_file, refl)
@@ -45,18 +57,36 @@ report_some words files = request_some (request_of words) files
 
 -- and no other
 
-program_one : (o : Option Core) (r s : Report) → IsReportOfProgram o r → IsReportOfProgram o s → r ≡ s
-program_one None r s p q = p ∙ sym q
-program_one (Some core) r s p q =
+built_one : (o : Option Core) (r s : Report) → IsReportOfBuilt o r → IsReportOfBuilt o s → r ≡ s
+built_one None r s p q = p ∙ sym q
+built_one (Some core) r s p q =
     p.3 ∙ ap run_report (Picked-one core first most_steps p.0 q.0 p.1 q.1 p.2 q.2).1 ∙ sym q.3
 
-reading_one : (o : Result (List Spanned) LexFault) (r s : Report) → IsReportOfReading o r → IsReportOfReading o s → r ≡ s
-reading_one (Err fault) r s p q = p ∙ sym q
-reading_one (Ok tokens) r s p q = program_one (program_of tokens) r s p q
+one_tree : (tokens : List Spanned) (t u : Program) → HasTree tokens t → HasTree tokens u → t ≡ u
+one_tree tokens t u p q = let same : ◌≡◌ {A = Result Program ParseFault} (Ok t) (Ok u) = answer_one tokens (Ok t) (Ok u) p q in cc
+
+one_fault : (tokens : List Spanned) (e f : ParseFault) → HasFault tokens e → HasFault tokens f → e ≡ f
+one_fault tokens e f p q = let same : ◌≡◌ {A = Result Program ParseFault} (Err e) (Err f) = answer_one tokens (Err e) (Err f) p q in cc
+
+tree_or_fault : (tokens : List Spanned) (t : Program) (e : ParseFault) → HasTree tokens t → HasFault tokens e → ⊥
+tree_or_fault tokens t e p q = let same : ◌≡◌ {A = Result Program ParseFault} (Ok t) (Err e) = answer_one tokens (Ok t) (Err e) p q in cc
+
+tokens_one : (source : List ℕ) (tokens : List Spanned) (r s : Report) → IsReportOfTokens source tokens r → IsReportOfTokens source tokens s → r ≡ s
+tokens_one source tokens r s (of_tree t p a) (of_tree u q b) =
+    let P : Program → Type 0 = λ x. IsReportOfBuilt (built x) s in
+    built_one (built t) r s a (subst P (one_tree tokens u t q p) b)
+tokens_one source tokens r s (of_tree t p a) (of_fault f q b) = absurd (tree_or_fault tokens t f p q)
+tokens_one source tokens r s (of_fault f p a) (of_tree u q b) = absurd (tree_or_fault tokens u f q p)
+tokens_one source tokens r s (of_fault e p a) (of_fault f q b) =
+    a ∙ ap (λ x. refused 21 (syntax_text source tokens x)) (one_fault tokens e f p q) ∙ sym b
+
+reading_one : (source : List ℕ) (o : Result (List Spanned) LexFault) (r s : Report) → IsReportOfReading source o r → IsReportOfReading source o s → r ≡ s
+reading_one source (Err fault) r s p q = p ∙ sym q
+reading_one source (Ok tokens) r s p q = tokens_one source tokens r s p q
 
 source_one : (source : List ℕ) (r s : Report) → IsReportOfSource source r → IsReportOfSource source s → r ≡ s
 unfolding IsReportOfSource
-source_one source r s p q = reading_one (reading source) r s p q
+source_one source r s p q = reading_one source (reading source) r s p q
 
 file_one : (o : Option (List ℕ)) (r s : Report) → IsReportOfFile o r → IsReportOfFile o s → r ≡ s
 file_one None r s p q = p ∙ sym q

@@ -5,6 +5,9 @@ use Rattle.chi_token.specs.declared.place.Spanned.{Spanned}
 use Rattle.chi_lex.specs.declared.fault.LexFault.{LexFault}
 use Rattle.chi_lex.specs.declared.lexer.TheConstants.{MOST_BYTES}
 use Rattle.chi_lex.specs.Reading.{reading}
+use Rattle.chi_grammar.specs.declared.fault.ParseFault.{ParseFault}
+use Rattle.chi_tree.specs.declared.definition.Program.{Program}
+use Rattle.chi_form.specs.Form.{built}
 use Rattle.chi_core.specs.declared.program.Core.{Core}
 use Rattle.chi_core.specs.declared.label.Label.{Label}
 use Rattle.chi_core.specs.declared.fault.FaultKind.{FaultKind}
@@ -13,7 +16,7 @@ use Rattle.chi_core.specs.declared.verdict.Verdict.TheVariants as verdict
 use Rattle.chi_core.specs.Runs.{End}
 use Rattle.chi_core.specs.Picks.{Picked}
 use Rattle.chi_tool.specs.Words.{Request, Sim, request_of}
-use Rattle.chi_tool.specs.Form.{program_of}
+use Rattle.chi_tool.specs.Syntax.{HasTree, HasFault}
 use Rattle.chi_tool.specs.Report.{Report, usage, no_such_file, file_too_long, status_of, first, most_steps, IsReport}
 use Rattle.chi_tool.specs.Call.{Call, ShelfUse, Took, TookFront, TookSome, SinkRose, SinkStood, ShelfRose, ShelfStood}
 
@@ -70,13 +73,23 @@ pub record IsAskedSource (call : Call) (files : Files) (source : List ℕ) : Typ
   pub there : files name ≡ Some source
   pub within : length source ≤ MOST_BYTES
 
--- the words ask for a source that is this program
-pub record IsAskedProgram (call : Call) (files : Files) (core : Core) : Type 0 where
+-- the words ask for a source that is read as these tokens
+pub record IsAskedTokens (call : Call) (files : Files) (tokens : List Spanned) : Type 0 where
   pub source : List ℕ
   pub asked : IsAskedSource call files source
-  pub tokens : List Spanned
   pub read : reading source ≡ Ok tokens
-  pub program : program_of tokens ≡ Some core
+
+-- the words ask for a source that is this program, as it is written
+pub record IsAskedTree (call : Call) (files : Files) (tree : Program) : Type 0 where
+  pub tokens : List Spanned
+  pub asked : IsAskedTokens call files tokens
+  pub parsed : HasTree tokens tree
+
+-- the words ask for a source that is this program, as it is run
+pub record IsAskedProgram (call : Call) (files : Files) (core : Core) : Type 0 where
+  pub tree : Program
+  pub asked : IsAskedTree call files tree
+  pub program : built tree ≡ Some core
 
 -- the derivation of the asked program that the policy picks ends so
 pub record EndsWith (call : Call) (files : Files) (end : End) : Type 0 where
@@ -96,10 +109,13 @@ IsFault v = (kind : FaultKind) × (name : List ℕ) × (line : ℕ) × (v ≡ ve
 abbrev pub HasLexicalFault : Call → Files → Type 0
 HasLexicalFault call files = (source : List ℕ) × (fault : LexFault) × IsAskedSource call files source × (reading source ≡ Err fault)
 
--- it has none, and is no program that is built yet
+-- it has none, and its tokens are no program: at one of them there is none, or it stands too deep
+abbrev pub HasSyntaxFault : Call → Files → Type 0
+HasSyntaxFault call files = (tokens : List Spanned) × (fault : ParseFault) × IsAskedTokens call files tokens × HasFault tokens fault
+
+-- it is a program whose form isn't built yet
 abbrev pub IsNotBuilt : Call → Files → Type 0
-IsNotBuilt call files =
-    (source : List ℕ) × (tokens : List Spanned) × IsAskedSource call files source × (reading source ≡ Ok tokens) × (program_of tokens ≡ None)
+IsNotBuilt call files = (tree : Program) × IsAskedTree call files tree × (built tree ≡ None)
 
 -- the file that the words ask for can't be read: the shelf failed, or the file isn't there or is too long
 abbrev pub IsUnfit : Option (List ℕ) → Type 0
@@ -125,7 +141,8 @@ pub record Causes (call : Call) : Type 0 where
   pub fault : IsExactlyOf call 12 (λ files. EndsAs call files IsFault)
   pub out_of_steps : IsExactlyOf call 13 (λ files. EndsAs call files (λ v. v ≡ verdict.OutOfSteps))
   pub lexical : IsExactlyOf call 20 (HasLexicalFault call)
-  pub not_built : IsExactlyOf call 21 (IsNotBuilt call)
+  pub syntax : IsExactlyOf call 21 (HasSyntaxFault call)
+  pub not_built : IsExactlyOf call 22 (IsNotBuilt call)
   pub no_request : call.out.stopped ≡ false → call.log.stopped ≡ false → IsExactly call 3 (request_of call.words ≡ None)
   pub not_read : call.status ≡ 4 → CannotBeRead call.shelf (request_of call.words)
   pub not_written : (call.status ≡ 5) ↔ ((call.out.stopped ≡ true) ⊎ (call.log.stopped ≡ true))

@@ -1,6 +1,5 @@
 pub mod Words
-pub mod Literal
-pub mod Form
+pub mod Syntax
 pub mod Report
 pub mod Reported
 pub mod Call

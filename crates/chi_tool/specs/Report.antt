@@ -1,13 +1,14 @@
 -- The report of words and files: the status, and every byte that is written.
 use Rattle.std.specs.Prelude.{◌≡◌, ℕ, ◌<◌, ◌≤◌, ◌⊎◌, List, [], ◌∷◌, ◌++◌, length, codes, Option, Some, None, Result, Ok, Err}
-use Rattle.std.specs.Fmt.{decimal}
 use Rattle.chi_io.specs.Shelf.{Files}
-use Rattle.chi_token.specs.declared.place.Place.{Place}
 use Rattle.chi_token.specs.declared.place.Spanned.{Spanned}
 use Rattle.chi_lex.specs.declared.fault.LexFault.{LexFault}
 use Rattle.chi_lex.specs.declared.fault.LexFault.TheVariants as fault
 use Rattle.chi_lex.specs.declared.lexer.TheConstants.{MOST_BYTES}
 use Rattle.chi_lex.specs.Reading.{reading}
+use Rattle.chi_grammar.specs.declared.fault.ParseFault.{ParseFault}
+use Rattle.chi_tree.specs.declared.definition.Program.{Program}
+use Rattle.chi_form.specs.Form.{built}
 use Rattle.chi_core.specs.declared.program.Core.{Core}
 use Rattle.chi_core.specs.declared.label.Label.{Label}
 use Rattle.chi_core.specs.declared.verdict.Verdict.{Verdict}
@@ -16,7 +17,7 @@ use Rattle.chi_core.specs.VerdictLine.{verdict_line_of}
 use Rattle.chi_core.specs.Runs.{End}
 use Rattle.chi_core.specs.Picks.{Pick, Picked}
 use Rattle.chi_tool.specs.Words.{Request, Sim, request_of}
-use Rattle.chi_tool.specs.Form.{program_of}
+use Rattle.chi_tool.specs.Syntax.{HasTree, HasFault, placed, syntax_text}
 
 pub record Report : Type 0 where
   pub status : ℕ
@@ -39,9 +40,6 @@ no_such_file = refused 4 (codes "no such file")
 abbrev pub file_too_long : Report
 file_too_long = refused 4 (codes "file too long")
 
-abbrev pub placed : Place → List ℕ → List ℕ
-placed place what = codes "line " ++ decimal place.line ++ codes " column " ++ decimal place.column ++ codes ": " ++ what
-
 -- the line of a fault of a source's reading, of which want of memory is none
 abbrev pub lexical_text : LexFault → List ℕ
 lexical_text (fault.BadByte place) = placed place (codes "bad byte")
@@ -50,7 +48,7 @@ lexical_text (fault.BadEscape place) = placed place (codes "bad escape")
 lexical_text fault.NoMemory = []
 
 abbrev pub not_built : Report
-not_built = refused 21 (codes "form not built")
+not_built = refused 22 (codes "form not built")
 
 abbrev pub status_of : Verdict → ℕ
 status_of verdict.Completed = 0
@@ -74,17 +72,24 @@ most_steps = 10_000_000
 abbrev pub IsRunReport : Core → Report → Type 0
 IsRunReport core r = (labels : List Label) × (end : End) × Picked core first most_steps labels end × (r ≡ run_report end)
 
-abbrev pub IsReportOfProgram : Option Core → Report → Type 0
-IsReportOfProgram None r = r ≡ not_built
-IsReportOfProgram (Some core) r = IsRunReport core r
+-- the run of what is built of a program
+abbrev pub IsReportOfBuilt : Option Core → Report → Type 0
+IsReportOfBuilt None r = r ≡ not_built
+IsReportOfBuilt (Some core) r = IsRunReport core r
 
-abbrev pub IsReportOfReading : Result (List Spanned) LexFault → Report → Type 0
-IsReportOfReading (Err fault) r = r ≡ refused 20 (lexical_text fault)
-IsReportOfReading (Ok tokens) r = IsReportOfProgram (program_of tokens) r
+-- the report of tokens that are a program, or the refusal of those that are none
+pub data IsReportOfTokens (source : List ℕ) (tokens : List Spanned) (r : Report) : Type 0 where
+  of_tree : (tree : Program) → HasTree tokens tree → IsReportOfBuilt (built tree) r → IsReportOfTokens source tokens r
+  of_fault : (fault : ParseFault) → HasFault tokens fault → r ≡ refused 21 (syntax_text source tokens fault) → IsReportOfTokens source tokens r
 
--- a source's report: its first lexical fault, or else that it is no program yet, or else its run
+abbrev pub IsReportOfReading : List ℕ → Result (List Spanned) LexFault → Report → Type 0
+IsReportOfReading source (Err fault) r = r ≡ refused 20 (lexical_text fault)
+IsReportOfReading source (Ok tokens) r = IsReportOfTokens source tokens r
+
+-- a source's report: its first lexical fault, or its first token at which it is no program, or that its form isn't
+-- built yet, or its run
 unfoldable pub IsReportOfSource : List ℕ → Report → Type 0
-IsReportOfSource source r = IsReportOfReading (reading source) r
+IsReportOfSource source r = IsReportOfReading source (reading source) r
 
 abbrev pub IsReportOfFile : Option (List ℕ) → Report → Type 0
 IsReportOfFile None r = r ≡ no_such_file
@@ -95,7 +100,7 @@ abbrev pub IsReportOfRequest : Option Request → Files → Report → Type 0
 IsReportOfRequest None files r = r ≡ usage
 IsReportOfRequest (Some (Sim name)) files r = IsReportOfFile (files name) r
 
--- r is the report of these words and files: the first refusal among words, file, tokens and program, or
+-- r is the report of these words and files: the first refusal among words, file, bytes, tokens and program, or
 -- the output and verdict of the run
 abbrev pub IsReport : List (List ℕ) → Files → Report → Type 0
 IsReport words files r = IsReportOfRequest (request_of words) files r

@@ -2,12 +2,14 @@
 #![tactic(auto)]
 
 mod deliver;
-mod form;
-mod literal;
+mod laws;
+mod refusal;
 mod report;
 mod run;
 mod serve;
+mod syntax;
 mod top;
 mod words;
 
+pub use laws::report_law;
 pub use top::chi;

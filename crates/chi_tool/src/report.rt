@@ -1,21 +1,26 @@
-ghost use Rattle.std.specs.Prelude.{◌≡◌, ◌≤◌, ◌∷◌, ◌++◌, [], codes, IfOk, length};
-ghost use Rattle.std.specs.Fmt.{decimal};
-ghost use Rattle.chi_tool.specs.Form.{program_of};
+ghost use Rattle.std.specs.Prelude.{◌≤◌, ◌<◌, ◌^◌, codes, IfOk, length};
+ghost use Rattle.chi_form.specs.Form.{built};
+ghost use Rattle.chi_tool.specs.Syntax.{placed, syntax_text};
 ghost use Rattle.chi_tool.specs.Reported.{report_in};
-ghost use Rattle.chi_tool.specs.Report.{IsReportOfProgram, IsReportOfReading, IsReportOfSource, refused, placed};
+ghost use Rattle.chi_tool.specs.Report.{IsReportOfBuilt, IsReportOfTokens, IsReportOfReading, IsReportOfSource, refused};
 
-use crate::form::program_of;
+use crate::refusal::{refused, refused_at};
 use crate::run::run;
+use crate::syntax::refused_token;
 use chi_base::NoMemory;
+use chi_form::program_of;
+use chi_grammar::ParseFault;
 use chi_lex::{LexFault, MOST_BYTES, lex};
-use chi_token::{Place, Spanned};
+use chi_parse::parse;
+use chi_token::Spanned;
+use chi_tree::Program;
 use std::alloc::Global;
 
 /// The status of a source with a lexical fault.
 const LEXICAL: u8 = 20;
 
-/// The status of a source that is no program yet.
-const NOT_BUILT: u8 = 21;
+/// The status of a program whose form isn't built yet.
+const NOT_BUILT: u8 = 22;
 
 /// A report: the status, and what is to be written.
 #[derive(Debug, Drop)]
@@ -32,44 +37,32 @@ pub fn report_of(alloc: Global, source: &[u8]) -> Result<Reported, NoMemory>
     ensures { IfOk result (λ r. IsReportOfSource source.now (report_in r)) }
 {
     match lex(alloc, source) {
-        Ok(tokens) => Ok(report_of_tokens(alloc, &tokens)?),
-        Err(LexFault::BadByte(place)) => Ok(lexical(alloc, place, "bad byte")?),
-        Err(LexFault::OpenString(place)) => Ok(lexical(alloc, place, "open string")?),
-        Err(LexFault::BadEscape(place)) => Ok(lexical(alloc, place, "bad escape")?),
+        Ok(tokens) => report_of_tokens(alloc, source, &tokens),
+        Err(LexFault::BadByte(place)) => refused_at(alloc, LEXICAL, place, b"bad byte"),
+        Err(LexFault::OpenString(place)) => refused_at(alloc, LEXICAL, place, b"open string"),
+        Err(LexFault::BadEscape(place)) => refused_at(alloc, LEXICAL, place, b"bad escape"),
         Err(LexFault::NoMemory) => Err(NoMemory),
     }
 }
 
-fn report_of_tokens(alloc: Global, tokens: &[Spanned]) -> Result<Reported, NoMemory>
-    ensures { IfOk result (λ r. IsReportOfProgram (program_of tokens.now) (report_in r)) }
+fn report_of_tokens(alloc: Global, source: &[u8], tokens: &[Spanned]) -> Result<Reported, NoMemory>
+    requires within { length source.now ≤ MOST_BYTES }
+    requires short { length tokens.now < 2 ^ 32 }
+    ensures { IfOk result (λ r. IsReportOfTokens source.now tokens.now (report_in r)) }
 {
-    let program = program_of(alloc, tokens)?;
-    match program {
-        None => Ok(refused(alloc, NOT_BUILT, b"form not built")?),
-        Some(core) => Ok(run(alloc, &core)?),
+    match parse(alloc, tokens) {
+        Ok(tree) => report_of_tree(alloc, &tree),
+        Err(ParseFault::Syntax(index)) => refused_token(alloc, source, tokens, "syntax", index),
+        Err(ParseFault::TooDeep(index)) => refused_token(alloc, source, tokens, "too deep", index),
+        Err(ParseFault::NoMemory) => Err(NoMemory),
     }
 }
 
-fn lexical(alloc: Global, place: Place, what: &str) -> Result<Reported, NoMemory>
-    ensures { IfOk result (λ r. report_in r ≡ refused LEXICAL (placed place what.now)) }
+fn report_of_tree(alloc: Global, tree: &Program) -> Result<Reported, NoMemory>
+    ensures { IfOk result (λ r. IsReportOfBuilt (built tree.now) (report_in r)) }
 {
-    let mut text = Vec::new(alloc);
-    text.extend_from_slice(b"line ")?;
-    let line = format!(in alloc; "{}", place.line)?;
-    text.extend_from_slice(line.as_bytes())?;
-    text.extend_from_slice(b" column ")?;
-    let column = format!(in alloc; "{}", place.column)?;
-    text.extend_from_slice(column.as_bytes())?;
-    text.extend_from_slice(b": ")?;
-    text.extend_from_slice(what.as_bytes())?;
-    Ok(refused(alloc, LEXICAL, &text)?)
-}
-
-fn refused(alloc: Global, status: u8, text: &[u8]) -> Result<Reported, NoMemory>
-    ensures { IfOk result (λ r. report_in r ≡ refused status text.now) }
-{
-    let mut log = Vec::from_slice(alloc, text)?;
-    log.push(b'\n')?;
-    let out = Vec::new(alloc);
-    Ok(Reported { status, out, log })
+    match program_of(alloc, tree)? {
+        None => refused(alloc, NOT_BUILT, b"form not built"),
+        Some(core) => run(alloc, &core),
+    }
 }

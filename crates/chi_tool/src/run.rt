@@ -1,4 +1,5 @@
 ghost use Rattle.std.specs.Prelude.{◌≡◌, IfOk};
+ghost use Rattle.chi_core.specs.Sound.{Sound};
 ghost use Rattle.chi_core.specs.VerdictLine.{verdict_line_of};
 ghost use Rattle.chi_tool.specs.Reported.{report_in};
 ghost use Rattle.chi_tool.specs.Report.{IsRunReport, run_report, status_of};
@@ -56,6 +57,7 @@ fn first_label(plain: &Plain<'_>) -> Label
 
 /// The report of a program's run, in which the first choice is taken each time.
 pub fn run(alloc: Global, core: &Core) -> Result<Reported, NoMemory>
+    requires { Sound core.now }
     ensures { IfOk result (λ r. IsRunReport core.now (report_in r)) }
 {
     let mut plain = Plain::new(alloc, core)?;
