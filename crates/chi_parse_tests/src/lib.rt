@@ -1,4 +1,4 @@
-//! Tests of both parsers, over sources.
+//! Tests of the tree, and of both parsers over sources.
 #![tactic(auto)]
 
 #[cfg(test)]
@@ -7,3 +7,5 @@ mod expressions;
 mod programs;
 #[cfg(test)]
 mod shapes;
+#[cfg(test)]
+mod trees;

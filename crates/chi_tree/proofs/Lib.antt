@@ -9,9 +9,5 @@ pub mod ExprSpelling
 pub mod StatementTokens
 pub mod StatementSpelling
 pub mod ProgramSpelling
-pub mod ShownFormed
-pub mod ExprFormed
-pub mod FormedBuilt
-pub mod ExprLaw
 pub mod Rest
 pub mod SlicePut

@@ -9,7 +9,5 @@ pub mod GoesOn
 pub mod Tables
 pub mod Limits
 pub mod Words
-pub mod Levels
-pub mod Formed
 pub mod Spell
 pub mod SpellStatements

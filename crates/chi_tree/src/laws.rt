@@ -1,11 +1,7 @@
-ghost use Rattle.std.specs.Prelude.{◌≡◌, ◌↔◌, map};
+ghost use Rattle.std.specs.Prelude.{◌≡◌, map};
 ghost use Rattle.chi_grammar.specs.declared.room.Room.{Room};
 ghost use Rattle.chi_grammar.specs.Rules.{part, spelling};
 ghost use Rattle.chi_grammar.specs.Trees.{Is};
-ghost use Rattle.chi_tree.specs.declared.expr.Expr.{Expr};
-ghost use Rattle.chi_tree.specs.declared.type_tree.TypeTree.{TypeTree};
-ghost use Rattle.chi_tree.specs.Formed.{FormedExpr, FormedType};
-ghost use Rattle.chi_tree.specs.Levels as level;
 ghost use Rattle.chi_tree.specs.Parts as s;
 ghost use Rattle.chi_tree.specs.Rules.{grammar};
 ghost use Rattle.chi_tree.specs.View.{Built, type_of, expr_of};
@@ -20,12 +16,4 @@ pub fn spelling_law()
     ensures expressions { (room : Room) (t : Built) → Is grammar room (part s.Expr) t → spelled_expr (expr_of t) ≡ map token_of (spelling t) }
     ensures blocks { (room : Room) (t : Built) → Is grammar room (part s.Block) t → spelled_block (block_of t) ≡ map token_of (spelling t) }
     ensures programs { (room : Room) (t : Built) → Is grammar room (part s.Program) t → spelled (program_of t) ≡ map token_of (spelling t) }
-{}
-
-/// The rules of the grammar build exactly the formed trees.
-pub fn formed_law()
-    ensures types { (room : Room) (ty : TypeTree)
-        → FormedType room.expressions ty ↔ ((t : Built) × Is grammar room (part s.AnyType) t × (type_of t ≡ ty)) }
-    ensures expressions { (room : Room) (e : Expr)
-        → FormedExpr level.Expr room.expressions e ↔ ((t : Built) × Is grammar room (part s.Expr) t × (expr_of t ≡ e)) }
 {}

@@ -15,7 +15,7 @@ mod type_tree;
 pub use class::Class;
 pub use definition::{Definition, Item, Program};
 pub use expr::{Entry, Expr, Link, Postfix};
-pub use laws::{formed_law, spelling_law};
+pub use laws::spelling_law;
 pub use limits::{MOST_BLOCKS, MOST_EXPRESSIONS, whole_room};
 pub use operator::{CastWord, Operator, PrefixSign, RelationSign};
 pub use spelling::spell;
@@ -24,6 +24,3 @@ pub use statement::{
     Walk,
 };
 pub use type_tree::{Formal, Name, TypeTree, TypeWord, Way};
-
-#[cfg(test)]
-mod tests;

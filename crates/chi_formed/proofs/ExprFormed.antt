@@ -21,14 +21,14 @@ use Rattle.chi_tree.specs.Parts as s
 use Rattle.chi_tree.specs.Rules.{rule_of, sign}
 use Rattle.chi_tree.specs.Tokens.{bytes_of, operator_of, prefix_of, literal_of}
 use Rattle.chi_tree.specs.View.{Built, more_formals_of, expr_of, links_of, postfixes_of, optional, more_exprs_of, entries_of}
-use Rattle.chi_tree.specs.Levels.{Level, level_of, prefix_level}
-use Rattle.chi_tree.specs.Levels as level
-use Rattle.chi_tree.specs.Formed.{FormedType, FormedFormals, MoreFormals, FormedExpr, FormedLinks, FormedPostfix, FormedPostfixes, FormedIfAny, FormedExprs, FormedEntries}
-use Rattle.chi_tree.specs.Formed as formed
+use Rattle.chi_formed.specs.Levels.{Level, level_of, prefix_level}
+use Rattle.chi_formed.specs.Levels as level
+use Rattle.chi_formed.specs.Expressions.{FormedType, FormedFormals, MoreFormals, FormedExpr, FormedLinks, FormedPostfix, FormedPostfixes, FormedIfAny, FormedExprs, FormedEntries}
+use Rattle.chi_formed.specs.Expressions as formed
 use Rattle.chi_tree.proofs.ClassTokens.{token_at, token_is}
 use Rattle.chi_tree.proofs.Made.{Made}
 use Rattle.chi_tree.proofs.Made as made
-use Rattle.chi_tree.proofs.ShownFormed.{Formed}
+use Rattle.chi_formed.proofs.ShownFormed.{Formed}
 
 -- what the rule builds, where each part in it is shown as a formed one
 abbrev pub F : Room → Rule Spanned Part → Built → Type 0

@@ -15,9 +15,9 @@ use Rattle.chi_tree.specs.declared.expr.Link.{Link}
 use Rattle.chi_tree.specs.Parts.{Part}
 use Rattle.chi_tree.specs.Parts as s
 use Rattle.chi_tree.specs.View.{Built, type_of, carried_of, formals_of, formal_of, expr_of, link_of, related, powered, postfix_of, inside, indexed, stepped, arguments_of, exprs_of, bracketed, braced, entry_of, blank}
-use Rattle.chi_tree.specs.Levels.{Level}
-use Rattle.chi_tree.specs.Levels as level
-use Rattle.chi_tree.specs.Formed.{FormedType, FormedFormals, MoreFormals, FormedExpr, FormedLinks, FormedPostfix, FormedIfAny, FormedExprs, FormedEntries}
+use Rattle.chi_formed.specs.Levels.{Level}
+use Rattle.chi_formed.specs.Levels as level
+use Rattle.chi_formed.specs.Expressions.{FormedType, FormedFormals, MoreFormals, FormedExpr, FormedLinks, FormedPostfix, FormedIfAny, FormedExprs, FormedEntries}
 
 -- the fields of a tuple, in its brackets
 pub record FieldsFormed (room : Room) (t : Built) : Type 0 where

@@ -22,8 +22,8 @@ use Rattle.chi_tree.specs.declared.expr.Entry.{Entry}
 use Rattle.chi_tree.specs.declared.expr.Postfix.{Postfix}
 use Rattle.chi_tree.specs.declared.expr.Postfix.TheVariants.{Index, Slice, Field}
 use Rattle.chi_tree.specs.View.{chained, parted}
-use Rattle.chi_tree.specs.Levels.{Level, level_of, prefix_level}
-use Rattle.chi_tree.specs.Levels as level
+use Rattle.chi_formed.specs.Levels.{Level, level_of, prefix_level}
+use Rattle.chi_formed.specs.Levels as level
 
 abbrev pub formal : Option TypeTree → Name → Formal
 formal ty name = record { ty = ty; name = name }

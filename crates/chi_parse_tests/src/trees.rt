@@ -1,9 +1,10 @@
-use crate::{
+use chi_base::{Boxed, Items, NoMemory};
+use chi_formed::formed_law;
+use chi_tree::{
     Class, Definition, Expr, Formal, Item, Link, MOST_BLOCKS, MOST_EXPRESSIONS, Name, Operator,
-    Postfix, PrefixSign, Program, Statement, Step, Target, TypeTree, TypeWord, formed_law, spell,
+    Postfix, PrefixSign, Program, Statement, Step, Target, TypeTree, TypeWord, spell,
     spelling_law, whole_room,
 };
-use chi_base::{Boxed, Items, NoMemory};
 use chi_token::{Bytes, Keyword, Place, Sign, Token, spelling};
 use std::alloc::Global;
 use std::test::Fail;

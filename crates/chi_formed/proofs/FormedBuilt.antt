@@ -40,10 +40,10 @@ use Rattle.chi_tree.specs.Rules.{grammar, sign, text, sum_sign, product_sign, re
 use Rattle.chi_tree.specs.Tokens.{operator_of, relation_of, prefix_of, cast_of, type_word_of}
 use Rattle.chi_tree.specs.View.{Built, carried_of, inside, stepped, nowhere, way_in, optional, chained, parted, type_of, formals_of, more_formals_of, expr_of, links_of, postfixes_of, postfix_of, exprs_of, more_exprs_of, entries_of}
 use Rattle.chi_tree.specs.Words.{operator_token, relation_token, prefix_token, cast_token, type_token}
-use Rattle.chi_tree.specs.Levels.{Level, level_of, prefix_level}
-use Rattle.chi_tree.specs.Levels as level
-use Rattle.chi_tree.specs.Formed.{FormedType, FormedFormals, MoreFormals, FormedExpr, FormedLinks, FormedPostfix, FormedPostfixes, FormedIfAny, FormedExprs, FormedEntries}
-use Rattle.chi_tree.specs.Formed as formed
+use Rattle.chi_formed.specs.Levels.{Level, level_of, prefix_level}
+use Rattle.chi_formed.specs.Levels as level
+use Rattle.chi_formed.specs.Expressions.{FormedType, FormedFormals, MoreFormals, FormedExpr, FormedLinks, FormedPostfix, FormedPostfixes, FormedIfAny, FormedExprs, FormedEntries}
+use Rattle.chi_formed.specs.Expressions as formed
 
 -- tokens, and where they stand
 

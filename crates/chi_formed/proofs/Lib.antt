@@ -1,0 +1,4 @@
+pub mod ShownFormed
+pub mod ExprFormed
+pub mod FormedBuilt
+pub mod ExprLaw

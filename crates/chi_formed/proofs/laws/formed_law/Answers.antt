@@ -1,0 +1,5 @@
+use Rattle.chi_formed.proofs.ExprLaw.{formed_types, formed_exprs}
+use Rattle.chi_formed.proofs.laws.formed_law.Goals as goal
+
+pub returns : goal.returns
+returns c = record { types = formed_types; expressions = formed_exprs }

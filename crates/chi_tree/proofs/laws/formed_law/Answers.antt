@@ -1,5 +1,0 @@
-use Rattle.chi_tree.proofs.ExprLaw.{formed_types, formed_exprs}
-use Rattle.chi_tree.proofs.laws.formed_law.Goals as goal
-
-pub returns : goal.returns
-returns c = record { types = formed_types; expressions = formed_exprs }
