@@ -14,9 +14,10 @@ use Rattle.chi_formed.specs.Levels as level
 use Rattle.chi_formed.specs.Expressions.{FormedType, FormedExpr}
 use Rattle.chi_tree.proofs.Made.{made}
 use Rattle.chi_tree.proofs.Made as made
-use Rattle.chi_formed.proofs.ShownFormed.{Formed}
-use Rattle.chi_formed.proofs.ExprFormed.{F, any_type, named_type, built_type, word_type, list_type, set_type, dist_type, dict_type, tuple_type, chan_type, carried, formals_formed, fields_formed, more_formal, more_field, expr_formed, or_link, conj, and_link, neg, not_neg, rel, rel_link, sum, sum_link, prod, prod_link, unary, prefixed, power, power_link, post, postfix_formed, target_step, target_index, field, bracket, inside_formed, upto_formed, by_step, primary, literal_formed, named, arguments, cast_formed, round_formed, others, square_formed, curly_formed, contents, entries, more_entry, blank_formed, blank_end, exprs}
-use Rattle.chi_formed.proofs.FormedBuilt.{build_expr, build_type}
+use Rattle.chi_formed.proofs.ShownExpressions.{Formed}
+use Rattle.chi_formed.proofs.TypeFormed.{F, any_type, named_type, built_type, word_type, list_type, set_type, dist_type, dict_type, tuple_type, chan_type, carried, formals_formed, fields_formed, more_formal, more_field}
+use Rattle.chi_formed.proofs.ExprFormed.{expr_formed, or_link, conj, and_link, neg, not_neg, rel, rel_link, sum, sum_link, prod, prod_link, unary, prefixed, power, power_link, post, postfix_formed, target_step, target_index, field, bracket, inside_formed, upto_formed, by_step, primary, literal_formed, named, arguments, cast_formed, round_formed, others, square_formed, curly_formed, contents, entries, more_entry, blank_formed, blank_end, exprs}
+use Rattle.chi_formed.proofs.ExprBuilt.{build_expr, build_type}
 
 step : (room : Room) (s : Part) (t : Built) → F room (rule_of s) t → Formed room s (node s t)
 step room s.AnyType t p = any_type p
@@ -76,7 +77,7 @@ step room s.BlankEnd t p = blank_end p
 step room s.Exprs t p = exprs p
 step room _ t p = tt
 
-formed : {room : Room} {r : Rule Spanned Part} {t : Built} → Is grammar room r t → F room r t
+pub formed : {room : Room} {r : Rule Spanned Part} {t : Built} → Is grammar room r t → F room r t
 formed p = made Formed step p
 
 of_type : {room : Room} {t : Built} → F room (part s.AnyType) t → FormedType room.expressions (type_of t)

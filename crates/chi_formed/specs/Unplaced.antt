@@ -1,7 +1,5 @@
 -- A tree without its places: each place that it keeps is nowhere. Two trees are equal but for their places where they are
 -- the same without them.
-use Rattle.std.specs.Prelude.{List, Option, Some, None, map}
-use Rattle.std.specs.Option.{option_map}
 use Rattle.chi_tree.specs.declared.type_tree.Name.{Name}
 use Rattle.chi_tree.specs.declared.type_tree.TypeTree.{TypeTree, TypeTree-F, fold-TypeTree}
 use Rattle.chi_tree.specs.declared.type_tree.TypeTree.TheVariants as type

@@ -1,5 +1,5 @@
 -- A statement, a definition and a program without their places.
-use Rattle.std.specs.Prelude.{List, Option, Some, None, map}
+use Rattle.std.specs.Prelude.{List, map}
 use Rattle.std.specs.Option.{option_map}
 use Rattle.chi_tree.specs.declared.statement.Variable.{Variable}
 use Rattle.chi_tree.specs.declared.statement.Initial.{Initial}

@@ -1,13 +1,23 @@
-ghost use Rattle.std.specs.Prelude.{◌≡◌, ◌↔◌};
+ghost use Rattle.std.specs.Prelude.{◌≡◌, ◌↔◌, ℕ, List, map};
+ghost use Rattle.chi_formed.specs.Definitions.{FormedItems, FormedProgram};
+ghost use Rattle.chi_formed.specs.Expressions.{FormedExpr, FormedType};
+ghost use Rattle.chi_formed.specs.Levels as level;
+ghost use Rattle.chi_formed.specs.Statements.{FormedBlock};
+ghost use Rattle.chi_formed.specs.Unplaced.{unplaced_expr, unplaced_type};
+ghost use Rattle.chi_formed.specs.UnplacedStatements.{unplaced, unplaced_block};
 ghost use Rattle.chi_grammar.specs.declared.room.Room.{Room};
 ghost use Rattle.chi_grammar.specs.Rules.{part};
 ghost use Rattle.chi_grammar.specs.Trees.{Is};
-ghost use Rattle.chi_formed.specs.Expressions.{FormedExpr, FormedType};
-ghost use Rattle.chi_formed.specs.Levels as level;
+ghost use Rattle.chi_tree.specs.declared.definition.Item.{Item};
+ghost use Rattle.chi_tree.specs.declared.definition.Program.{Program};
 ghost use Rattle.chi_tree.specs.declared.expr.Expr.{Expr};
+ghost use Rattle.chi_tree.specs.declared.statement.Step.{Step};
 ghost use Rattle.chi_tree.specs.declared.type_tree.TypeTree.{TypeTree};
 ghost use Rattle.chi_tree.specs.Parts as s;
 ghost use Rattle.chi_tree.specs.Rules.{grammar};
+ghost use Rattle.chi_tree.specs.Spell.{spelled_expr, spelled_type};
+ghost use Rattle.chi_tree.specs.SpellStatements.{spelled, spelled_block};
+ghost use Rattle.chi_tree.specs.Statements.{block_of, program_of};
 ghost use Rattle.chi_tree.specs.View.{Built, type_of, expr_of};
 
 /// The rules of the grammar build exactly the formed trees.
@@ -16,4 +26,21 @@ pub fn formed_law()
         → FormedType room.expressions ty ↔ ((t : Built) × Is grammar room (part s.AnyType) t × (type_of t ≡ ty)) }
     ensures expressions { (room : Room) (e : Expr)
         → FormedExpr level.Expr room.expressions e ↔ ((t : Built) × Is grammar room (part s.Expr) t × (expr_of t ≡ e)) }
+    ensures blocks { (room : Room) (block : List Step)
+        → FormedBlock room.blocks room.expressions block ↔ ((t : Built) × Is grammar room (part s.Block) t × (block_of t ≡ block)) }
+    ensures programs { (room : Room) (items : List Item)
+        → FormedItems room.blocks room.expressions items
+        ↔ ((t : Built) × Is grammar room (part s.Program) t × (let program : Program = program_of t in program.items ≡ items)) }
+{}
+
+/// Of the formed trees that spell a list of tokens no two differ but in their places, however deep they may nest.
+pub fn one_tree_law()
+    ensures types { (c d : ℕ) (t u : TypeTree) → FormedType c t → FormedType d u
+        → spelled_type t ≡ spelled_type u → unplaced_type t ≡ unplaced_type u }
+    ensures expressions { (c d : ℕ) (e f : Expr) → FormedExpr level.Expr c e → FormedExpr level.Expr d f
+        → spelled_expr e ≡ spelled_expr f → unplaced_expr e ≡ unplaced_expr f }
+    ensures blocks { (b c d e : ℕ) (block other : List Step) → FormedBlock b c block → FormedBlock d e other
+        → spelled_block block ≡ spelled_block other → unplaced_block block ≡ unplaced_block other }
+    ensures programs { (b c d e : ℕ) (program other : Program) → FormedProgram b c program → FormedProgram d e other
+        → spelled program ≡ spelled other → unplaced program ≡ unplaced other }
 {}

@@ -4,4 +4,4 @@
 
 mod laws;
 
-pub use laws::formed_law;
+pub use laws::{formed_law, one_tree_law};
