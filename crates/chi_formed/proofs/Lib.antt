@@ -30,3 +30,6 @@ pub mod Blind
 pub mod OneBuilt
 pub mod OneExpr
 pub mod OneProgram
+pub mod LastToken
+pub mod NoEnd
+pub mod StatementEnds

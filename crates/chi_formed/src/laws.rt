@@ -1,24 +1,28 @@
-ghost use Rattle.std.specs.Prelude.{◌≡◌, ◌↔◌, ℕ, List, map};
+ghost use Rattle.std.specs.Prelude.{◌≡◌, ◌↔◌, ℕ, Bool, true, List, [], ◌∷◌, ◌++◌, map};
 ghost use Rattle.chi_formed.specs.Definitions.{FormedItems, FormedProgram};
 ghost use Rattle.chi_formed.specs.Expressions.{FormedExpr, FormedType};
 ghost use Rattle.chi_formed.specs.Levels as level;
-ghost use Rattle.chi_formed.specs.Statements.{FormedBlock};
+ghost use Rattle.chi_formed.specs.Statements.{FormedBlock, FormedStatement};
 ghost use Rattle.chi_formed.specs.Unplaced.{unplaced_expr, unplaced_type};
 ghost use Rattle.chi_formed.specs.UnplacedStatements.{unplaced, unplaced_block};
 ghost use Rattle.chi_grammar.specs.declared.room.Room.{Room};
 ghost use Rattle.chi_grammar.specs.Rules.{part};
 ghost use Rattle.chi_grammar.specs.Trees.{Is};
+ghost use Rattle.chi_token.specs.declared.keyword.Keyword.TheVariants.{EndWord};
+ghost use Rattle.chi_token.specs.declared.token.Token.TheVariants.{Word};
 ghost use Rattle.chi_tree.specs.declared.definition.Item.{Item};
 ghost use Rattle.chi_tree.specs.declared.definition.Program.{Program};
 ghost use Rattle.chi_tree.specs.declared.expr.Expr.{Expr};
+ghost use Rattle.chi_tree.specs.declared.statement.Statement.{Statement};
 ghost use Rattle.chi_tree.specs.declared.statement.Step.{Step};
 ghost use Rattle.chi_tree.specs.declared.type_tree.TypeTree.{TypeTree};
 ghost use Rattle.chi_tree.specs.Parts as s;
 ghost use Rattle.chi_tree.specs.Rules.{grammar};
 ghost use Rattle.chi_tree.specs.Spell.{spelled_expr, spelled_type};
-ghost use Rattle.chi_tree.specs.SpellStatements.{spelled, spelled_block};
+ghost use Rattle.chi_tree.specs.SpellStatements.{spelled, spelled_block, spelled_statement};
 ghost use Rattle.chi_tree.specs.Statements.{block_of, program_of};
 ghost use Rattle.chi_tree.specs.View.{Built, type_of, expr_of};
+ghost use Rattle.chi_tree.specs.Words.{Tokens};
 
 /// The rules of the grammar build exactly the formed trees.
 pub fn formed_law()
@@ -43,4 +47,10 @@ pub fn one_tree_law()
         → spelled_block block ≡ spelled_block other → unplaced_block block ≡ unplaced_block other }
     ensures programs { (b c d e : ℕ) (program other : Program) → FormedProgram b c program → FormedProgram d e other
         → spelled program ≡ spelled other → unplaced program ≡ unplaced other }
+{}
+
+/// A statement's truth value tells whether its last token is `end`.
+pub fn last_token_law()
+    ensures { (ends : Bool) (b d : ℕ) (s : Statement) → FormedStatement ends b d s
+        → (ends ≡ true) ↔ ((ts : Tokens) × (spelled_statement s ≡ ts ++ Word EndWord ∷ [])) }
 {}
