@@ -33,3 +33,9 @@ pub mod OneProgram
 pub mod LastToken
 pub mod NoEnd
 pub mod StatementEnds
+pub mod PlacedTree
+pub mod ParsedProgram
+pub mod SomeTree
+pub mod FrontTrees
+pub mod ProgramFronts
+pub mod FaultNamed

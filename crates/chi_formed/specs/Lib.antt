@@ -4,3 +4,4 @@ pub mod Statements
 pub mod Definitions
 pub mod Unplaced
 pub mod UnplacedStatements
+pub mod Beginnings

@@ -1,14 +1,18 @@
-ghost use Rattle.std.specs.Prelude.{◌≡◌, ◌↔◌, ℕ, Bool, true, List, [], ◌∷◌, ◌++◌, map};
+ghost use Rattle.std.specs.Prelude.{◌≡◌, ◌↔◌, ℕ, Bool, true, List, [], ◌∷◌, ◌++◌, map, Ok, Err};
+ghost use Rattle.chi_formed.specs.Beginnings.{NamesFault, NamesDepth};
 ghost use Rattle.chi_formed.specs.Definitions.{FormedItems, FormedProgram};
 ghost use Rattle.chi_formed.specs.Expressions.{FormedExpr, FormedType};
 ghost use Rattle.chi_formed.specs.Levels as level;
 ghost use Rattle.chi_formed.specs.Statements.{FormedBlock, FormedStatement};
 ghost use Rattle.chi_formed.specs.Unplaced.{unplaced_expr, unplaced_type};
 ghost use Rattle.chi_formed.specs.UnplacedStatements.{unplaced, unplaced_block};
+ghost use Rattle.chi_grammar.specs.declared.fault.ParseFault.TheVariants.{Syntax, TooDeep};
 ghost use Rattle.chi_grammar.specs.declared.room.Room.{Room};
+ghost use Rattle.chi_grammar.specs.Exact.{ParsesAll};
 ghost use Rattle.chi_grammar.specs.Rules.{part};
 ghost use Rattle.chi_grammar.specs.Trees.{Is};
 ghost use Rattle.chi_token.specs.declared.keyword.Keyword.TheVariants.{EndWord};
+ghost use Rattle.chi_token.specs.declared.place.Spanned.{Spanned};
 ghost use Rattle.chi_token.specs.declared.token.Token.TheVariants.{Word};
 ghost use Rattle.chi_tree.specs.declared.definition.Item.{Item};
 ghost use Rattle.chi_tree.specs.declared.definition.Program.{Program};
@@ -16,13 +20,14 @@ ghost use Rattle.chi_tree.specs.declared.expr.Expr.{Expr};
 ghost use Rattle.chi_tree.specs.declared.statement.Statement.{Statement};
 ghost use Rattle.chi_tree.specs.declared.statement.Step.{Step};
 ghost use Rattle.chi_tree.specs.declared.type_tree.TypeTree.{TypeTree};
+ghost use Rattle.chi_tree.specs.Limits.{whole_room};
 ghost use Rattle.chi_tree.specs.Parts as s;
 ghost use Rattle.chi_tree.specs.Rules.{grammar};
 ghost use Rattle.chi_tree.specs.Spell.{spelled_expr, spelled_type};
 ghost use Rattle.chi_tree.specs.SpellStatements.{spelled, spelled_block, spelled_statement};
 ghost use Rattle.chi_tree.specs.Statements.{block_of, program_of};
 ghost use Rattle.chi_tree.specs.View.{Built, type_of, expr_of};
-ghost use Rattle.chi_tree.specs.Words.{Tokens};
+ghost use Rattle.chi_tree.specs.Words.{Tokens, token_of};
 
 /// The rules of the grammar build exactly the formed trees.
 pub fn formed_law()
@@ -53,4 +58,20 @@ pub fn one_tree_law()
 pub fn last_token_law()
     ensures { (ends : Bool) (b d : ℕ) (s : Statement) → FormedStatement ends b d s
         → (ends ≡ true) ↔ ((ts : Tokens) × (spelled_statement s ≡ ts ++ Word EndWord ∷ [])) }
+{}
+
+/// What an exact parser answers for all the tokens of a source, said of formed programs.
+pub fn parsed_law()
+    ensures tree { (tokens : List Spanned) (program : Program)
+        → ParsesAll grammar tokens program_of whole_room (part s.Program) (Ok program)
+        → FormedProgram whole_room.blocks whole_room.expressions program × (spelled program ≡ map token_of tokens) }
+    ensures every_tree { (tokens : List Spanned) (program : Program)
+        → FormedProgram whole_room.blocks whole_room.expressions program → spelled program ≡ map token_of tokens
+        → (parsed : Program) × ParsesAll grammar tokens program_of whole_room (part s.Program) (Ok parsed) × (unplaced parsed ≡ unplaced program) }
+    ensures syntax { (tokens : List Spanned) (k : ℕ)
+        → ParsesAll grammar tokens program_of whole_room (part s.Program) (Err (Syntax k))
+        → NamesFault tokens k }
+    ensures too_deep { (tokens : List Spanned) (k : ℕ)
+        → ParsesAll grammar tokens program_of whole_room (part s.Program) (Err (TooDeep k))
+        → NamesDepth tokens k }
 {}

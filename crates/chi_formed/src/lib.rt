@@ -1,7 +1,7 @@
 //! Laws of the concrete tree: the rules of the grammar build exactly the formed trees, a token list spells at most one of
-//! them, and a `;` may be left out after `end` alone.
+//! them, a `;` may be left out after `end` alone, and an exact parser answers with formed programs.
 #![tactic(auto)]
 
 mod laws;
 
-pub use laws::{formed_law, last_token_law, one_tree_law};
+pub use laws::{formed_law, last_token_law, one_tree_law, parsed_law};

@@ -9,7 +9,6 @@ mod declared;
 mod definitions;
 mod formal;
 mod launches;
-mod laws;
 mod look;
 mod offers;
 mod program;
@@ -17,5 +16,4 @@ mod simple;
 mod targets;
 mod walks;
 
-pub use laws::one_program_law;
 pub use program::parse;

@@ -1,5 +1,5 @@
 -- What the shape of a tree is that a run gives, and views that need no more than it.
-use Rattle.std.proofs.Common.{◌≡◌, ℕ, ◌≤◌, Ok, Err, Result, IsErrAnd, Option, Some, None, List, length, refl, sym, subst, ◌∙◌}
+use Rattle.std.proofs.Common.{◌≡◌, ℕ, ◌≤◌, Ok, Err, Result, IsErrAnd, Some, None, List, length, refl, sym, subst, ◌∙◌}
 use Rattle.chi_grammar.specs.declared.fault.ParseFault.{ParseFault}
 use Rattle.chi_grammar.specs.declared.room.Room.{Room}
 use Rattle.chi_grammar.specs.Rules.{node, pair, part, Rule}
@@ -12,7 +12,6 @@ use Rattle.chi_token.specs.declared.place.Place.{Place}
 use Rattle.chi_token.specs.declared.place.Spanned.{Spanned}
 use Rattle.chi_tree.specs.declared.expr.Expr.{Expr}
 use Rattle.chi_tree.specs.declared.expr.Expr.TheVariants as expr
-use Rattle.chi_tree.specs.declared.type_tree.Formal.{Formal}
 use Rattle.chi_tree.specs.declared.type_tree.Name.{Name}
 use Rattle.chi_tree.specs.declared.type_tree.TypeTree.{TypeTree}
 use Rattle.chi_tree.specs.Parts.{Part}

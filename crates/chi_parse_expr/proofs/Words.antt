@@ -1,10 +1,9 @@
 -- Runs of rules that one token decides.
-use Rattle.std.proofs.Common.{◌≡◌, ◌==◌, ℕ, Bool, true, false, ◌||◌, Option, Some, None, List, [], ◌∷◌, map, slice_get, refl, sym, ap, subst, ◌∙◌}
+use Rattle.std.proofs.Common.{◌≡◌, ◌==◌, ℕ, Bool, true, false, ◌||◌, Option, Some, None, List, [], ◌∷◌, map, slice_get, refl, sym, ap, ◌∙◌}
 use Rattle.std.proofs.Math.Bool.{or-false}
 use Rattle.std.proofs.lemmas.Bool.{eqb-true, false≢true}
 use Rattle.std.specs.List.{list_any}
 use Rattle.chi_grammar.specs.declared.fault.ParseFault.{ParseFault}
-use Rattle.chi_grammar.specs.declared.fault.ParseFault.TheVariants.{Syntax}
 use Rattle.chi_grammar.specs.declared.room.Room.{Room}
 use Rattle.chi_grammar.specs.Rules.{leaf}
 use Rattle.chi_grammar.specs.Lookahead.{holds, Next, starts_in}

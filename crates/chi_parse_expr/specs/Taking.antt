@@ -1,5 +1,5 @@
 -- What functions that read one token answer.
-use Rattle.std.specs.Prelude.{ℕ, ◌≡◌, ◌+◌, ◌≤◌, true, false, Some, Result, Ok, Err, List, [], ◌∷◌, length, map, slice_get}
+use Rattle.std.specs.Prelude.{ℕ, ◌≡◌, ◌+◌, ◌≤◌, true, false, Some, Result, Ok, Err, List, length, map, slice_get}
 use Rattle.chi_grammar.specs.declared.fault.ParseFault.{ParseFault}
 use Rattle.chi_grammar.specs.declared.fault.ParseFault.TheVariants.{Syntax}
 use Rattle.chi_grammar.specs.declared.room.Room.{Room}

@@ -18,7 +18,7 @@ mod types;
 pub use classes::{FIRST_OF_BUILT_TYPE, FIRST_OF_EXPR, FIRST_OF_POSTFIX, FIRST_OF_TYPE};
 pub use levels::expr;
 pub use look::{begins, bytes_of, enter, refuse, take, take_name, take_one_of};
-pub use parse::{one_expr_law, parse_expr, parse_type};
+pub use parse::{parse_expr, parse_type};
 pub use postfixes::field;
 pub use sequences::{arguments, exprs, more_exprs};
 pub use types::{any_type, built_type};

@@ -1,13 +1,11 @@
 //! The parsers of an expression and of a type.
 ghost use Rattle.std.specs.Prelude.{◌≡◌, ◌^◌, ◌<◌, ◌≤◌, length};
-ghost use Rattle.chi_grammar.specs.declared.room.Room.{Room};
 ghost use Rattle.chi_grammar.specs.Exact.{Parses};
-ghost use Rattle.chi_grammar.specs.Rules.{part, spelling};
-ghost use Rattle.chi_grammar.specs.Trees.{Is};
+ghost use Rattle.chi_grammar.specs.Rules.{part};
 ghost use Rattle.chi_tree.specs.Limits.{whole_room};
 ghost use Rattle.chi_tree.specs.Parts as s;
 ghost use Rattle.chi_tree.specs.Rules.{grammar};
-ghost use Rattle.chi_tree.specs.View.{Built, expr_of, type_of};
+ghost use Rattle.chi_tree.specs.View.{expr_of, type_of};
 ghost use Rattle.chi_parse_expr.specs.Nested.{room_inside};
 
 use crate::levels::expr;
@@ -58,11 +56,3 @@ pub fn parse_type(
 {
     any_type(alloc, tokens, at, room_inside(nest))
 }
-
-/// No two trees of an expression have the same tokens, and no two of a type.
-pub fn one_expr_law()
-    ensures expr { (room other : Room) (t u : Built)
-        → Is grammar room (part s.Expr) t → Is grammar other (part s.Expr) u → spelling t ≡ spelling u → t ≡ u }
-    ensures ty { (room other : Room) (t u : Built)
-        → Is grammar room (part s.AnyType) t → Is grammar other (part s.AnyType) u → spelling t ≡ spelling u → t ≡ u }
-{}

@@ -3,7 +3,7 @@ ghost use Rattle.std.specs.Prelude.{◌<◌, ◌^◌, length, IfOk};
 use crate::shapes::{shape, type_shape};
 use chi_grammar::ParseFault;
 use chi_lex::{MOST_BYTES, lex};
-use chi_parse_expr::{one_expr_law, parse_expr, parse_type};
+use chi_parse_expr::{parse_expr, parse_type};
 use chi_token::Spanned;
 use std::alloc::Global;
 use std::process::Abort;
@@ -236,9 +236,4 @@ fn a_long_chain_is_read(rt: HostRuntime) -> Result<(), Fail> {
     let (_, end) = parse_expr(rt.alloc(), tokens.as_slice(), 0, 0)?;
     assert_eq!(rt; end, 600_001);
     Ok(())
-}
-
-#[test]
-fn the_law_holds() {
-    one_expr_law();
 }

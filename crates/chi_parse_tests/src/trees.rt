@@ -1,11 +1,11 @@
 use chi_base::{Boxed, Items, NoMemory};
-use chi_formed::formed_law;
+use chi_formed::{formed_law, last_token_law, one_tree_law, parsed_law};
+use chi_token::{Bytes, Keyword, Place, Sign, Token, spelling};
 use chi_tree::{
     Class, Definition, Expr, Formal, Item, Link, MOST_BLOCKS, MOST_EXPRESSIONS, Name, Operator,
-    Postfix, PrefixSign, Program, Statement, Step, Target, TypeTree, TypeWord, spell,
-    spelling_law, whole_room,
+    Postfix, PrefixSign, Program, Statement, Step, Target, TypeTree, TypeWord, spell, spelling_law,
+    whole_room,
 };
-use chi_token::{Bytes, Keyword, Place, Sign, Token, spelling};
 use std::alloc::Global;
 use std::test::Fail;
 
@@ -146,5 +146,8 @@ fn the_whole_room_is_64_blocks_and_200_expressions(rt: HostRuntime) -> Result<()
 fn the_laws_hold(_rt: HostRuntime) -> Result<(), Fail> {
     spelling_law();
     formed_law();
+    one_tree_law();
+    last_token_law();
+    parsed_law();
     Ok(())
 }

@@ -7,7 +7,9 @@ pub mod Made
 pub mod ShownTokens
 pub mod ExprSpelling
 pub mod StatementTokens
+pub mod TargetSpelling
 pub mod StatementSpelling
+pub mod DefinitionSpelling
 pub mod ProgramSpelling
 pub mod Rest
 pub mod SlicePut

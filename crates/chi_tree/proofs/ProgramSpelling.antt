@@ -16,7 +16,9 @@ use Rattle.chi_tree.proofs.Made.{made}
 use Rattle.chi_tree.proofs.Made as made
 use Rattle.chi_tree.proofs.ShownTokens.{Shown}
 use Rattle.chi_tree.proofs.ExprSpelling.{M, any_type, named_type, built_type, word_type, list_type, set_type, dist_type, dict_type, tuple_type, chan_type, carried, formals_shown, fields_shown, more_formal, more_field, expr_shown, or_link, conj, and_link, neg, not_neg, rel, rel_link, sum, sum_link, prod, prod_link, unary, prefixed, power, power_link, post, postfix_shown, target_step, target_index, field, bracket, inside_shown, upto_shown, by_step, primary, literal_shown, named, arguments, cast_shown, round_shown, others, square_shown, curly_shown, contents, entries, more_entry, blank_shown, blank_end, blank_items, blank_elements, exprs}
-use Rattle.chi_tree.proofs.StatementSpelling.{names, target, initial, variable, variables, walk, delay, sending, receiving, communication_end, communication_shown, elements, element_shown, unwound_elements, make, made_shown, assigned_make, closed_shown, open_shown, declaration, name_led, after_name, after_target, assignment, timed, jump_shown, return_shown, exit_shown, finish_shown, write_shown, written_shown, branch, elif_shown, else_shown, if_shown, body, while_shown, for_shown, alternatives, select_shown, alternative_shown, unwound_alternatives, alternative_body, guarded_alternative, offer_shown, offered_shown, guarded, launch, block, after_end, after_open, inner, parameters, head, enum_def, const_def, type_def, func_def, proc_def, model_def, xper_def, defined, definition_shown, program}
+use Rattle.chi_tree.proofs.TargetSpelling.{names, target, initial, variable, variables, walk, delay, sending, receiving, communication_end, communication_shown, elements, element_shown, unwound_elements, make, made_shown, assigned_make}
+use Rattle.chi_tree.proofs.StatementSpelling.{closed_shown, open_shown, declaration, name_led, after_name, after_target, assignment, timed, jump_shown, return_shown, exit_shown, finish_shown, write_shown, written_shown, branch, elif_shown, else_shown, if_shown, body, while_shown, for_shown, alternatives, select_shown, alternative_shown, unwound_alternatives, alternative_body, guarded_alternative, offer_shown, offered_shown, guarded, launch, block, after_end, after_open, inner}
+use Rattle.chi_tree.proofs.DefinitionSpelling.{parameters, head, enum_def, const_def, type_def, func_def, proc_def, model_def, xper_def, defined, definition_shown, program}
 
 step : (room : Room) (s : Part) (t : Built) → M room (rule_of s) t → Shown room s (node s t)
 step room s.AnyType t p = any_type p

@@ -29,8 +29,7 @@ impl Speller {
         match element {
             Element::Make(target, name, arguments) => {
                 self.assigned(target)?;
-                self.name(name)?;
-                self.exprs_in(Sign::LeftParen, arguments.as_slice(), Sign::RightParen)
+                self.call(name, arguments.as_slice())
             }
             Element::Unwind(_, walk, elements) => {
                 self.word(Keyword::UnwindWord)?;

@@ -2,15 +2,25 @@ ghost use Rattle.std.specs.Prelude.{◌≡◌, ◌∷◌, [], ◌++◌, OnOk, ma
 ghost use Rattle.std.specs.Option.{option_map};
 ghost use Rattle.chi_token.specs.declared.sign.Sign.TheVariants as sign;
 ghost use Rattle.chi_token.specs.declared.token.Token.TheVariants as token;
-ghost use Rattle.chi_tree.specs.Words.{all, each_after, commas, if_any, name_token};
+ghost use Rattle.chi_tree.specs.Words.{all, each_after, commas, if_any, name_token, cast_token};
 ghost use Rattle.chi_tree.specs.Spell.{round, curly, step_tokens, spelled_expr, spelled_link, spelled_postfix, spelled_entry, spelled_type};
 
 use super::speller::Speller;
 use super::words::{cast_token, operator_token, prefix_token, relation_token, truth_token};
 use crate::expr::{Entry, Expr, Link, Postfix};
-use crate::type_tree::Name;
+use crate::operator::CastWord;
+use crate::type_tree::{Name, TypeTree};
 use chi_base::{Boxed, NoMemory};
 use chi_token::{Keyword, Sign, Token};
+
+/// The sign that opens and the one that closes.
+type Brackets = (Sign, Sign);
+
+const ROUND: Brackets = (Sign::LeftParen, Sign::RightParen);
+
+const SQUARE: Brackets = (Sign::LeftBracket, Sign::RightBracket);
+
+const CURLY: Brackets = (Sign::LeftBrace, Sign::RightBrace);
 
 impl Speller {
     #[cycle(spell)]
@@ -22,104 +32,94 @@ impl Speller {
                 self.expr(first.get())?;
                 self.links(links.as_slice())
             }
-            Expr::Prefix(sign, _, operand) => {
-                self.put(prefix_token(*sign))?;
-                self.expr(operand.get())
-            }
+            Expr::Prefix(sign, _, operand) => self.prefixed(prefix_token(*sign), operand.get()),
             Expr::Relation(left, sign, _, right) => {
                 self.expr(left.get())?;
-                self.put(relation_token(*sign))?;
-                self.expr(right.get())
+                self.prefixed(relation_token(*sign), right.get())
             }
             Expr::Power(base, _, exponent) => {
                 self.expr(base.get())?;
-                self.sign(Sign::Caret)?;
-                self.expr(exponent.get())
+                self.prefixed(Token::Sign(Sign::Caret), exponent.get())
             }
             Expr::Part(whole, postfixes) => {
                 self.expr(whole.get())?;
                 self.postfixes(postfixes.as_slice())
             }
-            _ => self.primary(expr),
-        }
-    }
-
-    /// An expression that is no operator's.
-    #[cycle(spell)]
-    fn primary(&mut self, expr: &Expr) -> Result<(), NoMemory>
-        ensures { OnOk result (self.new.tokens.items ≡ self.old.tokens.items ++ spelled_expr expr.now) }
-    {
-        match expr {
             Expr::Int(digits, _) => self.int(digits),
             Expr::Real(digits, _) => self.real(digits),
             Expr::Text(text, _) => self.text(text),
             Expr::Bool(truth, _) => self.put(truth_token(*truth)),
             Expr::Time(_) => self.word(Keyword::TimeWord),
             Expr::Named(name) => self.name(name),
-            Expr::Call(name, arguments) => {
-                self.name(name)?;
-                self.exprs_in(Sign::LeftParen, arguments.as_slice(), Sign::RightParen)
-            }
-            Expr::Cast(word, _, operand) => {
-                self.put(cast_token(*word))?;
-                self.in_round(operand.get())
-            }
+            Expr::Call(name, arguments) => self.call(name, arguments.as_slice()),
+            Expr::Cast(word, _, operand) => self.cast(*word, operand.get()),
             Expr::Round(_, inner) => self.in_round(inner.get()),
-            Expr::TupleOf(_, parts) => self.exprs_in(
-                Sign::LeftParen,
-                parts.as_slice(),
-                Sign::RightParen,
-            ),
-            Expr::ListOf(_, items) => self.exprs_in(
-                Sign::LeftBracket,
-                items.as_slice(),
-                Sign::RightBracket,
-            ),
-            Expr::SetOf(_, items) => self.exprs_in(
-                Sign::LeftBrace,
-                items.as_slice(),
-                Sign::RightBrace,
-            ),
-            Expr::DictOf(_, entries) => {
-                self.sign(Sign::LeftBrace)?;
-                self.entries(entries.as_slice())?;
-                self.sign(Sign::RightBrace)
+            Expr::TupleOf(_, parts) => self.exprs_in(ROUND, parts.as_slice()),
+            Expr::ListOf(_, items) => self.exprs_in(SQUARE, items.as_slice()),
+            Expr::SetOf(_, items) => self.exprs_in(CURLY, items.as_slice()),
+            Expr::DictOf(_, entries) => self.dictionary(entries.as_slice()),
+            Expr::EmptyList(_, ty) => self.empty(Sign::Less, ty.get(), SQUARE),
+            Expr::EmptySet(_, ty) => self.empty(Sign::Less, ty.get(), CURLY),
+            Expr::EmptyDict(_, key, value) => {
+                self.after(Sign::Less, key.get())?;
+                self.empty(Sign::Colon, value.get(), CURLY)
             }
-            _ => self.blank(expr),
         }
     }
 
-    /// An empty literal, of which the type is given.
+    /// An operand after its operator.
     #[cycle(spell)]
-    fn blank(&mut self, expr: &Expr) -> Result<(), NoMemory>
-        ensures { OnOk result (self.new.tokens.items ≡ self.old.tokens.items ++ spelled_expr expr.now) }
+    fn prefixed(&mut self, operator: Token, operand: &Expr) -> Result<(), NoMemory>
+        ensures { OnOk result (self.new.tokens.items ≡ self.old.tokens.items ++ operator ∷ spelled_expr operand.now) }
     {
-        match expr {
-            Expr::EmptyList(_, ty) => {
-                self.sign(Sign::Less)?;
-                self.ty(ty.get())?;
-                self.sign(Sign::Greater)?;
-                self.sign(Sign::LeftBracket)?;
-                self.sign(Sign::RightBracket)
-            }
-            Expr::EmptySet(_, ty) => {
-                self.sign(Sign::Less)?;
-                self.ty(ty.get())?;
-                self.sign(Sign::Greater)?;
-                self.sign(Sign::LeftBrace)?;
-                self.sign(Sign::RightBrace)
-            }
-            Expr::EmptyDict(_, key, value) => {
-                self.sign(Sign::Less)?;
-                self.ty(key.get())?;
-                self.sign(Sign::Colon)?;
-                self.ty(value.get())?;
-                self.sign(Sign::Greater)?;
-                self.sign(Sign::LeftBrace)?;
-                self.sign(Sign::RightBrace)
-            }
-            _ => Err(NoMemory),
-        }
+        self.put(operator)?;
+        self.expr(operand)
+    }
+
+    #[cycle(spell)]
+    pub fn call(&mut self, name: &Name, arguments: &[Expr]) -> Result<(), NoMemory>
+        ensures { OnOk result (self.new.tokens.items ≡ self.old.tokens.items ++ name_token name.now ∷ round (commas (map spelled_expr arguments.now))) }
+    {
+        self.name(name)?;
+        self.exprs_in(ROUND, arguments)
+    }
+
+    #[cycle(spell)]
+    fn cast(&mut self, word: CastWord, operand: &Expr) -> Result<(), NoMemory>
+        ensures { OnOk result (self.new.tokens.items ≡ self.old.tokens.items ++ cast_token word ∷ round (spelled_expr operand.now)) }
+    {
+        self.put(cast_token(word))?;
+        self.in_round(operand)
+    }
+
+    #[cycle(spell)]
+    fn dictionary(&mut self, entries: &[Entry]) -> Result<(), NoMemory>
+        ensures { OnOk result (self.new.tokens.items ≡ self.old.tokens.items ++ curly (commas (map spelled_entry entries.now))) }
+    {
+        self.sign(Sign::LeftBrace)?;
+        self.entries(entries)?;
+        self.sign(Sign::RightBrace)
+    }
+
+    /// The type of an empty literal, after the sign before it.
+    #[cycle(spell)]
+    fn after(&mut self, before: Sign, ty: &TypeTree) -> Result<(), NoMemory>
+        ensures { OnOk result (self.new.tokens.items ≡ self.old.tokens.items ++ token.Sign before ∷ spelled_type ty.now) }
+    {
+        self.sign(before)?;
+        self.ty(ty)
+    }
+
+    /// The last type of an empty literal, after the sign before it, and the brackets.
+    #[cycle(spell)]
+    fn empty(&mut self, before: Sign, ty: &TypeTree, brackets: Brackets) -> Result<(), NoMemory>
+        ensures { OnOk result (self.new.tokens.items ≡ self.old.tokens.items ++
+            token.Sign before ∷ spelled_type ty.now ++ token.Sign sign.Greater ∷ token.Sign brackets.0 ∷ token.Sign brackets.1 ∷ []) }
+    {
+        self.after(before, ty)?;
+        self.sign(Sign::Greater)?;
+        self.sign(brackets.0)?;
+        self.sign(brackets.1)
     }
 
     #[cycle(spell)]
@@ -205,13 +205,13 @@ impl Speller {
 
     /// Expressions in brackets, with commas between them.
     #[cycle(spell)]
-    pub fn exprs_in(&mut self, left: Sign, exprs: &[Expr], right: Sign) -> Result<(), NoMemory>
+    fn exprs_in(&mut self, brackets: Brackets, exprs: &[Expr]) -> Result<(), NoMemory>
         ensures { OnOk result (self.new.tokens.items ≡
-            self.old.tokens.items ++ (token.Sign left ∷ commas (map spelled_expr exprs.now) ++ token.Sign right ∷ [])) }
+            self.old.tokens.items ++ token.Sign brackets.0 ∷ commas (map spelled_expr exprs.now) ++ token.Sign brackets.1 ∷ []) }
     {
-        self.sign(left)?;
+        self.sign(brackets.0)?;
         self.exprs(exprs)?;
-        self.sign(right)
+        self.sign(brackets.1)
     }
 
     #[cycle(spell)]

@@ -1,15 +1,17 @@
 ghost use Rattle.std.specs.Prelude.{◌≡◌, ◌∷◌, [], ◌++◌, OnOk, map};
+ghost use Rattle.std.specs.Option.{option_map};
 ghost use Rattle.chi_token.specs.declared.keyword.Keyword.TheVariants as keyword;
 ghost use Rattle.chi_token.specs.declared.sign.Sign.TheVariants as sign;
 ghost use Rattle.chi_token.specs.declared.token.Token.TheVariants as token;
-ghost use Rattle.chi_tree.specs.Words.{separated};
-ghost use Rattle.chi_tree.specs.Spell.{round, spelled_expr};
-ghost use Rattle.chi_tree.specs.SpellStatements.{write_word, body_tokens, else_tokens, guard_tokens, to_end, spelled_alternative, spelled_block, spelled_branch, spelled_statement, spelled_step};
+ghost use Rattle.chi_tree.specs.Words.{commas, each_after, if_any, separated};
+ghost use Rattle.chi_tree.specs.Spell.{round, spelled_expr, spelled_type};
+ghost use Rattle.chi_tree.specs.SpellStatements.{write_word, body_tokens, else_tokens, guard_tokens, to_end, spelled_alternative, spelled_block, spelled_branch, spelled_elements, spelled_exprs, spelled_statement, spelled_step, spelled_target, spelled_variable, spelled_walk};
 
 use super::speller::Speller;
 use crate::expr::Expr;
-use crate::statement::{Alternative, Branch, Statement, Step};
-use chi_base::NoMemory;
+use crate::statement::{Alternative, Branch, Element, Statement, Step, Target, Variable, Walk};
+use crate::type_tree::TypeTree;
+use chi_base::{Items, NoMemory};
 use chi_token::{Bytes, Keyword, Sign, Token};
 
 impl Speller {
@@ -29,6 +31,12 @@ impl Speller {
         ensures { OnOk result (self.new.tokens.items ≡ self.old.tokens.items ++ spelled_statement statement.now) }
     {
         match statement {
+            Statement::Declare(ty, variables) => self.declare(ty, variables.as_slice()),
+            Statement::Assign(targets, _, values) => self.assign(targets, values),
+            Statement::Communicate(communication) => self.communication(communication),
+            Statement::Pass(_) => self.word(Keyword::PassWord),
+            Statement::Break(_) => self.word(Keyword::BreakWord),
+            Statement::Continue(_) => self.word(Keyword::ContinueWord),
             Statement::Select(_, alternatives) => {
                 self.word(Keyword::SelectWord)?;
                 self.alternatives(alternatives.as_slice())?;
@@ -50,66 +58,70 @@ impl Speller {
                 self.walk(walk)?;
                 self.to_end(block.as_slice())
             }
-            _ => self.simple(statement),
+            Statement::Return(_, value) => self.return_value(value),
+            Statement::Exit(_, value) => self.exit(value),
+            Statement::Run(_, elements) => self.launch(Keyword::RunWord, elements.as_slice()),
+            Statement::Start(_, elements) => self.launch(Keyword::StartWord, elements.as_slice()),
+            Statement::Finish(_, values) => self.finish(values.as_slice()),
+            Statement::Write(_, line, text, _, values) => self.write(*line, text, values),
         }
     }
 
-    /// A statement without blocks of its own.
-    fn simple(&mut self, statement: &Statement) -> Result<(), NoMemory>
-        ensures { OnOk result (self.new.tokens.items ≡ self.old.tokens.items ++ spelled_statement statement.now) }
+    fn declare(&mut self, ty: &TypeTree, variables: &[Variable]) -> Result<(), NoMemory>
+        ensures { OnOk result (self.new.tokens.items ≡ self.old.tokens.items ++ spelled_type ty.now ++ commas (map spelled_variable variables.now)) }
     {
-        match statement {
-            Statement::Declare(ty, variables) => {
-                self.ty(ty)?;
-                self.variables(variables.as_slice())
-            }
-            Statement::Assign(targets, _, values) => {
-                self.targets(targets.as_slice())?;
-                self.sign(Sign::Assign)?;
-                self.exprs(values.as_slice())
-            }
-            Statement::Communicate(communication) => self.communication(communication),
-            Statement::Pass(_) => self.word(Keyword::PassWord),
-            Statement::Break(_) => self.word(Keyword::BreakWord),
-            Statement::Continue(_) => self.word(Keyword::ContinueWord),
-            Statement::Run(_, elements) => {
-                self.word(Keyword::RunWord)?;
-                self.elements(elements.as_slice())
-            }
-            Statement::Start(_, elements) => {
-                self.word(Keyword::StartWord)?;
-                self.elements(elements.as_slice())
-            }
-            _ => self.ending(statement),
-        }
+        self.ty(ty)?;
+        self.variables(variables)
     }
 
-    /// A statement that begins with a word and goes on with expressions.
-    fn ending(&mut self, statement: &Statement) -> Result<(), NoMemory>
-        ensures { OnOk result (self.new.tokens.items ≡ self.old.tokens.items ++ spelled_statement statement.now) }
+    fn assign(&mut self, targets: &Items<Target>, values: &Items<Expr>) -> Result<(), NoMemory>
+        ensures { OnOk result (self.new.tokens.items ≡
+            self.old.tokens.items ++ commas (map spelled_target targets.now) ++ token.Sign sign.Assign ∷ spelled_exprs values.now) }
     {
-        match statement {
-            Statement::Return(_, value) => {
-                self.word(Keyword::ReturnWord)?;
-                self.expr(value)
-            }
-            Statement::Exit(_, value) => {
-                self.word(Keyword::ExitWord)?;
-                self.some_expr(value)
-            }
-            Statement::Finish(_, values) => {
-                self.word(Keyword::FinishWord)?;
-                self.exprs(values.as_slice())
-            }
-            Statement::Write(_, line, text, _, values) => {
-                self.word(write_word(*line))?;
-                self.sign(Sign::LeftParen)?;
-                self.text(text)?;
-                self.more_exprs(values.as_slice())?;
-                self.sign(Sign::RightParen)
-            }
-            _ => Err(NoMemory),
-        }
+        self.targets(targets.as_slice())?;
+        self.sign(Sign::Assign)?;
+        self.exprs(values.as_slice())
+    }
+
+    fn return_value(&mut self, value: &Expr) -> Result<(), NoMemory>
+        ensures { OnOk result (self.new.tokens.items ≡ self.old.tokens.items ++ token.Word keyword.ReturnWord ∷ spelled_expr value.now) }
+    {
+        self.word(Keyword::ReturnWord)?;
+        self.expr(value)
+    }
+
+    fn exit(&mut self, value: &Option<Expr>) -> Result<(), NoMemory>
+        ensures { OnOk result (self.new.tokens.items ≡
+            self.old.tokens.items ++ token.Word keyword.ExitWord ∷ if_any (option_map spelled_expr value.now)) }
+    {
+        self.word(Keyword::ExitWord)?;
+        self.some_expr(value)
+    }
+
+    /// What is run or started, after its word.
+    fn launch(&mut self, word: Keyword, elements: &[Element]) -> Result<(), NoMemory>
+        ensures { OnOk result (self.new.tokens.items ≡ self.old.tokens.items ++ token.Word word ∷ spelled_elements elements.now) }
+    {
+        self.word(word)?;
+        self.elements(elements)
+    }
+
+    fn finish(&mut self, values: &[Expr]) -> Result<(), NoMemory>
+        ensures { OnOk result (self.new.tokens.items ≡ self.old.tokens.items ++ token.Word keyword.FinishWord ∷ spelled_exprs values.now) }
+    {
+        self.word(Keyword::FinishWord)?;
+        self.exprs(values)
+    }
+
+    fn write(&mut self, line: bool, text: &Bytes, values: &Items<Expr>) -> Result<(), NoMemory>
+        ensures { OnOk result (self.new.tokens.items ≡ self.old.tokens.items ++
+            token.Word (write_word line) ∷ round (token.Text text.now ∷ each_after (token.Sign sign.Comma) (map spelled_expr values.now))) }
+    {
+        self.word(write_word(line))?;
+        self.sign(Sign::LeftParen)?;
+        self.text(text)?;
+        self.more_exprs(values.as_slice())?;
+        self.sign(Sign::RightParen)
     }
 
     /// A block from its colon to its end.

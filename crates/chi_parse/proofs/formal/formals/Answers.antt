@@ -3,7 +3,7 @@ use Rattle.chi_grammar.specs.Rules.{part, maybe}
 use Rattle.chi_grammar.specs.Runs as runs
 use Rattle.chi_grammar.proofs.Exits.{read, reads_part, reads_once, reads_then, failed, no_memory}
 use Rattle.chi_tree.specs.Parts as s
-use Rattle.chi_tree.specs.Rules.{grammar, name}
+use Rattle.chi_tree.specs.Rules.{grammar}
 use Rattle.chi_tree.specs.Tables.{table}
 use Rattle.chi_tree.specs.View.{formals_of, more_formals_of}
 use Rattle.chi_parse.proofs.Shapes.{reads_as}

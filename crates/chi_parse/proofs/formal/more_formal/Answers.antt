@@ -3,7 +3,7 @@ use Rattle.chi_grammar.specs.Rules.{leaf, node, pair, part}
 use Rattle.chi_grammar.specs.Runs as runs
 use Rattle.chi_grammar.proofs.Exits.{read, run_word, run_no_word, failed, no_memory}
 use Rattle.chi_tree.specs.Parts as s
-use Rattle.chi_tree.specs.Rules.{grammar, name}
+use Rattle.chi_tree.specs.Rules.{grammar}
 use Rattle.chi_tree.specs.Tables.{table}
 use Rattle.chi_tree.specs.View.{name_in, formal_of}
 use Rattle.chi_parse.proofs.Shapes.{by_word}

@@ -2,7 +2,7 @@ use Rattle.chi_grammar.specs.Rules.{part}
 use Rattle.chi_grammar.specs.Runs as runs
 use Rattle.chi_grammar.proofs.Exits.{read, failed}
 use Rattle.chi_tree.specs.Parts as s
-use Rattle.chi_tree.specs.Rules.{grammar, name}
+use Rattle.chi_tree.specs.Rules.{grammar}
 use Rattle.chi_tree.specs.Tables.{table}
 use Rattle.chi_tree.specs.Statements.{target_of}
 use Rattle.chi_parse.proofs.targets.target.Goals as goal

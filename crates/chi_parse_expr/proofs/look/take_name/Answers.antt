@@ -1,5 +1,4 @@
 use Rattle.std.proofs.Common.{sym, ◌∙◌}
-use Rattle.chi_grammar.specs.Runs as runs
 use Rattle.chi_grammar.proofs.Exits.{read, run_word, run_no_word, failed, no_memory}
 use Rattle.chi_tree.specs.Rules.{grammar, name}
 use Rattle.chi_tree.specs.Tables.{table}

@@ -1,4 +1,4 @@
-use Rattle.std.proofs.Common.{refl, ap, subst}
+use Rattle.std.proofs.Common.{refl, subst}
 use Rattle.chi_grammar.specs.Reads.{Reads}
 use Rattle.chi_grammar.specs.Rules.{part}
 use Rattle.chi_grammar.proofs.Exact.{parses}
