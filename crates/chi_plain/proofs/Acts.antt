@@ -3,7 +3,6 @@ use Rattle.std.proofs.Common.{◌≡◌, ℕ, List, ◌++◌, Option, Some, None
 use Rattle.std.specs.Prelude.{IfSome}
 use Rattle.std.specs.List.{slice_get}
 use Rattle.std.proofs.lemmas.List.{append_assoc}
-use Rattle.chi_value.specs.declared.value.Value.{Value}
 use Rattle.chi_value.specs.declared.format.Piece.{Piece}
 use Rattle.chi_core.specs.declared.program.Core.{Core}
 use Rattle.chi_core.specs.declared.program.CStat.{CStat, CStat-F, out-CStat}
@@ -15,7 +14,7 @@ use Rattle.chi_core.specs.declared.fault.FaultKind.{FaultKind}
 use Rattle.chi_core.specs.Answer.{Answer, Gives, Fails, Amiss, and_then}
 use Rattle.chi_core.specs.Values.{initial_of}
 use Rattle.chi_core.specs.Writing.{written}
-use Rattle.chi_core.specs.Config.{Config, Instance, Offer, with_instance}
+use Rattle.chi_core.specs.Config.{Config, Instance, with_instance}
 use Rattle.chi_core.specs.Opening.{opened}
 use Rattle.chi_core.specs.Starting.{made}
 use Rattle.chi_core.specs.Step.{declares, writes, waits, adds, done}

@@ -1,12 +1,12 @@
 -- The numbers below n that pass a test: the alternatives that receive, and the instances that have an option.
-use Rattle.std.proofs.Common.{◌≡◌, ℕ, zero, suc, ◌+◌, ◌<◌, ◌≤◌, ℤ, List, [], ◌∷◌, ◌++◌, Some, Bool, true, false, cond, length, get_or, ◌⊎◌, inl, inr, sym, ◌∙◌, ap, subst, refl, arith, length-append}
-use Rattle.std.specs.Prelude.{filter, nat_lt}
+use Rattle.std.proofs.Common.{◌≡◌, ℕ, zero, suc, ◌+◌, ◌<◌, List, [], ◌∷◌, ◌++◌, Some, Bool, true, false, cond, length, get_or, ◌⊎◌, inl, inr, sym, ◌∙◌, ap, subst, refl, arith, length-append}
+use Rattle.std.specs.Prelude.{filter}
 use Rattle.std.specs.List.{slice_get}
 use Rattle.std.proofs.lemmas.List.{append-nil}
 use Rattle.std.proofs.lemmas.List.Elements.{filter-append}
 use Rattle.std.proofs.lemmas.Option.{slice_get_read}
-use Rattle.chi_core.specs.Config.{Config, Offer, Send, Receive, Delay}
-use Rattle.chi_core.specs.Options.{numbers, receives_on, receivers, options, actors}
+use Rattle.chi_core.specs.Config.{Offer, Send, Receive, Delay}
+use Rattle.chi_core.specs.Options.{numbers, receives_on, receivers}
 use Rattle.chi_plain.specs.Offers.{is_receiving, receivers_below}
 
 pub length-push : {A : Type 0} (xs : List A) (y : A) → length (xs ++ y ∷ []) ≡ length xs + 1

@@ -1,6 +1,6 @@
 -- The taking of a label, by what was done to the configuration.
-use Rattle.std.proofs.Common.{◌≡◌, ℕ, zero, suc, ◌<◌, ℤ, List, [], ◌∷◌, ◌++◌, Option, Some, None, length, sym, ◌∙◌, ap, subst, refl, arith}
-use Rattle.std.specs.Prelude.{map, drop, IfSome, IsSomeAnd}
+use Rattle.std.proofs.Common.{◌≡◌, ℕ, ℤ, List, ◌∷◌, ◌++◌, Option, Some, None, sym, ◌∙◌, ap, subst, refl}
+use Rattle.std.specs.Prelude.{drop, IfSome, IsSomeAnd}
 use Rattle.std.specs.List.{slice_get, Contains}
 use Rattle.chi_core.specs.declared.program.Core.{Core}
 use Rattle.chi_core.specs.declared.program.CStat.{CStat, out-CStat}
@@ -9,8 +9,8 @@ use Rattle.chi_core.specs.declared.label.Label.{Label}
 use Rattle.chi_core.specs.declared.label.Label.TheVariants.{Local, Pair, Wake, Advance}
 use Rattle.chi_core.specs.declared.verdict.Verdict.{Verdict}
 use Rattle.chi_core.specs.declared.verdict.Verdict.TheVariants as verdict
-use Rattle.chi_core.specs.Answer.{Answer, Gives, Fails}
-use Rattle.chi_core.specs.Config.{Config, Instance, Item, Do, Offer, Send, Receive, Delay, Running, with_instance, name_of}
+use Rattle.chi_core.specs.Answer.{Gives, Fails}
+use Rattle.chi_core.specs.Config.{Config, Instance, Do, Offer, Running, name_of}
 use Rattle.chi_core.specs.Step as outcome
 use Rattle.chi_core.specs.Step.{Outcome, done, line_of, after_local, first_done, local, taken, received, paired_as, paired, woken_by, woken, offers_in, due_times, advanced, step}
 use Rattle.chi_core.specs.Options.{enabled}

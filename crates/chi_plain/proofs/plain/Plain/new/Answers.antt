@@ -1,4 +1,4 @@
-use Rattle.std.proofs.Common.{sym, subst, refl}
+use Rattle.std.proofs.Common.{sym, subst}
 use Rattle.chi_core.specs.Kinded.{Kinded}
 use Rattle.chi_core.proofs.Kinded.{Kinded-start}
 use Rattle.chi_plain.proofs.plain.Plain.new.Goals as goal
