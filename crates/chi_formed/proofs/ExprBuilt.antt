@@ -19,7 +19,7 @@ use Rattle.chi_tree.specs.declared.expr.Postfix.TheVariants as postfix
 use Rattle.chi_tree.specs.Parts as s
 use Rattle.chi_tree.specs.Rules.{sign}
 use Rattle.chi_tree.specs.View.{nowhere, way_in, chained, parted, type_of, formals_of, more_formals_of, expr_of, links_of, postfixes_of, postfix_of, exprs_of, more_exprs_of, entries_of}
-use Rattle.chi_tree.specs.Words.{operator_token, relation_token, prefix_token, cast_token, type_token}
+use Rattle.chi_spell.specs.Words.{operator_token, relation_token, prefix_token, cast_token, type_token}
 use Rattle.chi_formed.specs.Levels.{Level}
 use Rattle.chi_formed.specs.Expressions.{FormedType, FormedFormals, MoreFormals, FormedExpr, FormedLinks, FormedPostfix, FormedPostfixes, FormedIfAny, FormedExprs, FormedEntries}
 use Rattle.chi_formed.specs.Expressions as formed

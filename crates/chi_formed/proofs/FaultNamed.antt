@@ -10,7 +10,7 @@ use Rattle.chi_tree.specs.Limits.{whole_room}
 use Rattle.chi_tree.specs.Parts as s
 use Rattle.chi_tree.specs.Rules.{grammar}
 use Rattle.chi_tree.specs.Statements.{program_of}
-use Rattle.chi_tree.specs.Words.{token_of}
+use Rattle.chi_spell.specs.Words.{token_of}
 use Rattle.chi_formed.specs.Beginnings.{BeginsProgram, NamesFault, NamesDepth}
 use Rattle.chi_formed.proofs.Leaves.{levels}
 use Rattle.chi_formed.proofs.ParsedProgram.{formed_parsed}

@@ -4,7 +4,7 @@ use Rattle.std.proofs.lemmas.Bool.{false≢true}
 use Rattle.chi_token.specs.declared.keyword.Keyword.TheVariants.{EndWord}
 use Rattle.chi_token.specs.declared.token.Token.{Token}
 use Rattle.chi_token.specs.declared.token.Token.TheVariants.{Word}
-use Rattle.chi_tree.specs.Words.{Tokens}
+use Rattle.chi_spell.specs.Words.{Tokens}
 
 abbrev pub is_end : Token → Bool
 is_end (Word EndWord) = true

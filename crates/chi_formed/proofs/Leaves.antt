@@ -34,7 +34,7 @@ use Rattle.chi_tree.specs.Parts as s
 use Rattle.chi_tree.specs.Rules.{grammar, sign, sum_sign, product_sign, relation_sign, prefix_sign, cast_word, type_word}
 use Rattle.chi_tree.specs.Tokens.{operator_of, relation_of, prefix_of, cast_of, type_word_of}
 use Rattle.chi_tree.specs.View.{Built, carried_of, inside, stepped, nowhere, way_in, optional, type_of, expr_of, postfix_of}
-use Rattle.chi_tree.specs.Words.{operator_token, relation_token, prefix_token, cast_token, type_token}
+use Rattle.chi_spell.specs.Words.{operator_token, relation_token, prefix_token, cast_token, type_token}
 use Rattle.chi_formed.specs.Levels.{Level, level_of, prefix_level}
 use Rattle.chi_formed.specs.Levels as level
 

@@ -14,7 +14,7 @@ use Rattle.chi_tree.specs.Parts as s
 use Rattle.chi_tree.specs.Rules.{grammar, rule_of}
 use Rattle.chi_tree.specs.Tokens.{bytes_of}
 use Rattle.chi_tree.specs.View.{Built}
-use Rattle.chi_tree.specs.Words.{token_of}
+use Rattle.chi_spell.specs.Words.{token_of}
 use Rattle.chi_tree.proofs.ClassTokens.{token_at, token_is}
 use Rattle.chi_formed.proofs.LastToken.{is_end, last_is_end}
 

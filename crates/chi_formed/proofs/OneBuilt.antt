@@ -10,7 +10,7 @@ use Rattle.chi_tree.specs.Parts.{Part}
 use Rattle.chi_tree.specs.Rules.{grammar, rule_of}
 use Rattle.chi_tree.specs.Tables.{table}
 use Rattle.chi_tree.specs.View.{Built}
-use Rattle.chi_tree.specs.Words.{token_of}
+use Rattle.chi_spell.specs.Words.{token_of}
 use Rattle.chi_tree.proofs.Fine.{grammar_fine}
 use Rattle.chi_formed.proofs.UnplacedBuilt.{unplaced_tree, unplaced_spelling, same_unplaced, Blind, unplaced_is}
 

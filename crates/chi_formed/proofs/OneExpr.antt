@@ -7,10 +7,10 @@ use Rattle.chi_tree.specs.declared.type_tree.TypeTree.{TypeTree}
 use Rattle.chi_tree.specs.declared.expr.Expr.{Expr}
 use Rattle.chi_tree.specs.Parts as s
 use Rattle.chi_tree.specs.Rules.{grammar}
-use Rattle.chi_tree.specs.Spell.{spelled_expr, spelled_type}
+use Rattle.chi_spell.specs.Expressions.{spelled_expr, spelled_type}
 use Rattle.chi_tree.specs.View.{Built, type_of, expr_of}
-use Rattle.chi_tree.specs.Words.{token_of}
-use Rattle.chi_tree.proofs.ProgramSpelling.{type_spelling, expr_spelling}
+use Rattle.chi_spell.specs.Words.{token_of}
+use Rattle.chi_spell.proofs.ProgramSpelling.{type_spelling, expr_spelling}
 use Rattle.chi_formed.specs.Levels as level
 use Rattle.chi_formed.specs.Expressions.{FormedType, FormedExpr}
 use Rattle.chi_formed.specs.Unplaced.{unplaced_type, unplaced_expr}

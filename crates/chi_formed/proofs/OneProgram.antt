@@ -8,11 +8,11 @@ use Rattle.chi_tree.specs.declared.definition.Program.{Program}
 use Rattle.chi_tree.specs.declared.statement.Step.{Step}
 use Rattle.chi_tree.specs.Parts as s
 use Rattle.chi_tree.specs.Rules.{grammar}
-use Rattle.chi_tree.specs.SpellStatements.{spelled_block, spelled_item, spelled}
+use Rattle.chi_spell.specs.Statements.{spelled_block, spelled_item, spelled}
 use Rattle.chi_tree.specs.Statements.{block_of, program_of}
 use Rattle.chi_tree.specs.View.{Built, nowhere}
-use Rattle.chi_tree.specs.Words.{all}
-use Rattle.chi_tree.proofs.ProgramSpelling.{block_spelling, program_spelling}
+use Rattle.chi_spell.specs.Words.{all}
+use Rattle.chi_spell.proofs.ProgramSpelling.{block_spelling, program_spelling}
 use Rattle.chi_formed.specs.UnplacedStatements.{unplaced_block, unplaced_step, unplaced_item, unplaced}
 use Rattle.chi_formed.specs.Statements.{FormedBlock}
 use Rattle.chi_formed.specs.Definitions.{FormedProgram}

@@ -9,11 +9,11 @@ use Rattle.chi_tree.specs.declared.definition.Item.{Item}
 use Rattle.chi_tree.specs.declared.definition.Program.{Program}
 use Rattle.chi_tree.specs.Parts as s
 use Rattle.chi_tree.specs.Rules.{grammar}
-use Rattle.chi_tree.specs.SpellStatements.{spelled, spelled_item}
+use Rattle.chi_spell.specs.Statements.{spelled, spelled_item}
 use Rattle.chi_tree.specs.Statements.{program_of}
 use Rattle.chi_tree.specs.View.{Built, nowhere}
-use Rattle.chi_tree.specs.Words.{Tokens, all, token_of}
-use Rattle.chi_tree.proofs.ProgramSpelling.{program_spelling}
+use Rattle.chi_spell.specs.Words.{Tokens, all, token_of}
+use Rattle.chi_spell.proofs.ProgramSpelling.{program_spelling}
 use Rattle.chi_formed.specs.Definitions.{FormedProgram}
 use Rattle.chi_formed.specs.UnplacedStatements.{unplaced, unplaced_item}
 use Rattle.chi_formed.proofs.PlacedTree.{placed_tree}

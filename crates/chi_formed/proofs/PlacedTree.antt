@@ -11,7 +11,7 @@ use Rattle.chi_tree.specs.Classes.{class_of, number_of}
 use Rattle.chi_tree.specs.Parts.{Part}
 use Rattle.chi_tree.specs.Rules.{grammar}
 use Rattle.chi_tree.specs.View.{Built}
-use Rattle.chi_tree.specs.Words.{Tokens, token_of}
+use Rattle.chi_spell.specs.Words.{Tokens, token_of}
 use Rattle.chi_formed.proofs.UnplacedBuilt.{bare_token, unplaced_token, unplaced_tree, Blind}
 use Rattle.chi_formed.proofs.Blind.{blind}
 

@@ -11,11 +11,11 @@ use Rattle.chi_tree.specs.declared.definition.Item.{Item}
 use Rattle.chi_tree.specs.declared.definition.Program.{Program}
 use Rattle.chi_tree.specs.Parts as s
 use Rattle.chi_tree.specs.Rules.{grammar}
-use Rattle.chi_tree.specs.SpellStatements.{spelled, spelled_item}
+use Rattle.chi_spell.specs.Statements.{spelled, spelled_item}
 use Rattle.chi_tree.specs.Statements.{program_of}
 use Rattle.chi_tree.specs.View.{Built}
-use Rattle.chi_tree.specs.Words.{Tokens, token_of, all}
-use Rattle.chi_tree.proofs.ProgramSpelling.{program_spelling}
+use Rattle.chi_spell.specs.Words.{Tokens, token_of, all}
+use Rattle.chi_spell.proofs.ProgramSpelling.{program_spelling}
 use Rattle.chi_formed.specs.Beginnings.{BeginsProgram}
 use Rattle.chi_formed.specs.Definitions.{FormedProgram}
 use Rattle.chi_formed.proofs.Leaves.{levels}

@@ -21,14 +21,14 @@ use Rattle.chi_tree.specs.declared.statement.Statement.{Statement}
 use Rattle.chi_tree.specs.declared.statement.Statement.TheVariants as statement
 use Rattle.chi_tree.specs.Parts as s
 use Rattle.chi_tree.specs.Rules.{grammar}
-use Rattle.chi_tree.specs.Spell.{spelled_expr}
-use Rattle.chi_tree.specs.SpellStatements.{spelled_exprs, spelled_walk, assigned_tokens, spelled_element, spelled_elements, else_tokens, to_end, spelled_alternative, spelled_branch, spelled_step, spelled_statement}
+use Rattle.chi_spell.specs.Expressions.{spelled_expr}
+use Rattle.chi_spell.specs.Statements.{spelled_exprs, spelled_walk, assigned_tokens, spelled_element, spelled_elements, else_tokens, to_end, spelled_alternative, spelled_branch, spelled_step, spelled_statement}
 use Rattle.chi_tree.specs.Statements.{step, statement_of, elements_of, last_ends, ends_element, ends_in_end}
 use Rattle.chi_tree.specs.Tokens.{is_run}
 use Rattle.chi_tree.specs.View.{Built}
-use Rattle.chi_tree.specs.Words.{Tokens, token_of, name_token, all, separated}
-use Rattle.chi_tree.proofs.ProgramSpelling.{block_spelling}
-use Rattle.chi_tree.proofs.StatementTokens.{element-Make, element-Unwind, statement-Select, statement-If, statement-While, statement-For, statement-Run, statement-Start, step-tokens}
+use Rattle.chi_spell.specs.Words.{Tokens, token_of, name_token, all, separated}
+use Rattle.chi_spell.proofs.ProgramSpelling.{block_spelling}
+use Rattle.chi_spell.proofs.StatementTokens.{element-Make, element-Unwind, statement-Select, statement-If, statement-While, statement-For, statement-Run, statement-Start, step-tokens}
 use Rattle.chi_formed.specs.Statements.{FormedStatement}
 use Rattle.chi_formed.specs.Statements as formed
 use Rattle.chi_formed.proofs.LastToken.{is_end, last_is_end, last_of, before_end, end_after}

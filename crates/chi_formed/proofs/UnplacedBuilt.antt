@@ -12,7 +12,7 @@ use Rattle.chi_token.specs.declared.token.Token.{Token}
 use Rattle.chi_tree.specs.Parts.{Part}
 use Rattle.chi_tree.specs.Rules.{grammar, rule_of}
 use Rattle.chi_tree.specs.View.{Built, nowhere}
-use Rattle.chi_tree.specs.Words.{token_of}
+use Rattle.chi_spell.specs.Words.{token_of}
 
 abbrev pub bare_token : Token → Spanned
 bare_token t = record { token = t; place = nowhere; start = 0; stop = 0 }

@@ -7,8 +7,8 @@ use Rattle.chi_tree.specs.declared.definition.Program.{Program}
 use Rattle.chi_tree.specs.Limits.{whole_room}
 use Rattle.chi_tree.specs.Parts as s
 use Rattle.chi_tree.specs.Rules.{grammar}
-use Rattle.chi_tree.specs.SpellStatements.{spelled}
-use Rattle.chi_tree.specs.Words.{Tokens, token_of}
+use Rattle.chi_spell.specs.Statements.{spelled}
+use Rattle.chi_spell.specs.Words.{Tokens, token_of}
 use Rattle.chi_formed.specs.Definitions.{FormedProgram}
 
 -- the tokens are the first of some program's, however deep it nests

@@ -23,11 +23,11 @@ ghost use Rattle.chi_tree.specs.declared.type_tree.TypeTree.{TypeTree};
 ghost use Rattle.chi_tree.specs.Limits.{whole_room};
 ghost use Rattle.chi_tree.specs.Parts as s;
 ghost use Rattle.chi_tree.specs.Rules.{grammar};
-ghost use Rattle.chi_tree.specs.Spell.{spelled_expr, spelled_type};
-ghost use Rattle.chi_tree.specs.SpellStatements.{spelled, spelled_block, spelled_statement};
+ghost use Rattle.chi_spell.specs.Expressions.{spelled_expr, spelled_type};
+ghost use Rattle.chi_spell.specs.Statements.{spelled, spelled_block, spelled_statement};
 ghost use Rattle.chi_tree.specs.Statements.{block_of, program_of};
 ghost use Rattle.chi_tree.specs.View.{Built, type_of, expr_of};
-ghost use Rattle.chi_tree.specs.Words.{Tokens, token_of};
+ghost use Rattle.chi_spell.specs.Words.{Tokens, token_of};
 
 /// The rules of the grammar build exactly the formed trees.
 pub fn formed_law()

@@ -8,4 +8,6 @@ mod programs;
 #[cfg(test)]
 mod shapes;
 #[cfg(test)]
+mod spellings;
+#[cfg(test)]
 mod trees;

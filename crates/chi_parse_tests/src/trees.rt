@@ -1,10 +1,10 @@
 use chi_base::{Boxed, Items, NoMemory};
 use chi_formed::{formed_law, last_token_law, one_tree_law, parsed_law};
+use chi_spell::{spell, spelling_law};
 use chi_token::{Bytes, Keyword, Place, Sign, Token, spelling};
 use chi_tree::{
     Class, Definition, Expr, Formal, Item, Link, MOST_BLOCKS, MOST_EXPRESSIONS, Name, Operator,
-    Postfix, PrefixSign, Program, Statement, Step, Target, TypeTree, TypeWord, spell, spelling_law,
-    whole_room,
+    Postfix, PrefixSign, Program, Statement, Step, Target, TypeTree, TypeWord, whole_room,
 };
 use std::alloc::Global;
 use std::test::Fail;

@@ -1,15 +1,3 @@
 pub mod Fine
-pub mod ExprWords
-pub mod BuiltTokens
 pub mod ClassTokens
-pub mod ExprTokens
 pub mod Made
-pub mod ShownTokens
-pub mod ExprSpelling
-pub mod StatementTokens
-pub mod TargetSpelling
-pub mod StatementSpelling
-pub mod DefinitionSpelling
-pub mod ProgramSpelling
-pub mod Rest
-pub mod SlicePut

@@ -8,6 +8,3 @@ pub mod Begins
 pub mod GoesOn
 pub mod Tables
 pub mod Limits
-pub mod Words
-pub mod Spell
-pub mod SpellStatements

@@ -130,6 +130,7 @@ rule_of s.Block =
     part s.Closed ▸ maybe (part s.AfterEnd)
     ∣ when (part s.Launch) ends_in_end (maybe (part s.AfterEnd)) (maybe (part s.AfterOpen))
     ∣ part s.Open ▸ maybe (part s.AfterOpen)
+-- what stands after a statement whose last token is "end", and after one whose last token isn't
 rule_of s.AfterEnd = sign Semicolon ▸ maybe (part s.Block) ∣ part s.Block
 rule_of s.AfterOpen = sign Semicolon ▸ maybe (part s.Block)
 rule_of s.Inner = inner_block (part s.Block)
@@ -194,6 +195,7 @@ rule_of s.Elements = part s.Element ▸ many (sign Comma ▸ part s.Element)
 -- element = [ target "=" ] name "(" [ exprs ] ")" | "unwind" walk ":" elements "end"
 rule_of s.Element = part s.UnwoundElements ∣ part s.Make
 rule_of s.UnwoundElements = keyword UnwindWord ▸ part s.Walk ▸ sign Colon ▸ inner_block (part s.Elements) ▸ keyword EndWord
+-- a name alone may be what is made, or the target before "="
 rule_of s.Make = when (part s.Target) is_name (part s.Made) (part s.AssignedMake)
 rule_of s.Made = part s.Arguments ∣ part s.AssignedMake
 rule_of s.AssignedMake = sign Assign ▸ name ▸ part s.Arguments
@@ -228,6 +230,7 @@ rule_of s.Post = part s.Primary ▸ many (part s.Postfix)
 rule_of s.Postfix = nested (part s.Bracket) ∣ part s.Field
 rule_of s.Field = sign Dot ▸ name
 rule_of s.Bracket = sign LeftBracket ▸ part s.Inside ▸ sign RightBracket
+-- an index, and a slice with its first bound, both begin with an expression
 rule_of s.Inside = part s.Expr ▸ maybe (part s.Upto) ∣ part s.Upto
 rule_of s.Upto = sign Colon ▸ maybe (part s.Expr) ▸ maybe (part s.ByStep)
 rule_of s.ByStep = sign Colon ▸ maybe (part s.Expr)
@@ -237,16 +240,20 @@ rule_of s.ByStep = sign Colon ▸ maybe (part s.Expr)
 --         | "<" type ">" "[" "]" | "<" type ">" "{" "}" | "<" type ":" type ">" "{" "}"
 rule_of s.Primary = part s.Literal ∣ part s.Named ∣ part s.Cast ∣ nested (part s.Round) ∣ nested (part s.Square) ∣ nested (part s.Curly) ∣ part s.Blank
 rule_of s.Literal = literal
+-- name | name "(" [ exprs ] ")"
 rule_of s.Named = name ▸ maybe (part s.Arguments)
 rule_of s.Arguments = nested (sign LeftParen ▸ maybe (part s.Exprs) ▸ sign RightParen)
 rule_of s.Cast = cast_word ▸ nested (sign LeftParen ▸ part s.Expr ▸ sign RightParen)
+-- "(" expr ")" | "(" expr "," exprs ")"
 rule_of s.Round = sign LeftParen ▸ part s.Expr ▸ maybe (part s.Others) ▸ sign RightParen
 rule_of s.Others = sign Comma ▸ part s.Exprs
 rule_of s.Square = sign LeftBracket ▸ part s.Exprs ▸ sign RightBracket
+-- "{" exprs "}" | "{" expr ":" expr { "," expr ":" expr } "}"
 rule_of s.Curly = sign LeftBrace ▸ part s.Expr ▸ maybe (part s.Contents) ▸ sign RightBrace
 rule_of s.Contents = part s.Others ∣ part s.Entries
 rule_of s.Entries = sign Colon ▸ part s.Expr ▸ many (part s.MoreEntry)
 rule_of s.MoreEntry = sign Comma ▸ part s.Expr ▸ sign Colon ▸ part s.Expr
+-- the three empty literals begin with "<" type
 rule_of s.Blank = sign Less ▸ part s.AnyType ▸ part s.BlankEnd
 rule_of s.BlankEnd = sign Greater ▸ (nested (part s.BlankItems) ∣ nested (part s.BlankElements)) ∣ sign Colon ▸ part s.AnyType ▸ sign Greater ▸ nested (part s.BlankElements)
 rule_of s.BlankItems = sign LeftBracket ▸ sign RightBracket

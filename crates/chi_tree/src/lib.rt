@@ -5,20 +5,16 @@
 mod class;
 mod definition;
 mod expr;
-mod laws;
 mod limits;
 mod operator;
-mod spelling;
 mod statement;
 mod type_tree;
 
 pub use class::Class;
 pub use definition::{Definition, Item, Program};
 pub use expr::{Entry, Expr, Link, Postfix};
-pub use laws::spelling_law;
 pub use limits::{MOST_BLOCKS, MOST_EXPRESSIONS, whole_room};
 pub use operator::{CastWord, Operator, PrefixSign, RelationSign};
-pub use spelling::spell;
 pub use statement::{
     Alternative, Block, Branch, Communication, Element, Initial, Statement, Step, Target, Variable,
     Walk,

@@ -1,0 +1,12 @@
+pub mod ExprWords
+pub mod BuiltTokens
+pub mod ExprTokens
+pub mod ShownTokens
+pub mod ExprSpelling
+pub mod StatementTokens
+pub mod TargetSpelling
+pub mod StatementSpelling
+pub mod DefinitionSpelling
+pub mod ProgramSpelling
+pub mod Rest
+pub mod SlicePut

@@ -1,0 +1,17 @@
+//! The spelling of a tree: its tokens, one after the other. What the grammar's rules build of tokens is shown as a tree that
+//! spells them.
+#![tactic(auto)]
+
+mod definitions;
+mod elements;
+mod exprs;
+mod laws;
+mod parts;
+mod speller;
+mod spelling;
+mod statements;
+mod types;
+mod words;
+
+pub use laws::spelling_law;
+pub use spelling::spell;
