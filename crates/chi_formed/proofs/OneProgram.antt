@@ -19,6 +19,7 @@ use Rattle.chi_formed.specs.Definitions.{FormedProgram}
 use Rattle.chi_formed.proofs.StatementLaw.{formed_blocks, formed_items}
 use Rattle.chi_formed.proofs.UnplacedStatementShown.{shown_block}
 use Rattle.chi_formed.proofs.UnplacedProgramShown.{shown_program}
+use Rattle.chi_formed.proofs.Leaves.{levels}
 use Rattle.chi_formed.proofs.OneBuilt.{one_built}
 use Rattle.chi_formed.proofs.Blind.{blind}
 
@@ -47,9 +48,6 @@ one_built_items room other items others b c e =
     ∙ sym (ap (λ (p : Program). p.items) (shown_program c.0)) ∙ ap (map unplaced_item) c.2
 
 -- the laws
-
-abbrev levels : ℕ → ℕ → Room
-levels b d = record { blocks = b; expressions = d }
 
 pub one_block : (b c d e : ℕ) (block other : List Step) → FormedBlock b c block → FormedBlock d e other
     → spelled_block block ≡ spelled_block other → unplaced_block block ≡ unplaced_block other

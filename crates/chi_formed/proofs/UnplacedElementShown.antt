@@ -14,9 +14,9 @@ use Rattle.chi_formed.specs.Unplaced.{unplaced_name, unplaced_expr}
 use Rattle.chi_formed.specs.UnplacedStatements.{unplaced_target, unplaced_communication, unplaced_element}
 use Rattle.chi_formed.proofs.UnplacedBuilt.{unplaced_tree}
 use Rattle.chi_formed.proofs.UnplacedParts.{shown_place, shown_name}
-use Rattle.chi_formed.proofs.UnplacedShown.{shown_expr, shown_arguments}
+use Rattle.chi_formed.proofs.UnplacedShown.{no_expr_shown, shown_expr, shown_arguments}
 use Rattle.chi_formed.proofs.UnplacedStatementTrees.{element-Make, element-Unwind}
-use Rattle.chi_formed.proofs.UnplacedTargetShown.{no_expr_shown, shown_target, shown_walk, shown_communicated, shown_communication}
+use Rattle.chi_formed.proofs.UnplacedTargetShown.{shown_target, shown_walk, shown_communicated, shown_communication}
 use Rattle.chi_formed.proofs.UnplacedAsTarget.{shown_as_target}
 
 -- offers

@@ -21,7 +21,7 @@ use Rattle.chi_formed.proofs.UnplacedParts.{shown_place, shown_name, shown_way, 
 
 -- what is shown of what no rule builds
 
-no_expr_shown : unplaced_expr no_expr ≡ no_expr
+pub no_expr_shown : unplaced_expr no_expr ≡ no_expr
 no_expr_shown = without-Time nowhere
 
 no_link_shown : unplaced_link no_link ≡ no_link

@@ -23,9 +23,9 @@ use Rattle.chi_formed.specs.UnplacedStatements.{unplaced_target, unplaced_elemen
 use Rattle.chi_formed.proofs.UnplacedBuilt.{unplaced_tree}
 use Rattle.chi_formed.proofs.UnplacedTrees.{without-Defined}
 use Rattle.chi_formed.proofs.UnplacedParts.{shown_place, shown_optional}
-use Rattle.chi_formed.proofs.UnplacedShown.{shown_type, shown_expr, shown_exprs, shown_more_exprs}
+use Rattle.chi_formed.proofs.UnplacedShown.{no_expr_shown, shown_type, shown_expr, shown_exprs, shown_more_exprs}
 use Rattle.chi_formed.proofs.UnplacedStatementTrees.{statement-Declare, statement-Assign, statement-Communicate, statement-Pass, statement-Break, statement-Continue, statement-Select, statement-If, statement-While, statement-For, statement-Return, statement-Exit, statement-Run, statement-Start, statement-Finish, statement-Write, alternative-Guarded, alternative-Unwind, step-without, branch-without}
-use Rattle.chi_formed.proofs.UnplacedTargetShown.{no_expr_shown, shown_target, shown_more_targets, shown_walk, shown_variables, shown_communicated, shown_communication}
+use Rattle.chi_formed.proofs.UnplacedTargetShown.{shown_target, shown_more_targets, shown_walk, shown_variables, shown_communicated, shown_communication}
 use Rattle.chi_formed.proofs.UnplacedElementShown.{shown_offer, shown_elements}
 
 -- what nothing is shown as

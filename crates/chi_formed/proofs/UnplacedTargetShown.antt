@@ -5,17 +5,13 @@ use Rattle.chi_grammar.specs.Rules.{node, pair}
 use Rattle.chi_tree.specs.declared.statement.Target.{Target}
 use Rattle.chi_tree.specs.declared.statement.Communication.TheVariants.{Send, Receive, Delay}
 use Rattle.chi_tree.specs.Parts as s
-use Rattle.chi_tree.specs.View.{Built, nowhere, name_in, expr_of, no_expr}
+use Rattle.chi_tree.specs.View.{Built, nowhere, name_in, expr_of}
 use Rattle.chi_tree.specs.Statements.{target_of, more_targets_of, walk_of, initial_of, variable_of, more_variables_of, variables_of, communicated, communication_of}
 use Rattle.chi_formed.specs.Unplaced.{unplaced_name, unplaced_expr}
 use Rattle.chi_formed.specs.UnplacedStatements.{unplaced_initial, unplaced_variable, unplaced_target, unplaced_walk, unplaced_communication}
 use Rattle.chi_formed.proofs.UnplacedBuilt.{unplaced_tree}
 use Rattle.chi_formed.proofs.UnplacedParts.{shown_place, shown_name, shown_names, shown_optional}
-use Rattle.chi_formed.proofs.UnplacedShown.{shown_expr, shown_postfixes}
-use Rattle.chi_formed.proofs.UnplacedTrees.{without-Time}
-
-pub no_expr_shown : unplaced_expr no_expr ≡ no_expr
-no_expr_shown = without-Time _
+use Rattle.chi_formed.proofs.UnplacedShown.{no_expr_shown, shown_expr, shown_postfixes}
 
 -- targets, walks and variables
 
