@@ -1,5 +1,5 @@
 //! Laws of the concrete tree: the rules of the grammar build exactly the formed trees, a token list spells at most one of
-//! them, a `;` may be left out after `end` alone, and an exact parser answers with formed programs.
+//! them, the `;` between two statements may be left out after `end` alone, and an exact parser answers with formed programs.
 #![tactic(auto)]
 
 mod laws;
