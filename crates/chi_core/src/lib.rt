@@ -23,6 +23,3 @@ pub use program::{CAlt, CComm, CElem, CExpr, CStat, CTarget, Core, ProcDef};
 pub use sort::Sort;
 pub use sound::is_sound;
 pub use verdict::Verdict;
-
-#[cfg(test)]
-mod tests;

@@ -13,4 +13,3 @@ pub mod Enabled
 pub mod Acts
 pub mod Takings
 pub mod Kept
-pub mod Chosen

@@ -22,6 +22,3 @@ mod writing;
 
 pub use plain::Plain;
 pub use stepped::Stepped;
-
-#[cfg(test)]
-mod tests;

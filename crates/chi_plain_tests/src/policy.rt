@@ -4,9 +4,9 @@ ghost use Rattle.std.specs.Prelude.{IfSome};
 ghost use Rattle.chi_core.specs.Sound.{Sound};
 ghost use Rattle.chi_plain.specs.Stage.{MayStep};
 
-use crate::{Plain, Stepped};
 use chi_base::NoMemory;
 use chi_core::{Core, Label, verdict_line};
+use chi_plain::{Plain, Stepped};
 use std::alloc::Global;
 
 /// The first option of the first instance that has one, or the last one of the last, or else Advance.

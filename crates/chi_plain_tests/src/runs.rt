@@ -2,8 +2,8 @@
 
 use super::build::{Definition, Offered, Slot, Statement, Told, core_of};
 use super::policy::{chosen, report_of, run};
-use crate::{Plain, Stepped};
 use chi_core::{Label, is_sound};
+use chi_plain::{Plain, Stepped};
 use std::test::Fail;
 
 struct Row {

@@ -1,6 +1,0 @@
-//! Runs of programs that are built by hand.
-
-mod build;
-mod limits;
-mod policy;
-mod runs;
