@@ -6,11 +6,13 @@ ghost use Rattle.chi_tree.specs.Tables.{table};
 ghost use Rattle.chi_tree.specs.Rules.{grammar, nested};
 ghost use Rattle.chi_tree.specs.View.{expr_of, links_of, link_of, related};
 ghost use Rattle.chi_tree.specs.Parts as s;
+ghost use Rattle.chi_parse_expr.specs.Grouping.{chain_part, link_part, operand_part};
 
-use crate::classes::{AND, NOT, OR, RELATION_SIGNS};
+use crate::classes::{NOT, RELATION_SIGNS};
+use crate::level::Level;
 use crate::look::{begins, enter, take, take_one_of};
 use crate::nodes::{chained, operator_of, relation_of};
-use crate::terms::sum;
+use crate::terms::unary;
 use chi_base::{Boxed, Items};
 use chi_grammar::{Nesting, ParseFault, Room};
 use chi_token::Spanned;
@@ -29,27 +31,45 @@ pub fn expr(
     requires inside { at ≤ length tokens.now }
     ensures { Reads grammar table tokens.now expr_of room (part s.Expr) at result }
 {
-    let (first, middle) = conj(alloc, tokens, at, room)?;
-    let (links, end) = or_links(alloc, tokens, middle, room)?;
-    let chain = chained(alloc, first, links)?;
-    Ok((chain, end))
+    chain(alloc, tokens, at, room, Level::Or)
 }
 
+/// An operand of the level, with the links after it.
 #[cycle(expr)]
-fn or_links(
+fn chain(
     alloc: Global,
     tokens: &[Spanned],
     at: u32,
     room: Room,
+    level: Level,
+) -> Result<(Expr, u32), ParseFault>
+    requires short { length tokens.now < 2 ^ 32 }
+    requires inside { at ≤ length tokens.now }
+    ensures { Reads grammar table tokens.now expr_of room (part (chain_part level)) at result }
+{
+    let (first, middle) = operand(alloc, tokens, at, room, level)?;
+    let (links, end) = links(alloc, tokens, middle, room, level)?;
+    let chain = chained(alloc, first, links)?;
+    Ok((chain, end))
+}
+
+/// The links of the level that stand one after the other.
+#[cycle(expr)]
+fn links(
+    alloc: Global,
+    tokens: &[Spanned],
+    at: u32,
+    room: Room,
+    level: Level,
 ) -> Result<(Items<Link>, u32), ParseFault>
     requires short { length tokens.now < 2 ^ 32 }
     requires inside { at ≤ length tokens.now }
-    ensures { Reads grammar table tokens.now links_of room (many (part s.OrLink)) at result }
+    ensures { Reads grammar table tokens.now links_of room (many (part (link_part level))) at result }
 {
     let mut found = Vec::new(alloc);
     let mut end = at;
-    'turn: while begins(tokens, end, &[OR]) {
-        let (one, after) = or_link(alloc, tokens, end, room)?;
+    'turn: while begins(tokens, end, level.signs()) {
+        let (one, after) = link(alloc, tokens, end, room, level)?;
         found.push(one)?;
         end = after;
     }
@@ -57,80 +77,48 @@ fn or_links(
     Ok((items, end))
 }
 
+/// An operator of the level, with the operand after it.
 #[cycle(expr)]
-fn or_link(
+fn link(
     alloc: Global,
     tokens: &[Spanned],
     at: u32,
     room: Room,
+    level: Level,
 ) -> Result<(Link, u32), ParseFault>
     requires short { length tokens.now < 2 ^ 32 }
     requires inside { at ≤ length tokens.now }
-    ensures { Reads grammar table tokens.now link_of room (part s.OrLink) at result }
+    ensures { Reads grammar table tokens.now link_of room (part (link_part level)) at result }
 {
-    let (word, start) = take(tokens, at, OR)?;
-    let (operand, end) = conj(alloc, tokens, start, room)?;
+    let (word, start) = take_one_of(tokens, at, level.signs())?;
+    let (right, end) = operand(alloc, tokens, start, room, level)?;
     let link = Link {
         operator: operator_of(&word.token),
         place: word.place,
-        operand,
+        operand: right,
     };
     Ok((link, end))
 }
 
+/// What the operators of the level stand between: it binds more than they do.
 #[cycle(expr)]
-fn conj(alloc: Global, tokens: &[Spanned], at: u32, room: Room) -> Result<(Expr, u32), ParseFault>
-    requires short { length tokens.now < 2 ^ 32 }
-    requires inside { at ≤ length tokens.now }
-    ensures { Reads grammar table tokens.now expr_of room (part s.Conj) at result }
-{
-    let (first, middle) = neg(alloc, tokens, at, room)?;
-    let (links, end) = and_links(alloc, tokens, middle, room)?;
-    let chain = chained(alloc, first, links)?;
-    Ok((chain, end))
-}
-
-#[cycle(expr)]
-fn and_links(
+fn operand(
     alloc: Global,
     tokens: &[Spanned],
     at: u32,
     room: Room,
-) -> Result<(Items<Link>, u32), ParseFault>
+    level: Level,
+) -> Result<(Expr, u32), ParseFault>
     requires short { length tokens.now < 2 ^ 32 }
     requires inside { at ≤ length tokens.now }
-    ensures { Reads grammar table tokens.now links_of room (many (part s.AndLink)) at result }
+    ensures { Reads grammar table tokens.now expr_of room (part (operand_part level)) at result }
 {
-    let mut found = Vec::new(alloc);
-    let mut end = at;
-    'turn: while begins(tokens, end, &[AND]) {
-        let (one, after) = and_link(alloc, tokens, end, room)?;
-        found.push(one)?;
-        end = after;
+    match level {
+        Level::Or => chain(alloc, tokens, at, room, Level::And),
+        Level::And => neg(alloc, tokens, at, room),
+        Level::Sum => chain(alloc, tokens, at, room, Level::Product),
+        Level::Product => unary(alloc, tokens, at, room),
     }
-    let items = Items::of(alloc, found)?;
-    Ok((items, end))
-}
-
-#[cycle(expr)]
-fn and_link(
-    alloc: Global,
-    tokens: &[Spanned],
-    at: u32,
-    room: Room,
-) -> Result<(Link, u32), ParseFault>
-    requires short { length tokens.now < 2 ^ 32 }
-    requires inside { at ≤ length tokens.now }
-    ensures { Reads grammar table tokens.now link_of room (part s.AndLink) at result }
-{
-    let (word, start) = take(tokens, at, AND)?;
-    let (operand, end) = neg(alloc, tokens, start, room)?;
-    let link = Link {
-        operator: operator_of(&word.token),
-        place: word.place,
-        operand,
-    };
-    Ok((link, end))
 }
 
 #[cycle(expr)]
@@ -169,7 +157,7 @@ fn rel(alloc: Global, tokens: &[Spanned], at: u32, room: Room) -> Result<(Expr, 
     requires inside { at ≤ length tokens.now }
     ensures { Reads grammar table tokens.now expr_of room (part s.Rel) at result }
 {
-    let (left, middle) = sum(alloc, tokens, at, room)?;
+    let (left, middle) = chain(alloc, tokens, at, room, Level::Sum)?;
     if begins(tokens, middle, &RELATION_SIGNS) {
         return rel_link(alloc, tokens, middle, room, left);
     }
@@ -189,7 +177,7 @@ fn rel_link(
     ensures { Reads grammar table tokens.now (related left) room (part s.RelLink) at result }
 {
     let (word, start) = take_one_of(tokens, at, &RELATION_SIGNS)?;
-    let (right, end) = sum(alloc, tokens, start, room)?;
+    let (right, end) = chain(alloc, tokens, start, room, Level::Sum)?;
     let first = Boxed::new(alloc, left)?;
     let second = Boxed::new(alloc, right)?;
     Ok((

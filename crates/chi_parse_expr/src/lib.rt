@@ -5,6 +5,7 @@ mod blanks;
 mod braces;
 mod classes;
 mod compounds;
+mod level;
 mod levels;
 mod look;
 mod nodes;

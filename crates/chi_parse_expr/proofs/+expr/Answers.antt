@@ -5,8 +5,8 @@ use Rattle.chi_grammar.specs.Rules.{leaf, part, many, maybe, ◌▸◌, ◌∣�
 use Rattle.chi_grammar.specs.Rules as rule
 use Rattle.chi_grammar.specs.Runs as runs
 use Rattle.chi_grammar.proofs.Exits.{read, run_word, run_no_word, run_refused, reads_part, reads_left, reads_right, reads_once, reads_deeper, reads_then, failed, no_memory}
-use Rattle.chi_token.specs.declared.keyword.Keyword.TheVariants.{BoolWord, DivWord, InWord, IntWord, ModWord, RealWord, SampleWord, StringWord, SubWord, TimerWord}
-use Rattle.chi_token.specs.declared.sign.Sign.TheVariants.{LeftParen, RightParen, Less, LessEqual, Equal, NotEqual, Greater, GreaterEqual, Plus, Minus, Star, Slash, Comma, Colon}
+use Rattle.chi_token.specs.declared.keyword.Keyword.TheVariants.{BoolWord, InWord, IntWord, RealWord, SampleWord, StringWord, SubWord, TimerWord}
+use Rattle.chi_token.specs.declared.sign.Sign.TheVariants.{LeftParen, RightParen, Less, LessEqual, Equal, NotEqual, Greater, GreaterEqual, Plus, Minus, Comma, Colon}
 use Rattle.chi_tree.specs.declared.class.Class.TheVariants as class
 use Rattle.chi_tree.specs.declared.expr.Expr.TheVariants as expr
 use Rattle.chi_tree.specs.declared.expr.Postfix.TheVariants as postfix
@@ -17,302 +17,94 @@ use Rattle.chi_tree.specs.Parts as s
 use Rattle.chi_tree.specs.Rules.{grammar, nested, sign}
 use Rattle.chi_tree.specs.Tables.{table}
 use Rattle.chi_tree.specs.View.{type_of, size_of, carried_of, formals_of, more_formals_of, formal_of, expr_of, links_of, link_of, related, powered, postfixes_of, postfix_of, inside, indexed, sliced, stepped, arguments_of, exprs_of, more_exprs_of, bracketed, braced, entries_of, entry_of, blank, optional, chained, parted}
+use Rattle.chi_parse_expr.specs.Grouping.{chain_part, link_part}
 use Rattle.chi_parse_expr.proofs.Words.{run_one_of, run_none_of}
+use Rattle.chi_parse_expr.proofs.Grouping.{chain_rule, chain_shows, link_rule, link_shows, link_next, run_by, run_operator, run_no_operator}
 use Rattle.chi_parse_expr.proofs.Shapes.{optional_part, called_part, carried_type, formal_name, reads_same}
 use Rattle.chi_parse_expr.proofs.Lists.{found_start, found_more, found_fails, found_stop, part_moves}
 use Rattle.chi_parse_expr.proofs.+expr.Goals as goal
 
-pub levels::expr-returns-in_err-first : goal.levels::expr-returns-in_err-first
-levels::expr-returns-in_err-first t c =
-    failed grammar table _ expr_of _ (part s.Expr) _ _ _ c.from_residual.ensures.1
-    (runs.part_fails (runs.first_fails c.in_err-first.ensures))
+pub levels::chain-returns-in_err-first : goal.levels::chain-returns-in_err-first
+levels::chain-returns-in_err-first t c =
+    let level = c.args.level in
+    failed grammar table _ expr_of _ (part (chain_part level)) _ _ _ c.from_residual.ensures.1
+    (runs.part_fails (run_by (chain_rule level) (runs.first_fails c.in_err-first.ensures)))
 
-pub levels::expr-returns-in_err-links : goal.levels::expr-returns-in_err-links
-levels::expr-returns-in_err-links t c =
+pub levels::chain-returns-in_err-links : goal.levels::chain-returns-in_err-links
+levels::chain-returns-in_err-links t c =
+    let level = c.args.level in
     let first = c.in_ok-first.ensures in
-    failed grammar table _ expr_of _ (part s.Expr) _ _ _ c.from_residual-in_err-links.ensures.1
-    (runs.part_fails (runs.next_fails first.runs c.in_err-links.ensures))
+    failed grammar table _ expr_of _ (part (chain_part level)) _ _ _ c.from_residual-in_err-links.ensures.1
+    (runs.part_fails (run_by (chain_rule level) (runs.next_fails first.runs c.in_err-links.ensures)))
 
-pub levels::expr-returns-in_err-chain : goal.levels::expr-returns-in_err-chain
-levels::expr-returns-in_err-chain t c =
-    no_memory grammar table _ expr_of _ (part s.Expr) _ _ c.from_residual-in_err-chain.ensures.1
+pub levels::chain-returns-in_err-chain : goal.levels::chain-returns-in_err-chain
+levels::chain-returns-in_err-chain t c =
+    no_memory grammar table _ expr_of _ (part (chain_part c.args.level)) _ _ c.from_residual-in_err-chain.ensures.1
 
-pub levels::expr-returns : goal.levels::expr-returns
-levels::expr-returns t c =
-    let first = c.in_ok-first.ensures in
-    let links = c.in_ok-links.ensures in
-    read grammar table _ expr_of c.requires.inside
-    (runs.part (runs.both first.runs links.runs))
-    ((λ i. chained (first.shows i) (links.shows i)) ∙ sym c.in_ok-chain.ensures)
-
-pub levels::or_links-turn-init : goal.levels::or_links-turn-init
-levels::or_links-turn-init t c =
-    (found_start links_of (part s.OrLink) c.new-found.ensures.items, c.requires.inside)
-
-pub levels::or_links-returns-in_err-one : goal.levels::or_links-returns-in_err-one
-levels::or_links-returns-in_err-one t c =
-    failed grammar table _ links_of _ (many (part s.OrLink)) _ _ _ c.from_residual.ensures.1
-    (found_fails links_of (part s.OrLink) c.turn.invariant.0 (c.begins.ensures ∙ c.turn-test.true) c.in_err-one.ensures)
-
-pub levels::or_links-returns-in_err-push : goal.levels::or_links-returns-in_err-push
-levels::or_links-returns-in_err-push t c =
-    no_memory grammar table _ links_of _ (many (part s.OrLink)) _ _ c.from_residual-in_err-push.ensures.1
-
-pub levels::or_links-turn-preserved : goal.levels::or_links-turn-preserved
-levels::or_links-turn-preserved t c =
-    let one = c.in_ok-one.ensures in
-    (found_more links_of (part s.OrLink) c.turn.invariant.0 (c.begins.ensures ∙ c.turn-test.true) one.runs (λ u i. one.shows i ∷ links_of u) c.in_ok-push.ensures.items, one.inside)
-
-pub levels::or_links-turn-smaller : goal.levels::or_links-turn-smaller
-levels::or_links-turn-smaller t c =
-    let one = c.in_ok-one.ensures in
-    omega (arith, part_moves one.runs, one.inside)
-
-pub levels::or_links-returns-in_err-items : goal.levels::or_links-returns-in_err-items
-levels::or_links-returns-in_err-items t c =
-    no_memory grammar table _ links_of _ (many (part s.OrLink)) _ _ c.from_residual-in_err-items.ensures.1
-
-pub levels::or_links-returns : goal.levels::or_links-returns
-levels::or_links-returns t c =
-    found_stop links_of (part s.OrLink) c.requires.inside c.turn.invariant.0 (c.begins.ensures ∙ c.turn-test.false) refl c.in_ok-items.ensures.same
-
-pub levels::or_link-returns-in_err-word : goal.levels::or_link-returns-in_err-word
-levels::or_link-returns-in_err-word t c =
-    failed grammar table _ link_of _ (part s.OrLink) _ _ _ c.from_residual.ensures.1
-    (runs.part_fails (runs.first_fails (run_no_word grammar table _ c.in_err-word.ensures)))
-
-pub levels::or_link-returns-in_err-operand : goal.levels::or_link-returns-in_err-operand
-levels::or_link-returns-in_err-operand t c =
-    let word = c.in_ok-word.ensures in
-    failed grammar table _ link_of _ (part s.OrLink) _ _ _ c.from_residual-in_err-operand.ensures.1
-    (runs.part_fails (runs.next_fails (run_word grammar table _ word) c.in_err-operand.ensures))
-
-pub levels::or_link-returns : goal.levels::or_link-returns
-levels::or_link-returns t c =
-    let word = c.in_ok-word.ensures in
-    let operand = c.in_ok-operand.ensures in
-    read grammar table _ link_of c.requires.inside
-    (runs.part (runs.both (run_word grammar table _ word) operand.runs))
-    (λ i. record { operator = sym c.operator_of.ensures i; place = c.in_ok-word.word.now.place; operand = operand.shows i })
-
-pub levels::conj-returns-in_err-first : goal.levels::conj-returns-in_err-first
-levels::conj-returns-in_err-first t c =
-    failed grammar table _ expr_of _ (part s.Conj) _ _ _ c.from_residual.ensures.1
-    (runs.part_fails (runs.first_fails c.in_err-first.ensures))
-
-pub levels::conj-returns-in_err-links : goal.levels::conj-returns-in_err-links
-levels::conj-returns-in_err-links t c =
-    let first = c.in_ok-first.ensures in
-    failed grammar table _ expr_of _ (part s.Conj) _ _ _ c.from_residual-in_err-links.ensures.1
-    (runs.part_fails (runs.next_fails first.runs c.in_err-links.ensures))
-
-pub levels::conj-returns-in_err-chain : goal.levels::conj-returns-in_err-chain
-levels::conj-returns-in_err-chain t c =
-    no_memory grammar table _ expr_of _ (part s.Conj) _ _ c.from_residual-in_err-chain.ensures.1
-
-pub levels::conj-returns : goal.levels::conj-returns
-levels::conj-returns t c =
+pub levels::chain-returns : goal.levels::chain-returns
+levels::chain-returns t c =
+    let level = c.args.level in
     let first = c.in_ok-first.ensures in
     let links = c.in_ok-links.ensures in
     read grammar table _ expr_of c.requires.inside
-    (runs.part (runs.both first.runs links.runs))
-    ((λ i. chained (first.shows i) (links.shows i)) ∙ sym c.in_ok-chain.ensures)
+    (runs.part (run_by (chain_rule level) (runs.both first.runs links.runs)))
+    (chain_shows level first.tree links.tree ∙ ((λ i. chained (first.shows i) (links.shows i)) ∙ sym c.in_ok-chain.ensures))
 
-pub levels::and_links-turn-init : goal.levels::and_links-turn-init
-levels::and_links-turn-init t c =
-    (found_start links_of (part s.AndLink) c.new-found.ensures.items, c.requires.inside)
+pub levels::links-turn-init : goal.levels::links-turn-init
+levels::links-turn-init t c =
+    (found_start links_of (part (link_part c.args.level)) c.new-found.ensures.items, c.requires.inside)
 
-pub levels::and_links-returns-in_err-one : goal.levels::and_links-returns-in_err-one
-levels::and_links-returns-in_err-one t c =
-    failed grammar table _ links_of _ (many (part s.AndLink)) _ _ _ c.from_residual.ensures.1
-    (found_fails links_of (part s.AndLink) c.turn.invariant.0 (c.begins.ensures ∙ c.turn-test.true) c.in_err-one.ensures)
+pub levels::links-returns-in_err-one : goal.levels::links-returns-in_err-one
+levels::links-returns-in_err-one t c =
+    let level = c.args.level in
+    failed grammar table _ links_of _ (many (part (link_part level))) _ _ _ c.from_residual.ensures.1
+    (found_fails links_of (part (link_part level)) c.turn.invariant.0 (link_next c.args.tokens.now c.turn.end level c.signs.ensures c.begins.ensures c.turn-test.true) c.in_err-one.ensures)
 
-pub levels::and_links-returns-in_err-push : goal.levels::and_links-returns-in_err-push
-levels::and_links-returns-in_err-push t c =
-    no_memory grammar table _ links_of _ (many (part s.AndLink)) _ _ c.from_residual-in_err-push.ensures.1
+pub levels::links-returns-in_err-push : goal.levels::links-returns-in_err-push
+levels::links-returns-in_err-push t c =
+    no_memory grammar table _ links_of _ (many (part (link_part c.args.level))) _ _ c.from_residual-in_err-push.ensures.1
 
-pub levels::and_links-turn-preserved : goal.levels::and_links-turn-preserved
-levels::and_links-turn-preserved t c =
+pub levels::links-turn-preserved : goal.levels::links-turn-preserved
+levels::links-turn-preserved t c =
+    let level = c.args.level in
     let one = c.in_ok-one.ensures in
-    (found_more links_of (part s.AndLink) c.turn.invariant.0 (c.begins.ensures ∙ c.turn-test.true) one.runs (λ u i. one.shows i ∷ links_of u) c.in_ok-push.ensures.items, one.inside)
+    (found_more links_of (part (link_part level)) c.turn.invariant.0 (link_next c.args.tokens.now c.turn.end level c.signs.ensures c.begins.ensures c.turn-test.true) one.runs (λ u i. one.shows i ∷ links_of u) c.in_ok-push.ensures.items, one.inside)
 
-pub levels::and_links-turn-smaller : goal.levels::and_links-turn-smaller
-levels::and_links-turn-smaller t c =
-    let one = c.in_ok-one.ensures in
-    omega (arith, part_moves one.runs, one.inside)
-
-pub levels::and_links-returns-in_err-items : goal.levels::and_links-returns-in_err-items
-levels::and_links-returns-in_err-items t c =
-    no_memory grammar table _ links_of _ (many (part s.AndLink)) _ _ c.from_residual-in_err-items.ensures.1
-
-pub levels::and_links-returns : goal.levels::and_links-returns
-levels::and_links-returns t c =
-    found_stop links_of (part s.AndLink) c.requires.inside c.turn.invariant.0 (c.begins.ensures ∙ c.turn-test.false) refl c.in_ok-items.ensures.same
-
-pub levels::and_link-returns-in_err-word : goal.levels::and_link-returns-in_err-word
-levels::and_link-returns-in_err-word t c =
-    failed grammar table _ link_of _ (part s.AndLink) _ _ _ c.from_residual.ensures.1
-    (runs.part_fails (runs.first_fails (run_no_word grammar table _ c.in_err-word.ensures)))
-
-pub levels::and_link-returns-in_err-operand : goal.levels::and_link-returns-in_err-operand
-levels::and_link-returns-in_err-operand t c =
-    let word = c.in_ok-word.ensures in
-    failed grammar table _ link_of _ (part s.AndLink) _ _ _ c.from_residual-in_err-operand.ensures.1
-    (runs.part_fails (runs.next_fails (run_word grammar table _ word) c.in_err-operand.ensures))
-
-pub levels::and_link-returns : goal.levels::and_link-returns
-levels::and_link-returns t c =
-    let word = c.in_ok-word.ensures in
-    let operand = c.in_ok-operand.ensures in
-    read grammar table _ link_of c.requires.inside
-    (runs.part (runs.both (run_word grammar table _ word) operand.runs))
-    (λ i. record { operator = sym c.operator_of.ensures i; place = c.in_ok-word.word.now.place; operand = operand.shows i })
-
-pub terms::sum-returns-in_err-first : goal.terms::sum-returns-in_err-first
-terms::sum-returns-in_err-first t c =
-    failed grammar table _ expr_of _ (part s.Sum) _ _ _ c.from_residual.ensures.1
-    (runs.part_fails (runs.first_fails c.in_err-first.ensures))
-
-pub terms::sum-returns-in_err-links : goal.terms::sum-returns-in_err-links
-terms::sum-returns-in_err-links t c =
-    let first = c.in_ok-first.ensures in
-    failed grammar table _ expr_of _ (part s.Sum) _ _ _ c.from_residual-in_err-links.ensures.1
-    (runs.part_fails (runs.next_fails first.runs c.in_err-links.ensures))
-
-pub terms::sum-returns-in_err-chain : goal.terms::sum-returns-in_err-chain
-terms::sum-returns-in_err-chain t c =
-    no_memory grammar table _ expr_of _ (part s.Sum) _ _ c.from_residual-in_err-chain.ensures.1
-
-pub terms::sum-returns : goal.terms::sum-returns
-terms::sum-returns t c =
-    let first = c.in_ok-first.ensures in
-    let links = c.in_ok-links.ensures in
-    read grammar table _ expr_of c.requires.inside
-    (runs.part (runs.both first.runs links.runs))
-    ((λ i. chained (first.shows i) (links.shows i)) ∙ sym c.in_ok-chain.ensures)
-
-pub terms::sum_links-turn-init : goal.terms::sum_links-turn-init
-terms::sum_links-turn-init t c =
-    (found_start links_of (part s.SumLink) c.new-found.ensures.items, c.requires.inside)
-
-pub terms::sum_links-returns-in_err-one : goal.terms::sum_links-returns-in_err-one
-terms::sum_links-returns-in_err-one t c =
-    failed grammar table _ links_of _ (many (part s.SumLink)) _ _ _ c.from_residual.ensures.1
-    (found_fails links_of (part s.SumLink) c.turn.invariant.0 (c.begins.ensures ∙ c.turn-test.true) c.in_err-one.ensures)
-
-pub terms::sum_links-returns-in_err-push : goal.terms::sum_links-returns-in_err-push
-terms::sum_links-returns-in_err-push t c =
-    no_memory grammar table _ links_of _ (many (part s.SumLink)) _ _ c.from_residual-in_err-push.ensures.1
-
-pub terms::sum_links-turn-preserved : goal.terms::sum_links-turn-preserved
-terms::sum_links-turn-preserved t c =
-    let one = c.in_ok-one.ensures in
-    (found_more links_of (part s.SumLink) c.turn.invariant.0 (c.begins.ensures ∙ c.turn-test.true) one.runs (λ u i. one.shows i ∷ links_of u) c.in_ok-push.ensures.items, one.inside)
-
-pub terms::sum_links-turn-smaller : goal.terms::sum_links-turn-smaller
-terms::sum_links-turn-smaller t c =
+pub levels::links-turn-smaller : goal.levels::links-turn-smaller
+levels::links-turn-smaller t c =
     let one = c.in_ok-one.ensures in
     omega (arith, part_moves one.runs, one.inside)
 
-pub terms::sum_links-returns-in_err-items : goal.terms::sum_links-returns-in_err-items
-terms::sum_links-returns-in_err-items t c =
-    no_memory grammar table _ links_of _ (many (part s.SumLink)) _ _ c.from_residual-in_err-items.ensures.1
+pub levels::links-returns-in_err-items : goal.levels::links-returns-in_err-items
+levels::links-returns-in_err-items t c =
+    no_memory grammar table _ links_of _ (many (part (link_part c.args.level))) _ _ c.from_residual-in_err-items.ensures.1
 
-pub terms::sum_links-returns : goal.terms::sum_links-returns
-terms::sum_links-returns t c =
-    found_stop links_of (part s.SumLink) c.requires.inside c.turn.invariant.0 (c.begins.ensures ∙ c.turn-test.false) refl c.in_ok-items.ensures.same
+pub levels::links-returns : goal.levels::links-returns
+levels::links-returns t c =
+    let level = c.args.level in
+    found_stop links_of (part (link_part level)) c.requires.inside c.turn.invariant.0 (link_next c.args.tokens.now c.turn.end level c.signs.ensures c.begins.ensures c.turn-test.false) refl c.in_ok-items.ensures.same
 
-pub terms::sum_link-returns-in_err-word : goal.terms::sum_link-returns-in_err-word
-terms::sum_link-returns-in_err-word t c =
-    failed grammar table _ link_of _ (part s.SumLink) _ _ _ c.from_residual.ensures.1
-    (runs.part_fails (runs.first_fails (run_none_of (class.Sign Plus) (class.Sign Minus ∷ []) c.in_err-word.ensures)))
+pub levels::link-returns-in_err-word : goal.levels::link-returns-in_err-word
+levels::link-returns-in_err-word t c =
+    let level = c.args.level in
+    failed grammar table _ link_of _ (part (link_part level)) _ _ _ c.from_residual.ensures.1
+    (runs.part_fails (run_by (link_rule level) (runs.first_fails (run_no_operator level c.signs.ensures c.in_err-word.ensures))))
 
-pub terms::sum_link-returns-in_err-operand : goal.terms::sum_link-returns-in_err-operand
-terms::sum_link-returns-in_err-operand t c =
+pub levels::link-returns-in_err-right : goal.levels::link-returns-in_err-right
+levels::link-returns-in_err-right t c =
+    let level = c.args.level in
     let word = c.in_ok-word.ensures in
-    failed grammar table _ link_of _ (part s.SumLink) _ _ _ c.from_residual-in_err-operand.ensures.1
-    (runs.part_fails (runs.next_fails (run_one_of (class.Sign Plus) (class.Sign Minus ∷ []) word) c.in_err-operand.ensures))
+    failed grammar table _ link_of _ (part (link_part level)) _ _ _ c.from_residual-in_err-right.ensures.1
+    (runs.part_fails (run_by (link_rule level) (runs.next_fails (run_operator level c.signs.ensures word) c.in_err-right.ensures)))
 
-pub terms::sum_link-returns : goal.terms::sum_link-returns
-terms::sum_link-returns t c =
+pub levels::link-returns : goal.levels::link-returns
+levels::link-returns t c =
+    let level = c.args.level in
     let word = c.in_ok-word.ensures in
-    let operand = c.in_ok-operand.ensures in
+    let right = c.in_ok-right.ensures in
     read grammar table _ link_of c.requires.inside
-    (runs.part (runs.both (run_one_of (class.Sign Plus) (class.Sign Minus ∷ []) word) operand.runs))
-    (λ i. record { operator = sym c.operator_of.ensures i; place = c.in_ok-word.word.now.place; operand = operand.shows i })
-
-pub terms::prod-returns-in_err-first : goal.terms::prod-returns-in_err-first
-terms::prod-returns-in_err-first t c =
-    failed grammar table _ expr_of _ (part s.Prod) _ _ _ c.from_residual.ensures.1
-    (runs.part_fails (runs.first_fails c.in_err-first.ensures))
-
-pub terms::prod-returns-in_err-links : goal.terms::prod-returns-in_err-links
-terms::prod-returns-in_err-links t c =
-    let first = c.in_ok-first.ensures in
-    failed grammar table _ expr_of _ (part s.Prod) _ _ _ c.from_residual-in_err-links.ensures.1
-    (runs.part_fails (runs.next_fails first.runs c.in_err-links.ensures))
-
-pub terms::prod-returns-in_err-chain : goal.terms::prod-returns-in_err-chain
-terms::prod-returns-in_err-chain t c =
-    no_memory grammar table _ expr_of _ (part s.Prod) _ _ c.from_residual-in_err-chain.ensures.1
-
-pub terms::prod-returns : goal.terms::prod-returns
-terms::prod-returns t c =
-    let first = c.in_ok-first.ensures in
-    let links = c.in_ok-links.ensures in
-    read grammar table _ expr_of c.requires.inside
-    (runs.part (runs.both first.runs links.runs))
-    ((λ i. chained (first.shows i) (links.shows i)) ∙ sym c.in_ok-chain.ensures)
-
-pub terms::prod_links-turn-init : goal.terms::prod_links-turn-init
-terms::prod_links-turn-init t c =
-    (found_start links_of (part s.ProdLink) c.new-found.ensures.items, c.requires.inside)
-
-pub terms::prod_links-returns-in_err-one : goal.terms::prod_links-returns-in_err-one
-terms::prod_links-returns-in_err-one t c =
-    failed grammar table _ links_of _ (many (part s.ProdLink)) _ _ _ c.from_residual.ensures.1
-    (found_fails links_of (part s.ProdLink) c.turn.invariant.0 (c.begins.ensures ∙ c.turn-test.true) c.in_err-one.ensures)
-
-pub terms::prod_links-returns-in_err-push : goal.terms::prod_links-returns-in_err-push
-terms::prod_links-returns-in_err-push t c =
-    no_memory grammar table _ links_of _ (many (part s.ProdLink)) _ _ c.from_residual-in_err-push.ensures.1
-
-pub terms::prod_links-turn-preserved : goal.terms::prod_links-turn-preserved
-terms::prod_links-turn-preserved t c =
-    let one = c.in_ok-one.ensures in
-    (found_more links_of (part s.ProdLink) c.turn.invariant.0 (c.begins.ensures ∙ c.turn-test.true) one.runs (λ u i. one.shows i ∷ links_of u) c.in_ok-push.ensures.items, one.inside)
-
-pub terms::prod_links-turn-smaller : goal.terms::prod_links-turn-smaller
-terms::prod_links-turn-smaller t c =
-    let one = c.in_ok-one.ensures in
-    omega (arith, part_moves one.runs, one.inside)
-
-pub terms::prod_links-returns-in_err-items : goal.terms::prod_links-returns-in_err-items
-terms::prod_links-returns-in_err-items t c =
-    no_memory grammar table _ links_of _ (many (part s.ProdLink)) _ _ c.from_residual-in_err-items.ensures.1
-
-pub terms::prod_links-returns : goal.terms::prod_links-returns
-terms::prod_links-returns t c =
-    found_stop links_of (part s.ProdLink) c.requires.inside c.turn.invariant.0 (c.begins.ensures ∙ c.turn-test.false) refl c.in_ok-items.ensures.same
-
-pub terms::prod_link-returns-in_err-word : goal.terms::prod_link-returns-in_err-word
-terms::prod_link-returns-in_err-word t c =
-    failed grammar table _ link_of _ (part s.ProdLink) _ _ _ c.from_residual.ensures.1
-    (runs.part_fails (runs.first_fails (run_none_of (class.Sign Star) (class.Sign Slash ∷ class.Word DivWord ∷ class.Word ModWord ∷ []) c.in_err-word.ensures)))
-
-pub terms::prod_link-returns-in_err-operand : goal.terms::prod_link-returns-in_err-operand
-terms::prod_link-returns-in_err-operand t c =
-    let word = c.in_ok-word.ensures in
-    failed grammar table _ link_of _ (part s.ProdLink) _ _ _ c.from_residual-in_err-operand.ensures.1
-    (runs.part_fails (runs.next_fails (run_one_of (class.Sign Star) (class.Sign Slash ∷ class.Word DivWord ∷ class.Word ModWord ∷ []) word) c.in_err-operand.ensures))
-
-pub terms::prod_link-returns : goal.terms::prod_link-returns
-terms::prod_link-returns t c =
-    let word = c.in_ok-word.ensures in
-    let operand = c.in_ok-operand.ensures in
-    read grammar table _ link_of c.requires.inside
-    (runs.part (runs.both (run_one_of (class.Sign Star) (class.Sign Slash ∷ class.Word DivWord ∷ class.Word ModWord ∷ []) word) operand.runs))
-    (λ i. record { operator = sym c.operator_of.ensures i; place = c.in_ok-word.word.now.place; operand = operand.shows i })
+    (runs.part (run_by (link_rule level) (runs.both (run_operator level c.signs.ensures word) right.runs)))
+    (link_shows level c.in_ok-word.word.now right.tree ∙ (λ i. record { operator = sym c.operator_of.ensures i; place = c.in_ok-word.word.now.place; operand = right.shows i }))
 
 pub levels::neg-returns-then-begins : goal.levels::neg-returns-then-begins
 levels::neg-returns-then-begins t c =
