@@ -1,4 +1,3 @@
 pub mod Shapes
-pub mod Loops
 pub mod Stretch
 pub mod Ending

@@ -1,4 +1,4 @@
 pub mod Words
 pub mod Shapes
-pub mod Lists
+pub mod Loops
 pub mod Grouping

@@ -21,7 +21,7 @@ use Rattle.chi_parse_expr.specs.Grouping.{chain_part, link_part}
 use Rattle.chi_parse_expr.proofs.Words.{run_one_of, run_none_of}
 use Rattle.chi_parse_expr.proofs.Grouping.{chain_rule, chain_shows, link_rule, link_shows, link_next, run_by, run_operator, run_no_operator}
 use Rattle.chi_parse_expr.proofs.Shapes.{optional_part, called_part, carried_type, formal_name, reads_same}
-use Rattle.chi_parse_expr.proofs.Lists.{found_start, found_more, found_fails, found_stop, part_moves}
+use Rattle.chi_parse_expr.proofs.Loops.{gathered_start, gathered_more, gathered_fails, gathered_stop, part_moves}
 use Rattle.chi_parse_expr.proofs.+expr.Goals as goal
 
 pub levels::chain-returns-in_err-first : goal.levels::chain-returns-in_err-first
@@ -52,13 +52,13 @@ levels::chain-returns t c =
 
 pub levels::links-turn-init : goal.levels::links-turn-init
 levels::links-turn-init t c =
-    (found_start links_of (part (link_part c.args.level)) c.new-found.ensures.items, c.requires.inside)
+    gathered_start _ [] c.new-found.ensures.items (λ u. refl) c.requires.inside
 
 pub levels::links-returns-in_err-one : goal.levels::links-returns-in_err-one
 levels::links-returns-in_err-one t c =
     let level = c.args.level in
     failed grammar table _ links_of _ (many (part (link_part level))) _ _ _ c.from_residual.ensures.1
-    (found_fails links_of (part (link_part level)) c.turn.invariant.0 (link_next c.args.tokens.now c.turn.end level c.signs.ensures c.begins.ensures c.turn-test.true) c.in_err-one.ensures)
+    (gathered_fails _ c.turn.invariant (link_next c.args.tokens.now c.turn.end level c.signs.ensures c.begins.ensures c.turn-test.true) c.in_err-one.ensures)
 
 pub levels::links-returns-in_err-push : goal.levels::links-returns-in_err-push
 levels::links-returns-in_err-push t c =
@@ -68,7 +68,7 @@ pub levels::links-turn-preserved : goal.levels::links-turn-preserved
 levels::links-turn-preserved t c =
     let level = c.args.level in
     let one = c.in_ok-one.ensures in
-    (found_more links_of (part (link_part level)) c.turn.invariant.0 (link_next c.args.tokens.now c.turn.end level c.signs.ensures c.begins.ensures c.turn-test.true) one.runs (λ u i. one.shows i ∷ links_of u) c.in_ok-push.ensures.items, one.inside)
+    gathered_more c.turn.invariant (link_next c.args.tokens.now c.turn.end level c.signs.ensures c.begins.ensures c.turn-test.true) one.runs _ (λ u i. one.shows i ∷ links_of u) one.inside _ c.in_ok-push.ensures.items
 
 pub levels::links-turn-smaller : goal.levels::links-turn-smaller
 levels::links-turn-smaller t c =
@@ -82,7 +82,7 @@ levels::links-returns-in_err-items t c =
 pub levels::links-returns : goal.levels::links-returns
 levels::links-returns t c =
     let level = c.args.level in
-    found_stop links_of (part (link_part level)) c.requires.inside c.turn.invariant.0 (link_next c.args.tokens.now c.turn.end level c.signs.ensures c.begins.ensures c.turn-test.false) refl c.in_ok-items.ensures.same
+    gathered_stop c.turn.invariant (link_next c.args.tokens.now c.turn.end level c.signs.ensures c.begins.ensures c.turn-test.false) refl c.requires.inside _ c.in_ok-items.ensures.same
 
 pub levels::link-returns-in_err-word : goal.levels::link-returns-in_err-word
 levels::link-returns-in_err-word t c =
@@ -297,12 +297,12 @@ postfixes::post-returns t c =
 
 pub postfixes::postfixes-turn-init : goal.postfixes::postfixes-turn-init
 postfixes::postfixes-turn-init t c =
-    (found_start postfixes_of (part s.Postfix) c.new-found.ensures.items, c.requires.inside)
+    gathered_start _ [] c.new-found.ensures.items (λ u. refl) c.requires.inside
 
 pub postfixes::postfixes-returns-in_err-one : goal.postfixes::postfixes-returns-in_err-one
 postfixes::postfixes-returns-in_err-one t c =
     failed grammar table _ postfixes_of _ (many (part s.Postfix)) _ _ _ c.from_residual.ensures.1
-    (found_fails postfixes_of (part s.Postfix) c.turn.invariant.0 (c.begins.ensures ∙ c.turn-test.true) c.in_err-one.ensures)
+    (gathered_fails _ c.turn.invariant (c.begins.ensures ∙ c.turn-test.true) c.in_err-one.ensures)
 
 pub postfixes::postfixes-returns-in_err-push : goal.postfixes::postfixes-returns-in_err-push
 postfixes::postfixes-returns-in_err-push t c =
@@ -311,7 +311,7 @@ postfixes::postfixes-returns-in_err-push t c =
 pub postfixes::postfixes-turn-preserved : goal.postfixes::postfixes-turn-preserved
 postfixes::postfixes-turn-preserved t c =
     let one = c.in_ok-one.ensures in
-    (found_more postfixes_of (part s.Postfix) c.turn.invariant.0 (c.begins.ensures ∙ c.turn-test.true) one.runs (λ u i. one.shows i ∷ postfixes_of u) c.in_ok-push.ensures.items, one.inside)
+    gathered_more c.turn.invariant (c.begins.ensures ∙ c.turn-test.true) one.runs _ (λ u i. one.shows i ∷ postfixes_of u) one.inside _ c.in_ok-push.ensures.items
 
 pub postfixes::postfixes-turn-smaller : goal.postfixes::postfixes-turn-smaller
 postfixes::postfixes-turn-smaller t c =
@@ -324,7 +324,7 @@ postfixes::postfixes-returns-in_err-items t c =
 
 pub postfixes::postfixes-returns : goal.postfixes::postfixes-returns
 postfixes::postfixes-returns t c =
-    found_stop postfixes_of (part s.Postfix) c.requires.inside c.turn.invariant.0 (c.begins.ensures ∙ c.turn-test.false) refl c.in_ok-items.ensures.same
+    gathered_stop c.turn.invariant (c.begins.ensures ∙ c.turn-test.false) refl c.requires.inside _ c.in_ok-items.ensures.same
 
 pub postfixes::postfix-returns-then-begins : goal.postfixes::postfix-returns-then-begins
 postfixes::postfix-returns-then-begins t c =
@@ -736,18 +736,17 @@ sequences::exprs_after-returns t c =
 
 pub sequences::more_exprs-turn-init : goal.sequences::more_exprs-turn-init
 sequences::more_exprs-turn-init t c =
-    (found_start more_exprs_of (sign Comma ▸ part s.Expr) refl, c.requires.inside)
+    gathered_start _ c.args.found.items refl (λ u. refl) c.requires.inside
 
 pub sequences::more_exprs-returns-in_err-start : goal.sequences::more_exprs-returns-in_err-start
 sequences::more_exprs-returns-in_err-start t c =
     failed grammar table _ (λ t. c.args.found.items ++ more_exprs_of t) _ (many (sign Comma ▸ part s.Expr)) _ _ _ c.from_residual.ensures.1
-    (found_fails more_exprs_of (sign Comma ▸ part s.Expr) c.turn.invariant.0 (c.begins.ensures ∙ c.turn-test.true) (runs.first_fails (run_no_word grammar table _ c.in_err-start.ensures)))
+    (gathered_fails _ c.turn.invariant (c.begins.ensures ∙ c.turn-test.true) (runs.first_fails (run_no_word grammar table _ c.in_err-start.ensures)))
 
 pub sequences::more_exprs-returns-in_err-one : goal.sequences::more_exprs-returns-in_err-one
 sequences::more_exprs-returns-in_err-one t c =
     failed grammar table _ (λ t. c.args.found.items ++ more_exprs_of t) _ (many (sign Comma ▸ part s.Expr)) _ _ _ c.from_residual-in_err-one.ensures.1
-    (found_fails more_exprs_of (sign Comma ▸ part s.Expr) c.turn.invariant.0 (c.begins.ensures ∙ c.turn-test.true)
-    (runs.next_fails (run_word grammar table _ c.in_ok-start.ensures) c.in_err-one.ensures))
+    (gathered_fails _ c.turn.invariant (c.begins.ensures ∙ c.turn-test.true) (runs.next_fails (run_word grammar table _ c.in_ok-start.ensures) c.in_err-one.ensures))
 
 pub sequences::more_exprs-returns-in_err-push : goal.sequences::more_exprs-returns-in_err-push
 sequences::more_exprs-returns-in_err-push t c =
@@ -756,7 +755,7 @@ sequences::more_exprs-returns-in_err-push t c =
 pub sequences::more_exprs-turn-preserved : goal.sequences::more_exprs-turn-preserved
 sequences::more_exprs-turn-preserved t c =
     let one = c.in_ok-one.ensures in
-    (found_more more_exprs_of (sign Comma ▸ part s.Expr) c.turn.invariant.0 (c.begins.ensures ∙ c.turn-test.true) (runs.both (run_word grammar table _ c.in_ok-start.ensures) one.runs) (λ u i. one.shows i ∷ more_exprs_of u) c.in_ok-push.ensures.items, one.inside)
+    gathered_more c.turn.invariant (c.begins.ensures ∙ c.turn-test.true) (runs.both (run_word grammar table _ c.in_ok-start.ensures) one.runs) _ (λ u i. one.shows i ∷ more_exprs_of u) one.inside _ c.in_ok-push.ensures.items
 
 pub sequences::more_exprs-returns-in_err-items : goal.sequences::more_exprs-returns-in_err-items
 sequences::more_exprs-returns-in_err-items t c =
@@ -764,7 +763,7 @@ sequences::more_exprs-returns-in_err-items t c =
 
 pub sequences::more_exprs-returns : goal.sequences::more_exprs-returns
 sequences::more_exprs-returns t c =
-    found_stop more_exprs_of (sign Comma ▸ part s.Expr) c.requires.inside c.turn.invariant.0 (c.begins.ensures ∙ c.turn-test.false) refl c.in_ok-items.ensures.same
+    gathered_stop c.turn.invariant (c.begins.ensures ∙ c.turn-test.false) refl c.requires.inside _ c.in_ok-items.ensures.same
 
 pub braces::curly-returns-in_err-inner : goal.braces::curly-returns-in_err-inner
 braces::curly-returns-in_err-inner t c =
@@ -886,12 +885,12 @@ braces::entries-returns t c =
 
 pub braces::more_entries-turn-init : goal.braces::more_entries-turn-init
 braces::more_entries-turn-init t c =
-    (found_start entries_of (part s.MoreEntry) refl, c.requires.inside)
+    gathered_start _ c.args.found.items refl (λ u. refl) c.requires.inside
 
 pub braces::more_entries-returns-in_err-one : goal.braces::more_entries-returns-in_err-one
 braces::more_entries-returns-in_err-one t c =
     failed grammar table _ (λ t. c.args.found.items ++ entries_of t) _ (many (part s.MoreEntry)) _ _ _ c.from_residual.ensures.1
-    (found_fails entries_of (part s.MoreEntry) c.turn.invariant.0 (c.begins.ensures ∙ c.turn-test.true) c.in_err-one.ensures)
+    (gathered_fails _ c.turn.invariant (c.begins.ensures ∙ c.turn-test.true) c.in_err-one.ensures)
 
 pub braces::more_entries-returns-in_err-push : goal.braces::more_entries-returns-in_err-push
 braces::more_entries-returns-in_err-push t c =
@@ -900,7 +899,7 @@ braces::more_entries-returns-in_err-push t c =
 pub braces::more_entries-turn-preserved : goal.braces::more_entries-turn-preserved
 braces::more_entries-turn-preserved t c =
     let one = c.in_ok-one.ensures in
-    (found_more entries_of (part s.MoreEntry) c.turn.invariant.0 (c.begins.ensures ∙ c.turn-test.true) one.runs (λ u i. one.shows i ∷ entries_of u) c.in_ok-push.ensures.items, one.inside)
+    gathered_more c.turn.invariant (c.begins.ensures ∙ c.turn-test.true) one.runs _ (λ u i. one.shows i ∷ entries_of u) one.inside _ c.in_ok-push.ensures.items
 
 pub braces::more_entries-turn-smaller : goal.braces::more_entries-turn-smaller
 braces::more_entries-turn-smaller t c =
@@ -913,7 +912,7 @@ braces::more_entries-returns-in_err-items t c =
 
 pub braces::more_entries-returns : goal.braces::more_entries-returns
 braces::more_entries-returns t c =
-    found_stop entries_of (part s.MoreEntry) c.requires.inside c.turn.invariant.0 (c.begins.ensures ∙ c.turn-test.false) refl c.in_ok-items.ensures.same
+    gathered_stop c.turn.invariant (c.begins.ensures ∙ c.turn-test.false) refl c.requires.inside _ c.in_ok-items.ensures.same
 
 pub braces::more_entry-returns-in_err-start : goal.braces::more_entry-returns-in_err-start
 braces::more_entry-returns-in_err-start t c =
@@ -1320,12 +1319,12 @@ compounds::fields-returns t c =
 
 pub compounds::more_fields-turn-init : goal.compounds::more_fields-turn-init
 compounds::more_fields-turn-init t c =
-    (found_start more_formals_of (part s.MoreField) refl, c.requires.inside)
+    gathered_start _ c.args.found.items refl (λ u. refl) c.requires.inside
 
 pub compounds::more_fields-returns-in_err-one : goal.compounds::more_fields-returns-in_err-one
 compounds::more_fields-returns-in_err-one t c =
     failed grammar table _ (λ t. c.args.found.items ++ more_formals_of t) _ (many (part s.MoreField)) _ _ _ c.from_residual.ensures.1
-    (found_fails more_formals_of (part s.MoreField) c.turn.invariant.0 (c.begins.ensures ∙ c.turn-test.true) c.in_err-one.ensures)
+    (gathered_fails _ c.turn.invariant (c.begins.ensures ∙ c.turn-test.true) c.in_err-one.ensures)
 
 pub compounds::more_fields-returns-in_err-push : goal.compounds::more_fields-returns-in_err-push
 compounds::more_fields-returns-in_err-push t c =
@@ -1334,7 +1333,7 @@ compounds::more_fields-returns-in_err-push t c =
 pub compounds::more_fields-turn-preserved : goal.compounds::more_fields-turn-preserved
 compounds::more_fields-turn-preserved t c =
     let one = c.in_ok-one.ensures in
-    (found_more more_formals_of (part s.MoreField) c.turn.invariant.0 (c.begins.ensures ∙ c.turn-test.true) one.runs (λ u i. one.shows i ∷ more_formals_of u) c.in_ok-push.ensures.items, one.inside)
+    gathered_more c.turn.invariant (c.begins.ensures ∙ c.turn-test.true) one.runs _ (λ u i. one.shows i ∷ more_formals_of u) one.inside _ c.in_ok-push.ensures.items
 
 pub compounds::more_fields-turn-smaller : goal.compounds::more_fields-turn-smaller
 compounds::more_fields-turn-smaller t c =
@@ -1347,7 +1346,7 @@ compounds::more_fields-returns-in_err-items t c =
 
 pub compounds::more_fields-returns : goal.compounds::more_fields-returns
 compounds::more_fields-returns t c =
-    found_stop more_formals_of (part s.MoreField) c.requires.inside c.turn.invariant.0 (c.begins.ensures ∙ c.turn-test.false) refl c.in_ok-items.ensures.same
+    gathered_stop c.turn.invariant (c.begins.ensures ∙ c.turn-test.false) refl c.requires.inside _ c.in_ok-items.ensures.same
 
 pub compounds::more_field-returns-in_err-start : goal.compounds::more_field-returns-in_err-start
 compounds::more_field-returns-in_err-start t c =

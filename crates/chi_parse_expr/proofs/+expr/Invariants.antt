@@ -1,4 +1,4 @@
-use Rattle.std.proofs.Common.{◌+◌, ◌-◌, ◌*◌, ◌≤◌, [], length}
+use Rattle.std.proofs.Common.{◌+◌, ◌-◌, ◌*◌, ◌++◌, length}
 use Rattle.chi_grammar.specs.Rules.{part, ◌▸◌}
 use Rattle.chi_token.specs.declared.sign.Sign.TheVariants.{Comma}
 use Rattle.chi_tree.specs.Parts as s
@@ -6,7 +6,7 @@ use Rattle.chi_tree.specs.Rules.{sign}
 use Rattle.chi_tree.specs.View.{entries_of, links_of, more_exprs_of, more_formals_of, postfixes_of}
 use Rattle.chi_parse_expr.specs.Grouping.{link_part}
 use Rattle.chi_parse_expr.proofs.Grouping.{height}
-use Rattle.chi_parse_expr.proofs.Lists.{Found}
+use Rattle.chi_parse_expr.proofs.Loops.{Gathered}
 use Rattle.chi_parse_expr.proofs.+expr.Given as goal
 
 abbrev pub decreases-blanks::blank : goal.decreases-blanks::blank
@@ -182,35 +182,35 @@ decreases-types::set_type l = 38 * l.room.expressions + 1
 
 abbrev pub invariant-levels::links-turn : goal.invariant-levels::links-turn
 invariant-levels::links-turn l =
-    Found links_of l.fn.tokens l.fn.room (part (link_part l.fn.level)) l.fn.at [] l.found.items l.end × (l.end ≤ length l.tokens)
+    Gathered links_of links_of l.fn.tokens l.fn.room (part (link_part l.fn.level)) l.fn.at l.end l.found.items
 
 abbrev pub decreases-levels::links-turn : goal.decreases-levels::links-turn
 decreases-levels::links-turn l = length l.tokens - l.end
 
 abbrev pub invariant-postfixes::postfixes-turn : goal.invariant-postfixes::postfixes-turn
 invariant-postfixes::postfixes-turn l =
-    Found postfixes_of l.fn.tokens l.fn.room (part s.Postfix) l.fn.at [] l.found.items l.end × (l.end ≤ length l.tokens)
+    Gathered postfixes_of postfixes_of l.fn.tokens l.fn.room (part s.Postfix) l.fn.at l.end l.found.items
 
 abbrev pub decreases-postfixes::postfixes-turn : goal.decreases-postfixes::postfixes-turn
 decreases-postfixes::postfixes-turn l = length l.tokens - l.end
 
 abbrev pub invariant-sequences::more_exprs-turn : goal.invariant-sequences::more_exprs-turn
 invariant-sequences::more_exprs-turn l =
-    Found more_exprs_of l.fn.tokens l.fn.room (sign Comma ▸ part s.Expr) l.fn.at l.fn.found.items l.found.items l.end × (l.end ≤ length l.tokens)
+    Gathered (λ ts. l.fn.found.items ++ more_exprs_of ts) more_exprs_of l.fn.tokens l.fn.room (sign Comma ▸ part s.Expr) l.fn.at l.end l.found.items
 
 abbrev pub decreases-sequences::more_exprs-turn : goal.decreases-sequences::more_exprs-turn
 decreases-sequences::more_exprs-turn l = length l.tokens - l.end
 
 abbrev pub invariant-braces::more_entries-turn : goal.invariant-braces::more_entries-turn
 invariant-braces::more_entries-turn l =
-    Found entries_of l.fn.tokens l.fn.room (part s.MoreEntry) l.fn.at l.fn.found.items l.found.items l.end × (l.end ≤ length l.tokens)
+    Gathered (λ ts. l.fn.found.items ++ entries_of ts) entries_of l.fn.tokens l.fn.room (part s.MoreEntry) l.fn.at l.end l.found.items
 
 abbrev pub decreases-braces::more_entries-turn : goal.decreases-braces::more_entries-turn
 decreases-braces::more_entries-turn l = length l.tokens - l.end
 
 abbrev pub invariant-compounds::more_fields-turn : goal.invariant-compounds::more_fields-turn
 invariant-compounds::more_fields-turn l =
-    Found more_formals_of l.fn.tokens l.fn.room (part s.MoreField) l.fn.at l.fn.found.items l.found.items l.end × (l.end ≤ length l.tokens)
+    Gathered (λ ts. l.fn.found.items ++ more_formals_of ts) more_formals_of l.fn.tokens l.fn.room (part s.MoreField) l.fn.at l.end l.found.items
 
 abbrev pub decreases-compounds::more_fields-turn : goal.decreases-compounds::more_fields-turn
 decreases-compounds::more_fields-turn l = length l.tokens - l.end

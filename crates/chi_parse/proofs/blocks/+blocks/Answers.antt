@@ -14,7 +14,7 @@ use Rattle.chi_tree.specs.Statements.{statement_of, block_of, inner_of, body_of,
 use Rattle.chi_parse.specs.Heads.{shown}
 use Rattle.chi_parse.proofs.Shapes.{by_part, reads_as}
 use Rattle.chi_parse.proofs.Stretch.{Before, begun_fails, statement_ahead, turn, stretch_start, stretch_before, stretch_end, smaller}
-use Rattle.chi_parse.proofs.Loops.{gathered_start, gathered_more, gathered_stop, gathered_fails}
+use Rattle.chi_parse_expr.proofs.Loops.{gathered_start, gathered_more, gathered_stop, gathered_fails}
 use Rattle.chi_parse.proofs.blocks.+blocks.Goals as goal
 
 pub statement-returns-in_err-statement : goal.statement-returns-in_err-statement

@@ -4,7 +4,7 @@ use Rattle.chi_grammar.specs.Rules.{part, ◌▸◌}
 use Rattle.chi_tree.specs.Parts as s
 use Rattle.chi_tree.specs.Rules.{keyword}
 use Rattle.chi_tree.specs.Statements.{elifs_of, more_alternatives_of}
-use Rattle.chi_parse.proofs.Loops.{Gathered}
+use Rattle.chi_parse_expr.proofs.Loops.{Gathered}
 use Rattle.chi_parse.proofs.Stretch.{Stretch}
 use Rattle.chi_parse.proofs.blocks.+blocks.Given as goal
 

@@ -4,7 +4,7 @@ use Rattle.chi_grammar.specs.Rules.{part, ◌▸◌}
 use Rattle.chi_tree.specs.Parts as s
 use Rattle.chi_tree.specs.Rules.{sign}
 use Rattle.chi_tree.specs.Statements.{more_variables_of}
-use Rattle.chi_parse.proofs.Loops.{Gathered}
+use Rattle.chi_parse_expr.proofs.Loops.{Gathered}
 use Rattle.chi_parse.proofs.declared.more_variables.Given as goal
 
 abbrev pub invariant-turn : goal.invariant-turn

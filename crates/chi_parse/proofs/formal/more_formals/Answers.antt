@@ -6,7 +6,7 @@ use Rattle.chi_tree.specs.Rules.{grammar}
 use Rattle.chi_tree.specs.Tables.{table}
 use Rattle.chi_tree.specs.View.{more_formals_of}
 use Rattle.chi_parse.proofs.Shapes.{run_ahead}
-use Rattle.chi_parse.proofs.Loops.{gathered_start, gathered_more, gathered_stop, gathered_fails}
+use Rattle.chi_parse_expr.proofs.Loops.{gathered_start, gathered_more, gathered_stop, gathered_fails}
 use Rattle.chi_parse.proofs.formal.more_formals.Goals as goal
 
 pub returns-in_err-push : goal.returns-in_err-push

@@ -2,7 +2,7 @@ use Rattle.std.proofs.Common.{◌-◌, ◌∷◌, length}
 use Rattle.chi_grammar.specs.Rules.{part}
 use Rattle.chi_tree.specs.Parts as s
 use Rattle.chi_tree.specs.View.{more_formals_of}
-use Rattle.chi_parse.proofs.Loops.{Gathered}
+use Rattle.chi_parse_expr.proofs.Loops.{Gathered}
 use Rattle.chi_parse.proofs.formal.more_formals.Given as goal
 
 abbrev pub invariant-turn : goal.invariant-turn

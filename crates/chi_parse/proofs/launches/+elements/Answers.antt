@@ -10,7 +10,7 @@ use Rattle.chi_tree.specs.Rules.{grammar, sign}
 use Rattle.chi_tree.specs.Tables.{table}
 use Rattle.chi_tree.specs.Statements.{elements_of, more_elements_of, element_of}
 use Rattle.chi_parse.proofs.Shapes.{reads_as}
-use Rattle.chi_parse.proofs.Loops.{gathered_start, gathered_more, gathered_stop, gathered_fails}
+use Rattle.chi_parse_expr.proofs.Loops.{gathered_start, gathered_more, gathered_stop, gathered_fails}
 use Rattle.chi_parse.proofs.launches.+elements.Goals as goal
 
 pub elements-returns-in_err-first : goal.elements-returns-in_err-first

@@ -4,7 +4,7 @@ use Rattle.chi_grammar.specs.Rules.{part, ◌▸◌}
 use Rattle.chi_tree.specs.Parts as s
 use Rattle.chi_tree.specs.Rules.{sign}
 use Rattle.chi_tree.specs.Statements.{more_elements_of}
-use Rattle.chi_parse.proofs.Loops.{Gathered}
+use Rattle.chi_parse_expr.proofs.Loops.{Gathered}
 use Rattle.chi_parse.proofs.launches.+elements.Given as goal
 
 abbrev pub invariant-more_elements-turn : goal.invariant-more_elements-turn

@@ -7,7 +7,7 @@ use Rattle.chi_tree.specs.Parts as s
 use Rattle.chi_tree.specs.Rules.{grammar, sign}
 use Rattle.chi_tree.specs.Tables.{table}
 use Rattle.chi_tree.specs.Statements.{more_targets_of}
-use Rattle.chi_parse.proofs.Loops.{gathered_start, gathered_more, gathered_stop, gathered_fails}
+use Rattle.chi_parse_expr.proofs.Loops.{gathered_start, gathered_more, gathered_stop, gathered_fails}
 use Rattle.chi_parse.proofs.targets.more_targets.Goals as goal
 
 pub returns-in_err-push : goal.returns-in_err-push

@@ -6,7 +6,7 @@ use Rattle.chi_tree.specs.Rules.{grammar}
 use Rattle.chi_tree.specs.Tables.{table}
 use Rattle.chi_tree.specs.View.{postfixes_of}
 use Rattle.chi_parse.proofs.Shapes.{run_ahead}
-use Rattle.chi_parse.proofs.Loops.{gathered_start, gathered_more, gathered_stop, gathered_fails}
+use Rattle.chi_parse_expr.proofs.Loops.{gathered_start, gathered_more, gathered_stop, gathered_fails}
 use Rattle.chi_parse.proofs.targets.target_steps.Goals as goal
 
 pub turn-init : goal.turn-init

@@ -7,7 +7,7 @@ use Rattle.chi_tree.specs.Rules.{grammar, name, sign}
 use Rattle.chi_tree.specs.Tables.{table}
 use Rattle.chi_tree.specs.View.{more_names_in}
 use Rattle.chi_parse.proofs.Shapes.{any_room}
-use Rattle.chi_parse.proofs.Loops.{gathered_start, gathered_more, gathered_stop, gathered_fails}
+use Rattle.chi_parse_expr.proofs.Loops.{gathered_start, gathered_more, gathered_stop, gathered_fails}
 use Rattle.chi_parse.proofs.walks.more_names.Goals as goal
 
 pub returns-in_err-push : goal.returns-in_err-push

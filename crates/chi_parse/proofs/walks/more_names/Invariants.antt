@@ -4,7 +4,7 @@ use Rattle.chi_token.specs.declared.sign.Sign.TheVariants as sign_of
 use Rattle.chi_grammar.specs.Rules.{◌▸◌}
 use Rattle.chi_tree.specs.Rules.{name, sign}
 use Rattle.chi_tree.specs.View.{more_names_in}
-use Rattle.chi_parse.proofs.Loops.{Gathered}
+use Rattle.chi_parse_expr.proofs.Loops.{Gathered}
 use Rattle.chi_parse.proofs.walks.more_names.Given as goal
 
 abbrev pub invariant-turn : goal.invariant-turn

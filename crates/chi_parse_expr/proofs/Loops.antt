@@ -1,19 +1,23 @@
 -- Loops that collect what they read.
-use Rattle.std.proofs.Common.{◌≡◌, ℕ, ◌≤◌, true, false, List, [], ◌∷◌, ◌++◌, length, refl, sym, ap, ◌∙◌, append_assoc}
+use Rattle.std.proofs.Common.{◌≡◌, ℕ, ◌<◌, ◌≤◌, true, false, List, [], ◌∷◌, ◌++◌, length, refl, sym, ap, ◌∙◌, append_assoc}
 use Rattle.std.proofs.lemmas.List.{append-nil}
 use Rattle.chi_grammar.specs.declared.fault.ParseFault.{ParseFault}
 use Rattle.chi_grammar.specs.declared.room.Room.{Room}
-use Rattle.chi_grammar.specs.Rules.{Rule, none, pair, many}
+use Rattle.chi_grammar.specs.Rules.{Rule, none, pair, part, many}
 use Rattle.chi_grammar.specs.Lookahead.{Next, first}
 use Rattle.chi_grammar.specs.Reads.{Along, ReadsTree, attach}
 use Rattle.chi_grammar.specs.Runs.{Done, Fail, Runs}
 use Rattle.chi_grammar.proofs.Exits.{read}
+use Rattle.chi_grammar.proofs.Decided.{decided}
+use Rattle.chi_grammar.proofs.Starts.{takes}
+use Rattle.chi_grammar.proofs.Answers.{means}
 use Rattle.chi_grammar.proofs.Loops.{along_start, along_more, along_stop, along_fails}
 use Rattle.chi_token.specs.declared.place.Spanned.{Spanned}
 use Rattle.chi_tree.specs.Parts.{Part}
 use Rattle.chi_tree.specs.Rules.{grammar}
 use Rattle.chi_tree.specs.Tables.{table}
 use Rattle.chi_tree.specs.View.{Built}
+use Rattle.chi_tree.proofs.Fine.{grammar_fine}
 
 -- Trees were read in turn from `at` to before `i`: with them before the rest, the whole is shown as these values and
 -- what the rest is shown as.
@@ -60,3 +64,10 @@ module _ {X : Type 0} {whole rest : Built → List X} {tokens : List Spanned} {r
       → Next grammar tokens i (first table a) true → Runs grammar table tokens room a i (Fail fault)
       → Runs grammar table tokens room (many a) at (Fail fault)
   gathered_fails {i} fault g next run = along_fails grammar table tokens room a at i g.trees fault g.along next run
+
+-- a part that was read has taken a token
+pub part_moves : {tokens : List Spanned} {room : Room} {p : Part} {i j : ℕ} {t : Built} → Runs grammar table tokens room (part p) i (Done t j) → i < j
+part_moves {tokens = tokens} {p = p} run =
+    let d = decided {A = Spanned} table (part p) refl in
+    let longest = means grammar table grammar_fine tokens d run in
+    takes grammar table grammar_fine tokens d refl longest.is longest.at
