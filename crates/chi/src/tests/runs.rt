@@ -1,6 +1,7 @@
 //! Sources that run.
 
-use crate::tests::{WORKS, Wanted, expect_rows, expect_written, row};
+use crate::tests::{WORKS, Wanted, expect, expect_rows, expect_written, row};
+use std::alloc::{AllocError, Global};
 use std::test::Fail;
 
 #[test]
@@ -148,4 +149,46 @@ fn the_greatest_number_of_instances_is_kept(rt: HostRuntime) -> Result<(), Fail>
         status: 12,
     };
     expect_written(&rt, rt.alloc(), &texts, wanted)
+}
+
+/// A model that starts 1,000 processes with 1,000 channels each, and then does this.
+fn with_channels(alloc: Global, then: &str) -> Result<Vec<u8>, AllocError> {
+    let mut source = Vec::from_slice(alloc, b"proc P(): chan int c")?;
+    for number in 1..1_000 {
+        let name = format!(in alloc; ", c{number}")?;
+        source.extend_from_slice(name.as_bytes())?;
+    }
+    source.extend_from_slice(b" end model M(): start P()")?;
+    for _ in 1..1_000 {
+        source.extend_from_slice(b", P()")?;
+    }
+    source.extend_from_slice(then.as_bytes())?;
+    source.extend_from_slice(b" end")?;
+    Ok(source)
+}
+
+#[test]
+fn the_greatest_number_of_channels_is_kept(rt: HostRuntime) -> Result<(), Fail> {
+    let rows = [
+        row("", "", "completed at time 0.0\n", 0),
+        // The channel of the model comes first, so that a process has the one that is too much.
+        row(
+            "; chan int d",
+            "",
+            "fault TooManyChannels in P line 1 at time 0.0\n",
+            12,
+        ),
+    ];
+    for (then, wanted) in rows {
+        let source = with_channels(rt.alloc(), then)?;
+        expect(
+            &rt,
+            rt.alloc(),
+            &["sim", "m.chi"],
+            &source,
+            wanted.log,
+            wanted,
+        )?;
+    }
+    Ok(())
 }
