@@ -12,13 +12,13 @@ use Rattle.chi_tree.specs.declared.statement.Initial.{Initial}
 use Rattle.chi_tree.specs.declared.statement.Step.{Step}
 use Rattle.chi_tree.specs.declared.statement.Statement.{Statement, Statement-F, out-Statement}
 use Rattle.chi_types.specs.declared.ty.Ty.{Ty}
-use Rattle.chi_core.specs.declared.program.ProcDef.{ProcDef}
-use Rattle.chi_core.specs.declared.program.CExpr.TheVariants.{Default}
-use Rattle.chi_core.specs.declared.program.CStat.{CStat}
-use Rattle.chi_core.specs.declared.program.CStat.TheVariants as stat
-use Rattle.chi_core.specs.Options.{numbers}
-use Rattle.chi_core.specs.Sorts.{sort_of_slot, sort_at}
-use Rattle.chi_core.specs.Sound.{is_set, Checked, are_sound, checked}
+use Rattle.chi_form_core.specs.declared.program.ProcDef.{ProcDef}
+use Rattle.chi_form_core.specs.declared.program.CExpr.TheVariants.{Default}
+use Rattle.chi_form_core.specs.declared.program.CStat.{CStat}
+use Rattle.chi_form_core.specs.declared.program.CStat.TheVariants as stat
+use Rattle.chi_form_core.specs.Options.{numbers}
+use Rattle.chi_form_core.specs.Sorts.{sort_of_slot, sort_at}
+use Rattle.chi_form_core.specs.Sound.{is_set, Checked, are_sound, checked}
 use Rattle.chi_form.specs.declared.kind.Kind.{Kind}
 use Rattle.chi_form.specs.declared.scope.Local.{Local}
 use Rattle.chi_form.specs.declared.scope.Parameter.{Parameter}

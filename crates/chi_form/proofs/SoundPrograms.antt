@@ -9,10 +9,10 @@ use Rattle.chi_tree.specs.declared.definition.Definition.{Definition}
 use Rattle.chi_tree.specs.declared.definition.Definition.TheVariants as definition
 use Rattle.chi_tree.specs.declared.definition.Item.{Item}
 use Rattle.chi_types.specs.declared.ty.Ty.{Ty}
-use Rattle.chi_core.specs.declared.program.Core.{Core}
-use Rattle.chi_core.specs.declared.program.ProcDef.{ProcDef}
-use Rattle.chi_core.specs.Sorts.{same_sort}
-use Rattle.chi_core.specs.Sound.{are_first, is_sound_definition, has_model, is_sound, Sound}
+use Rattle.chi_form_core.specs.declared.program.Core.{Core}
+use Rattle.chi_form_core.specs.declared.program.ProcDef.{ProcDef}
+use Rattle.chi_form_core.specs.Sorts.{same_sort}
+use Rattle.chi_form_core.specs.Sound.{are_first, is_sound_definition, has_model, is_sound, Sound}
 use Rattle.chi_form.specs.declared.scope.Parameter.{Parameter}
 use Rattle.chi_form.specs.declared.scope.Header.{Header}
 use Rattle.chi_form.specs.declared.scope.Role.{Role}

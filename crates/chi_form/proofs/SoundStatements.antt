@@ -10,19 +10,19 @@ use Rattle.chi_tree.specs.declared.statement.Statement.{Statement, Statement-F, 
 use Rattle.chi_types.specs.declared.ty.Ty.{Ty}
 use Rattle.chi_value.specs.declared.shape.Shape.{out-Shape}
 use Rattle.chi_value.specs.declared.shape.Shape.TheVariants as shape
-use Rattle.chi_core.specs.declared.program.ProcDef.{ProcDef}
-use Rattle.chi_core.specs.declared.program.CExpr.{CExpr}
-use Rattle.chi_core.specs.declared.program.CExpr.TheVariants.{Default}
-use Rattle.chi_core.specs.declared.program.CStat.{CStat, CStat-F, map-CStat, fold_out-CStat, out-CStat}
-use Rattle.chi_core.specs.declared.program.CStat.TheVariants as stat
-use Rattle.chi_core.specs.declared.program.CAlt.{CAlt, CAlt-F, map-CAlt, fold-CAlt, fold_out-CAlt, out-CAlt}
-use Rattle.chi_core.specs.declared.program.CAlt.TheVariants as alternative
-use Rattle.chi_core.specs.declared.program.CComm.{CComm}
-use Rattle.chi_core.specs.declared.program.CElem.{CElem}
-use Rattle.chi_core.specs.declared.program.CElem.TheVariants as element
-use Rattle.chi_core.specs.declared.sort.Sort.TheVariants as sort
-use Rattle.chi_core.specs.Sorts.{sort_of_shape, same_sort, sort_at}
-use Rattle.chi_core.specs.Sound.{sort_in, are_shown, fit_params, is_sound_element, is_sound_offer, Checked, is_sound_where, checked_alternative, checked_statement, checked}
+use Rattle.chi_form_core.specs.declared.program.ProcDef.{ProcDef}
+use Rattle.chi_form_core.specs.declared.program.CExpr.{CExpr}
+use Rattle.chi_form_core.specs.declared.program.CExpr.TheVariants.{Default}
+use Rattle.chi_form_core.specs.declared.program.CStat.{CStat, CStat-F, map-CStat, fold_out-CStat, out-CStat}
+use Rattle.chi_form_core.specs.declared.program.CStat.TheVariants as stat
+use Rattle.chi_form_core.specs.declared.program.CAlt.{CAlt, CAlt-F, map-CAlt, fold-CAlt, fold_out-CAlt, out-CAlt}
+use Rattle.chi_form_core.specs.declared.program.CAlt.TheVariants as alternative
+use Rattle.chi_form_core.specs.declared.program.CComm.{CComm}
+use Rattle.chi_form_core.specs.declared.program.CElem.{CElem}
+use Rattle.chi_form_core.specs.declared.program.CElem.TheVariants as element
+use Rattle.chi_form_core.specs.declared.sort.Sort.TheVariants as sort
+use Rattle.chi_form_core.specs.Sorts.{sort_of_shape, same_sort, sort_at}
+use Rattle.chi_form_core.specs.Sound.{sort_in, are_shown, fit_params, is_sound_element, is_sound_offer, Checked, is_sound_where, checked_alternative, checked_statement, checked}
 use Rattle.chi_form.specs.declared.kind.Kind.{Kind}
 use Rattle.chi_form.specs.declared.kind.Kind.TheVariants.{Int, Chan}
 use Rattle.chi_form.specs.declared.scope.Local.{Local}

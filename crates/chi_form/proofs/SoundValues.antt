@@ -13,15 +13,15 @@ use Rattle.chi_types.specs.declared.ty.Way.TheVariants as way
 use Rattle.chi_types.specs.declared.ty.Ty.{Ty, out-Ty}
 use Rattle.chi_types.specs.declared.ty.Ty.TheVariants as ty
 use Rattle.chi_value.specs.declared.value.Value.TheVariants as value
-use Rattle.chi_core.specs.declared.program.CExpr.{CExpr}
-use Rattle.chi_core.specs.declared.program.CExpr.TheVariants.{Var, Widen}
-use Rattle.chi_core.specs.declared.program.CTarget.{CTarget}
-use Rattle.chi_core.specs.declared.program.CComm.{CComm}
-use Rattle.chi_core.specs.declared.program.CComm.TheVariants as comm
-use Rattle.chi_core.specs.declared.sort.Sort.{Sort}
-use Rattle.chi_core.specs.declared.sort.Sort.TheVariants as sort
-use Rattle.chi_core.specs.Sorts.{sort_of_type, sort_of_literal, channel_sort, same_sort, sort_at}
-use Rattle.chi_core.specs.Sound.{is_set, sort_if, sort_in, gives_sort, fit_types, is_sound_offer}
+use Rattle.chi_form_core.specs.declared.program.CExpr.{CExpr}
+use Rattle.chi_form_core.specs.declared.program.CExpr.TheVariants.{Var, Widen}
+use Rattle.chi_form_core.specs.declared.program.CTarget.{CTarget}
+use Rattle.chi_form_core.specs.declared.program.CComm.{CComm}
+use Rattle.chi_form_core.specs.declared.program.CComm.TheVariants as comm
+use Rattle.chi_form_core.specs.declared.sort.Sort.{Sort}
+use Rattle.chi_form_core.specs.declared.sort.Sort.TheVariants as sort
+use Rattle.chi_form_core.specs.Sorts.{sort_of_type, sort_of_literal, channel_sort, same_sort, sort_at}
+use Rattle.chi_form_core.specs.Sound.{is_set, sort_if, sort_in, gives_sort, fit_types, is_sound_offer}
 use Rattle.chi_form.specs.declared.kind.Kind.{Kind}
 use Rattle.chi_form.specs.declared.kind.Kind.TheVariants.{Int, Chan}
 use Rattle.chi_form.specs.declared.scope.Local.{Local}

@@ -14,14 +14,14 @@ use Rattle.chi_tree.specs.declared.statement.Statement.{Statement, Statement-F, 
 use Rattle.chi_value.specs.declared.format.Field.{Field}
 use Rattle.chi_value.specs.declared.format.Piece.{Piece}
 use Rattle.chi_value.specs.declared.format.Piece.TheVariants as piece
-use Rattle.chi_core.specs.declared.program.CExpr.{CExpr}
-use Rattle.chi_core.specs.declared.program.CExpr.TheVariants.{Default}
-use Rattle.chi_core.specs.declared.program.CStat.{CStat}
-use Rattle.chi_core.specs.declared.program.CStat.TheVariants as stat
-use Rattle.chi_core.specs.declared.program.CAlt.TheVariants as alternative
-use Rattle.chi_core.specs.declared.program.CComm.{CComm}
-use Rattle.chi_core.specs.declared.program.CElem.{CElem}
-use Rattle.chi_core.specs.declared.program.CElem.TheVariants as element
+use Rattle.chi_form_core.specs.declared.program.CExpr.{CExpr}
+use Rattle.chi_form_core.specs.declared.program.CExpr.TheVariants.{Default}
+use Rattle.chi_form_core.specs.declared.program.CStat.{CStat}
+use Rattle.chi_form_core.specs.declared.program.CStat.TheVariants as stat
+use Rattle.chi_form_core.specs.declared.program.CAlt.TheVariants as alternative
+use Rattle.chi_form_core.specs.declared.program.CComm.{CComm}
+use Rattle.chi_form_core.specs.declared.program.CElem.{CElem}
+use Rattle.chi_form_core.specs.declared.program.CElem.TheVariants as element
 use Rattle.chi_form.specs.declared.kind.Kind.{Kind}
 use Rattle.chi_form.specs.declared.kind.Kind.TheVariants.{Int}
 use Rattle.chi_form.specs.declared.scope.Local.{Local}

@@ -7,11 +7,11 @@ use Rattle.chi_tree.specs.declared.statement.Communication.TheVariants as commun
 use Rattle.chi_types.specs.declared.ty.Way.{Way}
 use Rattle.chi_types.specs.declared.ty.Way.TheVariants as way
 use Rattle.chi_value.specs.declared.value.Value.TheVariants as value
-use Rattle.chi_core.specs.declared.program.CExpr.{CExpr}
-use Rattle.chi_core.specs.declared.program.CExpr.TheVariants.{Lit, Var, Widen}
-use Rattle.chi_core.specs.declared.program.CTarget.{CTarget}
-use Rattle.chi_core.specs.declared.program.CComm.{CComm}
-use Rattle.chi_core.specs.declared.program.CComm.TheVariants as comm
+use Rattle.chi_form_core.specs.declared.program.CExpr.{CExpr}
+use Rattle.chi_form_core.specs.declared.program.CExpr.TheVariants.{Lit, Var, Widen}
+use Rattle.chi_form_core.specs.declared.program.CTarget.{CTarget}
+use Rattle.chi_form_core.specs.declared.program.CComm.{CComm}
+use Rattle.chi_form_core.specs.declared.program.CComm.TheVariants as comm
 use Rattle.chi_form.specs.declared.kind.Kind.{Kind}
 use Rattle.chi_form.specs.declared.kind.Kind.TheVariants.{Int, Chan}
 use Rattle.chi_form.specs.declared.scope.Local.{Local}

@@ -9,7 +9,7 @@ use crate::header::parameters_of;
 use crate::scope::{Header, Local, Parameter, with_local};
 use crate::statement::with_step;
 use chi_base::{Items, NoMemory};
-use chi_core::ProcDef;
+use chi_form_core::ProcDef;
 use chi_token::Bytes;
 use chi_tree::{Definition, Item, Step};
 use chi_types::Ty;

@@ -1,5 +1,5 @@
 ghost use Rattle.std.specs.Prelude.{◌≡◌, IfOk, IfSome};
-ghost use Rattle.chi_core.specs.Sound.{Sound};
+ghost use Rattle.chi_form_core.specs.Sound.{Sound};
 ghost use Rattle.chi_form.specs.Turns.{each};
 ghost use Rattle.chi_form.specs.Form.{definition_of, program_with, built};
 
@@ -7,7 +7,7 @@ use crate::definition::definition_of;
 use crate::header::{headers_of, model_of};
 use crate::scope::Header;
 use chi_base::{Items, NoMemory};
-use chi_core::{Core, ProcDef};
+use chi_form_core::{Core, ProcDef};
 use chi_tree::{Item, Program};
 use std::alloc::Global;
 

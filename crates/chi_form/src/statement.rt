@@ -8,7 +8,7 @@ use crate::scope::{Header, Local, Role, header_of};
 use crate::value::{arguments_of, communication_of};
 use crate::write::write_of;
 use chi_base::{Items, NoMemory};
-use chi_core::{CAlt, CComm, CElem, CStat};
+use chi_form_core::{CAlt, CComm, CElem, CStat};
 use chi_tree::{Communication, Element, Expr, Statement, Step};
 use std::alloc::Global;
 

@@ -5,7 +5,7 @@ use crate::kind::Kind;
 use crate::literal::{int_of, real_of};
 use crate::scope::{Local, Parameter, slot_as};
 use chi_base::{Items, NoMemory};
-use chi_core::{CComm, CExpr, CTarget};
+use chi_form_core::{CComm, CExpr, CTarget};
 use chi_tree::{Communication, Expr, Target};
 use chi_types::Way;
 use chi_value::Value;

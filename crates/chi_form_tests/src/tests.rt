@@ -1,4 +1,4 @@
-use chi_core::{CStat, Core};
+use chi_form_core::{CStat, Core};
 use chi_form::program_of;
 use chi_lex::{MOST_BYTES, lex};
 use chi_parse::parse;

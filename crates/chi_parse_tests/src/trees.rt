@@ -1,5 +1,5 @@
 use chi_base::{Boxed, Items, NoMemory};
-use chi_formed::{formed_law, last_token_law, one_tree_law, parsed_law};
+use chi_grammar_laws::{formed_law, last_token_law, one_tree_law, parsed_law};
 use chi_spell::{spell, spelling_law};
 use chi_token::{Bytes, Keyword, Place, Sign, Token, spelling};
 use chi_tree::{

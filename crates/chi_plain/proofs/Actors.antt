@@ -2,8 +2,8 @@
 use Rattle.std.proofs.Common.{◌≡◌, ℕ, suc, ◌+◌, ◌<◌, ◌≤◌, Some, true, false, length, sym, ◌∙◌, ap, subst, refl, arith}
 use Rattle.std.specs.Prelude.{nat_lt}
 use Rattle.std.specs.List.{slice_get}
-use Rattle.chi_core.specs.Config.{Config}
-use Rattle.chi_core.specs.Options.{options, actors}
+use Rattle.chi_form_core.specs.Config.{Config}
+use Rattle.chi_form_core.specs.Options.{options, actors}
 use Rattle.chi_plain.specs.Configurations.{actors_below}
 use Rattle.chi_plain.proofs.Numbers.{passing, failing, place, length-push}
 

@@ -4,20 +4,20 @@ use Rattle.std.specs.Prelude.{IfSome}
 use Rattle.std.specs.List.{slice_get}
 use Rattle.std.proofs.lemmas.List.{append_assoc}
 use Rattle.chi_value.specs.declared.format.Piece.{Piece}
-use Rattle.chi_core.specs.declared.program.Core.{Core}
-use Rattle.chi_core.specs.declared.program.CStat.{CStat, CStat-F, out-CStat}
-use Rattle.chi_core.specs.declared.program.CStat.TheVariants.{Declare, Pass, Write, Select, Start, outs-Declare, outs-Pass, outs-Write, outs-Select, outs-Start}
-use Rattle.chi_core.specs.declared.program.CAlt.{CAlt}
-use Rattle.chi_core.specs.declared.program.CElem.{CElem}
-use Rattle.chi_core.specs.declared.program.CExpr.{CExpr}
-use Rattle.chi_core.specs.declared.fault.FaultKind.{FaultKind}
-use Rattle.chi_core.specs.Answer.{Answer, Gives, Fails, Amiss, and_then}
-use Rattle.chi_core.specs.Values.{initial_of}
-use Rattle.chi_core.specs.Writing.{written}
-use Rattle.chi_core.specs.Config.{Config, Instance, with_instance}
-use Rattle.chi_core.specs.Opening.{opened}
-use Rattle.chi_core.specs.Starting.{made}
-use Rattle.chi_core.specs.Step.{declares, writes, waits, adds, done}
+use Rattle.chi_form_core.specs.declared.program.Core.{Core}
+use Rattle.chi_form_core.specs.declared.program.CStat.{CStat, CStat-F, out-CStat}
+use Rattle.chi_form_core.specs.declared.program.CStat.TheVariants.{Declare, Pass, Write, Select, Start, outs-Declare, outs-Pass, outs-Write, outs-Select, outs-Start}
+use Rattle.chi_form_core.specs.declared.program.CAlt.{CAlt}
+use Rattle.chi_form_core.specs.declared.program.CElem.{CElem}
+use Rattle.chi_form_core.specs.declared.program.CExpr.{CExpr}
+use Rattle.chi_form_core.specs.declared.fault.FaultKind.{FaultKind}
+use Rattle.chi_form_core.specs.Answer.{Answer, Gives, Fails, Amiss, and_then}
+use Rattle.chi_form_core.specs.Values.{initial_of}
+use Rattle.chi_form_core.specs.Writing.{written}
+use Rattle.chi_form_core.specs.Config.{Config, Instance, with_instance}
+use Rattle.chi_form_core.specs.Opening.{opened}
+use Rattle.chi_form_core.specs.Starting.{made}
+use Rattle.chi_form_core.specs.Step.{declares, writes, waits, adds, done}
 use Rattle.chi_plain.specs.declared.stop.Stop.{Stop}
 use Rattle.chi_plain.specs.declared.stop.Stop.TheVariants as stop
 use Rattle.chi_plain.specs.declared.stop.Stop.TheVariants.{Fault}

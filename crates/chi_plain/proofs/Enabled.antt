@@ -5,15 +5,15 @@ use Rattle.std.specs.List.{slice_get, Contains}
 use Rattle.std.specs.Option.{option_to_list}
 use Rattle.std.proofs.lemmas.Bool.{eqb-true}
 use Rattle.std.proofs.lemmas.Option.{slice_get_within}
-use Rattle.chi_core.specs.declared.label.Label.{Label}
-use Rattle.chi_core.specs.declared.label.Label.TheVariants.{Local, Pair, Wake, Advance}
-use Rattle.chi_core.specs.declared.verdict.Verdict.{Verdict}
-use Rattle.chi_core.specs.Config.{Config, Instance, Offer, Running}
-use Rattle.chi_core.specs.Step.{offers_in, due_times}
-use Rattle.chi_core.specs.Options.{numbers, options, actors, advance_of, enabled, enabled_of, ending, ending_of, rest_verdict}
-use Rattle.chi_core.proofs.Lists.{filter-passes}
-use Rattle.chi_core.proofs.Enabled.{IsPair, IsWake, IsOption, own, pairs, wakes, IsDelayed, IsEnabled, option, advance, IsEnabled-from}
-use Rattle.chi_core.proofs.Time.{advance_last}
+use Rattle.chi_form_core.specs.declared.label.Label.{Label}
+use Rattle.chi_form_core.specs.declared.label.Label.TheVariants.{Local, Pair, Wake, Advance}
+use Rattle.chi_form_core.specs.declared.verdict.Verdict.{Verdict}
+use Rattle.chi_form_core.specs.Config.{Config, Instance, Offer, Running}
+use Rattle.chi_form_core.specs.Step.{offers_in, due_times}
+use Rattle.chi_form_core.specs.Options.{numbers, options, actors, advance_of, enabled, enabled_of, ending, ending_of, rest_verdict}
+use Rattle.chi_form_core.proofs.Lists.{filter-passes}
+use Rattle.chi_form_core.proofs.Enabled.{IsPair, IsWake, IsOption, own, pairs, wakes, IsDelayed, IsEnabled, option, advance, IsEnabled-from}
+use Rattle.chi_form_core.proofs.Time.{advance_last}
 use Rattle.chi_plain.specs.Offers.{IsSend, IsReceive, least_in}
 use Rattle.chi_plain.specs.Configurations.{OffersAt, SendsAt, ReceivesAt}
 

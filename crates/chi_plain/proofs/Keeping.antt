@@ -1,13 +1,13 @@
 -- Offers that are kept, and instances that are made, as many as there may be.
 use Rattle.std.proofs.Common.{◌≡◌, ℕ, ◌<◌, ◌≤◌, ℤ, true, false, cond, ap, ◌∙◌, arith}
 use Rattle.std.specs.Prelude.{nat_lt}
-use Rattle.chi_core.specs.declared.limits.TheConstants.{MOST_OFFERS}
-use Rattle.chi_core.specs.declared.program.CAlt.{CAlt, out-CAlt}
-use Rattle.chi_core.specs.declared.fault.FaultKind.TheVariants.{TooLarge}
-use Rattle.chi_core.specs.Answer.{Gives, Fails, and_then}
-use Rattle.chi_core.specs.Values.{Variables}
-use Rattle.chi_core.specs.Config.{Offer}
-use Rattle.chi_core.specs.Opening.{kept, offered_as, offered}
+use Rattle.chi_form_core.specs.declared.limits.TheConstants.{MOST_OFFERS}
+use Rattle.chi_form_core.specs.declared.program.CAlt.{CAlt, out-CAlt}
+use Rattle.chi_form_core.specs.declared.fault.FaultKind.TheVariants.{TooLarge}
+use Rattle.chi_form_core.specs.Answer.{Gives, Fails, and_then}
+use Rattle.chi_form_core.specs.Values.{Variables}
+use Rattle.chi_form_core.specs.Config.{Offer}
+use Rattle.chi_form_core.specs.Opening.{kept, offered_as, offered}
 use Rattle.chi_plain.specs.declared.stop.Stop.{Stop}
 use Rattle.chi_plain.specs.declared.stop.Stop.TheVariants as stop
 use Rattle.chi_plain.specs.declared.stop.Stop.TheVariants.{Fault}

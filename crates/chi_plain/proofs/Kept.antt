@@ -1,17 +1,17 @@
 -- A runner of a sound program stays in kinded configurations.
 use Rattle.std.proofs.Common.{◌≡◌, ℕ, List, [], ◌++◌, sym, subst}
 use Rattle.std.specs.List.{Contains}
-use Rattle.chi_core.specs.declared.program.Core.{Core}
-use Rattle.chi_core.specs.declared.label.Label.{Label}
-use Rattle.chi_core.specs.declared.verdict.Verdict.{Verdict}
+use Rattle.chi_form_core.specs.declared.program.Core.{Core}
+use Rattle.chi_form_core.specs.declared.label.Label.{Label}
+use Rattle.chi_form_core.specs.declared.verdict.Verdict.{Verdict}
 use Rattle.std.proofs.Common.{Option}
-use Rattle.chi_core.specs.Config.{Config}
-use Rattle.chi_core.specs.Step.{Outcome, Next, Over, Spent, Wrong, step}
-use Rattle.chi_core.specs.Options.{enabled}
-use Rattle.chi_core.specs.Sound.{Sound}
-use Rattle.chi_core.specs.Kinded.{Kinded, GoesKinded}
-use Rattle.chi_core.proofs.Kinded.{Kinded-step}
-use Rattle.chi_core.proofs.Output.{enabled-showing}
+use Rattle.chi_form_core.specs.Config.{Config}
+use Rattle.chi_form_core.specs.Step.{Outcome, Next, Over, Spent, Wrong, step}
+use Rattle.chi_form_core.specs.Options.{enabled}
+use Rattle.chi_form_core.specs.Sound.{Sound}
+use Rattle.chi_form_core.specs.Kinded.{Kinded, GoesKinded}
+use Rattle.chi_form_core.proofs.Kinded.{Kinded-step}
+use Rattle.chi_form_core.proofs.Output.{enabled-showing}
 use Rattle.chi_plain.specs.declared.standing.Standing.{Standing}
 use Rattle.chi_plain.specs.declared.standing.Standing.TheVariants.{At}
 use Rattle.chi_plain.specs.declared.went.Went.{Went}

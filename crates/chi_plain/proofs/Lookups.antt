@@ -1,8 +1,8 @@
 -- The definition of a number.
 use Rattle.std.proofs.Common.{◌≡◌, ℕ, zero, suc, ◌≤◌, List, [], ◌∷◌, Some, length, ap, refl, arith}
 use Rattle.std.specs.List.{slice_get}
-use Rattle.chi_core.specs.declared.program.ProcDef.{ProcDef}
-use Rattle.chi_core.specs.Config.{body_of, name_of, slots_of}
+use Rattle.chi_form_core.specs.declared.program.ProcDef.{ProcDef}
+use Rattle.chi_form_core.specs.Config.{body_of, name_of, slots_of}
 
 pub body_of-found : (ds : List ProcDef) (n : ℕ) (d : ProcDef) → slice_get ds n ≡ Some d → body_of ds n ≡ d.body
 body_of-found [] n d e = absurd (cc)

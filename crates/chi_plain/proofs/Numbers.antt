@@ -5,8 +5,8 @@ use Rattle.std.specs.List.{slice_get}
 use Rattle.std.proofs.lemmas.List.{append-nil}
 use Rattle.std.proofs.lemmas.List.Elements.{filter-append}
 use Rattle.std.proofs.lemmas.Option.{slice_get_read}
-use Rattle.chi_core.specs.Config.{Offer, Send, Receive, Delay}
-use Rattle.chi_core.specs.Options.{numbers, receives_on, receivers}
+use Rattle.chi_form_core.specs.Config.{Offer, Send, Receive, Delay}
+use Rattle.chi_form_core.specs.Options.{numbers, receives_on, receivers}
 use Rattle.chi_plain.specs.Offers.{is_receiving, receivers_below}
 
 pub length-push : {A : Type 0} (xs : List A) (y : A) → length (xs ++ y ∷ []) ≡ length xs + 1

@@ -2,11 +2,11 @@
 use Rattle.std.proofs.Common.{◌≡◌, ℕ, zero, suc, ◌<◌, List, [], ◌∷◌, Option, Some, None, true, false, length, ◌∙◌, ap, refl, arith}
 use Rattle.std.specs.List.{slice_get}
 use Rattle.std.proofs.lemmas.Option.{slice_get_within}
-use Rattle.chi_core.specs.declared.label.Label.{Label}
-use Rattle.chi_core.specs.declared.label.Label.TheVariants.{Local}
-use Rattle.chi_core.specs.Config.{Config, Instance, State, Running, Waiting, Finished}
-use Rattle.chi_core.specs.Step.{offers_in}
-use Rattle.chi_core.specs.Options.{options_in, options_of, options}
+use Rattle.chi_form_core.specs.declared.label.Label.{Label}
+use Rattle.chi_form_core.specs.declared.label.Label.TheVariants.{Local}
+use Rattle.chi_form_core.specs.Config.{Config, Instance, State, Running, Waiting, Finished}
+use Rattle.chi_form_core.specs.Step.{offers_in}
+use Rattle.chi_form_core.specs.Options.{options_in, options_of, options}
 use Rattle.chi_plain.specs.Instances.{is_running}
 use Rattle.chi_plain.specs.Configurations.{offered_below}
 

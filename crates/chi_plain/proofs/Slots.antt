@@ -3,8 +3,8 @@ use Rattle.std.proofs.Common.{◌≡◌, ℕ, suc, ◌-◌, ◌<◌, ◌≤◌, 
 use Rattle.std.specs.Prelude.{map, replicate}
 use Rattle.std.proofs.lemmas.List.{append-nil, append_assoc, length-map}
 use Rattle.chi_value.specs.declared.value.Value.{Value}
-use Rattle.chi_core.specs.Values.{Variables}
-use Rattle.chi_core.specs.Config.{variables_of}
+use Rattle.chi_form_core.specs.Values.{Variables}
+use Rattle.chi_form_core.specs.Config.{variables_of}
 
 -- one more argument
 pub argument-more : (variables : Variables) (rest later : List Value) (x : Value) → rest ≡ x ∷ later

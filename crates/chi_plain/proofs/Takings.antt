@@ -2,19 +2,19 @@
 use Rattle.std.proofs.Common.{◌≡◌, ℕ, ℤ, List, ◌∷◌, ◌++◌, Option, Some, None, sym, ◌∙◌, ap, subst, refl}
 use Rattle.std.specs.Prelude.{drop, IfSome, IsSomeAnd}
 use Rattle.std.specs.List.{slice_get, Contains}
-use Rattle.chi_core.specs.declared.program.Core.{Core}
-use Rattle.chi_core.specs.declared.program.CStat.{CStat, out-CStat}
-use Rattle.chi_core.specs.declared.fault.FaultKind.{FaultKind}
-use Rattle.chi_core.specs.declared.label.Label.{Label}
-use Rattle.chi_core.specs.declared.label.Label.TheVariants.{Local, Pair, Wake, Advance}
-use Rattle.chi_core.specs.declared.verdict.Verdict.{Verdict}
-use Rattle.chi_core.specs.declared.verdict.Verdict.TheVariants as verdict
-use Rattle.chi_core.specs.Answer.{Gives, Fails}
-use Rattle.chi_core.specs.Config.{Config, Instance, Do, Offer, Running, name_of}
-use Rattle.chi_core.specs.Step as outcome
-use Rattle.chi_core.specs.Step.{Outcome, done, line_of, after_local, first_done, local, taken, received, paired_as, paired, woken_by, woken, offers_in, due_times, advanced, step}
-use Rattle.chi_core.specs.Options.{enabled}
-use Rattle.chi_core.proofs.Enabled.{IsPair, IsWake, IsDelayed}
+use Rattle.chi_form_core.specs.declared.program.Core.{Core}
+use Rattle.chi_form_core.specs.declared.program.CStat.{CStat, out-CStat}
+use Rattle.chi_form_core.specs.declared.fault.FaultKind.{FaultKind}
+use Rattle.chi_form_core.specs.declared.label.Label.{Label}
+use Rattle.chi_form_core.specs.declared.label.Label.TheVariants.{Local, Pair, Wake, Advance}
+use Rattle.chi_form_core.specs.declared.verdict.Verdict.{Verdict}
+use Rattle.chi_form_core.specs.declared.verdict.Verdict.TheVariants as verdict
+use Rattle.chi_form_core.specs.Answer.{Gives, Fails}
+use Rattle.chi_form_core.specs.Config.{Config, Instance, Do, Offer, Running, name_of}
+use Rattle.chi_form_core.specs.Step as outcome
+use Rattle.chi_form_core.specs.Step.{Outcome, done, line_of, after_local, first_done, local, taken, received, paired_as, paired, woken_by, woken, offers_in, due_times, advanced, step}
+use Rattle.chi_form_core.specs.Options.{enabled}
+use Rattle.chi_form_core.proofs.Enabled.{IsPair, IsWake, IsDelayed}
 use Rattle.chi_plain.specs.declared.went.Went.TheVariants.{On, Over}
 use Rattle.chi_plain.specs.Stage.{showing}
 use Rattle.chi_plain.specs.Offers.{body_in, least_in}

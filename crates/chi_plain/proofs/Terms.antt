@@ -5,9 +5,9 @@ use Rattle.std.specs.Option.{option_to_list}
 use Rattle.std.specs.Borrow.{Bor}
 use Rattle.std.proofs.lemmas.Bool.{false≢true}
 use Rattle.std.proofs.lemmas.List.{append-nil, length-map, length-reverse, reverse-append, take-append-drop, drop_more, drop_all}
-use Rattle.chi_core.specs.declared.program.CStat.{CStat}
-use Rattle.chi_core.specs.Values.{Variables}
-use Rattle.chi_core.specs.Config.{Item, Do, Offer, State, Running, Waiting, Finished, Instance, rested, settled}
+use Rattle.chi_form_core.specs.declared.program.CStat.{CStat}
+use Rattle.chi_form_core.specs.Values.{Variables}
+use Rattle.chi_form_core.specs.Config.{Item, Do, Offer, State, Running, Waiting, Finished, Instance, rested, settled}
 use Rattle.chi_plain.specs.Instances.{todo}
 
 todo-push : (term : List (Bor CStat)) (s : Bor CStat) → todo (term ++ s ∷ []) ≡ Do s.now ∷ todo term

@@ -5,8 +5,8 @@ use Rattle.chi_value.specs.declared.value.Value.{Value, out-Value}
 use Rattle.chi_value.specs.declared.format.Field.{Field}
 use Rattle.chi_value.specs.declared.format.Piece.{Piece}
 use Rattle.chi_value.specs.declared.format.Piece.TheVariants.{Plain, Whole, Any, Fixed}
-use Rattle.chi_core.specs.Answer.{Answer, Gives, Fails, Amiss}
-use Rattle.chi_core.specs.Writing.{followed, is_bare, whole_text, whole_before, shown}
+use Rattle.chi_form_core.specs.Answer.{Answer, Gives, Fails, Amiss}
+use Rattle.chi_form_core.specs.Writing.{followed, is_bare, whole_text, whole_before, shown}
 use Rattle.chi_plain.specs.declared.stop.Stop.{Stop}
 use Rattle.chi_plain.specs.declared.stop.Stop.TheVariants as stop
 use Rattle.chi_plain.specs.declared.stop.Stop.TheVariants.{Fault}

@@ -1,8 +1,8 @@
 -- Things done in turn: the results that were got, before those of the rest.
 use Rattle.std.proofs.Common.{◌≡◌, ℕ, suc, ◌+◌, ◌<◌, ◌≤◌, List, [], ◌∷◌, ◌++◌, length, get_or, drop, sym, ◌∙◌, ap, subst, refl, arith}
 use Rattle.std.proofs.lemmas.List.{append-nil, append_assoc, drop_more, drop_all}
-use Rattle.chi_core.specs.declared.fault.FaultKind.{FaultKind}
-use Rattle.chi_core.specs.Answer.{Answer, Gives, Fails, Amiss, before, in_turn}
+use Rattle.chi_form_core.specs.declared.fault.FaultKind.{FaultKind}
+use Rattle.chi_form_core.specs.Answer.{Answer, Gives, Fails, Amiss, before, in_turn}
 use Rattle.chi_plain.specs.declared.stop.Stop.{Stop}
 use Rattle.chi_plain.specs.declared.stop.Stop.TheVariants as stop
 use Rattle.chi_plain.specs.declared.stop.Stop.TheVariants.{Fault}

@@ -1,15 +1,15 @@
 -- Configurations as a runner keeps them, and the taking of a label there.
 use Rattle.std.specs.Prelude.{◌≡◌, ◌<◌, ℕ, suc, ◌*◌, ℤ, IsSomeAnd, IfSome, List, [], ◌++◌, drop, length, nat_lt, filter, slice_get}
 use Rattle.std.specs.List.{flat_map}
-use Rattle.chi_core.specs.declared.limits.TheConstants.{MOST_OFFERS, MOST_INSTANCES}
-use Rattle.chi_core.specs.declared.program.Core.{Core}
-use Rattle.chi_core.specs.declared.label.Label.{Label}
-use Rattle.chi_core.specs.declared.program.CStat.{CStat, out-CStat}
-use Rattle.chi_core.specs.Answer.{Answer, Gives}
-use Rattle.chi_core.specs.Config.{Config, Instance, Offer, Running}
-use Rattle.chi_core.specs.Step as outcome
-use Rattle.chi_core.specs.Step.{done, offers_in, step}
-use Rattle.chi_core.specs.Options.{numbers, pairs_with, options_for, options}
+use Rattle.chi_form_core.specs.declared.limits.TheConstants.{MOST_OFFERS, MOST_INSTANCES}
+use Rattle.chi_form_core.specs.declared.program.Core.{Core}
+use Rattle.chi_form_core.specs.declared.label.Label.{Label}
+use Rattle.chi_form_core.specs.declared.program.CStat.{CStat, out-CStat}
+use Rattle.chi_form_core.specs.Answer.{Answer, Gives}
+use Rattle.chi_form_core.specs.Config.{Config, Instance, Offer, Running}
+use Rattle.chi_form_core.specs.Step as outcome
+use Rattle.chi_form_core.specs.Step.{done, offers_in, step}
+use Rattle.chi_form_core.specs.Options.{numbers, pairs_with, options_for, options}
 use Rattle.chi_plain.specs.declared.stop.Stop.{Stop}
 use Rattle.chi_plain.specs.declared.stop.Stop.TheVariants.{Fault, Amiss, NoMemory}
 use Rattle.chi_plain.specs.declared.went.Went.{Went}

@@ -1,11 +1,11 @@
 -- What an instance stands for.
 use Rattle.std.specs.Prelude.{◌≡◌, ◌≤◌, Bool, true, false, List, map, reverse, length}
 use Rattle.std.specs.Borrow.{Bor}
-use Rattle.chi_core.specs.declared.limits.TheConstants.{MOST_OFFERS}
-use Rattle.chi_core.specs.declared.program.CStat.{CStat}
-use Rattle.chi_core.specs.Config as config
-use Rattle.chi_core.specs.Config.{Item, Do, rested}
-use Rattle.chi_core.specs.Step.{offers_in}
+use Rattle.chi_form_core.specs.declared.limits.TheConstants.{MOST_OFFERS}
+use Rattle.chi_form_core.specs.declared.program.CStat.{CStat}
+use Rattle.chi_form_core.specs.Config as config
+use Rattle.chi_form_core.specs.Config.{Item, Do, rested}
+use Rattle.chi_form_core.specs.Step.{offers_in}
 use Rattle.chi_plain.specs.declared.instance.State.{State}
 use Rattle.chi_plain.specs.declared.instance.State.TheVariants.{Running, Waiting, Finished}
 

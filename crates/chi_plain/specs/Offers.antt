@@ -2,10 +2,10 @@
 use Rattle.std.specs.Prelude.{ℕ, ℤ, List, [], ◌∷◌, Option, Some, None, Bool, false, nat_eq, filter, slice_get}
 use Rattle.std.specs.Int.{int_min}
 use Rattle.chi_value.specs.declared.value.Value.{Value}
-use Rattle.chi_core.specs.declared.program.CStat.{CStat}
-use Rattle.chi_core.specs.Config.{Offer, Send, Receive, Delay}
-use Rattle.chi_core.specs.Step.{least_of}
-use Rattle.chi_core.specs.Options.{numbers, receives_on}
+use Rattle.chi_form_core.specs.declared.program.CStat.{CStat}
+use Rattle.chi_form_core.specs.Config.{Offer, Send, Receive, Delay}
+use Rattle.chi_form_core.specs.Step.{least_of}
+use Rattle.chi_form_core.specs.Options.{numbers, receives_on}
 use Rattle.chi_plain.specs.declared.offer.Act.{Act}
 use Rattle.chi_plain.specs.declared.offer.Act.TheVariants as act
 

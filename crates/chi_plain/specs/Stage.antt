@@ -1,12 +1,12 @@
 -- What a runner stands for: a configuration, or the end of a run.
 use Rattle.std.specs.Prelude.{◌≡◌, ℕ, ℤ, List, [], ◌++◌, Option, Some, None, Contains}
-use Rattle.chi_core.specs.declared.program.Core.{Core}
-use Rattle.chi_core.specs.declared.label.Label.{Label}
-use Rattle.chi_core.specs.declared.verdict.Verdict.{Verdict}
-use Rattle.chi_core.specs.Config.{Config}
-use Rattle.chi_core.specs.Step as outcome
-use Rattle.chi_core.specs.Step.{step}
-use Rattle.chi_core.specs.Options.{options, actors, enabled, ending}
+use Rattle.chi_form_core.specs.declared.program.Core.{Core}
+use Rattle.chi_form_core.specs.declared.label.Label.{Label}
+use Rattle.chi_form_core.specs.declared.verdict.Verdict.{Verdict}
+use Rattle.chi_form_core.specs.Config.{Config}
+use Rattle.chi_form_core.specs.Step as outcome
+use Rattle.chi_form_core.specs.Step.{step}
+use Rattle.chi_form_core.specs.Options.{options, actors, enabled, ending}
 use Rattle.chi_plain.specs.declared.stepped.Stepped.{Stepped}
 use Rattle.chi_plain.specs.declared.stepped.Stepped.TheVariants.{Next, Over, Spent, NoMemory}
 

@@ -1,10 +1,10 @@
 -- How a runner stands.
 use Rattle.std.specs.Prelude.{◌≡◌}
-use Rattle.chi_core.specs.declared.program.Core.{Core}
-use Rattle.chi_core.specs.Config.{Config}
-use Rattle.chi_core.specs.Sound.{Sound}
-use Rattle.chi_core.specs.Kinded.{Kinded}
-use Rattle.chi_core.specs.Options.{ending}
+use Rattle.chi_form_core.specs.declared.program.Core.{Core}
+use Rattle.chi_form_core.specs.Config.{Config}
+use Rattle.chi_form_core.specs.Sound.{Sound}
+use Rattle.chi_form_core.specs.Kinded.{Kinded}
+use Rattle.chi_form_core.specs.Options.{ending}
 use Rattle.chi_plain.specs.declared.standing.Standing.{Standing}
 use Rattle.chi_plain.specs.declared.standing.Standing.TheVariants.{At, Ended, Lost}
 use Rattle.chi_plain.specs.Stage as stage

@@ -2,9 +2,9 @@
 use Rattle.std.specs.Prelude.{◌≡◌}
 use Rattle.chi_value.specs.declared.defaults.DefaultFault.{DefaultFault}
 use Rattle.chi_value.specs.declared.defaults.DefaultFault.TheVariants as default
-use Rattle.chi_core.specs.declared.fault.FaultKind.TheVariants.{TooManyChannels}
-use Rattle.chi_core.specs.Answer as answer
-use Rattle.chi_core.specs.Answer.{Answer, Fails}
+use Rattle.chi_form_core.specs.declared.fault.FaultKind.TheVariants.{TooManyChannels}
+use Rattle.chi_form_core.specs.Answer as answer
+use Rattle.chi_form_core.specs.Answer.{Answer, Fails}
 use Rattle.chi_plain.specs.declared.stop.Stop.{Stop}
 use Rattle.chi_plain.specs.declared.stop.Stop.TheVariants.{Fault, Amiss, NoMemory}
 

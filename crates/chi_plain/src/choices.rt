@@ -1,14 +1,14 @@
 //! The options of an instance: how many there are, and which.
 
 ghost use Rattle.std.specs.Prelude.{◌≡◌, ℕ, ◌<◌, ◌≤◌, length, slice_get};
-ghost use Rattle.chi_core.specs.declared.limits.TheConstants.{MOST_OFFERS};
-ghost use Rattle.chi_core.specs.Options.{pairs_with, pairs, options_for, options};
+ghost use Rattle.chi_form_core.specs.declared.limits.TheConstants.{MOST_OFFERS};
+ghost use Rattle.chi_form_core.specs.Options.{pairs_with, pairs, options_for, options};
 ghost use Rattle.chi_plain.specs.Configurations.{MOST_PAIRS, offered_below};
 
 use crate::configuration::Configuration;
 use crate::instance::Instance;
 use crate::offer::{Act, Offer, receiver_at, receiver_count};
-use chi_core::Label;
+use chi_form_core::Label;
 
 /// How many pairs instance `pid`, which sends on a channel, may make with this instance, which is number `other`.
 #[tactic(auto, using(crate::proofs::Pairs::partners))]

@@ -1,10 +1,10 @@
 ghost use Rattle.std.specs.Prelude.{◌≡◌, ◌<◌, length, slice_get, IfOk};
-ghost use Rattle.chi_core.specs.Config.{start};
-ghost use Rattle.chi_core.specs.Options.{actors};
+ghost use Rattle.chi_form_core.specs.Config.{start};
+ghost use Rattle.chi_form_core.specs.Options.{actors};
 
 use crate::instance::Instance;
 use chi_base::NoMemory;
-use chi_core::Core;
+use chi_form_core::Core;
 use std::alloc::Global;
 use std::marker::Model;
 
@@ -21,15 +21,15 @@ pub struct Configuration<'a> {
 impl<'a> Model for Configuration<'a> {
     ghost use Rattle.std.specs.Prelude.{◌≤◌, length};
     ghost use Rattle.std.specs.Coded.{codes};
-    ghost use Rattle.chi_core.specs.contracts.program.CStat as statements;
+    ghost use Rattle.chi_form_core.specs.contracts.program.CStat as statements;
     ghost use Rattle.chi_value.specs.contracts.value.Value as values;
-    ghost use Rattle.chi_core.specs.Config.{Config};
+    ghost use Rattle.chi_form_core.specs.Config.{Config};
 
     ghost Value = { Config };
 
     ghost coded = { Prim.hlevel (codes, statements.the_row.coded, values.the_row.coded) };
 
-    ghost use Rattle.chi_core.specs.declared.limits.TheConstants.{MOST_INSTANCES};
+    ghost use Rattle.chi_form_core.specs.declared.limits.TheConstants.{MOST_INSTANCES};
     ghost use Rattle.chi_plain.specs.Configurations.{config_at};
 
     ghost view = { λ c. config_at c.clock c.channels c.instances.items };

@@ -1,7 +1,7 @@
 ghost use Rattle.std.specs.Prelude.{◌≡◌, length};
-ghost use Rattle.chi_core.specs.Config.{body_of, name_of, slots_of};
+ghost use Rattle.chi_form_core.specs.Config.{body_of, name_of, slots_of};
 
-use chi_core::{CStat, Core};
+use chi_form_core::{CStat, Core};
 
 /// The statements of a definition, and none where there is no such definition.
 #[tactic(auto, using(crate::proofs::Lookups::looking_up))]

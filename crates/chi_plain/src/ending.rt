@@ -1,12 +1,12 @@
 ghost use Rattle.std.specs.Prelude.{◌≡◌, ◌↔◌, IsTrue, Contains};
-ghost use Rattle.chi_core.specs.declared.label.Label.TheVariants as label;
-ghost use Rattle.chi_core.specs.Step.{due_times};
-ghost use Rattle.chi_core.specs.Options.{all_finished, enabled, ending};
+ghost use Rattle.chi_form_core.specs.declared.label.Label.TheVariants as label;
+ghost use Rattle.chi_form_core.specs.Step.{due_times};
+ghost use Rattle.chi_form_core.specs.Options.{all_finished, enabled, ending};
 ghost use Rattle.chi_plain.specs.Offers.{least_in};
 
 use crate::configuration::Configuration;
 use crate::offer::{self, earlier};
-use chi_core::Verdict;
+use chi_form_core::Verdict;
 
 impl<'a> Configuration<'a> {
     /// The least due time of all offers.

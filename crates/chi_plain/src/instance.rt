@@ -1,16 +1,16 @@
 ghost use Rattle.std.specs.Prelude.{◌≡◌, ◌<◌, ◌≤◌, Some, None, ◌∷◌, ◌++◌, map, drop, length, vec_len, slice_get, slice_set, IfOk, OnOk, IfSome};
-ghost use Rattle.chi_core.specs.declared.limits.TheConstants.{MOST_OFFERS};
-ghost use Rattle.chi_core.specs.Config as config;
-ghost use Rattle.chi_core.specs.Config.{Do, rested, settled, variables_of, started};
-ghost use Rattle.chi_core.specs.Step.{offers_in};
-ghost use Rattle.chi_core.specs.Options.{is_finished};
+ghost use Rattle.chi_form_core.specs.declared.limits.TheConstants.{MOST_OFFERS};
+ghost use Rattle.chi_form_core.specs.Config as config;
+ghost use Rattle.chi_form_core.specs.Config.{Do, rested, settled, variables_of, started};
+ghost use Rattle.chi_form_core.specs.Step.{offers_in};
+ghost use Rattle.chi_form_core.specs.Options.{is_finished};
 ghost use Rattle.chi_plain.specs.Offers.{body_in};
 ghost use Rattle.chi_plain.specs.Instances.{todo, state_of, is_running};
 
 use crate::definitions::{body_of, slot_count};
 use crate::offer::Offer;
 use chi_base::NoMemory;
-use chi_core::{CStat, Core};
+use chi_form_core::{CStat, Core};
 use chi_value::Value;
 use std::alloc::Global;
 use std::marker::Model;
@@ -36,9 +36,9 @@ pub struct Instance<'a> {
 
 impl<'a> Model for Instance<'a> {
     ghost use Rattle.std.specs.Coded.{codes};
-    ghost use Rattle.chi_core.specs.contracts.program.CStat as statements;
+    ghost use Rattle.chi_form_core.specs.contracts.program.CStat as statements;
     ghost use Rattle.chi_value.specs.contracts.value.Value as values;
-    ghost use Rattle.chi_core.specs.Config.{Instance};
+    ghost use Rattle.chi_form_core.specs.Config.{Instance};
 
     ghost Value = { Instance };
 

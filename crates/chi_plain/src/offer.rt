@@ -1,11 +1,11 @@
 ghost use Rattle.std.specs.Prelude.{◌≡◌, ◌<◌, ◌≤◌, length, slice_get};
 ghost use Rattle.std.specs.List.{flat_map};
-ghost use Rattle.chi_core.specs.declared.limits.TheConstants.{MOST_OFFERS};
-ghost use Rattle.chi_core.specs.Step.{due_of};
-ghost use Rattle.chi_core.specs.Options.{receivers};
+ghost use Rattle.chi_form_core.specs.declared.limits.TheConstants.{MOST_OFFERS};
+ghost use Rattle.chi_form_core.specs.Step.{due_of};
+ghost use Rattle.chi_form_core.specs.Options.{receivers};
 ghost use Rattle.chi_plain.specs.Offers.{offer_of, body_in, is_receiving, earlier, least_in};
 
-use chi_core::CStat;
+use chi_form_core::CStat;
 use chi_value::Value;
 use std::marker::Model;
 
@@ -29,9 +29,9 @@ pub struct Offer<'a> {
 
 impl<'a> Model for Offer<'a> {
     ghost use Rattle.std.specs.Coded.{codes};
-    ghost use Rattle.chi_core.specs.contracts.program.CStat as statements;
+    ghost use Rattle.chi_form_core.specs.contracts.program.CStat as statements;
     ghost use Rattle.chi_value.specs.contracts.value.Value as values;
-    ghost use Rattle.chi_core.specs.Config.{Offer};
+    ghost use Rattle.chi_form_core.specs.Config.{Offer};
     ghost use Rattle.chi_plain.specs.Offers.{offer_of};
 
     ghost Value = { Offer };

@@ -1,15 +1,15 @@
 ghost use Rattle.std.specs.Prelude.{◌≡◌, ◌≤◌, length, IfOk, IfErr};
 ghost use Rattle.chi_value.specs.declared.value.Value.{out-Value};
-ghost use Rattle.chi_core.specs.declared.limits.TheConstants.{MOST_OFFERS};
-ghost use Rattle.chi_core.specs.declared.program.CAlt.{out-CAlt};
-ghost use Rattle.chi_core.specs.Answer.{Gives};
-ghost use Rattle.chi_core.specs.Opening.{delayed, offered_by, offered_as, opened};
+ghost use Rattle.chi_form_core.specs.declared.limits.TheConstants.{MOST_OFFERS};
+ghost use Rattle.chi_form_core.specs.declared.program.CAlt.{out-CAlt};
+ghost use Rattle.chi_form_core.specs.Answer.{Gives};
+ghost use Rattle.chi_form_core.specs.Opening.{delayed, offered_by, offered_as, opened};
 ghost use Rattle.chi_plain.specs.Stops.{Stops};
 
 use crate::offer::{Act, Offer};
 use crate::stop::Stop;
 use crate::value::{channel_of, value_of};
-use chi_core::{CAlt, CComm, CStat, FaultKind, MOST_OFFERS};
+use chi_form_core::{CAlt, CComm, CStat, FaultKind, MOST_OFFERS};
 use chi_value::Value;
 use std::alloc::Global;
 

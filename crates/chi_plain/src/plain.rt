@@ -1,8 +1,8 @@
 ghost use Rattle.std.specs.Prelude.{◌≡◌, ◌<◌, ◌↔◌, length, slice_get, IfOk, IsTrue, Contains};
 ghost use Rattle.std.specs.Option.{option_copied};
-ghost use Rattle.chi_core.specs.declared.label.Label.TheVariants.{Advance};
-ghost use Rattle.chi_core.specs.Config.{start};
-ghost use Rattle.chi_core.specs.Sound.{Sound};
+ghost use Rattle.chi_form_core.specs.declared.label.Label.TheVariants.{Advance};
+ghost use Rattle.chi_form_core.specs.Config.{start};
+ghost use Rattle.chi_form_core.specs.Sound.{Sound};
 ghost use Rattle.chi_plain.specs.Stage.{At, actors_at, options_at, enabled_at, ending_at, IsTimeAt, MayStep, Steps};
 
 use crate::configuration::Configuration;
@@ -10,7 +10,7 @@ use crate::standing::Standing;
 use crate::stepped::Stepped;
 use crate::went::Went;
 use chi_base::NoMemory;
-use chi_core::{Core, Label, Verdict};
+use chi_form_core::{Core, Label, Verdict};
 use std::alloc::Global;
 use std::marker::Model;
 
@@ -25,7 +25,7 @@ pub struct Plain<'a> {
 
 impl<'a> Model for Plain<'a> {
     ghost use Rattle.std.specs.Coded.{codes};
-    ghost use Rattle.chi_core.specs.contracts.program.CStat as statements;
+    ghost use Rattle.chi_form_core.specs.contracts.program.CStat as statements;
     ghost use Rattle.chi_value.specs.contracts.value.Value as values;
     ghost use Rattle.chi_types.specs.contracts.ty.Ty as types;
     ghost use Rattle.chi_plain.specs.Stage.{Runner};

@@ -1,4 +1,4 @@
-use chi_core::Verdict;
+use chi_form_core::Verdict;
 
 /// How a run stands.
 #[derive(Debug, Drop)]

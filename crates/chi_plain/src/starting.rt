@@ -1,13 +1,13 @@
 ghost use Rattle.std.specs.Prelude.{◌≡◌, ◌+◌, ◌<◌, ◌≤◌, length, IfOk, IfErr};
-ghost use Rattle.chi_core.specs.declared.limits.TheConstants.{MOST_INSTANCES};
-ghost use Rattle.chi_core.specs.Answer.{Gives};
-ghost use Rattle.chi_core.specs.Starting.{made_by, made};
+ghost use Rattle.chi_form_core.specs.declared.limits.TheConstants.{MOST_INSTANCES};
+ghost use Rattle.chi_form_core.specs.Answer.{Gives};
+ghost use Rattle.chi_form_core.specs.Starting.{made_by, made};
 ghost use Rattle.chi_plain.specs.Stops.{Stops};
 
 use crate::instance::Instance;
 use crate::stop::Stop;
 use crate::value::values_of;
-use chi_core::{CElem, Core, FaultKind, MOST_INSTANCES};
+use chi_form_core::{CElem, Core, FaultKind, MOST_INSTANCES};
 use chi_value::Value;
 use std::alloc::Global;
 

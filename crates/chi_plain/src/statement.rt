@@ -1,14 +1,14 @@
 //! What each statement does to a configuration.
 
 ghost use Rattle.std.specs.Prelude.{◌≡◌, ◌<◌, ◌≤◌, ◌+◌, ◌∷◌, ◌++◌, Some, map, drop, length, slice_get, slice_set, IfOk, IfErr, OnOk, OnErr, IfSome, Contains};
-ghost use Rattle.chi_core.specs.declared.limits.TheConstants.{MOST_INSTANCES, MOST_OFFERS};
-ghost use Rattle.chi_core.specs.Answer.{Gives, and_then};
-ghost use Rattle.chi_core.specs.Values.{initial_of};
-ghost use Rattle.chi_core.specs.Writing.{written};
-ghost use Rattle.chi_core.specs.Config.{Do, Running, Waiting, with_instance};
-ghost use Rattle.chi_core.specs.Opening.{opened};
-ghost use Rattle.chi_core.specs.Starting.{made};
-ghost use Rattle.chi_core.specs.Step.{declares, waits, adds};
+ghost use Rattle.chi_form_core.specs.declared.limits.TheConstants.{MOST_INSTANCES, MOST_OFFERS};
+ghost use Rattle.chi_form_core.specs.Answer.{Gives, and_then};
+ghost use Rattle.chi_form_core.specs.Values.{initial_of};
+ghost use Rattle.chi_form_core.specs.Writing.{written};
+ghost use Rattle.chi_form_core.specs.Config.{Do, Running, Waiting, with_instance};
+ghost use Rattle.chi_form_core.specs.Opening.{opened};
+ghost use Rattle.chi_form_core.specs.Starting.{made};
+ghost use Rattle.chi_form_core.specs.Step.{declares, waits, adds};
 ghost use Rattle.chi_plain.specs.Stops.{Stops};
 ghost use Rattle.chi_plain.specs.Configurations.{IsRunningAt, rest_of, Writes, Stays};
 
@@ -21,7 +21,7 @@ use crate::stop::Stop;
 use crate::value::initial_of;
 use crate::writing::written;
 use chi_base::NoMemory;
-use chi_core::{CAlt, CElem, CExpr, CStat, Core};
+use chi_form_core::{CAlt, CElem, CExpr, CStat, Core};
 use chi_value::{Piece, Value};
 use std::alloc::Global;
 

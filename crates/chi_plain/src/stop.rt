@@ -1,5 +1,5 @@
 use chi_base::NoMemory;
-use chi_core::FaultKind;
+use chi_form_core::FaultKind;
 use chi_value::DefaultFault;
 use std::alloc::{AllocError, AllocFailed};
 

@@ -1,12 +1,12 @@
 //! The taking of a label.
 
 ghost use Rattle.std.specs.Prelude.{◌≡◌, ◌<◌, ◌++◌, map, drop, length, slice_get, slice_set, Some, IfOk, IfErr, OnOk, OnErr, IfSome, Contains};
-ghost use Rattle.chi_core.specs.declared.label.Label.TheVariants.{Local};
-ghost use Rattle.chi_core.specs.declared.program.CStat.{out-CStat};
-ghost use Rattle.chi_core.specs.declared.verdict.Verdict.TheVariants.{Fault};
-ghost use Rattle.chi_core.specs.Config.{name_of};
-ghost use Rattle.chi_core.specs.Step.{Next, done, line_of, offers_in, due_times, taken, received, paired, step};
-ghost use Rattle.chi_core.specs.Options.{enabled};
+ghost use Rattle.chi_form_core.specs.declared.label.Label.TheVariants.{Local};
+ghost use Rattle.chi_form_core.specs.declared.program.CStat.{out-CStat};
+ghost use Rattle.chi_form_core.specs.declared.verdict.Verdict.TheVariants.{Fault};
+ghost use Rattle.chi_form_core.specs.Config.{name_of};
+ghost use Rattle.chi_form_core.specs.Step.{Next, done, line_of, offers_in, due_times, taken, received, paired, step};
+ghost use Rattle.chi_form_core.specs.Options.{enabled};
 ghost use Rattle.chi_plain.specs.Stops.{Stops};
 ghost use Rattle.chi_plain.specs.Stage.{IsRight};
 ghost use Rattle.chi_plain.specs.Offers.{body_in, value_in, slot_in, least_in};
@@ -18,7 +18,7 @@ use crate::offer::Act;
 use crate::stop::Stop;
 use crate::went::Went;
 use chi_base::NoMemory;
-use chi_core::{CStat, Core, FaultKind, Label, Verdict};
+use chi_form_core::{CStat, Core, FaultKind, Label, Verdict};
 use chi_token::Bytes;
 use chi_value::Value;
 use std::alloc::Global;

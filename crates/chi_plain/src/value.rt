@@ -1,12 +1,12 @@
 ghost use Rattle.std.specs.Prelude.{◌≡◌, [], slice_get, IfOk, IfErr};
 ghost use Rattle.chi_value.specs.declared.value.Value.{out-Value};
-ghost use Rattle.chi_core.specs.Answer.{Gives};
-ghost use Rattle.chi_core.specs.Values.{set_value, real_of, value_of, values_of, initial_of, channel_in, channel_of};
-ghost use Rattle.chi_core.specs.declared.program.CExpr.TheVariants as expression;
+ghost use Rattle.chi_form_core.specs.Answer.{Gives};
+ghost use Rattle.chi_form_core.specs.Values.{set_value, real_of, value_of, values_of, initial_of, channel_in, channel_of};
+ghost use Rattle.chi_form_core.specs.declared.program.CExpr.TheVariants as expression;
 ghost use Rattle.chi_plain.specs.Stops.{Stops};
 
 use crate::stop::Stop;
-use chi_core::{CExpr, CTarget, FaultKind};
+use chi_form_core::{CExpr, CTarget, FaultKind};
 use chi_num::Real;
 use chi_value::{Value, default_of};
 use std::alloc::Global;

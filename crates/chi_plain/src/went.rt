@@ -1,4 +1,4 @@
-use chi_core::Verdict;
+use chi_form_core::Verdict;
 
 /// What taking a label did.
 #[derive(Debug, Drop)]

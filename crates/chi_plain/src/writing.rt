@@ -1,12 +1,12 @@
 ghost use Rattle.std.specs.Prelude.{◌≡◌, ◌++◌, IfOk, IfErr, OnOk, OnErr};
 ghost use Rattle.chi_value.specs.declared.value.Value.{out-Value};
-ghost use Rattle.chi_core.specs.Answer.{Gives};
-ghost use Rattle.chi_core.specs.Writing.{whole_text, is_bare, shown, text_of, written};
+ghost use Rattle.chi_form_core.specs.Answer.{Gives};
+ghost use Rattle.chi_form_core.specs.Writing.{whole_text, is_bare, shown, text_of, written};
 ghost use Rattle.chi_plain.specs.Stops.{Stops};
 
 use crate::stop::Stop;
 use crate::value::values_of;
-use chi_core::{CExpr, FaultKind, MOST_WRITTEN};
+use chi_form_core::{CExpr, FaultKind, MOST_WRITTEN};
 use chi_value::{Field, Piece, Value};
 use std::alloc::Global;
 

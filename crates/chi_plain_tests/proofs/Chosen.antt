@@ -1,10 +1,10 @@
 -- The labels that a runner shows are those that it may be given.
 use Rattle.std.proofs.Common.{◌≡◌, ℕ, ◌<◌, List, [], ◌∷◌, Some, subst, sym, refl, arith}
 use Rattle.std.specs.List.{slice_get, Contains}
-use Rattle.chi_core.specs.declared.label.Label.{Label}
-use Rattle.chi_core.specs.declared.label.Label.TheVariants.{Advance}
-use Rattle.chi_core.specs.Options.{options, actors, enabled, enabled_of}
-use Rattle.chi_core.proofs.Lists.{Contains-from_slice_get, Contains-flat_map}
+use Rattle.chi_form_core.specs.declared.label.Label.{Label}
+use Rattle.chi_form_core.specs.declared.label.Label.TheVariants.{Advance}
+use Rattle.chi_form_core.specs.Options.{options, actors, enabled, enabled_of}
+use Rattle.chi_form_core.proofs.Lists.{Contains-from_slice_get, Contains-flat_map}
 use Rattle.chi_plain.specs.Stage.{Stage, At, Ended, Lost, actors_at, options_at, enabled_at, MayStep}
 
 -- an option of an instance that has one

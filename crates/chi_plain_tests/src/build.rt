@@ -1,7 +1,7 @@
 //! Programs as tables.
 
 use chi_base::{Boxed, Items, NoMemory};
-use chi_core::{Bytes, CAlt, CComm, CElem, CExpr, CStat, CTarget, Core, ProcDef};
+use chi_form_core::{Bytes, CAlt, CComm, CElem, CExpr, CStat, CTarget, Core, ProcDef};
 use chi_num::Real;
 use chi_types::{Ty, Way};
 use chi_value::{Field, Piece, Shape, Value};

@@ -3,7 +3,7 @@
 use super::build::{Offered, alone, core_with};
 use super::policy::report_of;
 use chi_base::{Items, NoMemory};
-use chi_core::{CElem, CStat, Core, is_sound};
+use chi_form_core::{CElem, CStat, Core, is_sound};
 use std::alloc::Global;
 use std::test::Fail;
 

@@ -1,11 +1,11 @@
 //! Two policies: the first choice, and the last.
 
 ghost use Rattle.std.specs.Prelude.{IfSome};
-ghost use Rattle.chi_core.specs.Sound.{Sound};
+ghost use Rattle.chi_form_core.specs.Sound.{Sound};
 ghost use Rattle.chi_plain.specs.Stage.{MayStep};
 
 use chi_base::NoMemory;
-use chi_core::{Core, Label, verdict_line};
+use chi_form_core::{Core, Label, verdict_line};
 use chi_plain::{Plain, Stepped};
 use std::alloc::Global;
 

@@ -2,7 +2,7 @@
 
 use super::build::{Definition, Offered, Slot, Statement, Told, core_of};
 use super::policy::{chosen, report_of, run};
-use chi_core::{Label, is_sound};
+use chi_form_core::{Label, is_sound};
 use chi_plain::{Plain, Stepped};
 use std::test::Fail;
 

@@ -1,6 +1,6 @@
 //! The lines of verdicts.
 
-use chi_core::{FaultKind, Verdict, verdict_line};
+use chi_form_core::{FaultKind, Verdict, verdict_line};
 use chi_token::Bytes;
 use std::test::Fail;
 

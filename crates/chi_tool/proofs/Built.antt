@@ -2,8 +2,8 @@
 use Rattle.std.proofs.Common.{◌≡◌, List, Option, Some, None, refl, sym}
 use Rattle.std.specs.Prelude.{option_and_then}
 use Rattle.chi_tree.specs.declared.definition.Program.{Program}
-use Rattle.chi_core.specs.declared.program.Core.{Core}
-use Rattle.chi_core.specs.Sound.{Sound}
+use Rattle.chi_form_core.specs.declared.program.Core.{Core}
+use Rattle.chi_form_core.specs.Sound.{Sound}
 use Rattle.chi_form.specs.Form.{built, headers_of, program_with}
 use Rattle.chi_form.specs.declared.scope.Header.{Header}
 use Rattle.chi_form.proofs.SoundPrograms.{built-sound}

@@ -7,11 +7,11 @@ use Rattle.chi_lex.specs.declared.fault.LexFault.{LexFault}
 use Rattle.chi_lex.specs.declared.lexer.TheConstants.{MOST_BYTES}
 use Rattle.chi_lex.specs.Reading.{reading}
 use Rattle.chi_form.specs.Form.{built}
-use Rattle.chi_core.specs.declared.program.Core.{Core}
-use Rattle.chi_core.specs.declared.verdict.Verdict.{Verdict}
-use Rattle.chi_core.specs.declared.verdict.Verdict.TheVariants as verdict
-use Rattle.chi_core.specs.Runs.{End}
-use Rattle.chi_core.proofs.Picks.{Picked-some}
+use Rattle.chi_form_core.specs.declared.program.Core.{Core}
+use Rattle.chi_form_core.specs.declared.verdict.Verdict.{Verdict}
+use Rattle.chi_form_core.specs.declared.verdict.Verdict.TheVariants as verdict
+use Rattle.chi_form_core.specs.Runs.{End}
+use Rattle.chi_form_core.proofs.Picks.{Picked-some}
 use Rattle.chi_tool.specs.Words.{Request, Sim, request_of}
 use Rattle.chi_tool.specs.Report.{Report, usage, run_report, status_of, first, most_steps, IsReportOfSource, IsReportOfReading, IsReportOfTokens, of_tree, of_fault, IsReportOfBuilt, IsReport}
 use Rattle.chi_tool.specs.Call.{Call, SinkUse, SinkRose}

@@ -7,8 +7,8 @@ use Rattle.chi_lex.specs.declared.fault.LexFault.{LexFault}
 use Rattle.chi_lex.specs.Reading.{reading}
 use Rattle.chi_tree.specs.declared.definition.Program.{Program}
 use Rattle.chi_form.specs.Form.{built}
-use Rattle.chi_core.specs.declared.program.Core.{Core}
-use Rattle.chi_core.specs.Runs.{End}
+use Rattle.chi_form_core.specs.declared.program.Core.{Core}
+use Rattle.chi_form_core.specs.Runs.{End}
 use Rattle.chi_tool.specs.Words.{Request, Sim, request_of}
 use Rattle.chi_tool.specs.Syntax.{syntax_text}
 use Rattle.chi_tool.specs.Report.{Report, usage, no_such_file, file_too_long, refused, lexical_text, not_built, run_report, IsReportOfSource, IsReportOfReading, IsReportOfTokens, of_tree, of_fault, IsReportOfBuilt, IsReportOfFile, IsReportOfRequest, IsReport}

@@ -9,8 +9,8 @@ use Rattle.chi_lex.specs.Reading.{reading}
 use Rattle.chi_grammar.specs.declared.fault.ParseFault.{ParseFault}
 use Rattle.chi_tree.specs.declared.definition.Program.{Program}
 use Rattle.chi_form.specs.Form.{built}
-use Rattle.chi_core.specs.declared.program.Core.{Core}
-use Rattle.chi_core.proofs.Picks.{Picked-some, Picked-one}
+use Rattle.chi_form_core.specs.declared.program.Core.{Core}
+use Rattle.chi_form_core.proofs.Picks.{Picked-some, Picked-one}
 use Rattle.chi_tool.specs.Words.{Request, Sim, request_of}
 use Rattle.chi_tool.specs.Syntax.{HasTree, HasFault, syntax_text}
 use Rattle.chi_tool.specs.Report.{Report, refused, usage, no_such_file, file_too_long, lexical_text, not_built, run_report, first, most_steps, IsReportOfBuilt, IsReportOfTokens, of_tree, of_fault, IsReportOfReading, IsReportOfSource, IsReportOfFile, IsReportOfRequest, IsReport}

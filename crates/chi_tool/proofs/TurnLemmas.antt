@@ -3,22 +3,22 @@ use Rattle.std.proofs.Common.{◌≡◌, ℕ, zero, suc, ◌+◌, ◌*◌, ◌-�
 use Rattle.std.specs.Prelude.{nat_lt, IsSomeAnd}
 use Rattle.std.specs.List.{slice_get}
 use Rattle.std.specs.Option.{option_and_then}
-use Rattle.chi_core.specs.declared.program.Core.{Core}
-use Rattle.chi_core.specs.declared.label.Label.{Label}
-use Rattle.chi_core.specs.declared.label.Label.TheVariants.{Advance}
-use Rattle.chi_core.specs.declared.verdict.Verdict.{Verdict}
-use Rattle.chi_core.specs.declared.verdict.Verdict.TheVariants.{OutOfSteps}
-use Rattle.chi_core.specs.Config.{Config, start}
-use Rattle.chi_core.specs.Step as outcome
-use Rattle.chi_core.specs.Step.{due_times, step}
-use Rattle.chi_core.specs.Options.{numbers, options, actors, advance_of, enabled_of, rest_verdict, ending, ending_of}
-use Rattle.chi_core.specs.Runs.{End, end_at, IsAtRest}
-use Rattle.chi_core.specs.Picks.{MayPick, picked_among, picked_option, PicksFrom}
-use Rattle.chi_core.proofs.Lists.{filter-passes}
-use Rattle.chi_core.proofs.Runs.{Runs-rests, Runs-cut, Runs-on, Runs-over}
-use Rattle.chi_core.proofs.Picks.{MayPick-enabled}
-use Rattle.chi_core.proofs.Time.{costs_something}
-use Rattle.chi_core.proofs.Output.{ending-showing, picked_label-showing}
+use Rattle.chi_form_core.specs.declared.program.Core.{Core}
+use Rattle.chi_form_core.specs.declared.label.Label.{Label}
+use Rattle.chi_form_core.specs.declared.label.Label.TheVariants.{Advance}
+use Rattle.chi_form_core.specs.declared.verdict.Verdict.{Verdict}
+use Rattle.chi_form_core.specs.declared.verdict.Verdict.TheVariants.{OutOfSteps}
+use Rattle.chi_form_core.specs.Config.{Config, start}
+use Rattle.chi_form_core.specs.Step as outcome
+use Rattle.chi_form_core.specs.Step.{due_times, step}
+use Rattle.chi_form_core.specs.Options.{numbers, options, actors, advance_of, enabled_of, rest_verdict, ending, ending_of}
+use Rattle.chi_form_core.specs.Runs.{End, end_at, IsAtRest}
+use Rattle.chi_form_core.specs.Picks.{MayPick, picked_among, picked_option, PicksFrom}
+use Rattle.chi_form_core.proofs.Lists.{filter-passes}
+use Rattle.chi_form_core.proofs.Runs.{Runs-rests, Runs-cut, Runs-on, Runs-over}
+use Rattle.chi_form_core.proofs.Picks.{MayPick-enabled}
+use Rattle.chi_form_core.proofs.Time.{costs_something}
+use Rattle.chi_form_core.proofs.Output.{ending-showing, picked_label-showing}
 use Rattle.chi_plain.specs.declared.stepped.Stepped.{Stepped}
 use Rattle.chi_plain.specs.declared.stepped.Stepped.TheVariants.{Next, Over, Spent}
 use Rattle.chi_plain.specs.Stage.{Stage, Runner, At, Ended, Lost, showing, actors_at, options_at, ending_at, IsTimeAt, MayStep, Steps}

@@ -9,13 +9,13 @@ use Rattle.chi_lex.specs.Reading.{reading}
 use Rattle.chi_grammar.specs.declared.fault.ParseFault.{ParseFault}
 use Rattle.chi_tree.specs.declared.definition.Program.{Program}
 use Rattle.chi_form.specs.Form.{built}
-use Rattle.chi_core.specs.declared.program.Core.{Core}
-use Rattle.chi_core.specs.declared.label.Label.{Label}
-use Rattle.chi_core.specs.declared.verdict.Verdict.{Verdict}
-use Rattle.chi_core.specs.declared.verdict.Verdict.TheVariants as verdict
-use Rattle.chi_core.specs.VerdictLine.{verdict_line_of}
-use Rattle.chi_core.specs.Runs.{End}
-use Rattle.chi_core.specs.Picks.{Pick, Picked}
+use Rattle.chi_form_core.specs.declared.program.Core.{Core}
+use Rattle.chi_form_core.specs.declared.label.Label.{Label}
+use Rattle.chi_form_core.specs.declared.verdict.Verdict.{Verdict}
+use Rattle.chi_form_core.specs.declared.verdict.Verdict.TheVariants as verdict
+use Rattle.chi_form_core.specs.VerdictLine.{verdict_line_of}
+use Rattle.chi_form_core.specs.Runs.{End}
+use Rattle.chi_form_core.specs.Picks.{Pick, Picked}
 use Rattle.chi_tool.specs.Words.{Request, Sim, request_of}
 use Rattle.chi_tool.specs.Syntax.{HasTree, HasFault, placed, syntax_text}
 

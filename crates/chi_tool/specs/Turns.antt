@@ -1,10 +1,10 @@
 -- A run under the policy that takes the first choice, turn by turn.
 use Rattle.std.specs.Prelude.{◌≡◌, ℕ, List, None}
-use Rattle.chi_core.specs.declared.program.Core.{Core}
-use Rattle.chi_core.specs.declared.label.Label.{Label}
-use Rattle.chi_core.specs.Options.{ending}
-use Rattle.chi_core.specs.Runs.{End}
-use Rattle.chi_core.specs.Picks.{MayPick, Picked}
+use Rattle.chi_form_core.specs.declared.program.Core.{Core}
+use Rattle.chi_form_core.specs.declared.label.Label.{Label}
+use Rattle.chi_form_core.specs.Options.{ending}
+use Rattle.chi_form_core.specs.Runs.{End}
+use Rattle.chi_form_core.specs.Picks.{MayPick, Picked}
 use Rattle.chi_plain.specs.Stage.{Stage, At, Ended, Lost}
 use Rattle.chi_tool.specs.Report.{first, most_steps}
 

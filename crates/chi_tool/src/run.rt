@@ -1,13 +1,13 @@
 ghost use Rattle.std.specs.Prelude.{◌≡◌, IfOk};
-ghost use Rattle.chi_core.specs.Sound.{Sound};
-ghost use Rattle.chi_core.specs.VerdictLine.{verdict_line_of};
+ghost use Rattle.chi_form_core.specs.Sound.{Sound};
+ghost use Rattle.chi_form_core.specs.VerdictLine.{verdict_line_of};
 ghost use Rattle.chi_tool.specs.Reported.{report_in};
 ghost use Rattle.chi_tool.specs.Report.{IsRunReport, run_report, status_of};
 ghost use Rattle.chi_tool.specs.Turns.{GoesOn, PicksFirst};
 
 use crate::report::Reported;
 use chi_base::NoMemory;
-use chi_core::{Core, Label, Verdict, verdict_line};
+use chi_form_core::{Core, Label, Verdict, verdict_line};
 use chi_plain::{Plain, Stepped};
 use std::alloc::Global;
 

@@ -1,6 +1,6 @@
 use Rattle.std.proofs.Common.{◌≡◌, ◌≤◌, ◌++◌, length, drop}
 use Rattle.std.specs.Prelude.{map}
-use Rattle.chi_core.specs.Config.{Do}
+use Rattle.chi_form_core.specs.Config.{Do}
 use Rattle.chi_plain.specs.Instances.{todo}
 use Rattle.chi_plain.proofs.instance.put_first.Given as goal
 

@@ -1,6 +1,6 @@
 use Rattle.std.proofs.Common.{◌≡◌, ◌-◌, ◌++◌, Some, None, length}
 use Rattle.std.specs.Prelude.{map, replicate}
-use Rattle.chi_core.specs.Config.{variables_of}
+use Rattle.chi_form_core.specs.Config.{variables_of}
 use Rattle.chi_plain.proofs.instance.variables_of.Given as goal
 
 abbrev pub invariant-loop-argument : goal.invariant-loop-argument

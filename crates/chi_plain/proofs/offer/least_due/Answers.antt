@@ -1,4 +1,4 @@
-use Rattle.chi_core.specs.Step.{due_of}
+use Rattle.chi_form_core.specs.Step.{due_of}
 use Rattle.chi_plain.proofs.Times.{least-turn}
 use Rattle.chi_plain.proofs.offer.least_due.Goals as goal
 

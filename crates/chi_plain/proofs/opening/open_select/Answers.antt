@@ -3,8 +3,8 @@ use Rattle.std.proofs.lemmas.Grind.{common_steps}
 use Rattle.std.proofs.lemmas.Int.{to_z-of_z}
 use mir.Syntax.{w64}
 use mir.Val.{to_z, of_z}
-use Rattle.chi_core.specs.declared.limits.TheConstants.{MOST_OFFERS}
-use Rattle.chi_core.specs.Opening.{offered, opened}
+use Rattle.chi_form_core.specs.declared.limits.TheConstants.{MOST_OFFERS}
+use Rattle.chi_form_core.specs.Opening.{offered, opened}
 use Rattle.chi_plain.specs.Stops.{Stops}
 use Rattle.chi_plain.proofs.Turns.{turn-stops, after-fails}
 use Rattle.chi_plain.proofs.Keeping.{offered-stops, offered-large}

@@ -1,7 +1,7 @@
 use Rattle.std.proofs.Common.{◌≡◌, ◌+◌, ◌≤◌, length, drop}
-use Rattle.chi_core.specs.declared.limits.TheConstants.{MOST_INSTANCES}
-use Rattle.chi_core.specs.Answer.{in_turn}
-use Rattle.chi_core.specs.Starting.{made_by, made}
+use Rattle.chi_form_core.specs.declared.limits.TheConstants.{MOST_INSTANCES}
+use Rattle.chi_form_core.specs.Answer.{in_turn}
+use Rattle.chi_form_core.specs.Starting.{made_by, made}
 use Rattle.chi_plain.proofs.Turns.{after}
 use Rattle.chi_plain.proofs.starting.make_all.Given as goal
 

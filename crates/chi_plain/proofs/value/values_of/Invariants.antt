@@ -1,6 +1,6 @@
 use Rattle.std.proofs.Common.{◌≡◌, ◌+◌, drop}
-use Rattle.chi_core.specs.Answer.{in_turn}
-use Rattle.chi_core.specs.Values.{value_of, values_of}
+use Rattle.chi_form_core.specs.Answer.{in_turn}
+use Rattle.chi_form_core.specs.Values.{value_of, values_of}
 use Rattle.chi_plain.proofs.Turns.{after}
 use Rattle.chi_plain.proofs.value.values_of.Given as goal
 

@@ -1,6 +1,6 @@
 use Rattle.std.proofs.Common.{◌≡◌, ◌∙◌, ◌≤◌, sym, length, true, rules, arith}
 use Rattle.std.proofs.lemmas.Grind.{common_steps}
-use Rattle.chi_core.specs.Writing.{is_bare, shown}
+use Rattle.chi_form_core.specs.Writing.{is_bare, shown}
 use Rattle.chi_plain.specs.Stops.{Stops}
 use Rattle.chi_plain.proofs.Texts.{texted-stops, texted-wide, texted-wanting, texted-any, texted-fixed, texted-all}
 use Rattle.chi_plain.proofs.writing.shown.Goals as goal

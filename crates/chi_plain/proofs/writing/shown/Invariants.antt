@@ -1,5 +1,5 @@
 use Rattle.std.proofs.Common.{◌≡◌, drop}
-use Rattle.chi_core.specs.Writing.{shown}
+use Rattle.chi_form_core.specs.Writing.{shown}
 use Rattle.chi_plain.proofs.Texts.{texted}
 use Rattle.chi_plain.proofs.writing.shown.Given as goal
 

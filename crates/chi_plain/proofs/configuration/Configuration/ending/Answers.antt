@@ -1,5 +1,5 @@
 use Rattle.std.proofs.Common.{sym, ap, if◌then◌else◌}
-use Rattle.chi_core.specs.declared.verdict.Verdict.TheVariants.{Completed, Deadlock}
+use Rattle.chi_form_core.specs.declared.verdict.Verdict.TheVariants.{Completed, Deadlock}
 use Rattle.chi_plain.proofs.Enabled.{ending-acts, ending-delayed, ending-rests}
 use Rattle.chi_plain.proofs.configuration.Configuration.ending.Goals as goal
 

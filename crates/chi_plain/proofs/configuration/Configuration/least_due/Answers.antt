@@ -1,7 +1,7 @@
 use Rattle.std.proofs.Common.{◌∙◌, ap}
 use Rattle.std.specs.List.{flat_map}
-use Rattle.chi_core.specs.Config.{Instance}
-use Rattle.chi_core.specs.Step.{due_of, offers_in}
+use Rattle.chi_form_core.specs.Config.{Instance}
+use Rattle.chi_form_core.specs.Step.{due_of, offers_in}
 use Rattle.chi_plain.specs.Offers.{least_in}
 use Rattle.chi_plain.proofs.Times.{least-turn}
 use Rattle.chi_plain.proofs.configuration.Configuration.least_due.Goals as goal

@@ -1,6 +1,6 @@
 use Rattle.std.proofs.Common.{◌≡◌, drop}
 use Rattle.std.specs.List.{flat_map}
-use Rattle.chi_core.specs.Step.{due_of, offers_in, due_times}
+use Rattle.chi_form_core.specs.Step.{due_of, offers_in, due_times}
 use Rattle.chi_plain.specs.Offers.{earlier, least_in}
 use Rattle.chi_plain.proofs.configuration.Configuration.least_due.Given as goal
 

@@ -1,8 +1,8 @@
 use Rattle.std.proofs.Common.{subst}
 use Rattle.std.specs.Prelude.{IfSome}
 use Rattle.std.specs.List.{slice_get}
-use Rattle.chi_core.specs.declared.program.CStat.{out-CStat}
-use Rattle.chi_core.specs.Step.{done}
+use Rattle.chi_form_core.specs.declared.program.CStat.{out-CStat}
+use Rattle.chi_form_core.specs.Step.{done}
 use Rattle.chi_plain.specs.declared.stop.Stop.{Stop}
 use Rattle.chi_plain.specs.Stops.{Stops}
 use Rattle.chi_plain.specs.Configurations.{rest_of, Stays}

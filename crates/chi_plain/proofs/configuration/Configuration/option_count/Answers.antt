@@ -1,7 +1,7 @@
 use Rattle.std.proofs.Common.{◌≡◌, ◌∙◌, Some, length, ap, sym, refl}
 use Rattle.std.specs.List.{slice_get}
 use Rattle.std.proofs.lemmas.Option.{slice_get_read}
-use Rattle.chi_core.specs.Config.{Config}
+use Rattle.chi_form_core.specs.Config.{Config}
 use Rattle.chi_plain.specs.Configurations.{offered_below}
 use Rattle.chi_plain.proofs.Options.{options-offers}
 use Rattle.chi_plain.proofs.configuration.Configuration.option_count.Goals as goal

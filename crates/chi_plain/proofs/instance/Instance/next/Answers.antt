@@ -1,6 +1,6 @@
 use Rattle.std.proofs.Common.{◌≡◌, ◌<◌, ◌-◌, ◌∷◌, ◌∙◌, length, get_or, drop, ap, sym, subst, arith}
 use Rattle.std.proofs.lemmas.Grind.{common_steps}
-use Rattle.chi_core.specs.Config.{Instance, Do}
+use Rattle.chi_form_core.specs.Config.{Instance, Do}
 use Rattle.chi_plain.proofs.Terms.{has_next, todo-last}
 use Rattle.chi_plain.proofs.instance.Instance.next.Goals as goal
 

@@ -1,6 +1,6 @@
 use Rattle.std.proofs.Common.{◌≡◌, ◌∙◌, ap, length, vec_len, arith}
 use Rattle.std.proofs.lemmas.Grind.{common_steps}
-use Rattle.chi_core.specs.Config.{rested, Running}
+use Rattle.chi_form_core.specs.Config.{rested, Running}
 use Rattle.chi_plain.specs.Instances.{todo}
 use Rattle.chi_plain.proofs.Terms.{passed, todo-pop}
 use Rattle.chi_plain.proofs.instance.Instance.pass.Goals as goal

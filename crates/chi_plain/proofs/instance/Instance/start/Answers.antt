@@ -1,7 +1,7 @@
 use Rattle.std.proofs.Common.{◌∙◌, ap, ◌++◌}
 use Rattle.std.specs.Prelude.{map}
 use Rattle.std.proofs.lemmas.List.{append-nil}
-use Rattle.chi_core.specs.Config.{rested, Running, Do, body_of, variables_of}
+use Rattle.chi_form_core.specs.Config.{rested, Running, Do, body_of, variables_of}
 use Rattle.chi_plain.specs.Instances.{todo}
 use Rattle.chi_plain.proofs.Terms.{made, todo-none}
 use Rattle.chi_plain.proofs.instance.Instance.start.Goals as goal

@@ -1,6 +1,6 @@
 use Rattle.std.proofs.Common.{sym, subst}
-use Rattle.chi_core.specs.Kinded.{Kinded}
-use Rattle.chi_core.proofs.Kinded.{Kinded-start}
+use Rattle.chi_form_core.specs.Kinded.{Kinded}
+use Rattle.chi_form_core.proofs.Kinded.{Kinded-start}
 use Rattle.chi_plain.proofs.plain.Plain.new.Goals as goal
 
 pub invariant_of-result : goal.invariant_of-result

@@ -1,0 +1,2 @@
+//! Draws from sixty-four streams of random words, and what distributions make of them.
+#![tactic(auto)]

@@ -1,0 +1,16 @@
+pub mod Lists
+pub mod Runs
+pub mod SoundSorts
+pub mod SoundBodies
+pub mod SoundStatements
+pub mod KindedParts
+pub mod SoundStarts
+pub mod KindedSteps
+pub mod KindedMeetings
+pub mod Kinded
+pub mod Enabled
+pub mod Picks
+pub mod Time
+pub mod Output
+pub mod KindedLabels
+pub mod SoundTest

@@ -1,0 +1,15 @@
+pub mod Fault
+pub mod Answer
+pub mod Values
+pub mod Writing
+pub mod Config
+pub mod Opening
+pub mod Starting
+pub mod Step
+pub mod Options
+pub mod Runs
+pub mod Picks
+pub mod Sorts
+pub mod Sound
+pub mod Kinded
+pub mod VerdictLine

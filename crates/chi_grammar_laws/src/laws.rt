@@ -1,0 +1,77 @@
+ghost use Rattle.std.specs.Prelude.{◌≡◌, ◌↔◌, ℕ, Bool, true, List, [], ◌∷◌, ◌++◌, map, Ok, Err};
+ghost use Rattle.chi_grammar_laws.specs.Beginnings.{NamesFault, NamesDepth};
+ghost use Rattle.chi_grammar_laws.specs.Definitions.{FormedItems, FormedProgram};
+ghost use Rattle.chi_grammar_laws.specs.Expressions.{FormedExpr, FormedType};
+ghost use Rattle.chi_grammar_laws.specs.Levels as level;
+ghost use Rattle.chi_grammar_laws.specs.Statements.{FormedBlock, FormedStatement};
+ghost use Rattle.chi_grammar_laws.specs.Unplaced.{unplaced_expr, unplaced_type};
+ghost use Rattle.chi_grammar_laws.specs.UnplacedStatements.{unplaced, unplaced_block};
+ghost use Rattle.chi_grammar.specs.declared.fault.ParseFault.TheVariants.{Syntax, TooDeep};
+ghost use Rattle.chi_grammar.specs.declared.room.Room.{Room};
+ghost use Rattle.chi_grammar.specs.Exact.{ParsesAll};
+ghost use Rattle.chi_grammar.specs.Rules.{part};
+ghost use Rattle.chi_grammar.specs.Trees.{Is};
+ghost use Rattle.chi_token.specs.declared.keyword.Keyword.TheVariants.{EndWord};
+ghost use Rattle.chi_token.specs.declared.place.Spanned.{Spanned};
+ghost use Rattle.chi_token.specs.declared.token.Token.TheVariants.{Word};
+ghost use Rattle.chi_tree.specs.declared.definition.Item.{Item};
+ghost use Rattle.chi_tree.specs.declared.definition.Program.{Program};
+ghost use Rattle.chi_tree.specs.declared.expr.Expr.{Expr};
+ghost use Rattle.chi_tree.specs.declared.statement.Statement.{Statement};
+ghost use Rattle.chi_tree.specs.declared.statement.Step.{Step};
+ghost use Rattle.chi_tree.specs.declared.type_tree.TypeTree.{TypeTree};
+ghost use Rattle.chi_tree.specs.Limits.{whole_room};
+ghost use Rattle.chi_tree.specs.Parts as s;
+ghost use Rattle.chi_tree.specs.Rules.{grammar};
+ghost use Rattle.chi_spell.specs.Expressions.{spelled_expr, spelled_type};
+ghost use Rattle.chi_spell.specs.Statements.{spelled, spelled_block, spelled_statement};
+ghost use Rattle.chi_tree.specs.Statements.{block_of, program_of};
+ghost use Rattle.chi_tree.specs.View.{Built, type_of, expr_of};
+ghost use Rattle.chi_spell.specs.Words.{Tokens, token_of};
+
+/// The rules of the grammar build exactly the formed trees.
+pub fn formed_law()
+    ensures types { (room : Room) (ty : TypeTree)
+        → FormedType room.expressions ty ↔ ((t : Built) × Is grammar room (part s.AnyType) t × (type_of t ≡ ty)) }
+    ensures expressions { (room : Room) (e : Expr)
+        → FormedExpr level.Expr room.expressions e ↔ ((t : Built) × Is grammar room (part s.Expr) t × (expr_of t ≡ e)) }
+    ensures blocks { (room : Room) (block : List Step)
+        → FormedBlock room.blocks room.expressions block ↔ ((t : Built) × Is grammar room (part s.Block) t × (block_of t ≡ block)) }
+    ensures programs { (room : Room) (items : List Item)
+        → FormedItems room.blocks room.expressions items
+        ↔ ((t : Built) × Is grammar room (part s.Program) t × (let program : Program = program_of t in program.items ≡ items)) }
+{}
+
+/// Of the formed trees that spell a list of tokens no two differ but in their places, however deep they may nest.
+pub fn one_tree_law()
+    ensures types { (c d : ℕ) (t u : TypeTree) → FormedType c t → FormedType d u
+        → spelled_type t ≡ spelled_type u → unplaced_type t ≡ unplaced_type u }
+    ensures expressions { (c d : ℕ) (e f : Expr) → FormedExpr level.Expr c e → FormedExpr level.Expr d f
+        → spelled_expr e ≡ spelled_expr f → unplaced_expr e ≡ unplaced_expr f }
+    ensures blocks { (b c d e : ℕ) (block other : List Step) → FormedBlock b c block → FormedBlock d e other
+        → spelled_block block ≡ spelled_block other → unplaced_block block ≡ unplaced_block other }
+    ensures programs { (b c d e : ℕ) (program other : Program) → FormedProgram b c program → FormedProgram d e other
+        → spelled program ≡ spelled other → unplaced program ≡ unplaced other }
+{}
+
+/// A statement's truth value tells whether its last token is `end`.
+pub fn last_token_law()
+    ensures { (ends : Bool) (b d : ℕ) (s : Statement) → FormedStatement ends b d s
+        → (ends ≡ true) ↔ ((ts : Tokens) × (spelled_statement s ≡ ts ++ Word EndWord ∷ [])) }
+{}
+
+/// What an exact parser answers for all the tokens of a source, said of formed programs.
+pub fn parsed_law()
+    ensures tree { (tokens : List Spanned) (program : Program)
+        → ParsesAll grammar tokens program_of whole_room (part s.Program) (Ok program)
+        → FormedProgram whole_room.blocks whole_room.expressions program × (spelled program ≡ map token_of tokens) }
+    ensures every_tree { (tokens : List Spanned) (program : Program)
+        → FormedProgram whole_room.blocks whole_room.expressions program → spelled program ≡ map token_of tokens
+        → (parsed : Program) × ParsesAll grammar tokens program_of whole_room (part s.Program) (Ok parsed) × (unplaced parsed ≡ unplaced program) }
+    ensures syntax { (tokens : List Spanned) (k : ℕ)
+        → ParsesAll grammar tokens program_of whole_room (part s.Program) (Err (Syntax k))
+        → NamesFault tokens k }
+    ensures too_deep { (tokens : List Spanned) (k : ℕ)
+        → ParsesAll grammar tokens program_of whole_room (part s.Program) (Err (TooDeep k))
+        → NamesDepth tokens k }
+{}

@@ -1,0 +1,2 @@
+//! Sets and dictionaries as ascending lists of values: found by halves, merged, and sorted.
+#![tactic(auto)]
