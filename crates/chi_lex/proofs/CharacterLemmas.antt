@@ -6,7 +6,7 @@ use Rattle.chi_token.specs.Characters.{is_plain, line_feed, quote, backslash}
 use Rattle.chi_token.specs.Texts.{meaning, escaped, before}
 use Rattle.chi_lex.specs.declared.text.Character.TheVariants.{Means, Unclosed, BadEscape, BadByte}
 use Rattle.chi_lex.specs.declared.piece.Stop.TheVariants.{Byte, Open, Escape}
-use Rattle.chi_lex.specs.Faults.{text_stop}
+use Rattle.chi_lex.specs.Stops.{text_stop}
 use Rattle.chi_lex.specs.TextParts.{IsCharacter, StopsText}
 use Rattle.chi_lex.proofs.TextLemmas.{meaning-plain, meaning-escape, meaning-lone, meaning-bad, meaning-empty}
 

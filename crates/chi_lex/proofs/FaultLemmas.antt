@@ -1,16 +1,14 @@
 -- The places of faults.
-use Rattle.std.proofs.Common.{◌≡◌, ℕ, ◌+◌, ◌≤◌, List, ◌++◌, length, length-append, length-take, take, drop, append_assoc, append-nil, [], sym, ap, subst, ◌∙◌, Err, arith}
+use Rattle.std.proofs.Common.{◌≡◌, ℕ, ◌+◌, ◌≤◌, List, ◌++◌, length, length-append, length-take, take, drop, append_assoc, append-nil, [], sym, ap, subst, ◌∙◌, arith}
 use Rattle.std.proofs.lemmas.List.{take-append-drop}
 use Rattle.chi_token.specs.declared.place.Place.{Place}
 use Rattle.chi_lex.specs.declared.cursor.Cursor.{Cursor}
-use Rattle.chi_lex.specs.declared.fault.LexFault.{LexFault}
-use Rattle.chi_lex.specs.declared.fault.LexFault.TheVariants.{BadByte, OpenString, BadEscape, NoMemory}
+use Rattle.chi_lex.specs.declared.fault.LexFault.TheVariants.{BadByte, OpenString, BadEscape}
 use Rattle.chi_lex.specs.declared.piece.Stop.{Stop}
 use Rattle.chi_lex.specs.declared.piece.Stop.TheVariants.{Byte, Open, Escape}
 use Rattle.chi_lex.specs.Cursors.{StandsAfter}
-use Rattle.chi_lex.specs.Faults.{stop_of, fault_of}
+use Rattle.chi_lex.specs.Stops.{stop_of, fault_of}
 use Rattle.chi_lex.specs.Places.{place_of, line_of}
-use Rattle.chi_lex.specs.Reading.{reading, IsFaultOf}
 use Rattle.chi_lex.proofs.Sizes.{IsStopIn, stop_of-within}
 use Rattle.chi_lex.proofs.Turns.{place_of-after}
 
@@ -59,9 +57,3 @@ place_of-byte done rest passed size next place front within stands at =
 pub place_of-escape : (done rest passed : List ℕ) (size : ℕ) (next : Cursor) (place : Place) → passed ≡ take size rest → size ≤ length rest → StandsAfter (done ++ passed) next → IsPlaceAt place next → BadEscape place ≡ fault_of (done ++ rest) (length done) (Escape size)
 place_of-escape done rest passed size next place front within stands at =
     ap (λ p. BadEscape p) (place_of-passed done rest passed size next place front within stands at)
-
-pub IsFaultOf-reading : (source : List ℕ) (fault : LexFault) → reading source ≡ Err fault → IsFaultOf source fault
-IsFaultOf-reading source (BadByte place) reads = reads
-IsFaultOf-reading source (OpenString place) reads = reads
-IsFaultOf-reading source (BadEscape place) reads = reads
-IsFaultOf-reading source NoMemory reads = tt

@@ -3,6 +3,8 @@ pub mod FaultLemmas
 pub mod NumberLemmas
 pub mod Prefixes
 pub mod QuoteLemmas
+pub mod ReadingFunction
+pub mod ReadingLaws
 pub mod Runs
 pub mod SignLemmas
 pub mod Sizes

@@ -11,7 +11,7 @@ use Rattle.chi_token.specs.Prefixes.{longest_prefix}
 use Rattle.chi_token.specs.Signs.{sign_of}
 use Rattle.chi_token.specs.Tables.{value_at}
 use Rattle.chi_token.specs.Tokens.{token_of}
-use Rattle.chi_lex.specs.Faults.{stop_of}
+use Rattle.chi_lex.specs.Stops.{stop_of}
 use Rattle.chi_lex.specs.declared.piece.Stop.TheVariants.{Byte}
 use Rattle.chi_lex.proofs.Prefixes.{longest_prefix-at, longest_prefix-none}
 use Rattle.chi_lex.proofs.Runs.{and_left, and_right}

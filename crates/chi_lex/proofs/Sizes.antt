@@ -11,7 +11,8 @@ use Rattle.chi_token.specs.Texts.{meaning}
 use Rattle.chi_token.specs.Tokens.{token_of}
 use Rattle.chi_lex.specs.declared.piece.Stop.{Stop}
 use Rattle.chi_lex.specs.declared.piece.Stop.TheVariants.{Byte, Open, Escape}
-use Rattle.chi_lex.specs.Faults.{text_stop, stop_of, characters_length}
+use Rattle.chi_lex.specs.Stops.{text_stop, stop_of}
+use Rattle.chi_lex.specs.Faults.{characters_length}
 use Rattle.chi_lex.specs.Gaps.{gap_of, is_blank, goes_on, hash}
 
 -- the prefix that is found is at most as long as was looked

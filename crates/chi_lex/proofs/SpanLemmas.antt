@@ -7,7 +7,8 @@ use Rattle.chi_token.specs.Prefixes.{longest_prefix}
 use Rattle.chi_token.specs.Tokens.{token_of, IsToken}
 use Rattle.chi_lex.specs.declared.fault.LexFault.{LexFault}
 use Rattle.chi_lex.specs.Gaps.{gap_of}
-use Rattle.chi_lex.specs.Reading.{reading, reading_from, from_rest, from_gap, from_token, before, spanned}
+use Rattle.chi_lex.specs.Reading.{spanned}
+use Rattle.chi_lex.proofs.ReadingFunction.{reading, reading_from, from_rest, from_gap, from_token, before}
 use Rattle.chi_lex.specs.Spans.{IsSpanOf, SpanFrom}
 use Rattle.chi_lex.proofs.Sizes.{longest_prefix-means, token-size}
 

@@ -20,7 +20,8 @@ use Rattle.chi_token.specs.Texts.{text_of, meaning}
 use Rattle.chi_token.specs.Tokens.{token_of, word_or_name, is_digits, is_real}
 use Rattle.chi_lex.specs.Gaps.{gap_of, goes_on}
 use Rattle.chi_lex.specs.Places.{place_of}
-use Rattle.chi_lex.specs.Reading.{reading, reading_from, from_gap, from_token, before, spanned}
+use Rattle.chi_lex.proofs.ReadingFunction.{reading, reading_from, from_gap, from_token, before}
+use Rattle.chi_lex.specs.Reading.{spanned}
 use Rattle.chi_lex.specs.Spans.{alone}
 use Rattle.chi_lex.proofs.Prefixes.{longest_prefix-whole}
 use Rattle.chi_lex.proofs.QuoteLemmas.{token_of-quoted}

@@ -8,7 +8,7 @@ use Rattle.chi_token.specs.Prefixes.{longest_prefix}
 use Rattle.chi_token.specs.Texts.{meaning}
 use Rattle.chi_token.specs.Tokens.{token_of}
 use Rattle.chi_lex.specs.declared.piece.Stop.{Stop}
-use Rattle.chi_lex.specs.Faults.{stop_of, text_stop}
+use Rattle.chi_lex.specs.Stops.{stop_of, text_stop}
 use Rattle.chi_lex.specs.TextParts.{StopsText}
 use Rattle.chi_lex.proofs.TextLemmas.{meaning-append, meaning-empty}
 use Rattle.chi_lex.proofs.TextScan.{longest-text, longest-no_text, stop_of-text}

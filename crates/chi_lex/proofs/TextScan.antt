@@ -10,7 +10,8 @@ use Rattle.chi_token.specs.Characters.{quote}
 use Rattle.chi_token.specs.Prefixes.{longest_prefix, length_found}
 use Rattle.chi_token.specs.Texts.{meaning, text_of}
 use Rattle.chi_token.specs.Tokens.{token_of}
-use Rattle.chi_lex.specs.Faults.{stop_of, text_stop, characters_length}
+use Rattle.chi_lex.specs.Stops.{stop_of, text_stop}
+use Rattle.chi_lex.specs.Faults.{characters_length}
 use Rattle.chi_lex.specs.TextParts.{StopsText}
 use Rattle.chi_lex.proofs.Prefixes.{longest_prefix-at, longest_prefix-none}
 use Rattle.chi_lex.proofs.TextLemmas.{meaning-append-none, meaning-quote, meaning-before-quote, text_of-snoc, text_of-no_run, text_of-open}

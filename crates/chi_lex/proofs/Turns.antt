@@ -10,10 +10,10 @@ use Rattle.chi_token.specs.Tokens.{token_of}
 use Rattle.chi_lex.specs.declared.cursor.Cursor.{Cursor}
 use Rattle.chi_lex.specs.declared.fault.LexFault.{LexFault}
 use Rattle.chi_lex.specs.Cursors.{StandsAfter}
-use Rattle.chi_lex.specs.Faults.{stop_of, fault_of}
+use Rattle.chi_lex.specs.Stops.{stop_of, fault_of}
 use Rattle.chi_lex.specs.Gaps.{gap_of}
 use Rattle.chi_lex.specs.Places.{place_of, line_of, column_of}
-use Rattle.chi_lex.specs.Reading.{reading, reading_from, from_gap, from_token, before}
+use Rattle.chi_lex.proofs.ReadingFunction.{reading, reading_from, from_gap, from_token, before}
 use Rattle.chi_lex.proofs.Sizes.{IsSizeIn}
 
 -- tokens before a reading
@@ -61,7 +61,7 @@ HasLexed-nothing source cursor stands =
     }
 
 -- what the reading does at an offset with a rest
-reading_from-step : (left : ℕ) (source rest : List ℕ) (offset : ℕ) → drop offset source ≡ rest → 0 < length rest → reading_from (suc left) source offset ≡ from_gap source offset (reading_from left source) rest (gap_of rest)
+pub reading_from-step : (left : ℕ) (source rest : List ℕ) (offset : ℕ) → drop offset source ≡ rest → 0 < length rest → reading_from (suc left) source offset ≡ from_gap source offset (reading_from left source) rest (gap_of rest)
 unfolding reading_from
 reading_from-step left source [] offset is some = absurd (omega arith)
 reading_from-step left source (c ∷ cs) offset is some = rw is refl

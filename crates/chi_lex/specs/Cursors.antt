@@ -1,4 +1,4 @@
--- How the lexer's place in a source stands to the bytes before it.
+-- How the lexer's place in a source stands to the bytes before it. Private to proofs.
 use Rattle.std.specs.Prelude.{ℕ, ◌≡◌, List, length}
 use Rattle.chi_lex.specs.Places.{line_of, column_of}
 use Rattle.chi_lex.specs.declared.cursor.Cursor.{Cursor}

@@ -1,4 +1,4 @@
--- The second part of a real number.
+-- The second part of a real number, as the code reads it. Private to proofs.
 use Rattle.std.specs.Prelude.{ℕ, ◌+◌, zero, suc, List, [], ◌∷◌, if◌then◌else◌}
 use Rattle.std.specs.List.{prefix_len}
 use Rattle.chi_token.specs.Characters.{is_digit, is_point}

@@ -6,4 +6,5 @@ pub mod Pieces
 pub mod Places
 pub mod Reading
 pub mod Spans
+pub mod Stops
 pub mod TextParts

@@ -1,11 +1,11 @@
--- What the lexer finds at the front of the rest of a source.
+-- What the code finds at the front of the rest of a source. Private to proofs.
 use Rattle.std.specs.Prelude.{ℕ, ◌≡◌, Some, None, List, length}
 use Rattle.chi_token.specs.Prefixes.{longest_prefix}
 use Rattle.chi_token.specs.Tokens.{token_of}
 use Rattle.chi_lex.specs.declared.piece.Piece.{Piece}
 use Rattle.chi_lex.specs.declared.piece.Piece.TheVariants.{Gap, Found, Stopped}
 use Rattle.chi_lex.specs.Gaps.{gap_of}
-use Rattle.chi_lex.specs.Faults.{stop_of}
+use Rattle.chi_lex.specs.Stops.{stop_of}
 
 -- the longest token at the front of the rest, or what stops it
 abbrev pub IsTokenPiece : List ℕ → Piece → Type 0

@@ -1,52 +1,49 @@
--- The reading of a source: its tokens with their places, or its first fault.
-use Rattle.std.specs.Prelude.{ℕ, zero, suc, ◌≡◌, ◌+◌, ⊤, Option, Some, None, Result, Ok, Err, List, [], ◌∷◌, length, drop}
+-- The reading of a source: gaps and tokens in turn, each token the longest prefix of the rest that is one.
+use Rattle.std.specs.Prelude.{ℕ, ◌≡◌, ◌+◌, ⊤, Option, Some, None, List, [], ◌∷◌, length, drop}
 use Rattle.chi_token.specs.declared.place.Spanned.{Spanned}
 use Rattle.chi_token.specs.declared.token.Token.{Token}
 use Rattle.chi_token.specs.Prefixes.{longest_prefix}
 use Rattle.chi_token.specs.Tokens.{token_of}
 use Rattle.chi_lex.specs.declared.fault.LexFault.{LexFault}
 use Rattle.chi_lex.specs.declared.fault.LexFault.TheVariants.{BadByte, OpenString, BadEscape, NoMemory}
-use Rattle.chi_lex.specs.Places.{place_of}
+use Rattle.chi_lex.specs.Faults.{IsFaultAt}
 use Rattle.chi_lex.specs.Gaps.{gap_of}
-use Rattle.chi_lex.specs.Faults.{stop_of, fault_of}
+use Rattle.chi_lex.specs.Places.{place_of}
 
 -- a token of a source, from one offset to before another
 abbrev pub spanned : List ℕ → Token → ℕ → ℕ → Spanned
 spanned source token start stop = record { token = token; place = place_of source start; start = start; stop = stop }
 
--- a token before the tokens that are read next
-abbrev pub before : Spanned → Result (List Spanned) LexFault → Result (List Spanned) LexFault
-before token (Ok tokens) = Ok (token ∷ tokens)
-before token (Err fault) = Err fault
+-- the longest prefix that is a token, with its length, or none
+abbrev pub longest_token : List ℕ → Option (Token × ℕ)
+longest_token rest = longest_prefix token_of (length rest) rest
 
--- the token that is found at an offset, or the fault there. `read` is the reading from a later offset on
-abbrev pub from_token : List ℕ → ℕ → (ℕ → Result (List Spanned) LexFault) → Option (Token × ℕ) → Result (List Spanned) LexFault
-from_token source offset read (Some found) = before (spanned source found.0 offset (offset + found.1)) (read (offset + found.1))
-from_token source offset read None = Err (fault_of source offset (stop_of (drop offset source)))
+-- From an offset on these tokens are read, in turn and to the end, or to the fault where no token is a prefix of the rest.
+pub data ReadsFrom (source : List ℕ) : ℕ → List Spanned → Option LexFault → Type 0 where
+  at_end : (offset : ℕ) → drop offset source ≡ [] → ReadsFrom source offset [] None
+  past_gap : (offset size : ℕ) (tokens : List Spanned) (fault : Option LexFault)
+      → gap_of (drop offset source) ≡ Some size
+      → ReadsFrom source (offset + size) tokens fault
+      → ReadsFrom source offset tokens fault
+  past_token : (offset : ℕ) (token : Token) (size : ℕ) (tokens : List Spanned) (fault : Option LexFault)
+      → gap_of (drop offset source) ≡ None → longest_token (drop offset source) ≡ Some (token, size)
+      → ReadsFrom source (offset + size) tokens fault
+      → ReadsFrom source offset (spanned source token offset (offset + size) ∷ tokens) fault
+  at_fault : (offset : ℕ) (fault : LexFault)
+      → gap_of (drop offset source) ≡ None → longest_token (drop offset source) ≡ None → IsFaultAt source offset fault
+      → ReadsFrom source offset [] (Some fault)
 
--- the gap at an offset, or the longest token where there is none
-abbrev pub from_gap : List ℕ → ℕ → (ℕ → Result (List Spanned) LexFault) → List ℕ → Option ℕ → Result (List Spanned) LexFault
-from_gap source offset read rest (Some gap) = read (offset + gap)
-from_gap source offset read rest None = from_token source offset read (longest_prefix token_of (length rest) rest)
+-- these are the tokens of a source
+abbrev pub Reads : List ℕ → List Spanned → Type 0
+Reads source tokens = ReadsFrom source 0 tokens None
 
--- nothing at the end, else a gap or a token
-abbrev pub from_rest : List ℕ → ℕ → (ℕ → Result (List Spanned) LexFault) → List ℕ → Result (List Spanned) LexFault
-from_rest source offset read [] = Ok []
-from_rest source offset read (c ∷ cs) = from_gap source offset read (c ∷ cs) (gap_of (c ∷ cs))
+-- this is the first fault of a source
+abbrev pub HasFault : List ℕ → LexFault → Type 0
+HasFault source fault = (tokens : List Spanned) × ReadsFrom source 0 tokens (Some fault)
 
--- Gaps and tokens in turn, from an offset on, each token the longest prefix of the rest that is one.
--- Each gap and each token has a byte, so it is enough to look as often as there are bytes left.
-unfoldable pub reading_from : (left : ℕ) → (source : List ℕ) → (offset : ℕ) → Result (List Spanned) LexFault
-reading_from zero source offset = Ok []
-reading_from (suc left) source offset = from_rest source offset (reading_from left source) (drop offset source)
-
--- the tokens of a source, or its first fault
-unfoldable pub reading : List ℕ → Result (List Spanned) LexFault
-reading source = reading_from (length source) source 0
-
--- the fault is the one of the source's reading, unless memory is wanting
+-- the fault is the first one of the source, unless memory is wanting
 abbrev pub IsFaultOf : List ℕ → LexFault → Type 0
 IsFaultOf source NoMemory = ⊤
-IsFaultOf source (BadByte place) = reading source ≡ Err (BadByte place)
-IsFaultOf source (OpenString place) = reading source ≡ Err (OpenString place)
-IsFaultOf source (BadEscape place) = reading source ≡ Err (BadEscape place)
+IsFaultOf source (BadByte place) = HasFault source (BadByte place)
+IsFaultOf source (OpenString place) = HasFault source (OpenString place)
+IsFaultOf source (BadEscape place) = HasFault source (BadEscape place)

@@ -1,11 +1,11 @@
--- What the lexer finds at the front of the rest of a text.
+-- What the code finds at the front of the rest of a text. Private to proofs.
 use Rattle.std.specs.Prelude.{ℕ, ◌≡◌, ◌≢◌, ◌<◌, ◌≤◌, suc, Some, None, List, [], ◌∷◌, length, take, slice_index}
 use Rattle.chi_token.specs.Characters.{quote}
 use Rattle.chi_token.specs.Texts.{meaning}
 use Rattle.chi_lex.specs.declared.piece.Stop.TheVariants.{Byte, Open, Escape}
 use Rattle.chi_lex.specs.declared.text.Character.{Character}
 use Rattle.chi_lex.specs.declared.text.Character.TheVariants.{Means, Closes, Unclosed, BadEscape, BadByte}
-use Rattle.chi_lex.specs.Faults.{text_stop}
+use Rattle.chi_lex.specs.Stops.{text_stop}
 
 -- no front of the rest is a run of whole characters, and it doesn't begin with the closing quote
 abbrev pub StopsText : List ℕ → Type 0

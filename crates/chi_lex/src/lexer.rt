@@ -1,9 +1,9 @@
 ghost use Rattle.std.specs.Prelude.{◌≡◌, ◌+◌, ◌^◌, ◌<◌, ◌≤◌, ℕ, List, ◌++◌, All, IfOk, IfErr, length};
 ghost use Rattle.chi_token.specs.Tokens.{IsToken};
 ghost use Rattle.chi_lex.specs.Cursors.{StandsAfter};
-ghost use Rattle.chi_lex.specs.Faults.{fault_of, stop_of};
+ghost use Rattle.chi_lex.specs.Stops.{fault_of, stop_of};
 ghost use Rattle.chi_lex.specs.Places.{place_of};
-ghost use Rattle.chi_lex.specs.Reading.{reading, IsFaultOf};
+ghost use Rattle.chi_lex.specs.Reading.{Reads, IsFaultOf};
 
 use crate::cursor::Cursor;
 use crate::fault::LexFault;
@@ -40,7 +40,7 @@ fn fault_at(cursor: Cursor, rest: &[u8], stop: Stop) -> LexFault
 /// Reads a source whole: its tokens with their places, or the first place where there is none.
 pub fn lex(alloc: Global, source: &[u8]) -> Result<Vec<Spanned>, LexFault>
     requires { length source.now ≤ MOST_BYTES }
-    ensures tokens { IfOk result (λ tokens. reading source.now ≡ Ok tokens.items) }
+    ensures tokens { IfOk result (λ tokens. Reads source.now tokens.items) }
     ensures spelled { IfOk result (λ tokens. All (λ t. IsToken t.token) tokens.items) }
     ensures fault { IfErr result (λ fault. IsFaultOf source.now fault) }
 {

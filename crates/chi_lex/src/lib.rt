@@ -13,7 +13,7 @@ mod text;
 mod word;
 
 pub use fault::LexFault;
-pub use laws::{span_law, spelling_law};
+pub use laws::{one_reading_law, span_law, spelling_law};
 pub use lexer::{MOST_BYTES, end_place, lex};
 
 #[cfg(test)]

@@ -1,5 +1,5 @@
 use Rattle.std.proofs.Common.{◌∙◌, ◌++◌, ap, sym, length}
-use Rattle.chi_lex.specs.Faults.{fault_of}
+use Rattle.chi_lex.specs.Stops.{fault_of}
 use Rattle.chi_lex.proofs.FaultLemmas.{byte-within, escape-within, place_of-byte, place_of-opening, place_of-escape}
 use Rattle.chi_lex.proofs.lexer.fault_at.Goals as goal
 

@@ -1,8 +1,8 @@
 use Rattle.std.proofs.Common.{◌∙◌, length, ap, sym, subst, arith, rules}
-use Rattle.chi_lex.specs.Faults.{fault_of}
+use Rattle.chi_lex.specs.Stops.{fault_of}
 use Rattle.chi_lex.specs.Pieces.{IsPiece}
 use Rattle.chi_lex.specs.Reading.{IsFaultOf}
-use Rattle.chi_lex.proofs.FaultLemmas.{IsFaultOf-reading}
+use Rattle.chi_lex.proofs.ReadingLaws.{reading-IsFaultOf, reading-Reads}
 use Rattle.chi_lex.proofs.Sizes.{gap-size, token-size}
 use Rattle.chi_lex.proofs.SpanLemmas.{reading-IsToken}
 use Rattle.chi_lex.proofs.Turns.{Passes, HasLexed, HasLexed-nothing, HasLexed-gap, HasLexed-token, HasLexed-end, HasLexed-stopped}
@@ -40,7 +40,7 @@ returns-in-Stopped-clause-fault c =
     ∙ ap (λ n. fault_of c.args.source.now n c.in-Stopped.stop) (sym h.stands.offset)
     ∙ ap (λ s. fault_of c.args.source.now c.loop-rest.cursor.offset s) stopped.1.1 in
     subst (λ f. IsFaultOf c.args.source.now f) (sym fault)
-    (IsFaultOf-reading c.args.source.now _
+    (reading-IsFaultOf c.args.source.now _
     (HasLexed-stopped c.args.source.now rest c.loop-rest.cursor c.loop-rest.tokens.items h (search rules) stopped.0 stopped.1.0))
 
 pub split_at-requires : goal.split_at-requires
@@ -112,7 +112,8 @@ loop-rest-preserved c =
 
 pub returns-clause-tokens : goal.returns-clause-tokens
 returns-clause-tokens c =
-    HasLexed-end c.args.source.now c.loop-rest.rest.now c.loop-rest.cursor c.loop-rest.tokens.items c.loop-rest.invariant (search rules)
+    reading-Reads c.args.source.now c.loop-rest.tokens.items
+    (HasLexed-end c.args.source.now c.loop-rest.rest.now c.loop-rest.cursor c.loop-rest.tokens.items c.loop-rest.invariant (search rules))
 
 pub returns-clause-spelled : goal.returns-clause-spelled
 returns-clause-spelled c =
