@@ -1,5 +1,6 @@
 pub mod CharacterLemmas
 pub mod FaultLemmas
+pub mod LawLemmas
 pub mod NumberLemmas
 pub mod Prefixes
 pub mod QuoteLemmas

@@ -5,7 +5,6 @@ use Rattle.chi_io.specs.Shelf.{Files}
 use Rattle.chi_token.specs.declared.place.Spanned.{Spanned}
 use Rattle.chi_lex.specs.declared.fault.LexFault.{LexFault}
 use Rattle.chi_lex.specs.declared.lexer.TheConstants.{MOST_BYTES}
-use Rattle.chi_lex.specs.Reading.{reading}
 use Rattle.chi_form.specs.Form.{built}
 use Rattle.chi_form_core.specs.declared.program.Core.{Core}
 use Rattle.chi_form_core.specs.declared.verdict.Verdict.{Verdict}
@@ -13,7 +12,7 @@ use Rattle.chi_form_core.specs.declared.verdict.Verdict.TheVariants as verdict
 use Rattle.chi_form_core.specs.Runs.{End}
 use Rattle.chi_form_core.proofs.Picks.{Picked-some}
 use Rattle.chi_tool.specs.Words.{Request, Sim, request_of}
-use Rattle.chi_tool.specs.Report.{Report, usage, run_report, status_of, first, most_steps, IsReportOfSource, IsReportOfReading, IsReportOfTokens, of_tree, of_fault, IsReportOfBuilt, IsReport}
+use Rattle.chi_tool.specs.Report.{Report, usage, run_report, status_of, first, most_steps, IsReportOfSource, of_lexical_fault, of_tokens, IsReportOfTokens, of_tree, of_fault, IsReportOfBuilt, IsReport}
 use Rattle.chi_tool.specs.Call.{Call, SinkUse, SinkRose}
 use Rattle.chi_tool.specs.Headline.{NothingFailed, IsReportedOrLost, IsAskedProgram, EndsWith, EndsAs, IsFault, HasLexicalFault, HasSyntaxFault, IsNotBuilt, IsUnfit, CannotBeRead, IsExactly, Causes, IsComplete}
 use Rattle.chi_tool.specs.Delivery.{Delivers, whole, out_broke, log_broke, DeliversReport, Serves, reported, missing, long, failed, lost}
@@ -194,13 +193,9 @@ tokens_status : (source : List ℕ) (tokens : List Spanned) (r : Report) → IsR
 tokens_status source tokens r (of_tree tree has is) = built_status (built tree) r is
 tokens_status source tokens r (of_fault fault has is) = numeral_of_source r.status 21 (status_ap r _ is) (inr (omega arith, omega arith))
 
-reading_status : (source : List ℕ) (o : Result (List Spanned) LexFault) (r : Report) → IsReportOfReading source o r → IsOfSource r.status
-reading_status source (Err fault) r is = numeral_of_source r.status 20 (status_ap r _ is) (inr (omega arith, omega arith))
-reading_status source (Ok tokens) r is = tokens_status source tokens r is
-
 source_status : (source : List ℕ) (r : Report) → IsReportOfSource source r → IsOfSource r.status
-unfolding IsReportOfSource
-source_status source r is = reading_status source (reading source) r is
+source_status source r (of_lexical_fault fault has is) = numeral_of_source r.status 20 (status_ap r _ is) (inr (omega arith, omega arith))
+source_status source r (of_tokens tokens reads is) = tokens_status source tokens r is
 
 -- a status that a delivery doesn't have by itself tells which of the sinks broke off
 delivered_status : (status n : ℕ) (output lines : List ℕ) (result : ℕ) (out log : SinkUse) → status ≢ n → n ≢ 5

@@ -1,17 +1,16 @@
 -- What a report is of, and which report is of what.
 use Rattle.std.proofs.Common.{◌≡◌, ℕ, List, Option, Some, None, inl, inr, sym, subst, refl}
-use Rattle.std.specs.Prelude.{Result, Ok, Err}
 use Rattle.chi_io.specs.Shelf.{Files}
 use Rattle.chi_token.specs.declared.place.Spanned.{Spanned}
 use Rattle.chi_lex.specs.declared.fault.LexFault.{LexFault}
-use Rattle.chi_lex.specs.Reading.{reading}
+use Rattle.chi_lex.specs.Reading as lexical
 use Rattle.chi_tree.specs.declared.definition.Program.{Program}
 use Rattle.chi_form.specs.Form.{built}
 use Rattle.chi_form_core.specs.declared.program.Core.{Core}
 use Rattle.chi_form_core.specs.Runs.{End}
 use Rattle.chi_tool.specs.Words.{Request, Sim, request_of}
 use Rattle.chi_tool.specs.Syntax.{syntax_text}
-use Rattle.chi_tool.specs.Report.{Report, usage, no_such_file, file_too_long, refused, lexical_text, not_built, run_report, IsReportOfSource, IsReportOfReading, IsReportOfTokens, of_tree, of_fault, IsReportOfBuilt, IsReportOfFile, IsReportOfRequest, IsReport}
+use Rattle.chi_tool.specs.Report.{Report, usage, no_such_file, file_too_long, refused, lexical_text, not_built, run_report, IsReportOfSource, of_lexical_fault, of_tokens, IsReportOfTokens, of_tree, of_fault, IsReportOfBuilt, IsReportOfFile, IsReportOfRequest, IsReport}
 use Rattle.chi_tool.specs.Call.{Call}
 use Rattle.chi_tool.specs.Headline.{IsAskedSource, IsAskedTokens, IsAskedTree, EndsWith, HasLexicalFault, HasSyntaxFault, IsNotBuilt}
 use Rattle.chi_tool.proofs.Promises.{is_report}
@@ -21,7 +20,7 @@ pub data CaseOf (call : Call) (files : Files) (r : Report) : Type 0 where
   asks_nothing : request_of call.words ≡ None → r ≡ usage → CaseOf call files r
   is_missing : r ≡ no_such_file → CaseOf call files r
   is_long : r ≡ file_too_long → CaseOf call files r
-  is_faulty : (source : List ℕ) → (fault : LexFault) → IsAskedSource call files source → reading source ≡ Err fault
+  is_faulty : (source : List ℕ) → (fault : LexFault) → IsAskedSource call files source → lexical.HasFault source fault
       → r ≡ refused 20 (lexical_text fault) → CaseOf call files r
   is_no_program : (fault : HasSyntaxFault call files) → r ≡ refused 21 (syntax_text fault.2.source fault.0 fault.1) → CaseOf call files r
   is_unbuilt : IsNotBuilt call files → r ≡ not_built → CaseOf call files r
@@ -44,14 +43,9 @@ module _ (call : Call) (files : Files) (r : Report) where
       built_case tree (record { tokens = tokens; asked = asked; parsed = has }) (built tree) refl is
   tokens_case tokens asked (of_fault fault has is) = is_no_program (tokens, fault, asked, has) is
 
-  reading_case : (source : List ℕ) → IsAskedSource call files source → (o : Result (List Spanned) LexFault) → reading source ≡ o
-      → IsReportOfReading source o r → CaseOf call files r
-  reading_case source asked (Err fault) read is = is_faulty source fault asked read is
-  reading_case source asked (Ok tokens) read is = tokens_case tokens (record { source = source; asked = asked; read = read }) is
-
   source_case : (source : List ℕ) → IsAskedSource call files source → IsReportOfSource source r → CaseOf call files r
-  unfolding IsReportOfSource
-  source_case source asked is = reading_case source asked (reading source) refl is
+  source_case source asked (of_lexical_fault fault has is) = is_faulty source fault asked has is
+  source_case source asked (of_tokens tokens reads is) = tokens_case tokens (record { source = source; asked = asked; read = reads }) is
 
   file_case : (name : List ℕ) → request_of call.words ≡ Some (Sim name) → (o : Option (List ℕ)) → files name ≡ o → IsReportOfFile o r
       → CaseOf call files r
@@ -74,19 +68,13 @@ asked_report : (call : Call) (files : Files) (source : List ℕ) (r : Report) �
 asked_report call files source r asked is =
     is_report call asked.name files (Some source) r asked.asked asked.there (inr (asked.within, is))
 
-reading_report : (source : List ℕ) (o : Result (List Spanned) LexFault) (r : Report) → reading source ≡ o → IsReportOfReading source o r
-    → IsReportOfSource source r
-unfolding IsReportOfSource
-reading_report source o r e is =
-    let P : Result (List Spanned) LexFault → Type 0 = λ x. IsReportOfReading source x r in subst P (sym e) is
-
 pub lexical_report : (call : Call) (files : Files) (h : HasLexicalFault call files) → IsReport call.words files (refused 20 (lexical_text h.1))
-lexical_report call files h = asked_report call files h.0 _ h.2 (reading_report h.0 (Err h.1) _ h.3 refl)
+lexical_report call files h = asked_report call files h.0 _ h.2 (of_lexical_fault h.1 h.3 refl)
 
 tokens_report : (call : Call) (files : Files) (tokens : List Spanned) (asked : IsAskedTokens call files tokens) (r : Report)
     → IsReportOfTokens asked.source tokens r → IsReport call.words files r
 tokens_report call files tokens asked r is =
-    asked_report call files asked.source r asked.asked (reading_report asked.source (Ok tokens) r asked.read is)
+    asked_report call files asked.source r asked.asked (of_tokens tokens asked.read is)
 
 pub syntax_report : (call : Call) (files : Files) (h : HasSyntaxFault call files) → IsReport call.words files (refused 21 (syntax_text h.2.source h.0 h.1))
 syntax_report call files h = tokens_report call files h.0 h.2 _ (of_fault h.1 h.3 refl)

@@ -5,7 +5,9 @@ use Rattle.chi_io.specs.Shelf.{Files}
 use Rattle.chi_token.specs.declared.place.Spanned.{Spanned}
 use Rattle.chi_lex.specs.declared.fault.LexFault.{LexFault}
 use Rattle.chi_lex.specs.declared.lexer.TheConstants.{MOST_BYTES}
-use Rattle.chi_lex.specs.Reading.{reading}
+use Rattle.chi_lex.specs.Reading.{Reads}
+use Rattle.chi_lex.specs.Reading as lexical
+use Rattle.chi_lex.proofs.LawLemmas.{some_reading, one_list, one_fault, never_both}
 use Rattle.chi_grammar.specs.declared.fault.ParseFault.{ParseFault}
 use Rattle.chi_tree.specs.declared.definition.Program.{Program}
 use Rattle.chi_form.specs.Form.{built}
@@ -13,7 +15,7 @@ use Rattle.chi_form_core.specs.declared.program.Core.{Core}
 use Rattle.chi_form_core.proofs.Picks.{Picked-some, Picked-one}
 use Rattle.chi_tool.specs.Words.{Request, Sim, request_of}
 use Rattle.chi_tool.specs.Syntax.{HasTree, HasFault, syntax_text}
-use Rattle.chi_tool.specs.Report.{Report, refused, usage, no_such_file, file_too_long, lexical_text, not_built, run_report, first, most_steps, IsReportOfBuilt, IsReportOfTokens, of_tree, of_fault, IsReportOfReading, IsReportOfSource, IsReportOfFile, IsReportOfRequest, IsReport}
+use Rattle.chi_tool.specs.Report.{Report, refused, usage, no_such_file, file_too_long, lexical_text, not_built, run_report, first, most_steps, IsReportOfBuilt, IsReportOfTokens, of_tree, of_fault, IsReportOfSource, of_lexical_fault, of_tokens, IsReportOfFile, IsReportOfRequest, IsReport}
 use Rattle.chi_tool.proofs.Built.{built-Sound}
 use Rattle.chi_tool.proofs.OneReading.{Answers, answer_some, answer_one}
 
@@ -32,13 +34,12 @@ tokens_some source tokens = let a = answer_some tokens in by a.0 a.1
     by (Ok tree) has = let p = built_some tree (built tree) refl in (p.0, of_tree tree has p.1)
     by (Err fault) has = (refused 21 (syntax_text source tokens fault), of_fault fault has refl)
 
-reading_some : (source : List ℕ) (o : Result (List Spanned) LexFault) → (r : Report) × IsReportOfReading source o r
-reading_some source (Err fault) = (refused 20 (lexical_text fault), refl)
-reading_some source (Ok tokens) = tokens_some source tokens
-
 pub source_some : (source : List ℕ) → (r : Report) × IsReportOfSource source r
-unfolding IsReportOfSource
-source_some source = reading_some source (reading source)
+source_some source = by (some_reading source)
+  where
+    by : ((tokens : List Spanned) × Reads source tokens) ⊎ ((fault : LexFault) × lexical.HasFault source fault) → (r : Report) × IsReportOfSource source r
+    by (inl (tokens, reads)) = let p = tokens_some source tokens in (p.0, of_tokens tokens reads p.1)
+    by (inr (fault, has)) = (refused 20 (lexical_text fault), of_lexical_fault fault has refl)
 
 file_some : (o : Option (List ℕ)) → (r : Report) × IsReportOfFile o r
 file_some None = (no_such_file, refl)
@@ -65,8 +66,8 @@ built_one (Some core) r s p q =
 one_tree : (tokens : List Spanned) (t u : Program) → HasTree tokens t → HasTree tokens u → t ≡ u
 one_tree tokens t u p q = let same : ◌≡◌ {A = Result Program ParseFault} (Ok t) (Ok u) = answer_one tokens (Ok t) (Ok u) p q in cc
 
-one_fault : (tokens : List Spanned) (e f : ParseFault) → HasFault tokens e → HasFault tokens f → e ≡ f
-one_fault tokens e f p q = let same : ◌≡◌ {A = Result Program ParseFault} (Err e) (Err f) = answer_one tokens (Err e) (Err f) p q in cc
+one_syntax_fault : (tokens : List Spanned) (e f : ParseFault) → HasFault tokens e → HasFault tokens f → e ≡ f
+one_syntax_fault tokens e f p q = let same : ◌≡◌ {A = Result Program ParseFault} (Err e) (Err f) = answer_one tokens (Err e) (Err f) p q in cc
 
 tree_or_fault : (tokens : List Spanned) (t : Program) (e : ParseFault) → HasTree tokens t → HasFault tokens e → ⊥
 tree_or_fault tokens t e p q = let same : ◌≡◌ {A = Result Program ParseFault} (Ok t) (Err e) = answer_one tokens (Ok t) (Err e) p q in cc
@@ -78,15 +79,15 @@ tokens_one source tokens r s (of_tree t p a) (of_tree u q b) =
 tokens_one source tokens r s (of_tree t p a) (of_fault f q b) = absurd (tree_or_fault tokens t f p q)
 tokens_one source tokens r s (of_fault f p a) (of_tree u q b) = absurd (tree_or_fault tokens u f q p)
 tokens_one source tokens r s (of_fault e p a) (of_fault f q b) =
-    a ∙ ap (λ x. refused 21 (syntax_text source tokens x)) (one_fault tokens e f p q) ∙ sym b
-
-reading_one : (source : List ℕ) (o : Result (List Spanned) LexFault) (r s : Report) → IsReportOfReading source o r → IsReportOfReading source o s → r ≡ s
-reading_one source (Err fault) r s p q = p ∙ sym q
-reading_one source (Ok tokens) r s p q = tokens_one source tokens r s p q
+    a ∙ ap (λ x. refused 21 (syntax_text source tokens x)) (one_syntax_fault tokens e f p q) ∙ sym b
 
 source_one : (source : List ℕ) (r s : Report) → IsReportOfSource source r → IsReportOfSource source s → r ≡ s
-unfolding IsReportOfSource
-source_one source r s p q = reading_one source (reading source) r s p q
+source_one source r s (of_lexical_fault e p a) (of_lexical_fault f q b) =
+    a ∙ ap (λ x. refused 20 (lexical_text x)) (one_fault source e f p q) ∙ sym b
+source_one source r s (of_lexical_fault e p a) (of_tokens ts q b) = absurd (never_both source ts e q p)
+source_one source r s (of_tokens ts p a) (of_lexical_fault f q b) = absurd (never_both source ts f p q)
+source_one source r s (of_tokens ts p a) (of_tokens us q b) =
+    tokens_one source ts r s a (subst (λ x. IsReportOfTokens source x s) (one_list source us ts q p) b)
 
 file_one : (o : Option (List ℕ)) (r s : Report) → IsReportOfFile o r → IsReportOfFile o s → r ≡ s
 file_one None r s p q = p ∙ sym q

@@ -1,9 +1,9 @@
 -- How many tokens a source has.
-use Rattle.std.proofs.Common.{◌≡◌, ℕ, ◌+◌, ◌≤◌, Ok, List, [], ◌∷◌, length, arith}
+use Rattle.std.proofs.Common.{◌≡◌, ℕ, ◌+◌, ◌≤◌, List, [], ◌∷◌, length, arith}
 use Rattle.chi_token.specs.declared.place.Spanned.{Spanned}
-use Rattle.chi_lex.specs.Reading.{reading}
+use Rattle.chi_lex.specs.Reading.{Reads}
 use Rattle.chi_lex.specs.Spans.{SpanFrom}
-use Rattle.chi_lex.proofs.SpanLemmas.{reading-SpanFrom}
+use Rattle.chi_lex.proofs.LawLemmas.{Reads-SpanFrom}
 
 -- each of them has a byte
 span_size : (source : List ℕ) (offset : ℕ) (tokens : List Spanned) → offset ≤ length source → SpanFrom source offset tokens
@@ -16,5 +16,5 @@ span_size source offset (t ∷ ts) within spans =
     let rest = span_size source t.stop ts is.within spans.2 in
     omega arith
 
-pub reading-size : (source : List ℕ) (tokens : List Spanned) → reading source ≡ Ok tokens → length tokens ≤ length source
-reading-size source tokens reads = let size = span_size source 0 tokens (omega arith) (reading-SpanFrom source tokens reads) in omega arith
+pub Reads-size : (source : List ℕ) (tokens : List Spanned) → Reads source tokens → length tokens ≤ length source
+Reads-size source tokens reads = let size = span_size source 0 tokens (omega arith) (Reads-SpanFrom source tokens reads) in omega arith

@@ -4,7 +4,8 @@ use Rattle.chi_io.specs.Shelf.{Files}
 use Rattle.chi_token.specs.declared.place.Spanned.{Spanned}
 use Rattle.chi_lex.specs.declared.fault.LexFault.{LexFault}
 use Rattle.chi_lex.specs.declared.lexer.TheConstants.{MOST_BYTES}
-use Rattle.chi_lex.specs.Reading.{reading}
+use Rattle.chi_lex.specs.Reading.{Reads}
+use Rattle.chi_lex.specs.Reading as lexical
 use Rattle.chi_grammar.specs.declared.fault.ParseFault.{ParseFault}
 use Rattle.chi_tree.specs.declared.definition.Program.{Program}
 use Rattle.chi_form.specs.Form.{built}
@@ -77,7 +78,7 @@ pub record IsAskedSource (call : Call) (files : Files) (source : List ℕ) : Typ
 pub record IsAskedTokens (call : Call) (files : Files) (tokens : List Spanned) : Type 0 where
   pub source : List ℕ
   pub asked : IsAskedSource call files source
-  pub read : reading source ≡ Ok tokens
+  pub read : Reads source tokens
 
 -- the words ask for a source that is this program, as it is written
 pub record IsAskedTree (call : Call) (files : Files) (tree : Program) : Type 0 where
@@ -107,7 +108,7 @@ IsFault v = (kind : FaultKind) × (name : List ℕ) × (line : ℕ) × (v ≡ ve
 
 -- the asked source has a lexical fault
 abbrev pub HasLexicalFault : Call → Files → Type 0
-HasLexicalFault call files = (source : List ℕ) × (fault : LexFault) × IsAskedSource call files source × (reading source ≡ Err fault)
+HasLexicalFault call files = (source : List ℕ) × (fault : LexFault) × IsAskedSource call files source × lexical.HasFault source fault
 
 -- it has none, and its tokens are no program: at one of them there is none, or it stands too deep
 abbrev pub HasSyntaxFault : Call → Files → Type 0

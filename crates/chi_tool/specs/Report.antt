@@ -1,11 +1,12 @@
 -- The report of words and files: the status, and every byte that is written.
-use Rattle.std.specs.Prelude.{◌≡◌, ℕ, ◌<◌, ◌≤◌, ◌⊎◌, List, [], ◌∷◌, ◌++◌, length, codes, Option, Some, None, Result, Ok, Err}
+use Rattle.std.specs.Prelude.{◌≡◌, ℕ, ◌<◌, ◌≤◌, ◌⊎◌, List, [], ◌∷◌, ◌++◌, length, codes, Option, Some, None}
 use Rattle.chi_io.specs.Shelf.{Files}
 use Rattle.chi_token.specs.declared.place.Spanned.{Spanned}
 use Rattle.chi_lex.specs.declared.fault.LexFault.{LexFault}
 use Rattle.chi_lex.specs.declared.fault.LexFault.TheVariants as fault
 use Rattle.chi_lex.specs.declared.lexer.TheConstants.{MOST_BYTES}
-use Rattle.chi_lex.specs.Reading.{reading}
+use Rattle.chi_lex.specs.Reading.{Reads}
+use Rattle.chi_lex.specs.Reading as lexical
 use Rattle.chi_grammar.specs.declared.fault.ParseFault.{ParseFault}
 use Rattle.chi_tree.specs.declared.definition.Program.{Program}
 use Rattle.chi_form.specs.Form.{built}
@@ -82,14 +83,10 @@ pub data IsReportOfTokens (source : List ℕ) (tokens : List Spanned) (r : Repor
   of_tree : (tree : Program) → HasTree tokens tree → IsReportOfBuilt (built tree) r → IsReportOfTokens source tokens r
   of_fault : (fault : ParseFault) → HasFault tokens fault → r ≡ refused 21 (syntax_text source tokens fault) → IsReportOfTokens source tokens r
 
-abbrev pub IsReportOfReading : List ℕ → Result (List Spanned) LexFault → Report → Type 0
-IsReportOfReading source (Err fault) r = r ≡ refused 20 (lexical_text fault)
-IsReportOfReading source (Ok tokens) r = IsReportOfTokens source tokens r
-
--- a source's report: its first lexical fault, or its first token at which it is no program, or that its form isn't
--- built yet, or its run
-unfoldable pub IsReportOfSource : List ℕ → Report → Type 0
-IsReportOfSource source r = IsReportOfReading source (reading source) r
+-- a source's report: that of its first lexical fault, or of its tokens
+pub data IsReportOfSource (source : List ℕ) (r : Report) : Type 0 where
+  of_lexical_fault : (fault : LexFault) → lexical.HasFault source fault → r ≡ refused 20 (lexical_text fault) → IsReportOfSource source r
+  of_tokens : (tokens : List Spanned) → Reads source tokens → IsReportOfTokens source tokens r → IsReportOfSource source r
 
 abbrev pub IsReportOfFile : Option (List ℕ) → Report → Type 0
 IsReportOfFile None r = r ≡ no_such_file

@@ -1,4 +1,4 @@
-use Rattle.chi_lex.proofs.ReadingLaws.{some_reading, one_list, one_fault, never_both}
+use Rattle.chi_lex.proofs.LawLemmas.{some_reading, one_list, one_fault, never_both}
 use Rattle.chi_lex.proofs.laws.one_reading_law.Goals as goal
 
 pub returns-clause-some : goal.returns-clause-some
