@@ -16,7 +16,7 @@ pub use defaults::{DefaultFault, MOST_CHANNELS, default_of};
 pub use format::{Field, Kind, Piece};
 pub use laws::order_is_total;
 pub use names::Names;
-pub use ordering::compare;
+pub use ordering::{compare, compare_any};
 pub use shape::Shape;
 pub use text::{MOST_TEXT, TextFault, quoted_of, text_of};
 pub use value::{Items, MOST_ELEMENTS, Value};

@@ -18,7 +18,7 @@ pub fn compare(a: &Value, b: &Value) -> Ordering
 
 /// `compare`, also of values that are not alike: in the order of their kinds.
 #[cycle(compare_any)]
-pub(crate) fn compare_any(a: &Value, b: &Value) -> Ordering
+pub fn compare_any(a: &Value, b: &Value) -> Ordering
     ensures value { result ≡ order a.now b.now }
 {
     let kinds = rank(a).cmp(&rank(b));
