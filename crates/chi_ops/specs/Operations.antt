@@ -6,10 +6,10 @@ use Rattle.chi_value.specs.declared.format.Kind.{Kind}
 use Rattle.chi_value.specs.declared.format.Kind.TheVariants as kind
 use Rattle.chi_value.specs.declared.value.Value.{Value, Value-F, out-Value}
 use Rattle.chi_value.specs.declared.value.Value.TheVariants as value
-use Rattle.chi_value.specs.Outcome.{Outcome, gives, faults, wrong, index_fault, key_fault, empty_fault, step_fault, gives_or, gives_within}
-use Rattle.chi_value.specs.Places.{place_of}
-use Rattle.chi_value.specs.Progression.{count_from, progression}
-use Rattle.chi_value.specs.Slices.{slice_of}
+use Rattle.chi_ops.specs.Outcome.{Outcome, gives, faults, wrong, index_fault, key_fault, empty_fault, step_fault, gives_or, gives_within}
+use Rattle.chi_ops.specs.Places.{place_of}
+use Rattle.chi_ops.specs.Progression.{count_from, progression}
+use Rattle.chi_ops.specs.Slices.{slice_of}
 use Rattle.chi_value.specs.Sets.{among, set_of, union as set_union, meet as set_meet, minus as set_minus, is_subset}
 use Rattle.chi_value.specs.Dictionaries.{key_of, value_of, keys, values, value_at, dictionary_of, dictionary_union, minus_keys as without_keys, entries_of}
 
