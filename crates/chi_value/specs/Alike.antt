@@ -11,10 +11,10 @@ abbrev pub drawn_kind : Dist → ℕ
 drawn_kind (dist.ConstBool x) = 0
 drawn_kind (dist.ConstInt x) = 1
 drawn_kind (dist.ConstReal x) = 2
-drawn_kind (dist.UniformInt low high) = 1
-drawn_kind (dist.UniformReal low high) = 2
-drawn_kind (dist.Bernoulli chance) = 0
-drawn_kind (dist.Binomial count chance) = 1
+drawn_kind (dist.UniformInt low high stream) = 1
+drawn_kind (dist.UniformReal low high stream) = 2
+drawn_kind (dist.Bernoulli chance stream) = 0
+drawn_kind (dist.Binomial count chance stream) = 1
 
 -- equally many parts, each of which, given by what it is alike to, is alike to the other part at its place
 abbrev pub parts_alike : List (Value → Bool) → List Value → Bool

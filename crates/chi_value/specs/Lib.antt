@@ -1,11 +1,9 @@
 pub mod Alike
 pub mod Default
-pub mod Dictionaries
 pub mod Format
 pub mod FormatCodes
 pub mod Limit
 pub mod Names
 pub mod Order
 pub mod Plain
-pub mod Sets
 pub mod Text
