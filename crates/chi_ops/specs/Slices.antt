@@ -1,5 +1,5 @@
 -- Slices of a list.
-use Rattle.std.specs.Prelude.{ℕ, ℤ, pos, negsuc, int_lt, nat_abs, ◌+ℤ◌, ◌-ℤ◌, Option, None, Some, List, length, slice_get, if◌then◌else◌}
+use Rattle.std.specs.Prelude.{ℕ, ℤ, pos, negsuc, int_lt, unsigned_abs, ◌+ℤ◌, ◌-ℤ◌, Option, None, Some, List, length, slice_get, if◌then◌else◌}
 use Rattle.std.specs.List.{filter_map}
 use Rattle.chi_ops.specs.Progression.{progression}
 
@@ -25,7 +25,7 @@ slice_places size first last by =
 
 -- the elements at places
 abbrev pub elements_at : {A : Type 0} → List A → List ℤ → List A
-elements_at xs places = filter_map (λ place. slice_get xs (nat_abs place)) places
+elements_at xs places = filter_map (λ place. slice_get xs (unsigned_abs place)) places
 
 -- the elements that a slice takes, by a step other than 0
 abbrev pub slice_of : {A : Type 0} → List A → Option ℤ → Option ℤ → ℤ → List A
