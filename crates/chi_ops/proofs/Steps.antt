@@ -179,12 +179,16 @@ pub fits_between : (by a first last : ℤ) → comes_before by a last ≡ true �
     FitsSigned w64 first → FitsSigned w64 last → FitsSigned w64 a
 fits_between by a first last = fits_by (int_lt by (pos 0)) a first last
 
-not_before : (down : Bool) (x y : ℤ) → (if down then x ≤ℤ y else y ≤ℤ x) → (if down then int_lt y x else int_lt x y) ≡ false
+abbrev Behind : Bool → ℤ → ℤ → Type 0
+Behind true x y = x ≤ℤ y
+Behind false x y = y ≤ℤ x
+
+not_before : (down : Bool) (x y : ℤ) → Behind down x y → (if down then int_lt y x else int_lt x y) ≡ false
 not_before true x y h = grind (arith, ints)
 not_before false x y h = grind (arith, ints)
 
 onward : (down : Bool) (by a first : ℤ) → int_lt by (pos 0) ≡ down → (if down then int_lt first a else int_lt a first) ≡ false →
-    (if down then (a +ℤ by) ≤ℤ first else first ≤ℤ (a +ℤ by))
+    Behind down (a +ℤ by) first
 onward true by a first e k =
     let sign = less by (pos 0) e in
     let upto = not_less first a k in

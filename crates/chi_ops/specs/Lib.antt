@@ -9,3 +9,4 @@ pub mod Sequences
 pub mod Slices
 pub mod Store
 pub mod Tidy
+pub mod Walking

@@ -5,7 +5,7 @@ use Rattle.chi_value.specs.declared.format.Kind.TheVariants as kind
 use Rattle.chi_value.specs.declared.value.Value.{Value, Value-F, out-Value}
 use Rattle.chi_value.specs.declared.value.Value.TheVariants as value
 use Rattle.chi_sets.specs.Sets.{among, set_of, union as set_union, meet as set_meet, minus as set_minus, is_subset}
-use Rattle.chi_sets.specs.Dictionaries.{keys, values, value_at, dictionary_of, dictionary_union, minus_keys as without_keys, entries_of}
+use Rattle.chi_sets.specs.Dictionaries.{key_of, value_of, keys, values, value_at, dictionary_of, dictionary_union, minus_keys as without_keys, entries_of}
 use Rattle.chi_ops.specs.Conditions.{may_size, may_lookup, may_has, may_sub, may_pop, may_union, may_meet, may_minus, may_minus_keys, may_keys, may_values, may_build}
 use Rattle.chi_ops.specs.Outcome.{Outcome, gives, faults, wrong, where_may, key_fault, empty_fault, gives_or, gives_within}
 
@@ -47,13 +47,14 @@ abbrev pub first_and_rest : (List Value → Value) → List Value → Outcome
 first_and_rest made [] = faults empty_fault
 first_and_rest made (x ∷ xs) = gives (value.TupleOf (x ∷ made xs ∷ []))
 
--- the least key, what it has, and the rest
+-- a key, what it has, and the rest of the dictionary
+abbrev pub entry_and_others : Option Value → Option Value → List Value → Outcome
+entry_and_others (Some key) (Some has) es = gives (value.TupleOf (key ∷ has ∷ value.DictOf es ∷ []))
+entry_and_others _ _ es = wrong
+
 abbrev pub entry_and_rest : List Value → Outcome
 entry_and_rest [] = faults empty_fault
-entry_and_rest (e ∷ es) = elim (out-Value e) [
-  Value-F.TupleOf parts ↦ gives (value.TupleOf (parts ++ value.DictOf es ∷ []))
-  | _ ↦ wrong
-]
+entry_and_rest (e ∷ es) = entry_and_others (key_of e) (value_of e) es
 
 -- the first, and the rest: of a set the least element, of a dictionary the least key and what it has
 abbrev pub pop : Value → Outcome

@@ -15,13 +15,21 @@ abbrev pub bound_or : ℤ → ℤ → ℤ → ℕ → Option ℤ → ℤ
 bound_or otherwise low high size None = otherwise
 bound_or otherwise low high size (Some bound) = clamped low high (from_end size bound)
 
--- the places that a slice takes, by a step other than 0: backwards from the last to before the one in front of the first
-abbrev pub slice_places : ℕ → Option ℤ → Option ℤ → ℤ → List ℤ
-slice_places size first last by =
+-- where a slice begins, by a step other than 0: backwards at the last place where no bound is given
+abbrev pub first_place : ℕ → Option ℤ → ℤ → ℤ
+first_place size bound by =
     let end = pos size -ℤ pos 1 in
-    if int_lt by (pos 0)
-    then progression (bound_or end (negsuc 0) end size first) (bound_or (negsuc 0) (negsuc 0) end size last) by
-    else progression (bound_or (pos 0) (pos 0) (pos size) size first) (bound_or (pos size) (pos 0) (pos size) size last) by
+    if int_lt by (pos 0) then bound_or end (negsuc 0) end size bound else bound_or (pos 0) (pos 0) (pos size) size bound
+
+-- before which place it ends: backwards before the one in front of the first where no bound is given
+abbrev pub last_place : ℕ → Option ℤ → ℤ → ℤ
+last_place size bound by =
+    let end = pos size -ℤ pos 1 in
+    if int_lt by (pos 0) then bound_or (negsuc 0) (negsuc 0) end size bound else bound_or (pos size) (pos 0) (pos size) size bound
+
+-- the places that a slice takes, by a step other than 0
+abbrev pub slice_places : ℕ → Option ℤ → Option ℤ → ℤ → List ℤ
+slice_places size first last by = progression (first_place size first by) (last_place size last by) by
 
 -- the elements at places
 abbrev pub elements_at : {A : Type 0} → List A → List ℤ → List A

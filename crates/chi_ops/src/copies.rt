@@ -1,7 +1,7 @@
 ghost use Rattle.std.specs.Prelude.{◌≡◌, ◌++◌, IfOk, OnOk};
 
 use chi_base::NoMemory;
-use chi_value::Value;
+use chi_value::{Items, Value};
 use std::alloc::Global;
 
 /// Appends a copy of each value.
@@ -25,4 +25,11 @@ pub(crate) fn copies_of(alloc: Global, values: &[Value]) -> Result<Vec<Value>, N
     let mut copies = Vec::new(alloc);
     append_copies(alloc, &mut copies, values)?;
     Ok(copies)
+}
+
+/// A copy of each value, as a finished list.
+pub(crate) fn items_of(alloc: Global, values: &[Value]) -> Result<Items, NoMemory>
+    ensures copied { IfOk result (λ items. items ≡ values.now) }
+{
+    Ok(Items::of(alloc, copies_of(alloc, values)?)?)
 }

@@ -1,4 +1,5 @@
-ghost use Rattle.std.specs.Prelude.{◌≡◌, IfOk, [], ◌∷◌};
+ghost use Rattle.std.specs.Prelude.{◌≡◌, Some, IfOk, IsTrue, [], ◌∷◌};
+ghost use Rattle.chi_sets.specs.Dictionaries.{is_entry, key_of, value_of};
 ghost use Rattle.chi_value.specs.declared.value.Value.TheVariants.{TupleOf};
 
 use chi_base::NoMemory;
@@ -29,4 +30,19 @@ pub(crate) fn triple(
     parts.push(second)?;
     parts.push(third)?;
     Ok(Value::TupleOf(Items::of(alloc, parts)?))
+}
+
+/// The key of an entry and what it has.
+pub(crate) fn parts_of(entry: &Value) -> (&Value, &Value)
+    requires { IsTrue (is_entry entry.now) }
+    ensures key { key_of entry.now ≡ Some result.0.now }
+    ensures has { value_of entry.now ≡ Some result.1.now }
+{
+    match entry {
+        Value::TupleOf(parts) => match parts.as_slice() {
+            [key, has] => (key, has),
+            _ => unreachable!(),
+        },
+        _ => unreachable!(),
+    }
 }

@@ -41,12 +41,3 @@ fn steps_over(distance: u128, size: u64) -> u128
     let size = size as u128;
     (distance + size - 1) / size
 }
-
-/// One step further.
-pub(crate) fn stepped(place: i128, by: i128) -> i128
-    requires place { unsigned_abs place ≤ 2 ^ 64 }
-    requires by { unsigned_abs by ≤ 2 ^ 64 }
-    ensures value { result ≡ place +ℤ by }
-{
-    place + by
-}

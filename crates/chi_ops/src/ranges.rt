@@ -5,9 +5,11 @@ ghost use Rattle.chi_ops.specs.Outcome.{gives};
 ghost use Rattle.chi_ops.specs.Progression.{progression};
 ghost use Rattle.chi_ops.specs.Refusal.{Refuses};
 ghost use Rattle.chi_ops.specs.Sequences.{range};
+ghost use Rattle.chi_ops.specs.Walking.{rest_of, IsWalk};
 
 use crate::OpFault;
-use crate::progression::{comes_before, count_from, stepped};
+use crate::progression::count_from;
+use crate::walk::Walk;
 use chi_base::NoMemory;
 use chi_value::{Items, MOST_ELEMENTS, Value};
 use std::alloc::Global;
@@ -23,25 +25,31 @@ pub fn range(alloc: Global, from: i64, upto: i64, by: i64) -> Result<Value, OpFa
     if count_from(from, upto, by) > MOST_ELEMENTS as u128 {
         return Err(OpFault::Limit);
     }
-    let ints = ints(alloc, from as i128, upto as i128, by as i128)?;
+    let ints = ints(alloc, from, upto, by)?;
     Ok(Value::ListOf(Items::of(alloc, ints)?))
 }
 
-/// The ints of 64 bits from one to before another, by a step.
-fn ints(alloc: Global, from: i128, upto: i128, by: i128) -> Result<Vec<Value>, NoMemory>
-    requires from { FitsSigned w64 from }
-    requires upto { FitsSigned w64 upto }
-    requires by { FitsSigned w64 by }
+/// The ints from one to before another, by a step.
+fn ints(alloc: Global, from: i64, upto: i64, by: i64) -> Result<Vec<Value>, NoMemory>
     requires moves { by ≢ pos 0 }
     ensures value { IfOk result (λ ints. ints.items ≡ map Int (progression from upto by)) }
 {
+    let mut walk = walk_of(from, upto, by);
     let mut ints = Vec::new(alloc);
-    let mut next = from;
-    while comes_before(by, next, upto) {
+    while let Some(next) = walk.step() {
         ints.push(int(next))?;
-        next = stepped(next, by);
     }
     Ok(ints)
+}
+
+fn walk_of(from: i64, upto: i64, by: i64) -> Walk
+    requires moves { by ≢ pos 0 }
+    ensures fit { IsWalk result }
+    ensures ints { rest_of result ≡ progression from upto by }
+    ensures first { FitsSigned w64 result.first }
+    ensures last { FitsSigned w64 result.last }
+{
+    Walk::new(from as i128, upto as i128, by as i128)
 }
 
 fn int(number: i128) -> Value

@@ -1,14 +1,13 @@
-ghost use Rattle.std.specs.Prelude.{◌≡◌, ◌≢◌, ◌≤◌, ◌^◌, ◌<◌, ℕ, pos, unsigned_abs, slice_get, IfOk, IfErr, IsTrue, option_copied, FitsSigned, OnOk, ◌++◌, option_to_list};
-ghost use Rattle.std.specs.Int.{w64};
+ghost use Rattle.std.specs.Prelude.{◌≡◌, ◌≢◌, ◌≤◌, ◌^◌, ◌<◌, ℕ, pos, unsigned_abs, slice_get, IfOk, IfErr, IsTrue, option_copied, OnOk, ◌++◌, option_to_list};
 ghost use Rattle.chi_ops.specs.Conditions.{may_slice};
 ghost use Rattle.chi_ops.specs.Outcome.{gives};
-ghost use Rattle.chi_ops.specs.Progression.{progression};
 ghost use Rattle.chi_ops.specs.Refusal.{Refuses};
 ghost use Rattle.chi_ops.specs.Sequences.{slice};
-ghost use Rattle.chi_ops.specs.Slices.{bound_or, clamped, from_end, elements_at, slice_places, slice_of};
+ghost use Rattle.chi_ops.specs.Slices.{bound_or, clamped, first_place, from_end, last_place, slice_of, slice_places};
+ghost use Rattle.chi_ops.specs.Walking.{rest_of, IsWalk};
 
 use crate::OpFault;
-use crate::progression::{comes_before, stepped};
+use crate::walk::Walk;
 use chi_base::NoMemory;
 use chi_token::Bytes;
 use chi_value::{Items, Value};
@@ -55,12 +54,10 @@ fn taken_values(
     requires { by ≢ pos 0 }
     ensures value { IfOk result (λ taken. taken.items ≡ slice_of items.now from upto by) }
 {
-    let walk = walk_of(items.len(), from, upto, by as i128);
+    let mut walk = walk_of(items.len(), from, upto, by);
     let mut taken = Vec::new(alloc);
-    let mut place = walk.first;
-    while comes_before(walk.by, place, walk.last) {
+    while let Some(place) = walk.step() {
         push_value(alloc, &mut taken, element(items, place))?;
-        place = stepped(place, walk.by);
     }
     Ok(taken)
 }
@@ -76,12 +73,10 @@ fn taken_bytes(
     requires { by ≢ pos 0 }
     ensures value { IfOk result (λ taken. taken.items ≡ slice_of bytes.now from upto by) }
 {
-    let walk = walk_of(bytes.len(), from, upto, by as i128);
+    let mut walk = walk_of(bytes.len(), from, upto, by);
     let mut taken = Vec::new(alloc);
-    let mut place = walk.first;
-    while comes_before(walk.by, place, walk.last) {
+    while let Some(place) = walk.step() {
         push_byte(&mut taken, element(bytes, place))?;
-        place = stepped(place, walk.by);
     }
     Ok(taken)
 }
@@ -118,59 +113,66 @@ fn element<T>(items: &[T], place: i128) -> Option<&T>
     }
 }
 
-/// The places that a slice takes: from the first to before the last, by a step.
-#[derive(Clone, Copy)]
-struct Walk {
-    first: i128,
-    last: i128,
-    by: i128,
+/// The walk along the places that a slice takes.
+fn walk_of(size: usize, from: Option<i64>, upto: Option<i64>, by: i64) -> Walk
+    requires { by ≢ pos 0 }
+    ensures fit { IsWalk result }
+    ensures places { rest_of result ≡ slice_places size from upto by }
+{
+    Walk::new(first_place(size, from, by), last_place(size, upto, by), by as i128)
 }
 
-fn walk_of(size: usize, from: Option<i64>, upto: Option<i64>, by: i128) -> Walk
-    requires { FitsSigned w64 by }
-    ensures places { progression result.first result.last result.by ≡ slice_places size from upto by }
-    ensures same { result.by ≡ by }
-    ensures first { unsigned_abs result.first ≤ 2 ^ 64 }
-    ensures last { unsigned_abs result.last ≤ 2 ^ 64 }
+/// Where a slice begins.
+fn first_place(size: usize, bound: Option<i64>, by: i64) -> i128
+    ensures value { result ≡ first_place size bound by }
+    ensures bound { unsigned_abs result ≤ 2 ^ 64 }
 {
-    let size = size as i128;
+    let whole = size as i128;
     if by < 0 {
-        Walk {
-            first: bound_or(from, size - 1, -1, size - 1, size),
-            last: bound_or(upto, -1, -1, size - 1, size),
-            by,
-        }
+        bound_or(bound, whole - 1, -1, whole - 1, size)
     } else {
-        Walk {
-            first: bound_or(from, 0, 0, size, size),
-            last: bound_or(upto, size, 0, size, size),
-            by,
-        }
+        bound_or(bound, 0, 0, whole, size)
+    }
+}
+
+/// Before which place a slice ends.
+fn last_place(size: usize, bound: Option<i64>, by: i64) -> i128
+    ensures value { result ≡ last_place size bound by }
+    ensures bound { unsigned_abs result ≤ 2 ^ 64 }
+{
+    let whole = size as i128;
+    if by < 0 {
+        bound_or(bound, -1, -1, whole - 1, size)
+    } else {
+        bound_or(bound, whole, 0, whole, size)
     }
 }
 
 /// A bound of a slice, moved to the nearer of two ends where it isn't between them; the first number where none is given.
-fn bound_or(bound: Option<i64>, otherwise: i128, low: i128, high: i128, size: i128) -> i128
-    requires size { unsigned_abs size < 2 ^ 64 }
+#[tactic(auto, using(crate::proofs::Walks::passed))]
+fn bound_or(bound: Option<i64>, otherwise: i128, low: i128, high: i128, size: usize) -> i128
     requires otherwise { unsigned_abs otherwise ≤ 2 ^ 64 }
     requires low { unsigned_abs low ≤ 2 ^ 64 }
     requires high { unsigned_abs high ≤ 2 ^ 64 }
-    ensures value { (n : ℕ) → size ≡ pos n → result ≡ bound_or otherwise low high n bound }
+    ensures value { result ≡ bound_or otherwise low high size bound }
     ensures bound { unsigned_abs result ≤ 2 ^ 64 }
 {
     match bound {
-        Some(bound) => clamped(low, high, from_end(size, bound as i128)),
+        Some(bound) => clamped(low, high, from_end(size, bound)),
         None => otherwise,
     }
 }
 
 /// A bound below 0 counts from the end.
-fn from_end(size: i128, bound: i128) -> i128
-    requires size { unsigned_abs size < 2 ^ 64 }
-    requires bound { FitsSigned w64 bound }
-    ensures value { (n : ℕ) → size ≡ pos n → result ≡ from_end n bound }
+fn from_end(size: usize, bound: i64) -> i128
+    ensures value { result ≡ from_end size bound }
 {
-    if bound < 0 { bound + size } else { bound }
+    let bound = bound as i128;
+    if bound < 0 {
+        bound + size as i128
+    } else {
+        bound
+    }
 }
 
 fn clamped(low: i128, high: i128, z: i128) -> i128
