@@ -65,14 +65,18 @@ filter_by true (x ∷ xs) = ap (λ ys. x ∷ ys) (filter_by true xs)
 filter_by false [] = refl
 filter_by false (x ∷ xs) = filter_by false xs
 
+pub never : {A : Type 0} (xs : List A) → list_any (λ x. false) xs ≡ false
+never [] = refl
+never (x ∷ xs) = never xs
+
 -- what an answer of the order says of the other tests
 
-less : (r : Ordering) → is_lt r ≡ true → r ≡ Less
+pub less : (r : Ordering) → is_lt r ≡ true → r ≡ Less
 less Less e = refl
 less Equal e = absurd (false≢true e)
 less Greater e = absurd (false≢true e)
 
-equal : (r : Ordering) → is_eq r ≡ true → r ≡ Equal
+pub equal : (r : Ordering) → is_eq r ≡ true → r ≡ Equal
 equal Less e = absurd (false≢true e)
 equal Equal e = refl
 equal Greater e = absurd (false≢true e)
@@ -87,7 +91,7 @@ module _ {A : Type 0} (R : A → A → Ordering) (o : IsTotalOrder R) where
   abbrev place : List A → A → List A
   place = placed R
 
-  back : (x y : A) (r : Ordering) → R x y ≡ r → R y x ≡ ordering_reverse r
+  pub back : (x y : A) (r : Ordering) → R x y ≡ r → R y x ≡ ordering_reverse r
   back x y r e = o.antisymm y x ∙ ap ordering_reverse e
 
   pub below_steps : (x y z : A) → below x y ≡ true → below y z ≡ true → below x z ≡ true

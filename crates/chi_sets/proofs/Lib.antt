@@ -1,3 +1,5 @@
 pub mod Ascending
 pub mod Orders
+pub mod Repeats
+pub mod Searches
 pub mod Turns

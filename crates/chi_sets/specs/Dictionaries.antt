@@ -57,6 +57,10 @@ against_key key e = option_cmp order (key_of e) (Some key)
 abbrev pub has_key : Value → Value → Bool
 has_key key e = is_eq (against_key key e)
 
+-- a key is in a dictionary
+abbrev pub has : List Value → Value → Bool
+has entries key = list_any (has_key key) entries
+
 -- what a key has, if it is there
 abbrev pub value_at : List Value → Value → Option Value
 value_at entries key = option_and_then value_of (find (has_key key) entries)

@@ -3,6 +3,10 @@
 
 mod merging;
 mod order;
+mod searching;
+mod sorting;
 
-pub use merging::{dictionary_union, is_subset, set_meet, set_minus, set_union};
+pub use merging::{dictionary_union, is_subset, minus_keys, set_meet, set_minus, set_union};
 pub use order::{key_of, value_of};
+pub use searching::{find, find_key, has, has_key, value_at, with_entry};
+pub use sorting::{dictionary_of, set_of};

@@ -3,10 +3,11 @@ ghost use Rattle.chi_value.specs.Order.{order};
 ghost use Rattle.chi_sets.specs.Ascending.{ascends, in_order};
 ghost use Rattle.chi_sets.specs.By.{order_by};
 ghost use Rattle.chi_sets.specs.Chosen.{chosen};
-ghost use Rattle.chi_sets.specs.Dictionaries.{ascending_by_key, dictionary_union};
+ghost use Rattle.chi_sets.specs.Dictionaries.{ascending_by_key, dictionary_union, key_among, minus_keys};
 ghost use Rattle.chi_sets.specs.Sets.{is_ascending, is_subset, meet, minus, union};
 
-use crate::order::{By, compare_by};
+use crate::order::{By, compare_by, key_of};
+use crate::searching::has;
 use chi_base::NoMemory;
 use chi_value::{Items, Value, compare_any};
 use std::alloc::Global;
@@ -137,6 +138,29 @@ pub fn is_subset(a: &[Value], b: &[Value]) -> bool
         }
     }
     true
+}
+
+/// The entries of a dictionary whose keys are not in a set.
+pub fn minus_keys(alloc: Global, entries: &[Value], removed: &[Value]) -> Result<Items, NoMemory>
+    requires ascending { IsTrue (is_ascending removed.now) }
+    ensures value { IfOk result (λ items. items ≡ minus_keys entries.now removed.now) }
+{
+    let mut kept = Vec::new(alloc);
+    for entry in entries {
+        push_copy_if(alloc, &mut kept, entry, !key_among(removed, entry))?;
+    }
+    Ok(Items::of(alloc, kept)?)
+}
+
+/// Whether the key of an entry is in a set.
+fn key_among(some_keys: &[Value], entry: &Value) -> bool
+    requires ascending { IsTrue (is_ascending some_keys.now) }
+    ensures value { result ≡ key_among some_keys.now entry.now }
+{
+    match key_of(entry) {
+        Some(key) => has(some_keys, key),
+        None => false,
+    }
 }
 
 fn push_copy(alloc: Global, items: &mut Vec<Value>, value: &Value) -> Result<(), NoMemory>
