@@ -5,9 +5,5 @@ pub mod FormatCodes
 pub mod Limit
 pub mod Names
 pub mod Order
-pub mod Outcome
-pub mod Places
 pub mod Plain
-pub mod Progression
-pub mod Slices
 pub mod Text

@@ -1,5 +1,4 @@
 //! The values of Chi 3: their copies and their order, the default of each shape, and their texts.
-//! The written definitions of the operations on containers and of formats stand here too.
 #![tactic(auto)]
 
 mod copying;
@@ -20,6 +19,3 @@ pub use ordering::{compare, compare_any};
 pub use shape::Shape;
 pub use text::{MOST_TEXT, TextFault, quoted_of, text_of};
 pub use value::{Items, MOST_ELEMENTS, Value};
-
-#[cfg(test)]
-mod tests;

@@ -1,0 +1,44 @@
+ghost use Rattle.std.specs.Prelude.{◌≡◌, IfOk, IfErr, IsTrue};
+ghost use Rattle.chi_ops.specs.Conditions.{may_pop};
+ghost use Rattle.chi_ops.specs.Operations.{pop};
+ghost use Rattle.chi_ops.specs.Outcome.{gives};
+ghost use Rattle.chi_ops.specs.Refusal.{Refuses};
+
+use crate::OpFault;
+use crate::copies::items_of;
+use crate::made::{pair, parts_of, triple};
+use chi_value::Value;
+use std::alloc::Global;
+
+/// The first and the rest: of a list its first element, of a set the least, of a dictionary the least key and what it has.
+pub fn pop(alloc: Global, v: &Value) -> Result<Value, OpFault>
+    requires fits { IsTrue (may_pop v.now) }
+    ensures value { IfOk result (λ value. pop v.now ≡ gives value) }
+    ensures refused { IfErr result (λ fault. Refuses fault (pop v.now)) }
+{
+    match v {
+        Value::ListOf(items) => match items.as_slice().split_first() {
+            Some((first, rest)) => {
+                let rest = Value::ListOf(items_of(alloc, rest)?);
+                Ok(pair(alloc, first.copy(alloc)?, rest)?)
+            }
+            None => Err(OpFault::Empty),
+        },
+        Value::SetOf(items) => match items.as_slice().split_first() {
+            Some((first, rest)) => {
+                let rest = Value::SetOf(items_of(alloc, rest)?);
+                Ok(pair(alloc, first.copy(alloc)?, rest)?)
+            }
+            None => Err(OpFault::Empty),
+        },
+        Value::DictOf(entries) => match entries.as_slice().split_first() {
+            Some((first, rest)) => {
+                let rest = Value::DictOf(items_of(alloc, rest)?);
+                let (key, has) = parts_of(first);
+                Ok(triple(alloc, key.copy(alloc)?, has.copy(alloc)?, rest)?)
+            }
+            None => Err(OpFault::Empty),
+        },
+        _ => unreachable!(),
+    }
+}
