@@ -1,7 +1,7 @@
 //! What is wrong with the parameters of a distribution.
 
-ghost use Rattle.std.specs.Prelude.{◌≡◌};
-ghost use Rattle.chi_dist.specs.Draws.{fault_of, bounds_fault, chance_fault, trials_fault};
+ghost use Rattle.std.specs.Prelude.{◌≡◌, ◌≤ℤ◌, pos, unsigned_abs};
+ghost use Rattle.chi_dist.specs.Draws.{fault_of, bounds_fault, chance_fault, trials_fault, most_trials};
 
 use crate::DistFault;
 use crate::shares::UNITS_PER_ONE;
@@ -52,4 +52,13 @@ fn trials_fault(trials: i64, chance: Real) -> Option<DistFault>
     } else {
         chance_fault(chance)
     }
+}
+
+/// A good number of trials.
+pub fn trial_count(trials: i64) -> u32
+    requires least { pos 0 ≤ℤ trials }
+    requires most { trials ≤ℤ most_trials }
+    ensures { result ≡ unsigned_abs trials }
+{
+    trials as u32
 }

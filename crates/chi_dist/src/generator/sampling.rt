@@ -3,7 +3,7 @@
 ghost use Rattle.std.specs.Prelude.{◌≡◌, IfOk, IfErr, OnErr, IsTrue};
 ghost use Rattle.chi_dist.specs.Draws.{has_stream, sampled, draws, refuses};
 
-use crate::parameters::fault_of;
+use crate::parameters::{fault_of, trial_count};
 use crate::shares::{between, succeeds};
 use crate::{DistFault, Drawn, Generator};
 use chi_num::{Dist, Real};
@@ -36,7 +36,7 @@ impl Generator {
                 Ok(Drawn::Bool(succeeds(chance, self.draw(stream))))
             }
             Dist::Binomial(trials, chance, stream) => {
-                let count = self.successes(stream, trials as u32, chance);
+                let count = self.successes(stream, trial_count(trials), chance);
                 Ok(Drawn::Int(i64::from(count)))
             }
         }

@@ -40,5 +40,5 @@ returns-in-Bernoulli-clause-value c =
 
 pub returns-in-Binomial-clause-value : goal.returns-in-Binomial-clause-value
 returns-in-Binomial-clause-value c =
-    draws_count c.args.self.now c.successes-count.new.self c.args.dist.now c.in-Binomial.trials c.in-Binomial.chance _ c.in-Binomial.stream _ c.successes-count.result c.in-Binomial.is
-    (sym c.in_default.ensures) c.successes-count.ensures.count ? (search rules)
+    draws_count c.args.self.now c.successes-count.new.self c.args.dist.now c.in-Binomial.trials c.in-Binomial.chance _ c.in-Binomial.stream c.trial_count.result c.successes-count.result c.in-Binomial.is
+    (sym c.in_default.ensures) c.successes-count.ensures.count (search rules) (search rules)
