@@ -1,0 +1,6 @@
+mod Between
+mod Kept
+mod Period
+mod Rows
+mod Sampled
+mod Successes

@@ -1,5 +1,5 @@
 -- Draws from sixty-four streams of random words, and what a distribution makes of them.
-use Rattle.std.specs.Prelude.{ℕ, ◌+◌, ◌*◌, ◌/◌, ◌%◌, ◌^◌, nat_lt, ℤ, pos, ◌+ℤ◌, ◌-ℤ◌, int_lt, int_le, unsigned_abs, Bool, true, ◌&&◌, List, map, count_by, slice_get, slice_set, Option, Some, None, if◌then◌else◌}
+use Rattle.std.specs.Prelude.{ℕ, ◌+◌, ◌*◌, ◌/◌, ◌%◌, ◌^◌, nat_lt, ℤ, pos, ◌+ℤ◌, ◌-ℤ◌, int_lt, int_le, unsigned_abs, Bool, true, ◌&&◌, List, map, count_by, replicate, slice_get, slice_set, Option, Some, None, if◌then◌else◌}
 use Rattle.std.specs.List.{range_with_len}
 use Rattle.rand_pcg.specs.Lcg.{Lcg, started, increment_of, advance}
 use Rattle.rand_pcg.specs.Pcg.{multiplier_64, pcg32}
@@ -33,8 +33,8 @@ draws_from seed stream k count = map (draw seed stream) (range_with_len k count)
 
 -- how many draws are taken from a stream after so many more. They are counted modulo 2 ^ 64, which loses
 -- nothing: a stream begins again after 2 ^ 63 draws.
-abbrev pub after_draws : ℕ → ℕ → ℕ
-after_draws k count = (k + count) % 2 ^ 64
+abbrev pub taken_after : ℕ → ℕ → ℕ
+taken_after k count = (k + count) % 2 ^ 64
 
 -- the number that a draw picks from a to before b
 abbrev pub between : ℤ → ℤ → ℕ → ℤ
@@ -61,6 +61,16 @@ trials_fault trials chance =
     else if int_lt most_trials trials then Some TooMany
     else chance_fault chance
 
+-- what is wrong with the parameters of a distribution, if anything
+abbrev pub fault_of : Dist → Option DistFault
+fault_of (dist.ConstBool x) = None
+fault_of (dist.ConstInt x) = None
+fault_of (dist.ConstReal x) = None
+fault_of (dist.UniformInt a b stream) = bounds_fault a b
+fault_of (dist.UniformReal a b stream) = bounds_fault a b
+fault_of (dist.Bernoulli chance stream) = chance_fault chance
+fault_of (dist.Binomial trials chance stream) = trials_fault trials chance
+
 -- a value is drawn, and so many draws are then taken from each stream; or the distribution is refused, and none is;
 -- or its stream isn't there
 pub data Sampling : Type 0 where
@@ -77,7 +87,7 @@ unless_faulty (Some k) None go = go k
 -- a value is made of so many draws of a stream, from draw k on
 abbrev pub taking : List ℕ → ℕ → ℕ → Option DistFault → (ℕ → Drawn) → Sampling
 taking taken stream count fault made =
-    unless_faulty (slice_get taken stream) fault (λ k. draws (made k) (slice_set taken stream (after_draws k count)))
+    unless_faulty (slice_get taken stream) fault (λ k. draws (made k) (slice_set taken stream (taken_after k count)))
 
 -- what a distribution draws, after so many draws taken from each stream
 unfoldable pub sampled : ℕ → List ℕ → Dist → Sampling
@@ -103,3 +113,16 @@ has_stream (dist.UniformInt a b stream) = nat_lt stream stream_count
 has_stream (dist.UniformReal a b stream) = nat_lt stream stream_count
 has_stream (dist.Bernoulli chance stream) = nat_lt stream stream_count
 has_stream (dist.Binomial trials chance stream) = nat_lt stream stream_count
+
+-- what a generator has: its seed, and how many draws were taken from each of its streams
+pub record Draws : Type 0 where
+  pub seed : ℕ
+  pub taken : List ℕ
+
+-- before the first draw
+abbrev pub no_draws : ℕ → Draws
+no_draws seed = record { seed = seed; taken = replicate stream_count 0 }
+
+-- after so many draws of a stream, from draw k on
+abbrev pub after_draws : Draws → ℕ → ℕ → ℕ → Draws
+after_draws g stream k count = record g { taken = slice_set g.taken stream (taken_after k count) }

@@ -3,6 +3,11 @@
 
 mod drawn;
 mod fault;
+mod generator;
+mod parameters;
+mod shares;
+mod stream;
 
 pub use drawn::Drawn;
 pub use fault::DistFault;
+pub use generator::Generator;

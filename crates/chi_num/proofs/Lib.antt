@@ -2,6 +2,8 @@ pub mod Decimal
 pub mod Floors
 pub mod Nearest
 pub mod NearestWhole
+pub mod OfResults
+pub mod OfTexts
 pub mod OneEach
 pub mod Powers
 pub mod ReadBack

@@ -1,6 +1,8 @@
 -- The range of 64 bits and the roundings, as what they give. Roundings are of a fraction whose divisor isn't 0.
-use Rattle.std.specs.Prelude.{◌^◌, ℕ, ℤ, pos, negsuc, neg_ℤ, ◌-ℤ◌, ◌*ℤ◌, unsigned_abs, nat_lt, int_lt, Bool, suc, if◌then◌else◌}
+use Rattle.std.specs.Prelude.{◌^◌, ℕ, ℤ, pos, negsuc, neg_ℤ, ◌-ℤ◌, ◌*ℤ◌, unsigned_abs, nat_lt, int_lt, Bool, suc, Result, Ok, Err, if◌then◌else◌}
 use Rattle.std.specs.Int.{int_div_euclid}
+use Rattle.chi_num.specs.declared.fault.NumFault.{NumFault}
+use Rattle.chi_num.specs.declared.fault.NumFault.TheVariants.{Range}
 use Rattle.chi_num.specs.Decimal.{signed}
 use Rattle.chi_num.specs.Nearest.{nearest}
 
@@ -9,9 +11,14 @@ abbrev pub fits : ℤ → Bool
 fits (pos n) = nat_lt n (2 ^ 63)
 fits (negsuc n) = nat_lt n (2 ^ 63)
 
+-- what a call gives whose exact result is this: the number where it fits, and the fault of range where it doesn't
+abbrev pub fitted : ℤ → Result ℤ NumFault
+fitted z = if fits z then Ok z else Err Range
+
 -- number / divisor is below 0
 abbrev pub is_below_zero : ℤ → ℤ → Bool
-is_below_zero number divisor = if int_lt divisor (pos 0) then int_lt (neg_ℤ number) (pos 0) else int_lt number (pos 0)
+is_below_zero number (pos divisor) = int_lt number (pos 0)
+is_below_zero number (negsuc divisor) = int_lt (neg_ℤ number) (pos 0)
 
 -- number / divisor, rounded to the nearest whole number, a tie away from zero
 abbrev pub rounded : ℤ → ℤ → ℤ

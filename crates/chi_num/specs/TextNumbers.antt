@@ -1,7 +1,9 @@
 -- What a text means as an int or as a real: a sign, digits, and for a real maybe a point and digits after it.
-use Rattle.std.specs.Prelude.{ℕ, ◌*◌, ◌^◌, ◌==◌, ◌&&◌, Bool, false, List, [], ◌∷◌, ◌++◌, length, drop, take_while, ℤ, pos, Option, Some, None, if◌then◌else◌}
+use Rattle.std.specs.Prelude.{ℕ, ◌*◌, ◌^◌, ◌==◌, ◌&&◌, Bool, false, List, [], ◌∷◌, ◌++◌, length, drop, take_while, ℤ, pos, Option, Some, None, Result, Ok, Err, if◌then◌else◌}
 use Rattle.std.specs.Char.{is_ascii_digit}
 use Rattle.std.specs.List.{list_all, prefix_len}
+use Rattle.chi_num.specs.declared.read.fault.ReadFault.{ReadFault}
+use Rattle.chi_num.specs.declared.read.fault.ReadFault.TheVariants.{Form, Range}
 use Rattle.chi_num.specs.Decimal.{number_of, signed}
 use Rattle.chi_num.specs.Results.{fits, rounded}
 
@@ -56,3 +58,9 @@ units_meant minus (c ∷ cs) (Some decimals) =
 -- the real that a text means, in units of a billionth
 abbrev pub real_meant : List ℕ → Meant
 real_meant text = units_meant (has_minus text) (front_digits (unsigned text)) (decimals_of (after_digits (unsigned text)))
+
+-- what a reading of a text answers, by what it means
+abbrev pub answer_of : Meant → Result ℤ ReadFault
+answer_of (means z) = Ok z
+answer_of no_form = Err Form
+answer_of out_of_range = Err Range

@@ -1,9 +1,8 @@
-ghost use Rattle.std.specs.Prelude.{◌≡◌, ◌++◌, ◌*◌, ◌≤◌, ◌<◌, ◌^◌, ◌↔◌, ℤ, FitsSigned, IfOk, IsTrue, length};
-ghost use Rattle.std.specs.Int.{w64};
+ghost use Rattle.std.specs.Prelude.{◌≡◌, ◌++◌, ◌*◌, ◌≤◌, ◌<◌, ◌^◌, ◌↔◌, IsTrue, length};
 ghost use Rattle.std.specs.Option.{SomeIff};
 ghost use Rattle.chi_num.specs.Decimal.{AreDigits, number_of};
 ghost use Rattle.chi_num.specs.Nearest.{nearest};
-ghost use Rattle.chi_num.specs.ReadReal.{HasRealForm, MeansReal};
+ghost use Rattle.chi_num.specs.TextNumbers.{answer_of, real_meant};
 
 use super::ReadFault;
 use super::digits::followed_by;
@@ -14,11 +13,7 @@ use crate::Real;
 /// Reads a real: an optional minus, one or more digits, and maybe a point and one or more digits.
 /// What has more than nine decimals is rounded to the nearest unit, a tie away from zero.
 pub fn read_real(text: &[u8]) -> Result<Real, ReadFault>
-    ensures value { IfOk result (MeansReal text.now) }
-    ensures fits { (z : ℤ) → MeansReal text.now z → FitsSigned w64 z → result ≡ Ok z }
-    ensures form { (result ≡ Err ReadFault.Form) ↔ (¬ (HasRealForm text.now)) }
-    ensures range { (result ≡ Err ReadFault.Range)
-        ↔ ((z : ℤ) × MeansReal text.now z × ¬ (FitsSigned w64 z)) }
+    ensures { result ≡ answer_of (real_meant text.now) }
 {
     let Some(numeral) = real_numeral(text) else {
         return Err(ReadFault::Form);
