@@ -1,7 +1,5 @@
 pub mod Alike
 pub mod Default
-pub mod Format
-pub mod FormatCodes
 pub mod Limit
 pub mod Names
 pub mod Order
