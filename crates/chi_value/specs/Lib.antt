@@ -3,9 +3,5 @@ pub mod Default
 pub mod Limit
 pub mod Names
 pub mod Order
-pub mod Outcome
-pub mod Places
 pub mod Plain
-pub mod Progression
-pub mod Slices
 pub mod Text
