@@ -1,5 +1,5 @@
 -- Arithmetic on ints and reals. A real is its units of a billionth.
-use Rattle.std.specs.Prelude.{ℕ, ◌^◌, ℤ, pos, negsuc, neg_ℤ, nat_abs, ◌+ℤ◌, ◌-ℤ◌, ◌*ℤ◌, Option, Some, None, List, [], ◌∷◌, if◌then◌else◌}
+use Rattle.std.specs.Prelude.{ℤ, pos, negsuc, neg_ℤ, nat_abs, ◌*ℤ◌, List, [], ◌∷◌, if◌then◌else◌}
 use Rattle.std.specs.Int.{int_min, int_max, int_signum}
 use Rattle.std.specs.Ordering.{int_eq}
 use Rattle.chi_num.specs.Power.{power}
@@ -8,7 +8,7 @@ use Rattle.chi_num.specs.Units.{units_per_one}
 use Rattle.chi_value.specs.declared.value.Value.{Value, Value-F, out-Value}
 use Rattle.chi_value.specs.declared.value.Value.TheVariants as value
 use Rattle.chi_core.specs.declared.fault.FaultKind.TheVariants.{IntRange, RealRange, DivideByZero, BadPower}
-use Rattle.chi_core.specs.Answer.{Answer, Gives, Fails, Amiss, Does, amiss}
+use Rattle.chi_core.specs.Answer.{Gives, Fails, Does, amiss}
 
 -- an int, a real and a timer of this exact value, where 64 bits hold it
 

@@ -1,7 +1,7 @@
 -- Casts, and what values mean to a process: its time, its timers and the instances that it knows.
-use Rattle.std.specs.Prelude.{ℕ, ◌==◌, nat_le, ℤ, pos, ◌+ℤ◌, ◌-ℤ◌, ◌*ℤ◌, int_le, Bool, true, false, Option, Some, None, List, length, codes, option_map, if◌then◌else◌}
+use Rattle.std.specs.Prelude.{ℕ, nat_le, ℤ, pos, ◌+ℤ◌, ◌-ℤ◌, ◌*ℤ◌, int_le, true, false, Option, Some, None, List, length, codes, option_map, if◌then◌else◌}
 use Rattle.std.specs.Int.{int_max}
-use Rattle.std.specs.List.{list_eq}
+use Rattle.std.specs.Str.{bytes_eq}
 use Rattle.chi_num.specs.TextNumbers.{Meant, means, no_form, out_of_range, int_meant, real_meant}
 use Rattle.chi_num.specs.Units.{units_per_one}
 use Rattle.chi_value.specs.declared.value.Value.{Value, Value-F, out-Value}
@@ -10,7 +10,7 @@ use Rattle.chi_value.specs.declared.value.TheConstants.{MOST_ELEMENTS}
 use Rattle.chi_format.specs.Format.{any_text}
 use Rattle.chi_core.specs.declared.fault.FaultKind.{FaultKind}
 use Rattle.chi_core.specs.declared.fault.FaultKind.TheVariants.{IntRange, RealRange, BadText, TooLarge}
-use Rattle.chi_core.specs.Answer.{Answer, Gives, Fails, Amiss, Does, then_do, gives, fails, amiss, wanted}
+use Rattle.chi_core.specs.Answer.{Gives, Fails, Does, then_do, fails, amiss, wanted}
 use Rattle.chi_core.specs.Scene.{Scene, finished_at}
 use Rattle.chi_core.specs.Reading.{due_of, instance_of}
 use Rattle.chi_core.specs.Arithmetic.{whole, real, timer, on_real}
@@ -43,8 +43,8 @@ to_real scene a = real_from scene (out-Value a)
 
 abbrev pub truth_meant : List ℕ → Does Value
 truth_meant text =
-    if list_eq text (codes "true") then truth true
-    else if list_eq text (codes "false") then truth false
+    if bytes_eq text (codes "true") then truth true
+    else if bytes_eq text (codes "false") then truth false
     else fails BadText
 
 abbrev pub truth_from : Value-F Value → Does Value

@@ -1,13 +1,14 @@
 -- Operations on containers and strings, with their faults. Each is amiss where its condition doesn't hold.
-use Rattle.std.specs.Prelude.{ℕ, ℤ, pos, nat_eq, Bool, true, false, Option, Some, None, List, [], ◌∷◌, option_map, if◌then◌else◌}
+use Rattle.std.specs.Prelude.{ℤ, pos, nat_eq, Bool, true, false, Option, Some, None, List, [], ◌∷◌, option_map}
 use Rattle.chi_value.specs.declared.value.Value.{Value, Value-F, out-Value}
 use Rattle.chi_value.specs.declared.value.Value.TheVariants as value
 use Rattle.chi_ops.specs.Outcome as outcome
 use Rattle.chi_ops.specs.Outcome.{Outcome}
-use Rattle.chi_ops.specs.Operations as container
+use Rattle.chi_ops.specs.Operations.{size}
+use Rattle.chi_ops.specs.Sequences.{index, del, range, slice}
 use Rattle.chi_core.specs.declared.fault.FaultKind.{FaultKind}
 use Rattle.chi_core.specs.declared.fault.FaultKind.TheVariants.{IndexRange, KeyMissing, EmptyPop, TooLarge, SliceStep}
-use Rattle.chi_core.specs.Answer.{Answer, Gives, Fails, Amiss, Does, then_do, amiss, wanted}
+use Rattle.chi_core.specs.Answer.{Gives, Fails, Amiss, Does, amiss, wanted}
 use Rattle.chi_core.specs.Reading.{int_of}
 use Rattle.chi_core.specs.Arithmetic.{on_int}
 
@@ -26,21 +27,21 @@ done outcome.wrong view = Amiss
 
 -- the element of a list, or the byte of a string, at an index
 abbrev pub element_at : Value → Value → Does Value
-element_at a i = on_int (λ i. done (container.index a i)) (out-Value i)
+element_at a i = on_int (λ i. done (index a i)) (out-Value i)
 
 -- a list without the element at an index
 abbrev pub without : Value → Value → Does Value
-without a i = on_int (λ i. done (container.del a i)) (out-Value i)
+without a i = on_int (λ i. done (del a i)) (out-Value i)
 
 abbrev pub size_of : Value → Does Value
-size_of a = wanted (option_map (λ n. value.Int (pos n)) (container.size a))
+size_of a = wanted (option_map (λ n. value.Int (pos n)) (size a))
 
 abbrev pub is_empty : Value → Does Value
-is_empty a = wanted (option_map (λ n. value.Bool (nat_eq n 0)) (container.size a))
+is_empty a = wanted (option_map (λ n. value.Bool (nat_eq n 0)) (size a))
 
 -- the ints from the first to before the last, so far apart
 abbrev pub range_of : Value-F Value → Value-F Value → Value-F Value → Does Value
-range_of (Value-F.Int first) (Value-F.Int last) (Value-F.Int by) = done (container.range first last by)
+range_of (Value-F.Int first) (Value-F.Int last) (Value-F.Int by) = done (range first last by)
 range_of _ _ _ = amiss
 
 -- Slices: a bound that is given is the next of the operands.
@@ -57,7 +58,7 @@ bounds (true ∷ given) (b ∷ rest) = with_bound (int_of b) (bounds given rest)
     with_bound _ _ = None
 
 abbrev pub slice_by : Value → Option (List (Option ℤ)) → Does Value
-slice_by a (Some (first ∷ last ∷ by ∷ [])) = done (container.slice a first last by)
+slice_by a (Some (first ∷ last ∷ by ∷ [])) = done (slice a first last by)
 slice_by a _ = amiss
 
 -- the part of a list or string between bounds, of which some are given

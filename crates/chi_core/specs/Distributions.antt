@@ -1,5 +1,5 @@
 -- Distributions, each with the stream from which it is drawn, and draws from them.
-use Rattle.std.specs.Prelude.{ℕ, nat_lt, ℤ, pos, negsuc, Option, Some, None, List, option_map, if◌then◌else◌}
+use Rattle.std.specs.Prelude.{ℕ, nat_lt, pos, Option, Some, None, option_map, if◌then◌else◌}
 use Rattle.chi_num.specs.declared.dist.Dist.{Dist}
 use Rattle.chi_num.specs.declared.dist.Dist.TheVariants as dist
 use Rattle.chi_value.specs.declared.value.Value.{Value, Value-F, out-Value}
@@ -8,7 +8,7 @@ use Rattle.chi_dist.specs.declared.drawn.Drawn.{Drawn}
 use Rattle.chi_dist.specs.declared.drawn.Drawn.TheVariants as drawn
 use Rattle.chi_dist.specs.Draws.{stream_count, Sampling, draws, refuses, wrong, sampled}
 use Rattle.chi_core.specs.declared.fault.FaultKind.TheVariants.{BadDistribution}
-use Rattle.chi_core.specs.Answer.{Answer, Gives, Fails, Amiss, View, Does, then_do, gives, amiss, wanted}
+use Rattle.chi_core.specs.Answer.{Gives, Fails, Amiss, Does, then_do, wanted}
 use Rattle.chi_core.specs.Scene.{Scene}
 
 abbrev pub constant_in : Value-F Value → Option Dist

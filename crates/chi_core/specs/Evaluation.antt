@@ -6,7 +6,8 @@ use Rattle.chi_value.specs.declared.value.Value.{Value, Value-F, out-Value}
 use Rattle.chi_value.specs.declared.value.Value.TheVariants as value
 use Rattle.chi_value.specs.declared.shape.Shape.{Shape}
 use Rattle.chi_value.specs.Default.{default}
-use Rattle.chi_ops.specs.Operations.{build, insert_at}
+use Rattle.chi_ops.specs.Operations.{build}
+use Rattle.chi_ops.specs.Sequences.{insert_at}
 use Rattle.chi_core.specs.declared.expression.CExpr.{CExpr, CExpr-F, fold-CExpr}
 use Rattle.chi_core.specs.declared.fault.FaultKind.TheVariants.{TooManyChannels, TooLarge}
 use Rattle.chi_core.specs.Answer.{Answer, Gives, Fails, Amiss, View, Does, then_do, gives, amiss, wanted, giving, in_turn, times}

@@ -5,11 +5,11 @@ use Rattle.chi_value.specs.declared.value.Value.{Value}
 use Rattle.chi_core.specs.declared.limits.TheConstants.{MOST_CALLS}
 use Rattle.chi_core.specs.declared.program.FuncDef.{FuncDef}
 use Rattle.chi_core.specs.declared.fault.FaultKind.TheVariants.{CallDepth, NoReturn}
-use Rattle.chi_core.specs.Answer.{Answer, Gives, Fails, Spent, Amiss, Does, then_do, tick}
+use Rattle.chi_core.specs.Answer.{Gives, Fails, Spent, Amiss, Does, then_do, tick}
 use Rattle.chi_core.specs.Variables.{Variables, variables_of}
 use Rattle.chi_core.specs.Scene.{Scene}
 use Rattle.chi_core.specs.Evaluation.{Run, eval}
-use Rattle.chi_core.specs.Terms.{Item, Do, Term, Did, On, Returns, act}
+use Rattle.chi_core.specs.Terms.{Do, Term, Did, On, Returns, act}
 
 -- what comes after an item: the rest of the body, unless the function returns
 abbrev pub did_then : (Variables → Term → Does Value) → Did → Does Value

@@ -1,13 +1,12 @@
 -- What becomes of instances that wait or join: their offers are taken, or those that they wait for have finished.
-use Rattle.std.specs.Prelude.{ℕ, nat_eq, ℤ, Bool, true, false, ◌&&◌, Option, Some, None, option_map, List, [], ◌∷◌, slice_get, if◌then◌else◌}
+use Rattle.std.specs.Prelude.{ℕ, nat_eq, ℤ, Bool, false, Option, Some, None, List, [], ◌∷◌, slice_get, if◌then◌else◌}
 use Rattle.std.specs.List.{flat_map, list_all}
-use Rattle.std.specs.Option.{option_and_then}
 use Rattle.std.specs.Int.{int_min}
 use Rattle.chi_value.specs.declared.value.Value.{Value}
-use Rattle.chi_core.specs.Answer.{Answer, Gives, Amiss, Does, then_do, gives, amiss, wanted, giving}
+use Rattle.chi_core.specs.Answer.{Gives, Amiss, Does, then_do, gives, amiss, wanted, giving}
 use Rattle.chi_core.specs.Variables.{Variables, with_slot, bind}
 use Rattle.chi_core.specs.Terms.{first_the}
-use Rattle.chi_core.specs.Config.{Config, Instance, Offer, Act, Send, Receive, Delay, State, Running, Waiting, Joining, Finished, offers_in, has_finished, with_instance}
+use Rattle.chi_core.specs.Config.{Config, Instance, Offer, Act, Send, Receive, Delay, State, Running, Joining, offers_in, has_finished, with_instance}
 use Rattle.chi_core.specs.Performing.{Change, quietly}
 
 -- what is received goes into the slot: both are there, or neither is
@@ -34,7 +33,7 @@ abbrev pub met : Config → ℕ → Instance → Offer → Act → ℕ → Insta
 met config p i sends (Send channel x) q j receives (Receive its slot) view =
     if nat_eq channel its
     then then_do (resumed sends None None i view) (λ sender now.
-        giving (λ receiver. quietly (with_instance (with_instance config p sender) q receiver)) (resumed receives slot x j now))
+    giving (λ receiver. quietly (with_instance (with_instance config p sender) q receiver)) (resumed receives slot x j now))
     else Amiss
 met config p i sends _ q j receives _ view = Amiss
 

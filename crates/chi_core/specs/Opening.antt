@@ -10,7 +10,7 @@ use Rattle.chi_core.specs.declared.statement.CAlt.{CAlt, CAlt-F, para-CAlt}
 use Rattle.chi_core.specs.declared.communication.CComm.{CComm}
 use Rattle.chi_core.specs.declared.communication.CComm.TheVariants as comm
 use Rattle.chi_core.specs.declared.fault.FaultKind.TheVariants.{NegativeDelay, RealRange, TooLarge}
-use Rattle.chi_core.specs.Answer.{Answer, Gives, Fails, Does, then_do, gives, wanted, giving, through}
+use Rattle.chi_core.specs.Answer.{Gives, Fails, Does, then_do, gives, wanted, giving, through}
 use Rattle.chi_core.specs.Reading.{truth_of, channel_of, elements_of, real_of, due_of}
 use Rattle.chi_core.specs.Variables.{Variables, bound, bindings_at}
 use Rattle.chi_core.specs.Evaluation.{Evaluates, on_truth}
@@ -47,7 +47,7 @@ abbrev pub kept : List ℕ → List CStat → Opening → Act → Does Opening
 kept names body o act view =
     if nat_lt (length o.offers) MOST_OFFERS
     then giving (λ bindings. record o { offers = o.offers ++ record { act = act; bindings = bindings; body = body } ∷ [] })
-        (wanted (bindings_at names o.variables) view)
+    (wanted (bindings_at names o.variables) view)
     else Fails TooLarge
 
 -- with this evaluation of expressions by variables, at this time

@@ -10,11 +10,9 @@ use Rattle.chi_core.specs.declared.expression.CExpr.{CExpr}
 use Rattle.chi_core.specs.declared.statement.CStat.{CStat, CStat-F, out-CStat}
 use Rattle.chi_core.specs.declared.statement.CAlt.{CAlt}
 use Rattle.chi_core.specs.declared.statement.Branch.{Branch}
-use Rattle.chi_core.specs.declared.element.CElem.{CElem}
 use Rattle.chi_core.specs.declared.fault.FaultKind.TheVariants.{TooLarge}
-use Rattle.chi_core.specs.Answer.{Answer, Gives, Fails, Amiss, Does, then_do, gives, amiss, wanted, giving, in_turn}
+use Rattle.chi_core.specs.Answer.{Gives, Fails, Amiss, Does, then_do, gives, amiss, wanted, giving, in_turn}
 use Rattle.chi_core.specs.Reading.{instance_of, quoted_in}
-use Rattle.chi_core.specs.Variables.{Variables}
 use Rattle.chi_core.specs.Evaluation.{Evaluates}
 use Rattle.chi_core.specs.Terms.{Item, Do, Did, On, Returns, act_stat, act}
 use Rattle.chi_core.specs.Config.{Config, Instance, State, Running, Waiting, Joining, settled, with_instance, value_in}

@@ -8,7 +8,7 @@ use Rattle.chi_core.specs.declared.verdict.Verdict.{Verdict}
 use Rattle.chi_core.specs.declared.verdict.Verdict.TheVariants.{OutOfSteps}
 use Rattle.chi_core.specs.Config.{Config}
 use Rattle.chi_core.specs.Step.{Outcome, Next, Over, Spent, Amiss, step}
-use Rattle.chi_core.specs.Options.{Ending, actors, options, advance, enabled}
+use Rattle.chi_core.specs.Options.{actors, options, advance, enabled}
 use Rattle.chi_core.specs.Beginning.{Beginning, Begins, Breaks}
 use Rattle.chi_core.specs.Beginning as beginning
 use Rattle.chi_core.specs.Runs.{Tells, TellsLast, along, Told, RunsFrom, RunsFromStart}

@@ -1,5 +1,5 @@
 -- What evaluations read beside variables.
-use Rattle.std.specs.Prelude.{ℕ, Bool, false, nat_lt, Option, Some, None, List, slice_get, if◌then◌else◌}
+use Rattle.std.specs.Prelude.{ℕ, Bool, false, nat_lt, Option, Some, None, slice_get, if◌then◌else◌}
 pub use Rattle.chi_core.specs.declared.scene.Scene.{Scene}
 
 -- of an instance that there was before the step, what the scene tells; one that was made in it isn't finished

@@ -1,12 +1,13 @@
 -- Targets: which part of which variable they name, what is read there, and what is stored there.
-use Rattle.std.specs.Prelude.{ℕ, Option, Some, None, List, [], ◌∷◌, map}
+use Rattle.std.specs.Prelude.{ℕ, List, [], ◌∷◌, map}
 use Rattle.chi_value.specs.declared.value.Value.{Value, Value-F, out-Value}
-use Rattle.chi_ops.specs.Operations.{index, lookup}
+use Rattle.chi_ops.specs.Operations.{lookup}
+use Rattle.chi_ops.specs.Sequences.{index}
 use Rattle.chi_ops.specs.Store.{Step, by, part, put}
 use Rattle.chi_core.specs.declared.target.CStep.{CStep}
 use Rattle.chi_core.specs.declared.target.CStep.TheVariants as step
 use Rattle.chi_core.specs.declared.target.CTarget.{CTarget}
-use Rattle.chi_core.specs.Answer.{Answer, Gives, Does, then_do, amiss, wanted, giving, in_turn, through}
+use Rattle.chi_core.specs.Answer.{Gives, Does, then_do, amiss, wanted, giving, in_turn, through}
 use Rattle.chi_core.specs.Reading.{part_of}
 use Rattle.chi_core.specs.Variables.{Variables, value_at, with_slot}
 use Rattle.chi_core.specs.Containers.{done}

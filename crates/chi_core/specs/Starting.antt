@@ -9,7 +9,7 @@ use Rattle.chi_core.specs.declared.program.ProcDef.{ProcDef}
 use Rattle.chi_core.specs.declared.element.CElem.{CElem, CElem-F, fold-CElem}
 use Rattle.chi_core.specs.declared.target.CTarget.{CTarget}
 use Rattle.chi_core.specs.declared.fault.FaultKind.TheVariants.{TooManyInstances}
-use Rattle.chi_core.specs.Answer.{Answer, Gives, Fails, Does, then_do, wanted, giving, in_turn, through}
+use Rattle.chi_core.specs.Answer.{Gives, Fails, Does, then_do, wanted, giving, in_turn, through}
 use Rattle.chi_core.specs.Reading.{elements_of}
 use Rattle.chi_core.specs.Variables.{Variables, bound}
 use Rattle.chi_core.specs.Evaluation.{Evaluates}

@@ -7,7 +7,7 @@ use Rattle.chi_core.specs.declared.statement.CStat.{CStat, CStat-F, out-CStat}
 use Rattle.chi_core.specs.declared.statement.Branch.{Branch, out-Branch}
 use Rattle.chi_core.specs.declared.statement.CAlt.{CAlt}
 use Rattle.chi_core.specs.declared.target.CTarget.{CTarget}
-use Rattle.chi_core.specs.Answer.{Answer, Gives, Does, then_do, gives, amiss, wanted, giving, in_turn, through}
+use Rattle.chi_core.specs.Answer.{Gives, Does, then_do, gives, amiss, wanted, giving, in_turn, through}
 use Rattle.chi_core.specs.Reading.{truth_of, parts_of, elements_of}
 use Rattle.chi_core.specs.Variables.{Variables, with_slot, side_by_side, bound}
 use Rattle.chi_core.specs.Evaluation.{Evaluates, on_truth}

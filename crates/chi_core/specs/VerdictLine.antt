@@ -1,13 +1,9 @@
 -- The line that tells how a run ended.
-use Rattle.std.specs.Prelude.{ℕ, ℤ, ◌<◌, List, [], ◌∷◌, ◌++◌, codes, length, Option, Some, None, Bool, true, ◌&&◌}
+use Rattle.std.specs.Prelude.{ℕ, ℤ, List, [], ◌∷◌, ◌++◌, codes, length, Some, None, Bool, true, ◌&&◌}
 use Rattle.std.specs.Fmt.{decimal}
 use Rattle.chi_num.specs.RealText.{real_text_of}
-use Rattle.chi_value.specs.declared.value.Value.{Value}
-use Rattle.chi_value.specs.declared.text.append.TheConstants.{MOST_TEXT}
-use Rattle.chi_value.specs.declared.text.fault.TextFault.{TextFault}
 use Rattle.chi_value.specs.Plain.{is_plain, within}
 use Rattle.chi_value.specs.Text.{quoted_text}
-use Rattle.chi_value.specs.Limit.{PastLimit}
 use Rattle.chi_core.specs.declared.verdict.Verdict.{Verdict}
 use Rattle.chi_core.specs.declared.verdict.Verdict.TheVariants.{Completed, Exit, Deadlock, Fault, OutOfSteps, Stopped}
 use Rattle.chi_core.specs.Fault.{kind_name}
