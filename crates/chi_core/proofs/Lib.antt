@@ -1,0 +1,4 @@
+pub mod Bodies
+pub mod Equations
+pub mod Opened
+pub mod Started

@@ -1,0 +1,12 @@
+mod Calls
+pub mod Closed
+mod Expressions
+mod Joins
+mod Meetings
+mod Openings
+pub mod Parts
+mod Processes
+pub mod Small
+mod Starts
+mod Statements
+mod Times
