@@ -10,5 +10,7 @@ pub mod Range
 pub mod ReadInt
 pub mod ReadReal
 pub mod RealText
+pub mod Results
 pub mod Rounding
+pub mod TextNumbers
 pub mod Units
