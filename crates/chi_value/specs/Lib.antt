@@ -1,17 +1,13 @@
 pub mod Alike
 pub mod Default
-pub mod Dictionaries
 pub mod Format
 pub mod FormatCodes
 pub mod Limit
 pub mod Names
-pub mod Operations
 pub mod Order
 pub mod Outcome
 pub mod Places
 pub mod Plain
 pub mod Progression
-pub mod Sets
 pub mod Slices
-pub mod Store
 pub mod Text

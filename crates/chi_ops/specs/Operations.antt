@@ -10,8 +10,8 @@ use Rattle.chi_value.specs.Outcome.{Outcome, gives, faults, wrong, index_fault, 
 use Rattle.chi_value.specs.Places.{place_of}
 use Rattle.chi_value.specs.Progression.{count_from, progression}
 use Rattle.chi_value.specs.Slices.{slice_of}
-use Rattle.chi_value.specs.Sets.{among, set_of, union as set_union, meet as set_meet, minus as set_minus, is_subset}
-use Rattle.chi_value.specs.Dictionaries.{key_of, value_of, keys, values, value_at, dictionary_of, dictionary_union, minus_keys as without_keys, entries_of}
+use Rattle.chi_sets.specs.Sets.{among, set_of, union as set_union, meet as set_meet, minus as set_minus, is_subset}
+use Rattle.chi_sets.specs.Dictionaries.{keys, values, value_at, dictionary_of, dictionary_union, minus_keys as without_keys, entries_of}
 
 -- reading
 
@@ -94,9 +94,13 @@ abbrev pub pop_set : List Value → Outcome
 pop_set [] = faults empty_fault
 pop_set (x ∷ xs) = gives (value.TupleOf (x ∷ value.SetOf xs ∷ []))
 
+abbrev pub pop_entry : Value-F Value → List Value → Outcome
+pop_entry (Value-F.TupleOf (key ∷ has ∷ [])) rest = gives (value.TupleOf (key ∷ has ∷ value.DictOf rest ∷ []))
+pop_entry _ rest = wrong
+
 abbrev pub pop_dictionary : List Value → Outcome
 pop_dictionary [] = faults empty_fault
-pop_dictionary (e ∷ es) = gives (value.TupleOf (key_of e ∷ value_of e ∷ value.DictOf es ∷ []))
+pop_dictionary (e ∷ es) = pop_entry (out-Value e) es
 
 abbrev pub pop_in : Value-F Value → Outcome
 pop_in (Value-F.ListOf items) = pop_list items

@@ -5,7 +5,7 @@ use Rattle.chi_value.specs.declared.value.Value.TheVariants as value
 use Rattle.chi_value.specs.declared.value.TheConstants.{MOST_ELEMENTS}
 use Rattle.chi_value.specs.Outcome.{Outcome, gives, faults, wrong, index_fault, key_fault, limit_fault, outcome_map}
 use Rattle.chi_value.specs.Places.{place_of}
-use Rattle.chi_value.specs.Dictionaries.{entry, value_at, with_entry}
+use Rattle.chi_sets.specs.Dictionaries.{entry, value_at, with_entry}
 
 -- one step of a path: into a list, a dictionary or a tuple
 pub data Step : Type 0 where
