@@ -1,2 +1,13 @@
 pub mod Fault
+pub mod Fills
+pub mod Kinds
+pub mod Of
 pub mod OpNames
+pub mod OperatorKinds
+pub mod Scopes
+pub mod SetSlots
+pub mod Sound
+pub mod SoundExpressions
+pub mod SoundParts
+pub mod SoundStatements
+pub mod SoundTypes
