@@ -1,1 +1,3 @@
+mod Erased
+mod ValueExamples
 mod Worlds

@@ -49,8 +49,8 @@ mutual
     operation : (name : OpName) (es : List CExpr) (Ts : List Kind) (T : Kind) → OpKind name Ts T → has_stream name ≡ false → IsTrue (may_apply scope.role name Ts)
         → HaveKinds scope known es Ts → HasKind scope known (CExpr-F.Op name es) T
     -- and a distribution that draws has its stream for one more operand
-    distribution : (name : OpName) (es : List CExpr) (Ts : List Kind) (T : Kind) (stream : ℕ) → OpKind name Ts T → has_stream name ≡ true
-        → HaveKinds scope known es Ts → stream < stream_count → HasKind scope known (CExpr-F.Op name (es ++ stream_operand stream ∷ [])) T
+    distribution : (name : OpName) (es operands : List CExpr) (Ts : List Kind) (T : Kind) (stream : ℕ) → es ≡ operands ++ stream_operand stream ∷ [] → OpKind name Ts T → has_stream name ≡ true
+        → HaveKinds scope known operands Ts → stream < stream_count → HasKind scope known (CExpr-F.Op name es) T
     both : (a b : CExpr) → HasKind scope known (out-CExpr a) Ty-F.Bool → HasKind scope known (out-CExpr b) Ty-F.Bool → HasKind scope known (CExpr-F.And a b) Ty-F.Bool
     either : (a b : CExpr) → HasKind scope known (out-CExpr a) Ty-F.Bool → HasKind scope known (out-CExpr b) Ty-F.Bool → HasKind scope known (CExpr-F.Or a b) Ty-F.Bool
     tuple_literal : (es : List CExpr) (ts : List Ty) → HaveKinds scope known es (map out-Ty ts) → HasKind scope known (CExpr-F.Build build.TupleOf es) (tuple_of ts)
