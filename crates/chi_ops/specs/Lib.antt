@@ -1,2 +1,11 @@
+pub mod Conditions
+pub mod Kinds
 pub mod Operations
+pub mod Outcome
+pub mod Places
+pub mod Progression
+pub mod Refusal
+pub mod Sequences
+pub mod Slices
 pub mod Store
+pub mod Tidy

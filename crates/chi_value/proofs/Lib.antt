@@ -1,4 +1,3 @@
-pub mod AlikeLaws
 pub mod Growth
 pub mod OrderLaws
 pub mod Rest

@@ -1,13 +1,7 @@
 pub mod Alike
 pub mod Default
-pub mod Format
-pub mod FormatCodes
 pub mod Limit
 pub mod Names
 pub mod Order
-pub mod Outcome
-pub mod Places
 pub mod Plain
-pub mod Progression
-pub mod Slices
 pub mod Text

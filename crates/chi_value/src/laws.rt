@@ -10,7 +10,7 @@ ghost use Rattle.chi_value.specs.Plain.{is_plain};
 
 /// The order is total on all values, alike or not, and ties none but equal values where one of them
 /// is plain, as each of two alike values is.
-#[tactic(auto, using(crate::proofs::OrderLaws::order_total, crate::proofs::OrderLaws::order_equal, crate::proofs::AlikeLaws::alike_plain))]
+#[tactic(auto, using(crate::proofs::OrderLaws::order_total, crate::proofs::OrderLaws::order_equal))]
 pub fn order_is_total()
     ensures total { IsTotalOrder order }
     ensures ties_none_but_equal { (a b : Value) → IsTrue (is_plain a) → order a b ≡ Equal → a ≡ b }

@@ -1,5 +1,4 @@
 //! The values of Chi 3: their copies and their order, the default of each shape, and their texts.
-//! The written definitions of the operations on containers and of formats stand here too.
 #![tactic(auto)]
 
 mod copying;
@@ -16,10 +15,7 @@ pub use defaults::{DefaultFault, MOST_CHANNELS, default_of};
 pub use format::{Field, Kind, Piece};
 pub use laws::order_is_total;
 pub use names::Names;
-pub use ordering::compare;
+pub use ordering::{compare, compare_any};
 pub use shape::Shape;
 pub use text::{MOST_TEXT, TextFault, quoted_of, text_of};
 pub use value::{Items, MOST_ELEMENTS, Value};
-
-#[cfg(test)]
-mod tests;

@@ -16,9 +16,9 @@ pub fn compare(a: &Value, b: &Value) -> Ordering
     compare_any(a, b)
 }
 
-/// `compare`, also of values that are not alike: in the order of their kinds.
+/// The order of any two values: of those that are not alike, that of their kinds.
 #[cycle(compare_any)]
-pub(crate) fn compare_any(a: &Value, b: &Value) -> Ordering
+pub fn compare_any(a: &Value, b: &Value) -> Ordering
     ensures value { result ≡ order a.now b.now }
 {
     let kinds = rank(a).cmp(&rank(b));

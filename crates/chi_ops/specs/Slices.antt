@@ -1,7 +1,7 @@
 -- Slices of a list.
 use Rattle.std.specs.Prelude.{ℕ, ℤ, pos, negsuc, int_lt, nat_abs, ◌+ℤ◌, ◌-ℤ◌, Option, None, Some, List, length, slice_get, if◌then◌else◌}
 use Rattle.std.specs.List.{filter_map}
-use Rattle.chi_value.specs.Progression.{progression}
+use Rattle.chi_ops.specs.Progression.{progression}
 
 -- a number that is moved to the nearest end where it isn't between them
 abbrev pub clamped : ℤ → ℤ → ℤ → ℤ

@@ -1,5 +1,5 @@
 -- What an operation on containers comes to.
-use Rattle.std.specs.Prelude.{ℕ, nat_le, Option, None, Some, if◌then◌else◌}
+use Rattle.std.specs.Prelude.{ℕ, Bool, true, false, nat_le, Option, None, Some, if◌then◌else◌}
 use Rattle.chi_value.specs.declared.value.TheConstants.{MOST_ELEMENTS}
 use Rattle.chi_value.specs.declared.value.Value.{Value}
 
@@ -11,11 +11,21 @@ pub data Fault : Type 0 where
   limit_fault : Fault
   step_fault : Fault
 
--- a value, a fault, or neither where the operation isn't defined for a value of that kind
+-- a value, a fault, or neither where the condition of the operation doesn't hold
 pub data Outcome : Type 0 where
   gives : Value → Outcome
   faults : Fault → Outcome
   wrong : Outcome
+
+-- an outcome is wrong
+abbrev pub is_wrong : Outcome → Bool
+is_wrong wrong = true
+is_wrong _ = false
+
+-- what an operation comes to where its condition holds; it is wrong where it doesn't
+abbrev pub where_may : Bool → Outcome → Outcome
+where_may true outcome = outcome
+where_may false outcome = wrong
 
 -- the value where there is one
 abbrev pub gives_or : Fault → Option Value → Outcome
