@@ -5,11 +5,12 @@ use Rattle.chi_types.specs.declared.ty.Ty.{Ty, Ty-F, out-Ty}
 use Rattle.chi_types.specs.declared.ty.Way.{Way}
 use Rattle.chi_types.specs.declared.ty.Way.TheVariants as way
 use Rattle.chi_types.specs.declared.ty.Ty.TheVariants as ty
-use Rattle.chi_core.specs.declared.element.CElem.{CElem, CElem-F, out-CElem}
+use Rattle.chi_core.specs.declared.element.CElem.{CElem, CElem-F, out-CElem, fold_out-CElem, map-CElem}
 use Rattle.chi_core.specs.declared.expression.CExpr.{CExpr, CExpr-F, out-CExpr}
-use Rattle.chi_core.specs.declared.statement.CAlt.{CAlt, CAlt-F, out-CAlt}
-use Rattle.chi_core.specs.declared.statement.CStat.{CStat, out-CStat}
+use Rattle.chi_core.specs.declared.statement.CAlt.{CAlt, CAlt-F, out-CAlt, fold_out-CAlt, map-CAlt}
+use Rattle.chi_core.specs.declared.statement.CStat.{CStat, out-CStat, fold_out-CStat, map-CStat}
 use Rattle.chi_core.specs.declared.statement.Branch.{Branch}
+use Rattle.chi_core.specs.Fills.{Fills, by_statement, by_statement_step, by_alternative, by_alternative_step, by_branch, by_branch_step, by_element, by_element_step}
 use Rattle.chi_core.specs.Kinds.{Kind, erased, kind_of}
 use Rattle.chi_core.specs.Scopes.{Scope}
 use Rattle.chi_core.specs.SetSlots.{StatLayer, Known, sets}
@@ -46,3 +47,20 @@ module _ (scope : Scope) where
   pub with_alternative : (loop : Bool) (known : Known) (a : CAlt) (more : List CAlt) (layer : CAlt-F CAlt CStat Branch) → out-CAlt a ≡ layer → SoundAlternative scope loop known layer
       → SoundAlternatives scope loop known more → SoundAlternatives scope loop known (a ∷ more)
   with_alternative loop known a more layer out h rest = one_alternative loop known a more (subst (SoundAlternative scope loop known) (sym out) h) rest
+
+-- what sets slots, by the outermost layer
+
+pub fills_at : (x : CStat) (layer : StatLayer) → out-CStat x ≡ layer
+    → by_statement x ≡ by_statement_step (map-CStat CAlt CStat Branch Fills Fills Fills by_alternative by_statement by_branch layer)
+fills_at x layer out =
+    fold_out-CStat Fills Fills Fills by_alternative_step by_statement_step by_branch_step x
+    ∙ ap (λ z. by_statement_step (map-CStat CAlt CStat Branch Fills Fills Fills by_alternative by_statement by_branch z)) out
+
+pub alternative_fills_at : (a : CAlt) (layer : CAlt-F CAlt CStat Branch) → out-CAlt a ≡ layer
+    → by_alternative a ≡ by_alternative_step (map-CAlt CAlt CStat Branch Fills Fills Fills by_alternative by_statement by_branch layer)
+alternative_fills_at a layer out =
+    fold_out-CAlt Fills Fills Fills by_alternative_step by_statement_step by_branch_step a
+    ∙ ap (λ z. by_alternative_step (map-CAlt CAlt CStat Branch Fills Fills Fills by_alternative by_statement by_branch z)) out
+
+pub element_fills_at : (e : CElem) (layer : CElem-F CElem) → out-CElem e ≡ layer → by_element e ≡ by_element_step (map-CElem CElem Fills by_element layer)
+element_fills_at e layer out = fold_out-CElem Fills by_element_step e ∙ ap (λ z. by_element_step (map-CElem CElem Fills by_element z)) out

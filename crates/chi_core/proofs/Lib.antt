@@ -1,3 +1,6 @@
+mod Alikes
+mod Building
 mod Erased
+mod Tidied
 mod ValueExamples
 mod Worlds

@@ -1,8 +1,8 @@
 -- A value of a kind is tidy to the whole depth, and plain where its kind is.
 use Rattle.std.proofs.Common.{◌≡◌, ℕ, zero, suc, Bool, true, ◌&&◌, List, [], ◌∷◌, map, Some, refl, sym, ap, subst, ◌∙◌}
 use Rattle.std.proofs.lemmas.Bool.{and_from, and_parts}
-use Rattle.std.specs.List.{list_all}
-use Rattle.std.specs.Prelude.{slice_get, IsTrue}
+use Rattle.std.specs.List.{list_all, cons_option}
+use Rattle.std.specs.Prelude.{is_some}
 use Rattle.chi_types.specs.declared.ty.Ty.{Ty, Ty-F, out-Ty}
 use Rattle.chi_types.specs.Plain.{holds}
 use Rattle.chi_types.specs.Plain as types
@@ -10,8 +10,8 @@ use Rattle.chi_types.specs.Same.{beside}
 use Rattle.chi_value.specs.declared.value.Value.{Value, Value-F, out-Value, roll-out-Value, para-Value, para-roll-Value, fold_out-Value, map-Value}
 use Rattle.chi_value.specs.Alike.{Alike, alike, all_alike, part_itself, part_holds, uniform, uniform_step}
 use Rattle.chi_value.specs.Plain.{is_plain, plain_step, itself}
-use Rattle.chi_sets.specs.Dictionaries.{are_entries, is_entry, keys, key_in, key_of}
-use Rattle.chi_ops.specs.Tidy.{sorted, sorted_step, tidy}
+use Rattle.chi_sets.specs.Dictionaries.{are_entries, is_entry, keys, key_in}
+use Rattle.chi_ops.specs.Tidy.{is_set_list, is_dictionary_list, sorted, sorted_step, tidy}
 use Rattle.chi_core.specs.Kinds.{Kind, Every, entry_of, is_plain_kind}
 use Rattle.chi_core.specs.Of.{World, Of, of_bool, of_int, of_real, of_text, of_choice, of_tuple, of_list, of_set, of_dictionary, of_channel, of_dist, of_timer, of_no_instance, of_instance, PartsOf, no_part, one_part, IsOf}
 use Rattle.chi_core.proofs.Alikes.{all_pass, each_passes, alike_of}
@@ -112,3 +112,49 @@ with_sorted v = (v, sorted v)
 
 sorted_out : (a : Value) → sorted a ≡ sorted_step (map-Value Value (Value × Bool) with_sorted (out-Value a))
 sorted_out a = ap sorted (sym (roll-out-Value a)) ∙ para-roll-Value Bool sorted_step (out-Value a)
+
+-- an entry has a plain key
+entry_key : (w : World) (key has : Ty) (x : Value-F Value) → Of w x (entry_of key has) → (a : Value) × (key_in x ≡ Some a) × IsOf w (out-Ty key) a
+entry_key w key has _ (of_tuple _ _ (one_part a _ _ _ is (one_part b _ _ _ is' no_part))) = (a, refl, is)
+
+module _ (w : World) (key has : Ty) where
+  entries_stand : (xs : List Value) → Every (IsOf w (entry_of key has)) xs → are_entries xs ≡ true
+  entries_stand xs each = each_passes is_entry xs (λ k x e. ap is_some (entry_key w key has (out-Value x) (each k x e)).1)
+
+  keys_plain : types.is_plain key ≡ true → (xs : List Value) → Every (IsOf w (entry_of key has)) xs → list_all is_plain (keys xs) ≡ true
+  keys_plain plain [] each = refl
+  keys_plain plain (x ∷ xs) each =
+      let found = entry_key w key has (out-Value x) (each zero x refl) in
+      subst (λ o. list_all is_plain (cons_option o (keys xs)) ≡ true) (sym found.1)
+      (and_from _ _ (plain_of w found.0 (out-Ty key) (kind_of_plain key plain) found.2) (keys_plain plain xs (λ k y e. each (suc k) y e)))
+
+module _ (w : World) where
+  mutual
+    sorted_kinds : (x : Value-F Value) (T : Kind) → Of w x T → sorted_step (map-Value Value (Value × Bool) with_sorted x) ≡ true
+    sorted_kinds _ _ (of_bool b) = refl
+    sorted_kinds _ _ (of_int n) = refl
+    sorted_kinds _ _ (of_real n) = refl
+    sorted_kinds _ _ (of_text bytes short) = refl
+    sorted_kinds _ _ (of_choice enumeration position name e) = refl
+    sorted_kinds _ _ (of_tuple xs parts are) = sorted_parts xs parts are
+    sorted_kinds _ _ (of_list xs t short each) = all_pass part_holds with_sorted xs (λ k x e. sorted_out x ∙ sorted_kinds (out-Value x) (out-Ty t) (each k x e))
+    sorted_kinds _ _ (of_set xs t short plain ascending each) =
+        and_from _ _ (all_pass part_holds with_sorted xs (λ k x e. sorted_out x ∙ sorted_kinds (out-Value x) (out-Ty t) (each k x e)))
+        (ap is_set_list (itselves sorted xs)
+            ∙ and_from _ _ (each_passes is_plain xs (λ k x e. plain_of w x (out-Ty t) (kind_of_plain t plain) (each k x e))) ascending)
+    sorted_kinds _ _ (of_dictionary xs key has short plain ascending each) =
+        and_from _ _ (all_pass part_holds with_sorted xs (λ k x e. sorted_out x ∙ sorted_kinds (out-Value x) (entry_of key has) (each k x e)))
+        (ap is_dictionary_list (itselves sorted xs)
+            ∙ and_from _ _ (and_from _ _ (entries_stand w key has xs each) (keys_plain w key has plain xs each)) ascending)
+    sorted_kinds _ _ (of_channel n t e) = refl
+    sorted_kinds _ _ (of_dist d t yields) = refl
+    sorted_kinds _ _ (of_timer due) = refl
+    sorted_kinds _ _ of_no_instance = refl
+    sorted_kinds _ _ (of_instance n l) = refl
+
+    sorted_parts : (xs : List Value) (parts : List (List ℕ × Ty)) → PartsOf w xs parts → list_all part_holds (map with_sorted xs) ≡ true
+    sorted_parts _ _ no_part = refl
+    sorted_parts _ _ (one_part x xs part parts is are) = and_from _ _ (sorted_out x ∙ sorted_kinds (out-Value x) (out-Ty part.1) is) (sorted_parts xs parts are)
+
+  pub tidy_of : (a : Value) (T : Kind) → IsOf w T a → tidy a ≡ true
+  tidy_of a T is = and_from _ _ (uniform_of w a T is) (sorted_out a ∙ sorted_kinds (out-Value a) T is)

@@ -1,13 +1,12 @@
 -- What sets slots in a body: each declaration, target, walk, receive and unwind there, in the order of the text.
-use Rattle.std.specs.Prelude.{◌≡◌, ℕ, ◌≤◌, Bool, true, false, Option, Some, None, List, [], ◌∷◌, ◌++◌, map, length, slice_get}
+use Rattle.std.specs.Prelude.{◌≡◌, ℕ, ◌≤◌, Bool, true, false, Option, Some, None, List, [], ◌∷◌, ◌++◌, map, slice_get}
 use Rattle.chi_core.specs.declared.communication.CComm.{CComm}
 use Rattle.chi_core.specs.declared.communication.CComm.TheVariants as comm
 use Rattle.chi_core.specs.declared.element.CElem.{CElem, CElem-F, fold-CElem}
-use Rattle.chi_core.specs.declared.statement.Branch.{Branch-F}
-use Rattle.chi_core.specs.declared.statement.CAlt.{CAlt-F}
+use Rattle.chi_core.specs.declared.statement.Branch.{Branch, Branch-F, fold-Branch}
+use Rattle.chi_core.specs.declared.statement.CAlt.{CAlt, CAlt-F, fold-CAlt}
 use Rattle.chi_core.specs.declared.statement.CStat.{CStat, CStat-F, fold-CStat}
 use Rattle.chi_core.specs.declared.target.CTarget.{CTarget}
-use Rattle.chi_core.specs.Scopes.{Home}
 
 -- a slot, and whether an unwind binds it
 pub record Fill : Type 0 where
@@ -79,6 +78,12 @@ by_statement_step (CStat-F.Finish line es) = []
 abbrev pub by_statement : CStat → Fills
 by_statement = fold-CStat Fills Fills Fills by_alternative_step by_statement_step by_branch_step
 
+abbrev pub by_alternative : CAlt → Fills
+by_alternative = fold-CAlt Fills Fills Fills by_alternative_step by_statement_step by_branch_step
+
+abbrev pub by_branch : Branch → Fills
+by_branch = fold-Branch Fills Fills Fills by_alternative_step by_statement_step by_branch_step
+
 -- all that sets slots in a body
 abbrev pub by_body : List CStat → Fills
 by_body body = one_after_another (map by_statement body)
@@ -87,6 +92,6 @@ by_body body = one_after_another (map by_statement body)
 abbrev pub SetOnce : Fills → ℕ → ℕ → Type 0
 SetOnce fills k slot = (j : ℕ) (other : Fill) → slice_get fills j ≡ Some other → other.slot ≡ slot → j ≡ k
 
--- a slot that an unwind binds is no parameter, and nothing else sets it
-abbrev pub UnwindsOwn : Home → Type 0
-UnwindsOwn d = (k slot : ℕ) → slice_get (by_body d.body) k ≡ Some (unwound slot) → (length d.params ≤ slot) × SetOnce (by_body d.body) k slot
+-- a slot that an unwind binds is none of so many parameters, and nothing else sets it
+abbrev pub UnwindsOwn : ℕ → Fills → Type 0
+UnwindsOwn params fills = (k slot : ℕ) → slice_get fills k ≡ Some (unwound slot) → (params ≤ slot) × SetOnce fills k slot

@@ -10,7 +10,7 @@ use Rattle.chi_core.specs.declared.program.Core.{Core}
 use Rattle.chi_core.specs.declared.program.FuncDef.{FuncDef}
 use Rattle.chi_core.specs.declared.program.ProcDef.{ProcDef}
 use Rattle.chi_core.specs.Kinds.{kind_of, Every}
-use Rattle.chi_core.specs.Fills.{UnwindsOwn}
+use Rattle.chi_core.specs.Fills.{UnwindsOwn, by_body}
 use Rattle.chi_core.specs.Scopes.{Home, constant_scope, function_home, process_home}
 use Rattle.chi_core.specs.SetSlots.{Known, params_known}
 use Rattle.chi_core.specs.SoundExpressions.{HasKind}
@@ -35,7 +35,7 @@ nothing_known slot = false
 -- a body is sound where the parameters are set, outside of any loop
 pub record SoundHome (d : Home) : Type 0 where
   pub body : SoundBlock d.scope false (params_known d) d.body
-  pub unwinds : UnwindsOwn d
+  pub unwinds : UnwindsOwn (length d.params) (by_body d.body)
 
 -- a constant has a value of its type, in which no slot is read and no later constant
 pub record SoundConstant (core : Core) (number : ℕ) (c : ConstDef) : Type 0 where
