@@ -1,8 +1,11 @@
 mod Alikes
 mod Building
 mod Erased
+mod Forms
 mod Lists
 mod SoundExample
 mod Tidied
+mod UnsoundExpressions
+mod UnsoundStatements
 mod ValueExamples
 mod Worlds
