@@ -1,9 +1,13 @@
 mod Alikes
+pub mod Bodies
 mod Building
+pub mod Equations
 mod Erased
 mod Forms
 mod Lists
+pub mod Opened
 mod SoundExample
+pub mod Started
 mod Tidied
 mod UnsoundExpressions
 mod UnsoundStatements
