@@ -1,16 +1,18 @@
 -- Types that are the same, or of which one serves for the other as it is, have one kind.
-use Rattle.std.proofs.Common.{◌≡◌, ℕ, Bool, true, List, [], ◌∷◌, map, refl, sym, ap, subst, ◌∙◌}
-use Rattle.std.proofs.lemmas.Bool.{false≢true, eqb-true, and_parts}
+use Rattle.std.proofs.Common.{◌≡◌, ℕ, Bool, true, false, ◌||◌, ◌⊎◌, inl, inr, List, [], ◌∷◌, map, refl, sym, ap, subst, ◌∙◌}
+use Rattle.std.proofs.lemmas.Bool.{false≢true, eqb-true, and_parts, or_cases}
+use Rattle.std.specs.List.{list_any}
+use Rattle.chi_types.specs.declared.ty.Way.{Way}
 use Rattle.chi_types.specs.declared.ty.Way.TheVariants as way
-use Rattle.chi_types.specs.declared.ty.Ty.{Ty, Ty-F, map-Ty, fold-roll-Ty, fold_out-Ty, ind-Ty, out-Ty, roll-Ty, out-roll-Ty}
+use Rattle.chi_types.specs.declared.ty.Ty.{Ty, Ty-F, map-Ty, fold-Ty, fold-roll-Ty, fold_out-Ty, ind-Ty, out-Ty, roll-Ty, out-roll-Ty, roll-out-Ty}
 use Rattle.chi_types.specs.declared.ty.Ty.TheVariants as ty
-use Rattle.chi_types.specs.Plain.{is_plain, plain_step}
+use Rattle.chi_types.specs.Plain.{is_plain, plain_step, holds}
 use Rattle.chi_types.specs.Same.{same, each_passes, beside, nameless, bare, unnamed}
-use Rattle.chi_types.specs.Fits.{fits_unconverted, serves_step, test_of}
-use Rattle.chi_types.proofs.SameLaws.{same_equal}
+use Rattle.chi_types.specs.Fits.{fits, fits_unconverted, serves_step, test_of, widens}
+use Rattle.chi_types.proofs.SameLaws.{same_equal, equal_same}
 use Rattle.chi_types.proofs.Served.{with_test, served_at}
 use Rattle.chi_types.proofs.ServedLaws.{tested}
-use Rattle.chi_core.specs.Kinds.{without_ways_and_names, erased, kind_of, is_plain_kind}
+use Rattle.chi_core.specs.Kinds.{without_ways_and_names, erased, kind_of, is_plain_kind, holds_channel_step, holds_channel}
 
 erased_rolled : (x : Ty-F Ty) → erased (roll-Ty x) ≡ roll-Ty (without_ways_and_names (map-Ty Ty Ty erased x))
 erased_rolled x = fold-roll-Ty Ty (λ layer. roll-Ty (without_ways_and_names layer)) x
@@ -122,3 +124,87 @@ same_kind a b h = ap out-Ty (same_erased a b h)
 
 pub served_kind : (a b : Ty) → fits_unconverted a b ≡ true → kind_of a ≡ kind_of b
 served_kind a b h = ap out-Ty (served_erased a b h)
+
+-- what fits has one kind, but for an int where a real is wanted
+
+widened : (a b : Ty) (x y : Ty-F Ty) → out-Ty a ≡ x → out-Ty b ≡ y → widens x y ≡ true → (kind_of a ≡ Ty-F.Int) × (kind_of b ≡ Ty-F.Real)
+widened a b Ty-F.Int Ty-F.Real p q h = (kind_at a Ty-F.Int p, kind_at b Ty-F.Real q)
+widened a b Ty-F.Int _ p q h = absurd (false≢true h)
+widened a b _ y p q h = absurd (false≢true h)
+
+pub fitting_kinds : (a b : Ty) → fits a b ≡ true → (kind_of a ≡ kind_of b) ⊎ ((kind_of a ≡ Ty-F.Int) × (kind_of b ≡ Ty-F.Real))
+fitting_kinds a b h = elim (or_cases (fits_unconverted a b) (widens (out-Ty a) (out-Ty b)) h) [
+  | inl serves ↦ inl (served_kind a b serves)
+  | inr wide ↦ inr (widened a b (out-Ty a) (out-Ty b) refl refl wide)
+]
+
+-- types in which there is no channel are the same where they have one kind
+
+abbrev channel_in : Ty → Bool
+channel_in = fold-Ty Bool holds_channel_step
+
+channel_out : (a : Ty) → channel_in a ≡ holds_channel (out-Ty a)
+channel_out a = fold_out-Ty Bool holds_channel_step a
+
+channel_rolled : (x : Ty-F Ty) → channel_in (roll-Ty x) ≡ holds_channel x
+channel_rolled x = fold-roll-Ty Bool holds_channel_step x
+
+abbrev Wayless : Ty → Type 0
+Wayless a = channel_in a ≡ false → erased a ≡ unnamed a
+
+abbrev Without : Type 0
+Without = (a : Ty) × Wayless a
+
+abbrev without_type : Without → Ty
+without_type w = w.0
+
+neither : (x y : Bool) → (x || y) ≡ false → (x ≡ false) × (y ≡ false)
+neither false y h = (refl, h)
+neither true y h = absurd (false≢true (sym h))
+
+wayless_parts : (gs : List (List ℕ × Without)) → list_any holds (map (beside channel_in) (map (beside without_type) gs)) ≡ false
+    → nameless (map (beside erased) (map (beside without_type) gs)) ≡ nameless (map (beside unnamed) (map (beside without_type) gs))
+wayless_parts [] h = refl
+wayless_parts (g ∷ gs) h =
+    let parts = neither _ _ h in
+    let first = g.1.1 parts.0 in
+    let rest = wayless_parts gs parts.1 in
+    λ i. ([], first i) ∷ rest i
+
+wayless_layer : (y : Ty-F Without) → holds_channel (map-Ty Without Ty without_type y) ≡ false
+    → without_ways_and_names (map-Ty Ty Ty erased (map-Ty Without Ty without_type y)) ≡ bare (map-Ty Ty Ty unnamed (map-Ty Without Ty without_type y))
+wayless_layer Ty-F.Bool h = refl
+wayless_layer Ty-F.Int h = refl
+wayless_layer Ty-F.Real h = refl
+wayless_layer Ty-F.Text h = refl
+wayless_layer Ty-F.Timer h = refl
+wayless_layer Ty-F.Inst h = refl
+wayless_layer Ty-F.Void h = refl
+wayless_layer (Ty-F.Choice k) h = refl
+wayless_layer (Ty-F.TupleOf gs) h = ap Ty-F.TupleOf (wayless_parts gs h)
+wayless_layer (Ty-F.ListOf a) h = ap Ty-F.ListOf (a.1 h)
+wayless_layer (Ty-F.SetOf a) h = ap Ty-F.SetOf (a.1 h)
+wayless_layer (Ty-F.DictOf k v) h =
+    let both = neither _ _ h in
+    let key = k.1 both.0 in
+    let has = v.1 both.1 in
+    λ i. Ty-F.DictOf (key i) (has i)
+wayless_layer (Ty-F.Chan w a) h = absurd (false≢true (sym h))
+wayless_layer (Ty-F.Dist a) h = ap Ty-F.Dist (a.1 h)
+
+wayless : (a : Ty) → Wayless a
+wayless = ind-Ty Wayless (λ x y e. subst (λ x. Wayless (roll-Ty x)) e (λ h.
+    let z : Ty-F Ty = map-Ty Without Ty without_type y in
+    erased_rolled z ∙ ap roll-Ty (wayless_layer y (sym (channel_rolled z) ∙ h)) ∙ sym (unnamed_rolled z)))
+
+pub kind_tells : (a b : Ty) → holds_channel (out-Ty a) ≡ false → holds_channel (out-Ty b) ≡ false → kind_of a ≡ kind_of b → same a b ≡ true
+kind_tells a b p q e =
+    let whole : erased a ≡ erased b = sym (roll-out-Ty (erased a)) ∙ ap roll-Ty e ∙ roll-out-Ty (erased b) in
+    equal_same a b (sym (wayless a (channel_out a ∙ p)) ∙ whole ∙ wayless b (channel_out b ∙ q))
+
+-- and channels have one kind where what they carry has
+pub channels_tell : (v w : Way) (a b : Ty) → kind_of (ty.Chan v a) ≡ kind_of (ty.Chan w b) → kind_of a ≡ kind_of b
+channels_tell v w a b e =
+    let both : Ty-F.Chan way.Both (erased a) ≡ Ty-F.Chan way.Both (erased b) = sym (kind_at (ty.Chan v a) (Ty-F.Chan v a) (ty.outs-Chan v a)) ∙ e ∙ kind_at (ty.Chan w b) (Ty-F.Chan w b) (ty.outs-Chan w b) in
+    let carried : erased a ≡ erased b = cc in
+    ap out-Ty carried

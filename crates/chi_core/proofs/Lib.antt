@@ -1,4 +1,5 @@
 mod Alikes
+mod Beginnings
 pub mod Bodies
 mod Building
 pub mod Equations

@@ -9,7 +9,7 @@ use Rattle.chi_types.specs.Plain as types
 use Rattle.chi_types.specs.Same.{beside}
 use Rattle.chi_value.specs.declared.value.Value.{Value, Value-F, out-Value, roll-out-Value, para-Value, para-roll-Value, fold_out-Value, map-Value}
 use Rattle.chi_value.specs.Alike.{Alike, alike, all_alike, part_itself, part_holds, uniform, uniform_step}
-use Rattle.chi_value.specs.Plain.{is_plain, plain_step, itself}
+use Rattle.chi_value.specs.Plain.{is_plain, plain_step, itself, within, within_step}
 use Rattle.chi_sets.specs.Dictionaries.{are_entries, is_entry, keys, key_in}
 use Rattle.chi_ops.specs.Tidy.{is_set_list, is_dictionary_list, sorted, sorted_step, tidy}
 use Rattle.chi_core.specs.Kinds.{Kind, Every, entry_of, is_plain_kind}
@@ -158,3 +158,34 @@ module _ (w : World) where
 
   pub tidy_of : (a : Value) (T : Kind) → IsOf w T a → tidy a ≡ true
   tidy_of a T is = and_from _ _ (uniform_of w a T is) (sorted_out a ∙ sorted_kinds (out-Value a) T is)
+
+-- enumeration values have names
+
+within_out : (names : List (List (List ℕ))) (a : Value) → within names a ≡ within_step names (map-Value Value Bool (within names) (out-Value a))
+within_out names a = fold_out-Value Bool (within_step names) a
+
+module _ (w : World) where
+  mutual
+    within_kinds : (x : Value-F Value) (T : Kind) → Of w x T → within_step w.names (map-Value Value Bool (within w.names) x) ≡ true
+    within_kinds _ _ (of_bool b) = refl
+    within_kinds _ _ (of_int n) = refl
+    within_kinds _ _ (of_real n) = refl
+    within_kinds _ _ (of_text bytes short) = refl
+    within_kinds _ _ (of_choice enumeration position name e) = ap is_some e
+    within_kinds _ _ (of_tuple xs parts are) = within_parts xs parts are
+    within_kinds _ _ (of_list xs t short each) = all_pass itself (within w.names) xs (λ k x e. within_out w.names x ∙ within_kinds (out-Value x) (out-Ty t) (each k x e))
+    within_kinds _ _ (of_set xs t short plain ascending each) = all_pass itself (within w.names) xs (λ k x e. within_out w.names x ∙ within_kinds (out-Value x) (out-Ty t) (each k x e))
+    within_kinds _ _ (of_dictionary xs key has short plain ascending each) =
+        all_pass itself (within w.names) xs (λ k x e. within_out w.names x ∙ within_kinds (out-Value x) (entry_of key has) (each k x e))
+    within_kinds _ _ (of_channel n t e) = refl
+    within_kinds _ _ (of_dist d t yields) = refl
+    within_kinds _ _ (of_timer due) = refl
+    within_kinds _ _ of_no_instance = refl
+    within_kinds _ _ (of_instance n l) = refl
+
+    within_parts : (xs : List Value) (parts : List (List ℕ × Ty)) → PartsOf w xs parts → list_all itself (map (within w.names) xs) ≡ true
+    within_parts _ _ no_part = refl
+    within_parts _ _ (one_part x xs part parts is are) = and_from _ _ (within_out w.names x ∙ within_kinds (out-Value x) (out-Ty part.1) is) (within_parts xs parts are)
+
+  pub within_of : (a : Value) (T : Kind) → IsOf w T a → within w.names a ≡ true
+  within_of a T is = within_out w.names a ∙ within_kinds (out-Value a) T is

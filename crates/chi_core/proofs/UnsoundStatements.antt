@@ -164,7 +164,7 @@ started scope known loop line number T U d role there other (starts _ _ _ _ exit
     by_exits _ _ p q (none x) = absurd (cc)
 
     by_element_made : SoundElement scope exit known (CElem-F.Make None number []) → T ≡ U
-    by_element_made (makes _ _ _ _ c is_there may arguments target) =
+    by_element_made (makes _ _ _ _ c is_there may arguments into) =
         let same : d ≡ c = cc in
         by_exits exit _ (same_exit (Some T) exit (sym role ∙ is)) (same_exit (Some U) _ (sym (subst (λ d. (process_home scope.core d).scope.role ≡ process (Some U)) same other))) may
 

@@ -5,7 +5,7 @@ use Rattle.chi_types.specs.declared.ty.Ty.{Ty, out-Ty}
 use Rattle.chi_value.specs.declared.value.Value.{Value, Value-F, out-Value}
 use Rattle.chi_value.specs.Names.{name_at}
 use Rattle.chi_core.specs.Kinds.{Kind, entry_of}
-use Rattle.chi_core.specs.Of.{World, Wider, nowhere, Of, of_bool, of_int, of_real, of_text, of_choice, of_tuple, of_list, of_set, of_dictionary, of_channel, of_dist, of_timer, of_no_instance, of_instance, PartsOf, no_part, one_part, AreOf, none_of, one_of}
+use Rattle.chi_core.specs.Of.{World, Wider, nowhere, Of, of_bool, of_int, of_real, of_text, of_choice, of_tuple, of_list, of_set, of_dictionary, of_channel, of_dist, of_timer, of_no_instance, of_instance, PartsOf, no_part, one_part, IsOf, AreOf, none_of, one_of}
 
 pub get_before : {A : Type 0} (xs ys : List A) (k : ℕ) (x : A) → slice_get xs k ≡ Some x → slice_get (xs ++ ys) k ≡ Some x
 get_before [] ys k x e = absurd (cc)
@@ -55,3 +55,6 @@ mutual
 pub are_grow : (w v : World) → Wider w v → (xs : List Value) (Ts : List Kind) → AreOf w xs Ts → AreOf v xs Ts
 are_grow w v h _ _ none_of = none_of
 are_grow w v h _ _ (one_of x xs T Ts is are) = one_of x xs T Ts (grows w v h (out-Value x) T is) (are_grow w v h xs Ts are)
+
+pub value_grows : (w v : World) → Wider w v → (a : Value) (T : Kind) → IsOf w T a → IsOf v T a
+value_grows w v h a T is = grows w v h (out-Value a) T is
