@@ -1,4 +1,16 @@
+mod Alikes
+mod Beginnings
 pub mod Bodies
+mod Building
 pub mod Equations
+mod Erased
+mod Forms
+mod Lists
 pub mod Opened
+mod SoundExample
 pub mod Started
+mod Tidied
+mod UnsoundExpressions
+mod UnsoundStatements
+mod ValueExamples
+mod Worlds

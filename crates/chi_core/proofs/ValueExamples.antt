@@ -1,0 +1,90 @@
+-- A value of each kind; and values that are of no kind.
+use Rattle.std.proofs.Common.{◌≡◌, ℕ, zero, suc, ℤ, pos, negsuc, true, false, Some, None, List, [], ◌∷◌, refl, sym, subst, ap, ◌∙◌, arith, ◌<◌}
+use Rattle.std.proofs.lemmas.Bool.{false≢true}
+use Rattle.std.specs.Prelude.{slice_get, codes, IsTrue, replicate, length}
+use Rattle.std.specs.declared.cmp.Ordering.{Ordering}
+use Rattle.std.specs.Ordering.{is_lt}
+use Rattle.chi_num.specs.declared.dist.Dist.TheVariants as dist
+use Rattle.chi_types.specs.declared.ty.Ty.{Ty, Ty-F, out-Ty}
+use Rattle.chi_types.specs.declared.ty.Ty.TheVariants as ty
+use Rattle.chi_types.specs.declared.ty.Way.TheVariants as way
+use Rattle.chi_types.specs.Plain.{is_plain}
+use Rattle.chi_value.specs.declared.value.Value.{Value, Value-F, out-Value, fold_out-Value, map-Value}
+use Rattle.chi_value.specs.declared.value.Value.TheVariants as value
+use Rattle.chi_value.specs.Order.{order, order_step}
+use Rattle.chi_sets.specs.Sets.{is_ascending}
+use Rattle.chi_core.specs.Kinds.{Kind, tuple_of, entry_of}
+use Rattle.chi_core.proofs.Erased.{plain_at}
+use Rattle.chi_core.specs.Of.{World, Of, of_bool, of_int, of_real, of_text, of_choice, of_tuple, of_list, of_set, of_dictionary, of_channel, of_dist, of_timer, of_no_instance, of_instance, PartsOf, no_part, one_part, Yields, some_int, always_bool, IsOf}
+
+-- one enumeration with two values; a channel of ints, and one of bools; and two instances
+some_world : World
+some_world = record { names = (codes "red" ∷ codes "blue" ∷ []) ∷ []; carried = ty.Int ∷ ty.Bool ∷ []; instances = 2 }
+
+pub is_int : (w : World) (n : ℤ) (t : Ty) → out-Ty t ≡ Ty-F.Int → Of w (out-Value (value.Int n)) (out-Ty t)
+is_int w n t e = subst (Of w (out-Value (value.Int n))) (sym e) (subst (λ x. Of w x Ty-F.Int) (sym (value.outs-Int n)) (of_int n))
+
+plain_int : is_plain ty.Int ≡ true
+plain_int = plain_at ty.Int Ty-F.Int ty.outs-Int
+
+a_bool : Of some_world (Value-F.Bool true) Ty-F.Bool
+a_bool = of_bool true
+
+a_text : Of some_world (Value-F.Text (codes "abc")) Ty-F.Text
+a_text = of_text (codes "abc") (omega arith)
+
+blue : Of some_world (Value-F.Choice 0 1) (Ty-F.Choice 0)
+unfolding some_world
+blue = of_choice 0 1 (codes "blue") refl
+
+a_pair : Of some_world (Value-F.TupleOf (value.Int (pos 1) ∷ value.Int (pos 2) ∷ [])) (tuple_of (ty.Int ∷ ty.Int ∷ []))
+a_pair = of_tuple _ _
+    (one_part (value.Int (pos 1)) _ ([], ty.Int) _ (is_int some_world (pos 1) ty.Int ty.outs-Int)
+        (one_part (value.Int (pos 2)) [] ([], ty.Int) [] (is_int some_world (pos 2) ty.Int ty.outs-Int) no_part))
+
+ints : (k : ℕ) (x : Value) → slice_get (value.Int (pos 1) ∷ value.Int (pos 2) ∷ []) k ≡ Some x → Of some_world (out-Value x) (out-Ty ty.Int)
+ints zero x e = let same : value.Int (pos 1) ≡ x = cc in subst (λ x. Of some_world (out-Value x) (out-Ty ty.Int)) same (is_int some_world (pos 1) ty.Int ty.outs-Int)
+ints (suc zero) x e = let same : value.Int (pos 2) ≡ x = cc in subst (λ x. Of some_world (out-Value x) (out-Ty ty.Int)) same (is_int some_world (pos 2) ty.Int ty.outs-Int)
+ints (suc (suc k)) x e = absurd (cc)
+
+a_list : Of some_world (Value-F.ListOf (value.Int (pos 1) ∷ value.Int (pos 2) ∷ [])) (Ty-F.ListOf ty.Int)
+a_list = of_list _ ty.Int (omega arith) ints
+
+order_int : (x y : ℤ) → order (value.Int x) (value.Int y) ≡ order_step (Value-F.Int x) (Value-F.Int y)
+unfolding out-Value denote.Hole.Carrier.out
+order_int x y =
+    ap (λ f. f (value.Int y)) (fold_out-Value (Value → Ordering) (λ layer other. order_step layer (out-Value other)) (value.Int x))
+    ∙ ap (λ o. order_step (map-Value _ _ order o) (out-Value (value.Int y))) (value.outs-Int x)
+
+a_set : Of some_world (Value-F.SetOf (value.Int (pos 1) ∷ value.Int (pos 2) ∷ [])) (Ty-F.SetOf ty.Int)
+a_set = of_set _ ty.Int (omega arith) plain_int ascending ints
+  where
+    ascending : is_ascending (value.Int (pos 1) ∷ value.Int (pos 2) ∷ []) ≡ true
+    ascending = simp (order_int) refl
+
+-- the elements of a set stand in ascending order
+no_set : (w : World) (T : Kind) → Of w (Value-F.SetOf (value.Int (pos 2) ∷ value.Int (pos 1) ∷ [])) T → ⊥
+no_set w _ (of_set _ t short plain ascending each) = false≢true (descending ∙ ascending)
+  where
+    descending : false ≡ is_ascending (value.Int (pos 2) ∷ value.Int (pos 1) ∷ [])
+    descending = simp (order_int) refl
+
+a_channel : Of some_world (Value-F.Chan 1) (Ty-F.Chan way.Both ty.Bool)
+unfolding some_world
+a_channel = of_channel 1 ty.Bool refl
+
+-- a channel of ints is none of bools, and a channel that isn't there is of no kind
+no_channel : (w : World) (T : Kind) → slice_get w.carried 7 ≡ None → Of w (Value-F.Chan 7) T → ⊥
+no_channel w _ none (of_channel _ t e) = absurd (cc)
+
+an_instance : Of some_world (Value-F.Inst (Some 1)) Ty-F.Inst
+unfolding some_world
+an_instance = of_instance 1 (omega arith)
+
+no_instance : Of some_world (Value-F.Inst (Some 2)) Ty-F.Inst → ⊥
+unfolding some_world
+no_instance (of_instance _ l) = absurd (omega (arith, l))
+
+-- a stream is one of sixty-four
+no_stream : (T : Kind) → Yields (dist.UniformInt (pos 0) (pos 1) 64) T → ⊥
+no_stream _ (some_int _ _ _ l) = absurd (omega (arith, l))
