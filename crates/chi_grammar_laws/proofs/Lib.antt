@@ -39,3 +39,7 @@ pub mod SomeTree
 pub mod FrontTrees
 pub mod ProgramFronts
 pub mod FaultNamed
+pub mod Depths
+pub mod ReadWithin
+pub mod ExprNestingsIn
+pub mod StatementNestingsIn
