@@ -247,7 +247,7 @@ module _ {A S : Type 0} (g : Grammar A S) (table : Table S) (fine : Fine g table
       (otherwise_ended room a b c test i (length (depths p)) s.mid j t u _ _ (along p s.front) e x y)
 
   -- after the last token nothing goes on
-  no_more : (classes : List ℕ) → In g ts (length ts) classes → ⊥
+  pub no_more : (classes : List ℕ) → In g ts (length ts) classes → ⊥
   no_more classes h =
       let none : slice_get ts (length ts) ≡ None = slice_get_past ts (length ts) (omega arith) in
       let out : starts_in g.class_of classes None ≡ true = subst (λ o. starts_in g.class_of classes o ≡ true) none h in

@@ -8,3 +8,4 @@ pub mod StatementNestings
 pub mod Unplaced
 pub mod UnplacedStatements
 pub mod Beginnings
+pub mod Answers

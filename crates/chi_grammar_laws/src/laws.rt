@@ -1,5 +1,5 @@
 ghost use Rattle.std.specs.Prelude.{◌≡◌, ◌↔◌, ℕ, Bool, true, List, [], ◌∷◌, ◌++◌, map, Ok, Err};
-ghost use Rattle.chi_grammar_laws.specs.Beginnings.{NamesFault, NamesDepth};
+ghost use Rattle.chi_grammar_laws.specs.Answers.{IsFault, IsDepth};
 ghost use Rattle.chi_grammar_laws.specs.Definitions.{FormedItems, FormedProgram};
 ghost use Rattle.chi_grammar_laws.specs.Expressions.{FormedExpr, FormedType};
 ghost use Rattle.chi_grammar_laws.specs.Levels as level;
@@ -69,9 +69,7 @@ pub fn parsed_law()
         → FormedProgram whole_room.blocks whole_room.expressions program → spelled program ≡ map token_of tokens
         → (parsed : Program) × ParsesAll grammar tokens program_of whole_room (part s.Program) (Ok parsed) × (unplaced parsed ≡ unplaced program) }
     ensures syntax { (tokens : List Spanned) (k : ℕ)
-        → ParsesAll grammar tokens program_of whole_room (part s.Program) (Err (Syntax k))
-        → NamesFault tokens k }
+        → ParsesAll grammar tokens program_of whole_room (part s.Program) (Err (Syntax k)) ↔ IsFault tokens k }
     ensures too_deep { (tokens : List Spanned) (k : ℕ)
-        → ParsesAll grammar tokens program_of whole_room (part s.Program) (Err (TooDeep k))
-        → NamesDepth tokens k }
+        → ParsesAll grammar tokens program_of whole_room (part s.Program) (Err (TooDeep k)) ↔ IsDepth tokens k }
 {}
