@@ -1,6 +1,6 @@
 -- What is formed is what the rule of a part builds, with the same tokens and nestings; and so the fronts of the part are the
 -- tokens with which something formed begins, within the same limits.
-use Rattle.std.proofs.Common.{◌≡◌, ℕ, suc, ◌+◌, ◌-◌, ◌<◌, ◌≤◌, Option, Some, None, List, [], ◌∷◌, ◌++◌, map, length, take, ◌⊎◌, inl, inr, refl, ap, sym, subst, ◌∙◌, arith, take-take}
+use Rattle.std.proofs.Common.{◌≡◌, ℕ, suc, ◌↔◌, ◌+◌, ◌-◌, ◌<◌, ◌≤◌, Option, Some, None, List, [], ◌∷◌, ◌++◌, map, length, take, ◌⊎◌, inl, inr, refl, ap, sym, subst, ◌∙◌, arith, take-take}
 use Rattle.std.proofs.Math.Seq.{take-length, take-append_seam, take-append-add}
 use Rattle.std.proofs.lemmas.Bool.{cases_lt}
 use Rattle.std.proofs.lemmas.List.{map-append, length-map, length-append, take-append-le, length-take-le, take-append-drop}
@@ -289,3 +289,11 @@ module _ {X : Type 0} (Formed : ℕ → ℕ → X → Type 0) (spelled : X → T
       let n = formed.built larger x p in
       let nested : IsNested larger (part s) (nestings x) n.tree = (n.is, n.nests) in
       n.again room (kept room (spelling n.tree) (nestings x) none (read_tokens s room larger (nestings x) n.tree nested))
+
+  -- formed at all, and no token of it passes a limit
+  pub limits_are : (b d : ℕ) (x : X)
+      → Formed b d x ↔ ((c e : ℕ) × Formed c e x × (first_passing b d (nestings x) ≡ None))
+  limits_are b d x = (
+    (λ p. (b, d, p, within_none (levels b d) x p)),
+    (λ p. formed_within (levels b d) (levels p.0 p.1) x p.2 p.3),
+  )

@@ -46,3 +46,4 @@ pub mod FormedPart
 pub mod Answered
 pub mod FormedParts
 pub mod ProgramAnswers
+pub mod PartAnswers
