@@ -36,7 +36,8 @@ module _ {A S : Type 0} (g : Grammar A S) (tokens : List A) where
     pub stands : Stands tokens at (spelling t) k
     pub none_further : NoneFurther r at k
 
-  -- k is the least index from `at` on for which no tree's tokens go on with those up to token k, and none ends before k either
+  -- The tokens from `at` to before k are a front within the room; no front, however deep, goes on with token k; and no tree,
+  -- however deep, ends right before k.
   pub record IsStuck (room : Room) (r : Rule A S) (at k : ℕ) : Type 0 where
     pub front : FrontTo room r at k
     pub none_further : NoneFurther r at k
@@ -55,7 +56,8 @@ module _ {A S : Type 0} (g : Grammar A S) (tokens : List A) where
   Parses view room r at (Err (TooDeep k)) = IsTooDeep room r at k
   Parses view room r at (Err NoMemory) = ⊤
 
-  -- k is the least index for which no tree's tokens go on with those up to token k, and no tree has all the tokens
+  -- The tokens to before k are a front within the room; no front, however deep, goes on with token k; and no tree, however
+  -- deep, has all the tokens.
   pub record IsBad (room : Room) (r : Rule A S) (k : ℕ) : Type 0 where
     pub front : FrontTo room r 0 k
     pub none_further : NoneFurther r 0 k

@@ -1,5 +1,6 @@
 -- Tokens, words and signs as leaves of what is built, and the parts that they make by themselves.
-use Rattle.std.proofs.Common.{◌≡◌, ℕ, suc, Bool, true, false, Option, Some, None, refl, ap, ◌∙◌}
+use Rattle.std.proofs.Common.{◌≡◌, ℕ, suc, Bool, true, false, ◌∷◌, ◌++◌, Option, Some, None, refl, ap, sym, ◌∙◌}
+use Rattle.std.specs.Option.{option_map}
 use Rattle.chi_grammar.specs.declared.room.Room.{Room}
 use Rattle.chi_grammar.specs.Rules.{Rule, leaf, node, pair, none, part, ◌∣◌, maybe}
 use Rattle.chi_grammar.specs.Trees.{Is}
@@ -37,6 +38,10 @@ use Rattle.chi_tree.specs.View.{Built, carried_of, inside, stepped, nowhere, way
 use Rattle.chi_spell.specs.Words.{operator_token, relation_token, prefix_token, cast_token, type_token}
 use Rattle.chi_grammar_laws.specs.Levels.{Level, level_of, prefix_level}
 use Rattle.chi_grammar_laws.specs.Levels as level
+use Rattle.chi_grammar_laws.specs.Nestings.{Nestings, outside, bracketed, if_any}
+use Rattle.chi_grammar_laws.specs.ExprNestings.{way_nestings, by_nestings, expr_nestings, postfix_nestings}
+use Rattle.chi_grammar_laws.proofs.Depths.{depths}
+use Rattle.chi_grammar_laws.proofs.ExprNestingsIn.{expr-Bool, postfix-Slice}
 
 -- tokens, and where they stand
 
@@ -58,11 +63,12 @@ name_leaf n = leaf (at n.place (token.Name n.text))
 abbrev pub levels : ℕ → ℕ → Room
 levels b d = record { blocks = b; expressions = d }
 
--- what the rule builds, with so many levels, and is shown as this
-pub record Builds {T : Type 0} (b d : ℕ) (rule : Rule Spanned Part) (view : Built → T) (value : T) : Type 0 where
+-- what the rule builds, with so many levels, and is shown as this, and the nestings in it
+pub record Builds {T : Type 0} (b d : ℕ) (rule : Rule Spanned Part) (view : Built → T) (value : T) (nestings : Nestings) : Type 0 where
   pub tree : Built
   pub built : Is grammar (levels b d) rule tree
   pub shown : view tree ≡ value
+  pub nests : depths built ≡ nestings
 
 -- words and signs
 
@@ -155,10 +161,15 @@ way_tree way.Both = none
 way_tree way.Send = mark Bang
 way_tree way.Receive = mark Question
 
-pub way_is : {room : Room} (w : Way) → Is grammar room (maybe (sign Bang ∣ sign Question)) (way_tree w)
+abbrev pub way_is : {room : Room} (w : Way) → Is grammar room (maybe (sign Bang ∣ sign Question)) (way_tree w)
 way_is way.Both = is.never
 way_is way.Send = is.once (is.left (is.word refl))
 way_is way.Receive = is.once (is.right (is.word refl))
+
+pub way_nests : (room : Room) (w : Way) → depths (way_is {room = room} w) ≡ way_nestings w
+way_nests room way.Both = refl
+way_nests room way.Send = refl
+way_nests room way.Receive = refl
 
 pub way_back : (w : Way) → way_in (way_tree w) ≡ w
 way_back way.Both = refl
@@ -189,15 +200,19 @@ link_part _ = s.ProdLink
 
 pub data IfAny (b d : ℕ) : Option Expr → Type 0 where
   left_out : IfAny b d None
-  given : {e : Expr} → Builds b d (part s.Expr) expr_of e → IfAny b d (Some e)
+  given : {e : Expr} → Builds b d (part s.Expr) expr_of e (expr_nestings e) → IfAny b d (Some e)
 
 abbrev pub if_tree : {b d : ℕ} {e : Option Expr} → IfAny b d e → Built
 if_tree left_out = none
 if_tree (given u) = u.tree
 
-pub if_built : {b d : ℕ} {e : Option Expr} → (u : IfAny b d e) → Is grammar (levels b d) (maybe (part s.Expr)) (if_tree u)
+abbrev pub if_built : {b d : ℕ} {e : Option Expr} → (u : IfAny b d e) → Is grammar (levels b d) (maybe (part s.Expr)) (if_tree u)
 if_built left_out = is.never
 if_built (given u) = is.once u.built
+
+pub if_nests : {b d : ℕ} {e : Option Expr} → (u : IfAny b d e) → depths (if_built u) ≡ if_any (option_map expr_nestings e)
+if_nests left_out = refl
+if_nests (given u) = u.nests
 
 some_tree : {room : Room} {s : Part} {t : Built} {T : Type 0} → Is grammar room (part s) t → (x : T) → optional t x ≡ Some x
 some_tree (is.part p) x = refl
@@ -206,39 +221,45 @@ pub if_shown : {b d : ℕ} {e : Option Expr} → (u : IfAny b d e) → optional 
 if_shown left_out = refl
 if_shown (given u) = some_tree u.built (expr_of u.tree) ∙ ap (λ e. Some e) u.shown
 
-pub truth_built : (b d : ℕ) (truth : Bool) (place : Place) → Builds b d (part s.Primary) expr_of (expr.Bool truth place)
+pub truth_built : (b d : ℕ) (truth : Bool) (place : Place) → Builds b d (part s.Primary) expr_of (expr.Bool truth place) (expr_nestings (expr.Bool truth place))
 truth_built b d true place = record {
   tree = node s.Primary (node s.Literal (word_at place TrueWord));
   built = is.part (is.left (is.part (is.right (is.right (is.right (is.left (is.word refl)))))));
   shown = refl;
+  nests = sym (expr-Bool true place);
 }
 truth_built b d false place = record {
   tree = node s.Primary (node s.Literal (word_at place FalseWord));
   built = is.part (is.left (is.part (is.right (is.right (is.right (is.right (is.left (is.word refl))))))));
   shown = refl;
+  nests = sym (expr-Bool false place);
 }
 
 pub carried_is : {room : Room} {t : Built} → Is grammar room (part s.AnyType) t → carried_of (node s.Carried t) ≡ Some (type_of t)
 carried_is (is.part p) = refl
 
 -- a slice in its brackets
-bracket_built : {b d : ℕ} {p : Postfix} (place : Place) (t : Built) → Is grammar (levels b d) (part s.Inside) t → inside place t ≡ p
-    → Builds b (suc d) (part s.Postfix) postfix_of p
-bracket_built place t is_inside shown = record {
+bracket_built : {b d : ℕ} {p : Postfix} (place : Place) (t : Built) → (is_inside : Is grammar (levels b d) (part s.Inside) t) → inside place t ≡ p
+    → bracketed (depths is_inside) ≡ postfix_nestings p → Builds b (suc d) (part s.Postfix) postfix_of p (postfix_nestings p)
+bracket_built place t is_inside shown nests = record {
   tree = node s.Postfix (node s.Bracket (pair (mark_at place LeftBracket) (pair t (mark RightBracket))));
   built = is.part (is.left (is.deeper (refl, refl) (is.part (is.both (is.word refl) (is.both is_inside (is.word refl))))));
   shown = shown;
+  nests = nests;
 }
 
 pub slice_built : {b d : ℕ} {from upto : Option Expr} (place : Place) (has : Bool) (by : Option Expr) (more : Built)
-    → IfAny b d from → IfAny b d upto → Is grammar (levels b d) (maybe (part s.ByStep)) more
+    → IfAny b d from → IfAny b d upto → (is_more : Is grammar (levels b d) (maybe (part s.ByStep)) more)
     → ((a c : Option Expr) → stepped place a c more ≡ postfix.Slice place a c has by)
-    → Builds b (suc d) (part s.Postfix) postfix_of (postfix.Slice place from upto has by)
-slice_built place has by more left_out v is_more shown =
+    → depths is_more ≡ by_nestings has (option_map expr_nestings by)
+    → Builds b (suc d) (part s.Postfix) postfix_of (postfix.Slice place from upto has by) (postfix_nestings (postfix.Slice place from upto has by))
+slice_built place has by more left_out v is_more shown nests =
     bracket_built place (node s.Inside (node s.Upto (pair (mark Colon) (pair (if_tree v) more))))
     (is.part (is.right (is.part (is.both (is.word refl) (is.both (if_built v) is_more)))))
     (shown None _ ∙ ap (λ c. postfix.Slice place None c has by) (if_shown v))
-slice_built place has by more (given u) v is_more shown =
+    ((λ i. bracketed (outside ∷ if_nests v i ++ nests i)) ∙ sym (postfix-Slice place None _ has by))
+slice_built place has by more (given u) v is_more shown nests =
     bracket_built place (node s.Inside (pair u.tree (node s.Upto (pair (mark Colon) (pair (if_tree v) more)))))
     (is.part (is.left (is.both u.built (is.once (is.part (is.both (is.word refl) (is.both (if_built v) is_more)))))))
     (shown (Some (expr_of u.tree)) _ ∙ (λ i. postfix.Slice place (Some (u.shown i)) (if_shown v i) has by))
+    ((λ i. bracketed (u.nests i ++ (outside ∷ if_nests v i ++ nests i))) ∙ sym (postfix-Slice place (Some _) _ has by))

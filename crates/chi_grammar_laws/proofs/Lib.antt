@@ -37,5 +37,13 @@ pub mod PlacedTree
 pub mod ParsedProgram
 pub mod SomeTree
 pub mod FrontTrees
-pub mod ProgramFronts
-pub mod FaultNamed
+pub mod Depths
+pub mod ReadWithin
+pub mod ExprNestingsIn
+pub mod StatementNestingsIn
+pub mod Passing
+pub mod FormedPart
+pub mod Answered
+pub mod FormedParts
+pub mod ProgramAnswers
+pub mod PartAnswers

@@ -1,7 +1,8 @@
 -- What an alternative of a select offers, a communication with or without a guard, is what the grammar builds of some tokens.
-use Rattle.std.proofs.Common.{◌≡◌, ℕ, Bool, true, false, List, [], ◌∷◌, Option, Some, None, if◌then◌else◌, refl, ap, sym, ◌∙◌}
+use Rattle.std.proofs.Common.{◌≡◌, ℕ, Bool, true, false, List, [], ◌∷◌, ◌++◌, map, append_assoc, Option, Some, None, if◌then◌else◌, refl, ap, sym, ◌∙◌}
 use Rattle.std.specs.Prelude.{◌&&◌}
 use Rattle.std.specs.List.{list_all}
+use Rattle.std.specs.Option.{option_map}
 use Rattle.chi_grammar.specs.declared.room.Room.{Room}
 use Rattle.chi_grammar.specs.Rules.{node, pair, part}
 use Rattle.chi_grammar.specs.Trees.{Is}
@@ -25,6 +26,10 @@ use Rattle.chi_grammar_laws.specs.Expressions.{FormedExpr, FormedPostfixes, Form
 use Rattle.chi_grammar_laws.specs.Expressions as formed
 use Rattle.chi_grammar_laws.specs.Statements.{FormedSteps, FormedTarget, FormedCommunication}
 use Rattle.chi_grammar_laws.specs.Statements as led
+use Rattle.chi_grammar_laws.specs.Nestings.{Nestings, outside, if_any, all}
+use Rattle.chi_grammar_laws.specs.ExprNestings.{expr_nestings, postfix_nestings}
+use Rattle.chi_grammar_laws.specs.StatementNestings.{name_nestings, target_nestings, communication_nestings, guard_nestings}
+use Rattle.chi_grammar_laws.proofs.ExprNestingsIn.{expr-Named, parted-in}
 use Rattle.chi_grammar_laws.proofs.Leaves.{mark, word_at, Builds}
 use Rattle.chi_grammar_laws.proofs.ExprBuilt.{build_expr}
 use Rattle.chi_grammar_laws.proofs.TargetsBuilt.{BuildsEnd, build_sending, build_receiving, build_communication}
@@ -77,52 +82,71 @@ as_target_back target p = target_back target.name target.steps (all_steps p)
 
 -- offers
 
+abbrev pub offer_nestings : Option Expr → Communication → Nestings
+offer_nestings guard c = guard_nestings guard ++ communication_nestings c
+
 -- a guard where there is one, and a communication
 abbrev pub BuildsOffer : ℕ → ℕ → Option Expr → Communication → Type 0
-BuildsOffer b d guard c = Builds {T = Option Expr × Communication} b d (part s.Offer) offer_of (guard, c)
+BuildsOffer b d guard c = Builds {T = Option Expr × Communication} b d (part s.Offer) offer_of (guard, c) (offer_nestings guard c)
 
 end_offered : {room : Room} {t : Built} → Is grammar room (part s.CommunicationEnd) t → (e : Expr)
     → offered e (node s.Offered t) ≡ (None, communicated (target_or_none (as_target e)) t)
 end_offered (is.part p) e = refl
 
 -- the expression is a target, and its communication goes on
-ending : {b d : ℕ} {e : Expr} {target : Target} {c : Target → Communication} → as_target e ≡ Some target → Builds b d (part s.Expr) expr_of e
-    → BuildsEnd b d c → BuildsOffer b d None (c target)
-ending {c = c} back u v = record {
+ending : {b d : ℕ} {e : Expr} {target : Target} {ns : Nestings} {c : Target → Communication} → as_target e ≡ Some target
+    → expr_nestings e ++ ns ≡ communication_nestings (c target) → Builds b d (part s.Expr) expr_of e (expr_nestings e)
+    → BuildsEnd b d ns c → BuildsOffer b d None (c target)
+ending {c = c} back same u v = record {
   tree = node s.Offer (pair u.tree (node s.Offered v.tree));
   built = is.part (is.right (is.chosen u.built (ap (λ e. is_some (as_target e)) u.shown ∙ ap is_some back) (is.part (is.right v.built))));
   shown = end_offered v.built (expr_of u.tree)
       ∙ (λ i. (None, v.shown i (target_or_none (as_target (u.shown i)))))
       ∙ ap (λ o. (None, c (target_or_none o))) back;
+  nests = (λ i. u.nests i ++ v.nests i) ∙ same;
 }
 
+-- a target's tokens as those of an expression
+target_expr_in : (target : Target) → expr_nestings (target_expr target) ≡ target_nestings target
+target_expr_in target =
+    parted-in (expr.Named target.name) target.steps ∙ ap (λ ns. ns ++ all (map postfix_nestings target.steps)) (expr-Named target.name)
+
+guarded_in : (e : Expr) (c : Communication) (ns ms : Nestings) → ns ≡ expr_nestings e → ms ≡ communication_nestings c
+    → ns ++ outside ∷ ms ≡ offer_nestings (Some e) c
+guarded_in e c ns ms p q = (λ i. p i ++ outside ∷ q i) ∙ sym (append_assoc (expr_nestings e) (outside ∷ []) (communication_nestings c))
+
 -- the expression is a guard, which may be a target too
-guarding : {b d : ℕ} {e : Expr} {c : Communication} (u : Builds b d (part s.Expr) expr_of e) → (truth : Bool) → is_target u.tree ≡ truth
-    → Builds b d (part s.Communication) communication_of c → BuildsOffer b d (Some e) c
+guarding : {b d : ℕ} {e : Expr} {c : Communication} (u : Builds b d (part s.Expr) expr_of e (expr_nestings e)) → (truth : Bool) → is_target u.tree ≡ truth
+    → Builds b d (part s.Communication) communication_of c (communication_nestings c) → BuildsOffer b d (Some e) c
 guarding u true e v = record {
   tree = node s.Offer (pair u.tree (node s.Offered (node s.Guarded (pair (mark Comma) v.tree))));
   built = is.part (is.right (is.chosen u.built e (is.part (is.left (is.part (is.both (is.word refl) v.built))))));
   shown = λ i. (Some (u.shown i), v.shown i);
+  nests = guarded_in _ _ _ _ u.nests v.nests;
 }
 guarding u false e v = record {
   tree = node s.Offer (pair u.tree (node s.Guarded (pair (mark Comma) v.tree)));
   built = is.part (is.right (is.otherwise u.built e (is.part (is.both (is.word refl) v.built))));
   shown = λ i. (Some (u.shown i), v.shown i);
+  nests = guarded_in _ _ _ _ u.nests v.nests;
 }
 
-guarded : {b d : ℕ} {e : Expr} {c : Communication} → Builds b d (part s.Expr) expr_of e
-    → Builds b d (part s.Communication) communication_of c → BuildsOffer b d (Some e) c
+guarded : {b d : ℕ} {e : Expr} {c : Communication} → Builds b d (part s.Expr) expr_of e (expr_nestings e)
+    → Builds b d (part s.Communication) communication_of c (communication_nestings c) → BuildsOffer b d (Some e) c
 guarded u v = guarding u (is_target u.tree) refl v
 
 unguarded : (b : ℕ) {d : ℕ} {c : Communication} → FormedCommunication d c → BuildsOffer b d None c
-unguarded b (led.send {target = target} {place = place} p q) =
-    ending (as_target_back target p) (build_expr b (target_formed target p)) (build_sending b place q)
+unguarded b (led.send {target = target} {place = place} {e = e} p q) =
+    ending (as_target_back target p) (ap (λ ns. ns ++ outside ∷ if_any (option_map expr_nestings e)) (target_expr_in target))
+    (build_expr b (target_formed target p)) (build_sending b place q)
 unguarded b (led.receive {d = d} {target = target} {place = place} {name = n} p) =
-    ending (as_target_back target p) (build_expr b (target_formed target p)) (build_receiving b d place n)
+    ending (as_target_back target p) (ap (λ ns. ns ++ outside ∷ if_any (option_map name_nestings n)) (target_expr_in target))
+    (build_expr b (target_formed target p)) (build_receiving b d place n)
 unguarded b (led.delay {place = place} p) = let u = build_expr b p in record {
   tree = node s.Offer (node s.Delay (pair (word_at place DelayWord) u.tree));
   built = is.part (is.left (is.part (is.both (is.word refl) u.built)));
   shown = λ i. (None, communication.Delay place (u.shown i));
+  nests = ap (λ ns. outside ∷ ns) u.nests;
 }
 
 pub build_offer : (b : ℕ) {d : ℕ} {guard : Option Expr} {c : Communication} → FormedIfAny d guard → FormedCommunication d c → BuildsOffer b d guard c

@@ -12,6 +12,8 @@ use Rattle.chi_tree.specs.Parts.{Part}
 use Rattle.chi_tree.specs.Rules.{grammar}
 use Rattle.chi_tree.specs.View.{Built}
 use Rattle.chi_spell.specs.Words.{Tokens, token_of}
+use Rattle.chi_grammar_laws.specs.Nestings.{Nestings, outside}
+use Rattle.chi_grammar_laws.proofs.Depths.{one_in, depths}
 use Rattle.chi_grammar_laws.proofs.UnplacedBuilt.{bare_token, unplaced_token, unplaced_tree, Blind}
 use Rattle.chi_grammar_laws.proofs.Blind.{blind}
 
@@ -47,35 +49,49 @@ none_like none e = refl
 abbrev class_of_token : Token → ℕ
 class_of_token t = number_of (class_of t)
 
--- what a rule builds it builds with other places too
-like_is : {room : Room} {r : Rule Spanned Part} {t : Built} → Blind r → Is grammar room r t
-    → (u : Built) → unplaced_tree u ≡ unplaced_tree t → Is grammar room r u
+-- the rule builds the tree, with these nestings
+abbrev pub IsNested : Room → Rule Spanned Part → Nestings → Built → Type 0
+IsNested room r ns t = (p : Is grammar room r t) × (depths p ≡ ns)
+
+-- what a rule builds it builds with other places too, and no deeper
+like_is : {room : Room} {r : Rule Spanned Part} {t : Built} → Blind r → (p : Is grammar room r t)
+    → (u : Built) → unplaced_tree u ≡ unplaced_tree t → IsNested room r (depths p) u
 like_is {room} {r} b (is.word {x = x} e) u same =
     let y = leaf_like x u same in
-    subst (λ u. Is grammar room r u) (sym y.1) (is.word (sym (ap class_of_token y.2) ∙ e))
+    subst (λ u. IsNested room r (outside ∷ []) u) (sym y.1) (is.word (sym (ap class_of_token y.2) ∙ e), refl)
 like_is {room} {r} b (is.part {s = s} {t = t} p) u same =
     let v = node_like s t u same in
-    subst (λ u. Is grammar room r u) (sym v.1) (is.part (like_is (blind s) p v.0 v.2))
+    let q = like_is (blind s) p v.0 v.2 in
+    subst (λ u. IsNested room r (depths p) u) (sym v.1) (is.part q.0, q.1)
 like_is {room} {r} b (is.both {t = t} {u = w} p q) u same =
     let v = pair_like t w u same in
-    subst (λ u. Is grammar room r u) (sym v.2) (is.both (like_is b.0 p v.0 v.3) (like_is b.1 q v.1 v.4))
-like_is b (is.left p) u same = is.left (like_is b.0 p u same)
-like_is b (is.right p) u same = is.right (like_is b.1 p u same)
-like_is b (is.once p) u same = is.once (like_is b p u same)
-like_is {room} {r} b is.never u same = subst (λ u. Is grammar room r u) (sym (none_like u same)) is.never
+    let x = like_is b.0 p v.0 v.3 in
+    let y = like_is b.1 q v.1 v.4 in
+    subst (λ u. IsNested room r (depths p ++ depths q) u) (sym v.2) (is.both x.0 y.0, (λ i. x.1 i ++ y.1 i))
+like_is b (is.left p) u same = let q = like_is b.0 p u same in (is.left q.0, q.1)
+like_is b (is.right p) u same = let q = like_is b.1 p u same in (is.right q.0, q.1)
+like_is b (is.once p) u same = let q = like_is b p u same in (is.once q.0, q.1)
+like_is {room} {r} b is.never u same = subst (λ u. IsNested room r [] u) (sym (none_like u same)) (is.never, refl)
 like_is {room} {r} b (is.more {t = t} {u = w} p q) u same =
     let v = pair_like t w u same in
-    subst (λ u. Is grammar room r u) (sym v.2) (is.more (like_is b p v.0 v.3) (like_is b q v.1 v.4))
-like_is {room} {r} b is.enough u same = subst (λ u. Is grammar room r u) (sym (none_like u same)) is.enough
-like_is b (is.deeper i p) u same = is.deeper i (like_is b p u same)
+    let x = like_is b p v.0 v.3 in
+    let y = like_is b q v.1 v.4 in
+    subst (λ u. IsNested room r (depths p ++ depths q) u) (sym v.2) (is.more x.0 y.0, (λ i. x.1 i ++ y.1 i))
+like_is {room} {r} b is.enough u same = subst (λ u. IsNested room r [] u) (sym (none_like u same)) (is.enough, refl)
+like_is b (is.deeper {nesting = nesting} i p) u same =
+    let q = like_is b p u same in (is.deeper i q.0, ap (map (one_in nesting)) q.1)
 like_is {room} {r} b (is.chosen {test = test} {t = t} {u = w} p e q) u same =
     let v = pair_like t w u same in
-    subst (λ u. Is grammar room r u) (sym v.2)
-    (is.chosen (like_is b.0 p v.0 v.3) (sym (b.1 v.0) ∙ ap test v.3 ∙ b.1 t ∙ e) (like_is b.2 q v.1 v.4))
+    let x = like_is b.0 p v.0 v.3 in
+    let y = like_is b.2 q v.1 v.4 in
+    subst (λ u. IsNested room r (depths p ++ depths q) u) (sym v.2)
+    (is.chosen x.0 (sym (b.1 v.0) ∙ ap test v.3 ∙ b.1 t ∙ e) y.0, (λ i. x.1 i ++ y.1 i))
 like_is {room} {r} b (is.otherwise {test = test} {t = t} {u = w} p e q) u same =
     let v = pair_like t w u same in
-    subst (λ u. Is grammar room r u) (sym v.2)
-    (is.otherwise (like_is b.0 p v.0 v.3) (sym (b.1 v.0) ∙ ap test v.3 ∙ b.1 t ∙ e) (like_is b.3 q v.1 v.4))
+    let x = like_is b.0 p v.0 v.3 in
+    let y = like_is b.3 q v.1 v.4 in
+    subst (λ u. IsNested room r (depths p ++ depths q) u) (sym v.2)
+    (is.otherwise x.0 (sym (b.1 v.0) ∙ ap test v.3 ∙ b.1 t ∙ e) y.0, (λ i. x.1 i ++ y.1 i))
 
 -- the tokens of a list, put into the leaves of a tree in turn
 record Filled (t : Built) (xs : List Spanned) (more : Tokens) : Type 0 where
@@ -115,11 +131,16 @@ no_rest : (xs : List Spanned) → map token_of xs ≡ [] → xs ≡ []
 no_rest [] e = refl
 no_rest (x ∷ xs) e = cc
 
--- the tree that the rule builds of tokens that differ from another's in their places alone
-pub placed_tree : {room : Room} {r : Rule Spanned Part} (t : Built) → Blind r → Is grammar room r t → (xs : List Spanned)
+-- the tree that the rule builds of tokens that differ from another's in their places alone, and no deeper
+pub placed_nested : {room : Room} {r : Rule Spanned Part} (t : Built) → Blind r → (p : Is grammar room r t) → (xs : List Spanned)
     → map token_of (spelling t) ≡ map token_of xs
-    → (u : Built) × Is grammar room r u × (spelling u ≡ xs) × (unplaced_tree u ≡ unplaced_tree t)
-placed_tree t b p xs e =
+    → (u : Built) × IsNested room r (depths p) u × (spelling u ≡ xs) × (unplaced_tree u ≡ unplaced_tree t)
+placed_nested t b p xs e =
     let f = filled t xs [] (sym e ∙ sym (append-nil (map token_of (spelling t)))) in
     let takes = sym (append-nil (spelling f.tree)) ∙ ap (λ ys. spelling f.tree ++ ys) (sym (no_rest f.rest f.leaves)) ∙ f.takes in
     (f.tree, like_is b p f.tree f.same, takes, f.same)
+
+pub placed_tree : {room : Room} {r : Rule Spanned Part} (t : Built) → Blind r → Is grammar room r t → (xs : List Spanned)
+    → map token_of (spelling t) ≡ map token_of xs
+    → (u : Built) × Is grammar room r u × (spelling u ≡ xs) × (unplaced_tree u ≡ unplaced_tree t)
+placed_tree t b p xs e = let u = placed_nested t b p xs e in (u.0, u.1.0, u.2, u.3)

@@ -1,38 +1,58 @@
--- Tokens with which a program can begin, the first token with which none goes on, and one that nests too deep.
-use Rattle.std.specs.Prelude.{ℕ, ◌+◌, ◌<◌, ◌≤◌, ◌≡◌, List, ◌++◌, length, map, take}
-use Rattle.chi_grammar.specs.Fronts.{Front}
-use Rattle.chi_grammar.specs.Rules.{part}
-use Rattle.chi_token.specs.declared.place.Spanned.{Spanned}
-use Rattle.chi_tree.specs.declared.definition.Program.{Program}
-use Rattle.chi_tree.specs.Limits.{whole_room}
-use Rattle.chi_tree.specs.Parts as s
-use Rattle.chi_tree.specs.Rules.{grammar}
-use Rattle.chi_spell.specs.Statements.{spelled}
-use Rattle.chi_spell.specs.Words.{Tokens, token_of}
-use Rattle.chi_grammar_laws.specs.Definitions.{FormedProgram}
+-- With which tokens something formed can begin, and how a list of tokens isn't formed: at one token it nests too deep, or at
+-- one token nothing goes on. What is formed are programs, expressions or types, with their spelling and the nestings of its tokens.
+use Rattle.std.specs.Prelude.{ℕ, ◌+◌, ◌<◌, ◌≤◌, ◌≡◌, Some, None, List, ◌++◌, length, take}
+use Rattle.chi_spell.specs.Words.{Tokens}
+use Rattle.chi_grammar_laws.specs.Nestings.{Nestings, first_passing}
 
--- the tokens are the first of some program's, however deep it nests
-pub record BeginsProgram (tokens : Tokens) : Type 0 where
-  pub blocks : ℕ
-  pub expressions : ℕ
-  pub program : Program
-  pub formed : FormedProgram blocks expressions program
-  pub more : Tokens
-  pub same : spelled program ≡ tokens ++ more
+module _ {X : Type 0} (Formed : ℕ → ℕ → X → Type 0) (spelled : X → Tokens) (nestings : X → Nestings) where
+  -- something formed begins with the tokens, however deep it nests
+  pub record Begins (tokens : Tokens) : Type 0 where
+    pub blocks : ℕ
+    pub expressions : ℕ
+    pub whole : X
+    pub formed : Formed blocks expressions whole
+    pub more : Tokens
+    pub same : spelled whole ≡ tokens ++ more
 
--- Token k is the first with which no program's tokens go on, and where some program's begin with all the tokens k is the
--- number of them. No program has just these tokens.
-pub record NamesFault (tokens : List Spanned) (k : ℕ) : Type 0 where
-  pub inside : k ≤ length tokens
-  pub begins : BeginsProgram (map token_of (take k tokens))
-  pub none_goes_on : k < length tokens → BeginsProgram (map token_of (take (k + 1) tokens)) → ⊥
-  pub none_has_all : (b d : ℕ) (program : Program) → FormedProgram b d program → spelled program ≡ map token_of tokens → ⊥
+  -- something formed begins with the tokens, and none of them passes a limit
+  pub record BeginsWithin (b d : ℕ) (tokens : Tokens) : Type 0 where
+    pub begins : Begins tokens
+    pub keeps : first_passing b d (take (length tokens) (nestings begins.whole)) ≡ None
 
--- Token k is the first that stands too deep: the tokens before it keep to the limits on nesting, and with it they are the first
--- of some program's, but of none that keeps to the limits.
-pub record NamesDepth (tokens : List Spanned) (k : ℕ) : Type 0 where
-  pub inside : k < length tokens
-  pub before : Front grammar whole_room (part s.Program) (take k tokens)
-  pub begins : BeginsProgram (map token_of (take (k + 1) tokens))
-  pub none_within : (program : Program) → FormedProgram whole_room.blocks whole_room.expressions program → (more : Tokens)
-      → spelled program ≡ map token_of (take (k + 1) tokens) ++ more → ⊥
+  -- Token k is the first too deep: something formed begins with the tokens up to it, and there it is the first whose nesting
+  -- passes a limit.
+  pub record NamesDepth (b d : ℕ) (tokens : Tokens) (k : ℕ) : Type 0 where
+    pub inside : k < length tokens
+    pub begins : Begins (take (k + 1) tokens)
+    pub first : first_passing b d (nestings begins.whole) ≡ Some k
+
+  -- nothing formed begins with the first k tokens and token k
+  abbrev pub NoneGoesOn : Tokens → ℕ → Type 0
+  NoneGoesOn tokens k = k < length tokens → Begins (take (k + 1) tokens) → ⊥
+
+  -- nothing formed has just these tokens, however deep it nests
+  abbrev pub NoneHas : Tokens → Type 0
+  NoneHas tokens = (b d : ℕ) (x : X) → Formed b d x → spelled x ≡ tokens → ⊥
+
+  -- Token k is the first with which nothing goes on, and where something begins with all the tokens k is the number of them.
+  -- None of the tokens before it passes a limit, and nothing has just these tokens.
+  pub record NamesFault (b d : ℕ) (tokens : Tokens) (k : ℕ) : Type 0 where
+    pub inside : k ≤ length tokens
+    pub before : BeginsWithin b d (take k tokens)
+    pub none_goes_on : NoneGoesOn tokens k
+    pub none_has_all : NoneHas tokens
+
+  -- the first k tokens are something formed within the limits, and nothing formed goes on after them
+  pub record StandsLongest (b d : ℕ) (tokens : Tokens) (k : ℕ) (x : X) : Type 0 where
+    pub inside : k ≤ length tokens
+    pub formed : Formed b d x
+    pub same : spelled x ≡ take k tokens
+    pub none_goes_on : NoneGoesOn tokens k
+
+  -- Token k is the first with which nothing goes on, and where something begins with all the tokens k is the number of them.
+  -- None of the tokens before it passes a limit, and nothing has just those.
+  pub record NamesStop (b d : ℕ) (tokens : Tokens) (k : ℕ) : Type 0 where
+    pub inside : k ≤ length tokens
+    pub before : BeginsWithin b d (take k tokens)
+    pub none_goes_on : NoneGoesOn tokens k
+    pub none_has_them : NoneHas (take k tokens)

@@ -154,11 +154,12 @@ mutual
     left_out : {d : ℕ} → FormedIfAny d None
     given : {d : ℕ} {e : Expr} → FormedExpr level.Expr d e → FormedIfAny d (Some e)
 
-  -- exprs = expr { "," expr }
+  -- [ exprs ], where exprs = expr { "," expr }
   pub data FormedExprs : ℕ → List Expr → Type 0 where
     no_exprs : {d : ℕ} → FormedExprs d []
     exprs : {d : ℕ} {e : Expr} {es : List Expr} → FormedExpr level.Expr d e → FormedExprs d es → FormedExprs d (e ∷ es)
 
+  -- [ expr ":" expr { "," expr ":" expr } ]
   pub data FormedEntries : ℕ → List Entry → Type 0 where
     no_entries : {d : ℕ} → FormedEntries d []
     entries : {d : ℕ} {k v : Expr} {es : List Entry}

@@ -2,6 +2,10 @@ pub mod Levels
 pub mod Expressions
 pub mod Statements
 pub mod Definitions
+pub mod Nestings
+pub mod ExprNestings
+pub mod StatementNestings
 pub mod Unplaced
 pub mod UnplacedStatements
 pub mod Beginnings
+pub mod Answers

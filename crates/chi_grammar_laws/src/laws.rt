@@ -1,14 +1,18 @@
-ghost use Rattle.std.specs.Prelude.{◌≡◌, ◌↔◌, ℕ, Bool, true, List, [], ◌∷◌, ◌++◌, map, Ok, Err};
-ghost use Rattle.chi_grammar_laws.specs.Beginnings.{NamesFault, NamesDepth};
+ghost use Rattle.std.specs.Prelude.{◌≡◌, ◌↔◌, ◌≤◌, ◌⊎◌, ℕ, Bool, true, None, List, [], ◌∷◌, ◌++◌, length, map, Ok, Err};
+ghost use Rattle.chi_grammar_laws.specs.Answers.{IsProgram, IsDepth, IsFault, IsLongestExpr, IsExprStop, IsExprDepth, IsLongestType, IsTypeStop, IsTypeDepth};
 ghost use Rattle.chi_grammar_laws.specs.Definitions.{FormedItems, FormedProgram};
 ghost use Rattle.chi_grammar_laws.specs.Expressions.{FormedExpr, FormedType};
+ghost use Rattle.chi_grammar_laws.specs.ExprNestings.{expr_nestings, type_nestings};
 ghost use Rattle.chi_grammar_laws.specs.Levels as level;
+ghost use Rattle.chi_grammar_laws.specs.Nestings.{first_passing};
+ghost use Rattle.chi_grammar_laws.specs.StatementNestings.{block_nestings, nestings};
 ghost use Rattle.chi_grammar_laws.specs.Statements.{FormedBlock, FormedStatement};
 ghost use Rattle.chi_grammar_laws.specs.Unplaced.{unplaced_expr, unplaced_type};
 ghost use Rattle.chi_grammar_laws.specs.UnplacedStatements.{unplaced, unplaced_block};
 ghost use Rattle.chi_grammar.specs.declared.fault.ParseFault.TheVariants.{Syntax, TooDeep};
 ghost use Rattle.chi_grammar.specs.declared.room.Room.{Room};
-ghost use Rattle.chi_grammar.specs.Exact.{ParsesAll};
+ghost use Rattle.chi_grammar.specs.Exact.{Parses, ParsesAll};
+ghost use Rattle.chi_grammar.specs.Fine.{Fine};
 ghost use Rattle.chi_grammar.specs.Rules.{part};
 ghost use Rattle.chi_grammar.specs.Trees.{Is};
 ghost use Rattle.chi_token.specs.declared.keyword.Keyword.TheVariants.{EndWord};
@@ -23,6 +27,7 @@ ghost use Rattle.chi_tree.specs.declared.type_tree.TypeTree.{TypeTree};
 ghost use Rattle.chi_tree.specs.Limits.{whole_room};
 ghost use Rattle.chi_tree.specs.Parts as s;
 ghost use Rattle.chi_tree.specs.Rules.{grammar};
+ghost use Rattle.chi_tree.specs.Tables.{table};
 ghost use Rattle.chi_spell.specs.Expressions.{spelled_expr, spelled_type};
 ghost use Rattle.chi_spell.specs.Statements.{spelled, spelled_block, spelled_statement};
 ghost use Rattle.chi_tree.specs.Statements.{block_of, program_of};
@@ -69,9 +74,62 @@ pub fn parsed_law()
         → FormedProgram whole_room.blocks whole_room.expressions program → spelled program ≡ map token_of tokens
         → (parsed : Program) × ParsesAll grammar tokens program_of whole_room (part s.Program) (Ok parsed) × (unplaced parsed ≡ unplaced program) }
     ensures syntax { (tokens : List Spanned) (k : ℕ)
-        → ParsesAll grammar tokens program_of whole_room (part s.Program) (Err (Syntax k))
-        → NamesFault tokens k }
+        → ParsesAll grammar tokens program_of whole_room (part s.Program) (Err (Syntax k)) ↔ IsFault tokens k }
     ensures too_deep { (tokens : List Spanned) (k : ℕ)
-        → ParsesAll grammar tokens program_of whole_room (part s.Program) (Err (TooDeep k))
-        → NamesDepth tokens k }
+        → ParsesAll grammar tokens program_of whole_room (part s.Program) (Err (TooDeep k)) ↔ IsDepth tokens k }
+{}
+
+/// One token ahead decides the grammar of the language.
+pub fn grammar_law()
+    ensures { Fine grammar table }
+{}
+
+/// What is formed within limits on nesting is formed at all, and no token of it passes a limit; each token of a program has one
+/// nesting.
+pub fn nesting_law()
+    ensures types { (b d : ℕ) (ty : TypeTree)
+        → FormedType d ty ↔ ((c e : ℕ) × FormedType e ty × (first_passing b d (type_nestings ty) ≡ None)) }
+    ensures expressions { (b d : ℕ) (x : Expr)
+        → FormedExpr level.Expr d x ↔ ((c e : ℕ) × FormedExpr level.Expr e x × (first_passing b d (expr_nestings x) ≡ None)) }
+    ensures blocks { (b d : ℕ) (block : List Step)
+        → FormedBlock b d block ↔ ((c e : ℕ) × FormedBlock c e block × (first_passing b d (block_nestings block) ≡ None)) }
+    ensures programs { (b d : ℕ) (program : Program)
+        → FormedProgram b d program ↔ ((c e : ℕ) × FormedProgram c e program × (first_passing b d (nestings program) ≡ None)) }
+    ensures of_each_token { (b d : ℕ) (program : Program) → FormedProgram b d program
+        → length (nestings program) ≡ length (spelled program) }
+{}
+
+/// The tokens of a source are a program, or one of them is the first too deep, or they are at fault at one index: exactly one
+/// of the three, and with one index.
+pub fn answer_law()
+    ensures some { (tokens : List Spanned)
+        → ((program : Program) × IsProgram tokens program) ⊎ (((k : ℕ) × IsDepth tokens k) ⊎ ((k : ℕ) × IsFault tokens k)) }
+    ensures program_or_depth { (tokens : List Spanned) (program : Program) (k : ℕ) → IsProgram tokens program → IsDepth tokens k → ⊥ }
+    ensures program_or_fault { (tokens : List Spanned) (program : Program) (k : ℕ) → IsProgram tokens program → IsFault tokens k → ⊥ }
+    ensures depth_or_fault { (tokens : List Spanned) (j k : ℕ) → IsDepth tokens j → IsFault tokens k → ⊥ }
+    ensures one_depth { (tokens : List Spanned) (j k : ℕ) → IsDepth tokens j → IsDepth tokens k → j ≡ k }
+    ensures one_fault { (tokens : List Spanned) (j k : ℕ) → IsFault tokens j → IsFault tokens k → j ≡ k }
+{}
+
+/// What an exact parser answers of an expression or a type, from an index on, said of formed ones: the longest that stands
+/// there; or the token with which none goes on, where none ends before it; or the first that is too deep.
+pub fn parsed_part_law()
+    ensures expr { (tokens : List Spanned) (at : ℕ) (room : Room) (e : Expr) (end : ℕ) → at ≤ length tokens
+        → Parses grammar tokens expr_of room (part s.Expr) at (Ok (e, end)) → IsLongestExpr tokens at room e end }
+    ensures every_expr { (tokens : List Spanned) (at : ℕ) (room : Room) (e : Expr) (end : ℕ) → at ≤ length tokens
+        → IsLongestExpr tokens at room e end
+        → (parsed : Expr) × Parses grammar tokens expr_of room (part s.Expr) at (Ok (parsed, end)) × (unplaced_expr parsed ≡ unplaced_expr e) }
+    ensures expr_syntax { (tokens : List Spanned) (at : ℕ) (room : Room) (k : ℕ) → at ≤ length tokens
+        → Parses grammar tokens expr_of room (part s.Expr) at (Err (Syntax k)) ↔ IsExprStop tokens at room k }
+    ensures expr_too_deep { (tokens : List Spanned) (at : ℕ) (room : Room) (k : ℕ) → at ≤ length tokens
+        → Parses grammar tokens expr_of room (part s.Expr) at (Err (TooDeep k)) ↔ IsExprDepth tokens at room k }
+    ensures any_type { (tokens : List Spanned) (at : ℕ) (room : Room) (ty : TypeTree) (end : ℕ) → at ≤ length tokens
+        → Parses grammar tokens type_of room (part s.AnyType) at (Ok (ty, end)) → IsLongestType tokens at room ty end }
+    ensures every_type { (tokens : List Spanned) (at : ℕ) (room : Room) (ty : TypeTree) (end : ℕ) → at ≤ length tokens
+        → IsLongestType tokens at room ty end
+        → (parsed : TypeTree) × Parses grammar tokens type_of room (part s.AnyType) at (Ok (parsed, end)) × (unplaced_type parsed ≡ unplaced_type ty) }
+    ensures type_syntax { (tokens : List Spanned) (at : ℕ) (room : Room) (k : ℕ) → at ≤ length tokens
+        → Parses grammar tokens type_of room (part s.AnyType) at (Err (Syntax k)) ↔ IsTypeStop tokens at room k }
+    ensures type_too_deep { (tokens : List Spanned) (at : ℕ) (room : Room) (k : ℕ) → at ≤ length tokens
+        → Parses grammar tokens type_of room (part s.AnyType) at (Err (TooDeep k)) ↔ IsTypeDepth tokens at room k }
 {}

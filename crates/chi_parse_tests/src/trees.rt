@@ -1,5 +1,8 @@
 use chi_base::{Boxed, Items, NoMemory};
-use chi_grammar_laws::{formed_law, last_token_law, one_tree_law, parsed_law};
+use chi_grammar_laws::{
+    answer_law, formed_law, grammar_law, last_token_law, nesting_law, one_tree_law, parsed_law,
+    parsed_part_law,
+};
 use chi_spell::{spell, spelling_law};
 use chi_token::{Bytes, Keyword, Place, Sign, Token, spelling};
 use chi_tree::{
@@ -149,5 +152,9 @@ fn the_laws_hold(_rt: HostRuntime) -> Result<(), Fail> {
     one_tree_law();
     last_token_law();
     parsed_law();
+    answer_law();
+    nesting_law();
+    parsed_part_law();
+    grammar_law();
     Ok(())
 }
