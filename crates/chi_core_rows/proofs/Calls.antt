@@ -61,7 +61,10 @@ call = e.Call 0 (number 3 ∷ [])
 -- model M(): writeln("%d", f(3)) end
 abbrev shows : ProcDef
 shows = record {
-  name = codes "M"; params = []; exit = None; slots = [];
+  name = codes "M";
+  params = [];
+  exit = None;
+  slots = [];
   body = s.Write 1 (piece.Whole (record { left = false; width = 0 }) ∷ piece.Plain (10 ∷ []) ∷ []) (call ∷ []) ∷ [];
 }
 

@@ -11,9 +11,11 @@ use Rattle.chi_value.specs.Default.{default, default_step, in_turn, tuple_of}
 use Rattle.chi_value.specs.Order.{order, order_step}
 use Rattle.chi_value.specs.Plain.{is_plain, plain_step, within, within_step, itself}
 use Rattle.chi_value.specs.Alike.{alike, alike_step, uniform, uniform_step, uniform_elements}
-use Rattle.chi_value.specs.Text.{Written, written, written_step}
-use Rattle.chi_ops.specs.Kinds.{is_int, is_sequence}
-use Rattle.chi_ops.specs.Sequences.{index}
+use Rattle.chi_value.specs.Text.{Written, written, written_step, text, quoted_text}
+use Rattle.chi_ops.specs.Conditions.{may_size, may_has}
+use Rattle.chi_ops.specs.Kinds.{is_int, is_list, is_sequence, is_container}
+use Rattle.chi_ops.specs.Operations.{size, has, lookup, pop}
+use Rattle.chi_ops.specs.Sequences.{index, slice, join, del, enumerate}
 use Rattle.chi_ops.specs.Store.{fits_along, stored}
 use Rattle.chi_ops.specs.Tidy.{sorted, sorted_step}
 
@@ -60,17 +62,17 @@ written_int names x = written_out names (value.Int x) _ (value.outs-Int x)
 alike_out : (v : Value) (o : Value-F Value) → out-Value v ≡ o → (w : Value) → alike v w ≡ alike_step (map-Value _ _ alike o) (out-Value w)
 alike_out v o h w = ap (λ f. f w) (fold_out-Value (Value → Bool) (λ layer other. alike_step layer (out-Value other)) v) ∙ ap (λ o. alike_step (map-Value _ _ alike o) (out-Value w)) h
 
-pub alike_int : (x y : ℤ) → alike (value.Int x) (value.Int y) ≡ true
-unfolding out-Value denote.Hole.Carrier.out
-alike_int x y = alike_out (value.Int x) _ (value.outs-Int x) (value.Int y)
+pub alike_int : (x : ℤ) (w : Value) → alike (value.Int x) w ≡ alike_step (Value-F.Int x) (out-Value w)
+alike_int x w = alike_out (value.Int x) _ (value.outs-Int x) w
 
-pub alike_text : (x y : List ℕ) → alike (value.Text x) (value.Text y) ≡ true
-unfolding out-Value denote.Hole.Carrier.out
-alike_text x y = alike_out (value.Text x) _ (value.outs-Text x) (value.Text y)
+pub alike_text : (x : List ℕ) (w : Value) → alike (value.Text x) w ≡ alike_step (Value-F.Text x) (out-Value w)
+alike_text x w = alike_out (value.Text x) _ (value.outs-Text x) w
 
-pub alike_chan : (x y : ℕ) → alike (value.Chan x) (value.Chan y) ≡ true
-unfolding out-Value denote.Hole.Carrier.out
-alike_chan x y = alike_out (value.Chan x) _ (value.outs-Chan x) (value.Chan y)
+pub alike_chan : (x : ℕ) (w : Value) → alike (value.Chan x) w ≡ alike_step (Value-F.Chan x) (out-Value w)
+alike_chan x w = alike_out (value.Chan x) _ (value.outs-Chan x) w
+
+pub alike_list : (xs : List Value) (w : Value) → alike (value.ListOf xs) w ≡ alike_step (Value-F.ListOf (map alike xs)) (out-Value w)
+alike_list xs w = alike_out (value.ListOf xs) _ (value.outs-ListOf xs) w
 
 uniform_roll : (v : Value) (o : Value-F Value) → roll-Value o ≡ v → uniform v ≡ uniform_step (map-Value _ _ (λ x. (x, uniform x)) o)
 uniform_roll v o h = ap uniform (sym h) ∙ para-roll-Value Bool uniform_step o
@@ -80,6 +82,9 @@ uniform_int x = uniform_roll (value.Int x) _ (value.rolls-Int x)
 
 pub uniform_text : (x : List ℕ) → uniform (value.Text x) ≡ true
 uniform_text x = uniform_roll (value.Text x) _ (value.rolls-Text x)
+
+pub uniform_real : (x : ℤ) → uniform (value.Real x) ≡ true
+uniform_real x = uniform_roll (value.Real x) _ (value.rolls-Real x)
 
 pub uniform_chan : (x : ℕ) → uniform (value.Chan x) ≡ true
 uniform_chan x = uniform_roll (value.Chan x) _ (value.rolls-Chan x)
@@ -96,6 +101,9 @@ sorted_int x = sorted_roll (value.Int x) _ (value.rolls-Int x)
 pub sorted_text : (x : List ℕ) → sorted (value.Text x) ≡ true
 sorted_text x = sorted_roll (value.Text x) _ (value.rolls-Text x)
 
+pub sorted_real : (x : ℤ) → sorted (value.Real x) ≡ true
+sorted_real x = sorted_roll (value.Real x) _ (value.rolls-Real x)
+
 pub sorted_chan : (x : ℕ) → sorted (value.Chan x) ≡ true
 sorted_chan x = sorted_roll (value.Chan x) _ (value.rolls-Chan x)
 
@@ -105,7 +113,10 @@ sorted_list xs = sorted_roll (value.ListOf xs) _ (value.rolls-ListOf xs)
 -- the outermost layers of values
 pub ruleset layers = (value.outs-Bool, value.outs-Int, value.outs-Real, value.outs-Text, value.outs-Choice, value.outs-TupleOf, value.outs-ListOf, value.outs-SetOf, value.outs-DictOf, value.outs-Chan, value.outs-Dist, value.outs-Timer, value.outs-Inst)
 
-pub ruleset closed = (layers, default_int, default_chan, default_tuple, order_int, plain_int, plain_text, plain_list, within_int, written_int, alike_int, alike_text, alike_chan, uniform_int, uniform_text, uniform_chan, uniform_list, sorted_int, sorted_text, sorted_chan, sorted_list)
+pub ruleset closed = (layers, default_int, default_chan, default_tuple, order_int, plain_int, plain_text, plain_list, within_int, written_int, alike_int, alike_text, alike_chan, alike_list, uniform_int, uniform_real, uniform_text, uniform_chan, uniform_list, sorted_int, sorted_real, sorted_text, sorted_chan, sorted_list)
 
 -- and operations on lists
 pub ruleset containers = (closed, fits_along, stored, index, is_int, is_sequence)
+
+-- and operators
+pub ruleset operations = (containers, text, quoted_text, may_size, may_has, size, has, lookup, pop, slice, join, del, enumerate, is_list, is_container)

@@ -36,7 +36,10 @@ use Rattle.chi_core_rows.proofs.Small.{int, number, whole, core_of, config_of, i
 -- proc S(chan! int a): a!1 end
 abbrev sender : ProcDef
 sender = record {
-  name = codes "S"; params = ty.Chan way.Send ty.Int ∷ []; exit = None; slots = ty.Chan way.Send ty.Int ∷ [];
+  name = codes "S";
+  params = ty.Chan way.Send ty.Int ∷ [];
+  exit = None;
+  slots = ty.Chan way.Send ty.Int ∷ [];
   body = s.Select 1 (Guarded None (comm.Send (whole 0) (Some (number 1))) [] ∷ []) ∷ [];
 }
 
@@ -49,9 +52,12 @@ shows = s.Write 1 (piece.Whole (record { left = false; width = 0 }) ∷ piece.Pl
 -- model M(): chan int a; int x; start S(a); select a?x: writeln("%d", x) end; a?x end
 abbrev model : ProcDef
 model = record {
-  name = codes "M"; params = []; exit = None; slots = ty.Chan way.Both ty.Int ∷ ty.Int ∷ [];
+  name = codes "M";
+  params = [];
+  exit = None;
+  slots = ty.Chan way.Both ty.Int ∷ ty.Int ∷ [];
   body = s.Declare 1 0 (e.Default shape.Chan) ∷ s.Declare 1 1 (e.Default shape.Int) ∷ s.Start 1 (Make None 1 (e.Var 0 ∷ []) ∷ [])
-    ∷ receives (shows ∷ []) ∷ receives [] ∷ [];
+      ∷ receives (shows ∷ []) ∷ receives [] ∷ [];
 }
 
 abbrev core : Core

@@ -36,8 +36,8 @@ module _ (value_in : Variables → Evaluates) (processes : List ProcDef) (s : St
   pub unwind_starts : (slots : List ℕ) (over : CExpr) (elements : List CElem)
       → starts value_in processes (elem.Unwind slots over elements) s view
       ≡ then_do (value_in s.variables over view) (λ x now.
-        then_do (wanted (elements_of x) now) (λ xs.
-        through (unwound value_in processes slots (map (starts value_in processes) elements)) xs s))
+      then_do (wanted (elements_of x) now) (λ xs.
+      through (unwound value_in processes slots (map (starts value_in processes) elements)) xs s))
   unwind_starts slots over elements = starts_unwind value_in processes s view (elem.Unwind slots over elements) slots over elements refl
 
 pub ruleset parts = (guarded_opens, unwind_opens, make_starts, unwind_starts)

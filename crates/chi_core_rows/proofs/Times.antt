@@ -1,6 +1,6 @@
 -- Time: delays, and a stopping time before, at and after a due time.
 use Rattle.std.proofs.Common.{◌≡◌, ℕ, ℤ, pos, List, [], ◌∷◌, Option, Some, None, refl}
-use Rattle.chi_core.specs.declared.label.Label.TheVariants.{Advance, Wake}
+use Rattle.chi_core.specs.declared.label.Label.TheVariants.{Local, Advance, Wake}
 use Rattle.chi_core.specs.declared.program.Core.{Core}
 use Rattle.chi_core.specs.declared.verdict.Verdict.TheVariants.{Completed, Deadlock, Stopped}
 use Rattle.chi_core.specs.declared.act.Act.{Act}
@@ -55,6 +55,20 @@ woken : step core (waiting (pos 5) None) (Wake 1 1) 50
     ≡ Next (config_of (pos 5) 0 (instance 0 [] [] (Waiting (offer (Delay (pos 7)) ∷ [])) ∷ instance 0 [] (Do (s.Pass 3) ∷ []) Running ∷ [])) [] 49
 unfolding step
 woken = refl
+
+-- no label takes the time past the stopping time, or wakes an instance too early
+past_stop : step core (waiting (pos 0) (Some (pos 4))) Advance 50 ≡ Amiss
+unfolding step
+past_stop = refl
+
+too_early : step core (waiting (pos 4) None) (Wake 1 1) 50 ≡ Amiss
+unfolding step
+too_early = refl
+
+-- an instance that waits does no item
+not_running : step core (waiting (pos 5) None) (Local 0) 50 ≡ Amiss
+unfolding step
+not_running = refl
 
 -- an alternative that isn't a delay has no label that wakes
 no_delay : step core (waiting (pos 5) None) (Wake 1 0) 50 ≡ Amiss
