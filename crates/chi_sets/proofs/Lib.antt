@@ -1,4 +1,5 @@
 pub mod Ascending
+pub mod DictionaryLaws
 pub mod Members
 pub mod Orders
 pub mod Repeats

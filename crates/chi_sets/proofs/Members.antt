@@ -29,7 +29,7 @@ any_of_filter p (x ∷ xs) = split (p x) (any_of_filter p xs)
     split true rest = refl
     split false rest = rest
 
-find_of_filter : {A : Type 0} (p : A → Bool) (xs : List A) → find p xs ≡ first (filter p xs)
+pub find_of_filter : {A : Type 0} (p : A → Bool) (xs : List A) → find p xs ≡ first (filter p xs)
 find_of_filter p [] = refl
 find_of_filter p (x ∷ xs) = split (p x) (find_of_filter p xs)
   where
@@ -46,7 +46,7 @@ first_first [] = refl
 first_first (u ∷ us) = refl
 
 -- a filter whose test is the same of all that p holds of
-any_filter : {A : Type 0} (p q : A → Bool) (c : Bool) (same : (y : A) → p y ≡ true → q y ≡ c) (xs : List A) → list_any p (filter q xs) ≡ (list_any p xs && c)
+pub any_filter : {A : Type 0} (p q : A → Bool) (c : Bool) (same : (y : A) → p y ≡ true → q y ≡ c) (xs : List A) → list_any p (filter q xs) ≡ (list_any p xs && c)
 any_filter p q c same [] = refl
 any_filter p q c same (x ∷ xs) = split (q x) (p x) refl refl (any_filter p q c same xs)
   where
