@@ -25,7 +25,7 @@ use Rattle.chi_spell.specs.Marks.{Put}
 use Rattle.chi_spell.specs.Words.{operator_token, relation_token, prefix_token, cast_token, type_token, truth_token, if_any, all}
 use Rattle.chi_spell.specs.Expressions.{Declared, bare, kept, put_name, put_commas, put_round, put_square, put_curly, round_at, square_at, curly_at, expr_step, postfix_step, type_step, entry_step, link_step, formal_step, put_by, put_size, put_carried, put_way, put_expr, put_postfix, put_type, put_entry, put_link, put_declared, put_formals}
 
-module _ {X : Type 0} {put : Put X} where
+module _ {X : Type 0} (put : Put X) where
   pub expr-Chain : (e : Expr) (ls : List Link) → put_expr put (expr.Chain e ls) ≡ put_expr put e ++ all (map (put_link put) ls)
   expr-Chain e ls = ap (put_expr put) (sym (expr.rolls-Chain e ls)) ∙ fold-roll-Expr (List X) (List X) (List X) (List X) (List X) (Declared X) (expr_step put) (postfix_step put) (type_step put) (entry_step put) (link_step put) (formal_step put) (Expr-F.Chain e ls)
 

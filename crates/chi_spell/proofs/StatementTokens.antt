@@ -25,7 +25,7 @@ use Rattle.chi_spell.specs.Words.{write_word, if_any, each_after, separated}
 use Rattle.chi_spell.specs.Expressions.{bare, kept, put_name, put_commas, put_round, put_expr, put_type}
 use Rattle.chi_spell.specs.Statements.{put_semicolon, put_exprs, put_variable, put_target, put_walk, put_communication, put_assigned, element_step, put_element, put_elements, put_guard, put_body, put_else, put_to_end, alternative_step, statement_step, branch_step, step_step, put_alternative, put_statement, put_branch, put_step, put_block}
 
-module _ {X : Type 0} {put : Put X} where
+module _ {X : Type 0} (put : Put X) where
   pub statement-Declare : (ty : TypeTree) (vs : List Variable) → put_statement put (statement.Declare ty vs) ≡ put_type put ty ++ put_commas put (map (put_variable put) vs)
   statement-Declare ty vs = ap (put_statement put) (sym (statement.rolls-Declare ty vs)) ∙ fold-roll-Statement (List X) (List X) (List X) (List X) (alternative_step put) (statement_step put) (branch_step put) (step_step put) (Statement-F.Declare ty vs)
 

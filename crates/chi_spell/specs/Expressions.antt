@@ -7,7 +7,7 @@ use Rattle.chi_token.specs.declared.sign.Sign.TheVariants.{LeftParen, RightParen
 use Rattle.chi_token.specs.declared.token.Token.{Token}
 use Rattle.chi_token.specs.declared.token.Token.TheVariants.{Word, Sign, Name}
 use Rattle.chi_token.specs.declared.token.Token.TheVariants as token
-use Rattle.chi_tree.specs.declared.type_tree.Name as name
+use Rattle.chi_tree.specs.declared.type_tree.Name as names
 use Rattle.chi_tree.specs.declared.type_tree.Way.{Way}
 use Rattle.chi_tree.specs.declared.type_tree.Way.TheVariants as way
 use Rattle.chi_tree.specs.declared.type_tree.TypeTree.{TypeTree, TypeTree-F, fold-TypeTree}
@@ -33,7 +33,7 @@ module _ {X : Type 0} (put : Put X) where
   abbrev pub kept : Token → Place → X
   kept token place = put token (Some place)
 
-  abbrev pub put_name : name.Name → X
+  abbrev pub put_name : names.Name → X
   put_name n = kept (Name n.text) n.place
 
   -- with commas between

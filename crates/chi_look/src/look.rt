@@ -8,7 +8,7 @@ ghost use Rattle.chi_tree.specs.Rules.{grammar, name};
 ghost use Rattle.chi_tree.specs.Tables.{table};
 ghost use Rattle.chi_tree.specs.Tokens.{bytes_of};
 ghost use Rattle.chi_tree.specs.View.{name_in};
-ghost use Rattle.chi_parse_expr.specs.Taking.{OneAt, NoneAt};
+ghost use Rattle.chi_look.specs.Taking.{OneAt, NoneAt};
 
 use chi_grammar::{Nesting, ParseFault, Room};
 use chi_token::{Bytes, Spanned, Token};

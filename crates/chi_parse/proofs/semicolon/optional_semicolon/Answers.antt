@@ -5,7 +5,7 @@ use Rattle.chi_tree.specs.Rules.{grammar}
 use Rattle.chi_tree.specs.Tables.{table}
 use Rattle.chi_parse.specs.Heads.{is_there}
 use Rattle.chi_parse.proofs.Shapes.{token_next}
-use Rattle.chi_parse.proofs.look.optional_semicolon.Goals as goal
+use Rattle.chi_parse.proofs.semicolon.optional_semicolon.Goals as goal
 
 pub returns-in-Ok : goal.returns-in-Ok
 returns-in-Ok c room = read grammar table _ is_there c.requires.inside

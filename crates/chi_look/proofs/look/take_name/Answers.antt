@@ -3,7 +3,7 @@ use Rattle.chi_grammar.proofs.Exits.{read, run_word, run_no_word, failed, no_mem
 use Rattle.chi_tree.specs.Rules.{grammar, name}
 use Rattle.chi_tree.specs.Tables.{table}
 use Rattle.chi_tree.specs.View.{name_in}
-use Rattle.chi_parse_expr.proofs.look.take_name.Goals as goal
+use Rattle.chi_look.proofs.look.take_name.Goals as goal
 
 pub returns-in_err-spanned : goal.returns-in_err-spanned
 returns-in_err-spanned c room =

@@ -2,8 +2,8 @@ use Rattle.std.proofs.Common.{◌==◌, rules, sym, ◌∙◌}
 use Rattle.std.proofs.lemmas.Iterator.{YieldsList-from_slice}
 use Rattle.std.proofs.lemmas.Iterator.Search.{any_from_yields_List}
 use Rattle.chi_tree.specs.Classes.{class_of, number_of}
-use Rattle.chi_parse_expr.proofs.Words.{list_any-map}
-use Rattle.chi_parse_expr.proofs.look.is_one_of.Goals as goal
+use Rattle.chi_look.proofs.Words.{list_any-map}
+use Rattle.chi_look.proofs.look.is_one_of.Goals as goal
 
 pub returns : goal.returns
 returns c =

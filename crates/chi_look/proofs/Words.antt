@@ -16,7 +16,7 @@ use Rattle.chi_tree.specs.declared.class.Class.{Class}
 use Rattle.chi_tree.specs.Classes.{number_of}
 use Rattle.chi_tree.specs.Rules.{grammar, one_of}
 use Rattle.chi_tree.specs.Tables.{table}
-use Rattle.chi_parse_expr.specs.Taking.{OneAt, NoneAt}
+use Rattle.chi_look.specs.Taking.{OneAt, NoneAt}
 
 pub list_any-map : {X Y : Type 0} (p : Y → Bool) (f : X → Y) (xs : List X) → list_any p (map f xs) ≡ list_any (λ x. p (f x)) xs
 list_any-map p f [] = refl
