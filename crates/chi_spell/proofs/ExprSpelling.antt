@@ -19,12 +19,12 @@ use Rattle.chi_tree.specs.declared.operator.PrefixSign.TheVariants as prefix
 use Rattle.chi_tree.specs.Parts.{Part}
 use Rattle.chi_tree.specs.Parts as s
 use Rattle.chi_tree.specs.Rules.{rule_of, sign}
-use Rattle.chi_tree.specs.View.{Built, optional, type_of, more_formals_of, formal_of, expr_of, links_of, postfixes_of, exprs_of, more_exprs_of, entries_of}
+use Rattle.chi_tree.specs.View.{Built, place_in, optional, type_of, more_formals_of, formal_of, expr_of, links_of, postfixes_of, exprs_of, more_exprs_of, entries_of}
 use Rattle.chi_spell.specs.Words.{all, each_after}
 use Rattle.chi_spell.specs.Expressions.{bare, kept, put_name, put_commas, declared_formals, put_further, put_curly, square_at, curly_at, put_by, put_expr, put_link, put_postfix, put_entry, put_type, put_declared, put_formals}
 use Rattle.chi_spell.proofs.ExprTokens.{put_if, expr-Prefix, expr-Power, expr-Named, expr-Call, expr-Round, expr-TupleOf, expr-ListOf, expr-SetOf, expr-DictOf, expr-EmptyList, expr-EmptySet, expr-EmptyDict, postfix-Index, postfix-Field, postfix-Slice, type-Defined, type-List, type-Set, type-Dist, type-Dict, type-Tuple, type-Chan, entry-tokens, formal-bare, formal-typed}
 use Rattle.chi_spell.proofs.ExprWords.{chained_tokens, parted_tokens, linked, sum_link_tokens, product_link_tokens, relation_tokens, prefix_tokens, cast_tokens, word_type_tokens, literal_tokens, way_tokens_of}
-use Rattle.chi_spell.proofs.BuiltTokens.{Reading, Spells, beside, within, nothing, also, one, one_kept, exactly, a_name}
+use Rattle.chi_spell.proofs.BuiltTokens.{Reading, Spells, beside, within, nothing, also, one, one_kept, exactly, exactly_kept, a_name}
 use Rattle.chi_tree.proofs.Made as made
 use Rattle.chi_spell.proofs.ShownTokens.{Shown, M}
 
@@ -61,10 +61,11 @@ module _ (reading : Reading) where
   dist_type (made.both w (made.deeper i (made.part p))) = also (within (beside (one_kept w) p)) (sym (type-Dist reading.put _ _))
 
   pub dict_type : {room : Room} {t : Built} → M reading room (rule_of s.DictType) t → Shown reading room s.DictType (node s.DictType t)
-  dict_type (made.both w (made.deeper i (made.both l (made.both (made.deeper j (made.part p)) (made.both c (made.both (made.deeper k (made.part q)) r)))))) =
-      also (within (beside (one_kept w) (beside (one l) (beside p (beside (one c) (beside q (one r)))))))
-      (ap (λ ts. kept reading.put (Word DictWord) _ ∷ bare reading.put (Sign LeftParen) ∷ ts) (sym (append_assoc (put_type reading.put _) (bare reading.put (Sign Colon) ∷ put_type reading.put _) (bare reading.put (Sign RightParen) ∷ [])))
-      ∙ sym (type-Dict reading.put _ _ _))
+  dict_type (made.both {t = w} f (made.deeper i (made.both l (made.both (made.deeper j (made.part {t = k} p)) (made.both c (made.both (made.deeper n (made.part {t = v} q)) r)))))) =
+      also (within (beside (one_kept f) (beside (one l) (beside p (beside (one c) (beside q (one r)))))))
+      (ap (λ ts. kept reading.put (Word DictWord) (place_in w) ∷ bare reading.put (Sign LeftParen) ∷ ts)
+      (sym (append_assoc (put_type reading.put (type_of (node s.AnyType k))) (bare reading.put (Sign Colon) ∷ put_type reading.put (type_of (node s.AnyType v))) (bare reading.put (Sign RightParen) ∷ [])))
+      ∙ sym (type-Dict reading.put (place_in w) (type_of (node s.AnyType k)) (type_of (node s.AnyType v))))
 
   pub tuple_type : {room : Room} {t : Built} → M reading room (rule_of s.TupleType) t → Shown reading room s.TupleType (node s.TupleType t)
   tuple_type (made.both w (made.deeper i (made.both l (made.both (made.part p) r)))) =

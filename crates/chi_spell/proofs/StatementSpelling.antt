@@ -68,23 +68,23 @@ module _ (reading : Reading) where
 
   pub after_name : {room : Room} {t : Built} → M reading room (rule_of s.AfterName) t → Shown reading room s.AfterName (node s.AfterName t)
   after_name (made.left (made.part {t = vs} p)) =
-      λ target reading u bare q. also (beside (also q (bare_tokens reading target reading bare ∙ sym (type-Defined reading.put target reading.name))) (within p))
-      (sym (statement-Declare reading.put (type.Defined target reading.name) (variables_of (node s.Variables vs))))
-  after_name (made.right (made.part p)) = λ target reading u bare q. inwards reading (p target reading u q)
+      λ target u bare q. also (beside (also q (bare_tokens reading target bare ∙ sym (type-Defined reading.put target.name))) (within p))
+      (sym (statement-Declare reading.put (type.Defined target.name) (variables_of (node s.Variables vs))))
+  after_name (made.right (made.part p)) = λ target u bare q. inwards reading (p target u q)
 
   pub after_target : {room : Room} {t : Built} → M reading room (rule_of s.AfterTarget) t → Shown reading room s.AfterTarget (node s.AfterTarget t)
-  after_target (made.left (made.part p)) = λ target reading u q. also (inwards reading (p target reading u q)) (sym (statement-Communicate reading.put _))
-  after_target (made.right (made.part p)) = λ target reading u q. inwards reading (p target reading u q)
+  after_target (made.left (made.part p)) = λ target u q. also (inwards reading (p target u q)) (sym (statement-Communicate reading.put _))
+  after_target (made.right (made.part p)) = λ target u q. inwards reading (p target u q)
 
-  assignment_tokens : (place : Place) (target reading : Target) (ts : List Target) (es : List Expr)
-      → put_target reading.put target reading ++ (each_after (bare reading.put (Sign Comma)) (map (put_target reading.put) ts) ++ (kept reading.put (Sign Assign) place ∷ put_exprs reading.put es))
-      ≡ put_commas reading.put (map (put_target reading.put) (target reading ∷ ts)) ++ kept reading.put (Sign Assign) place ∷ put_exprs reading.put es
-  assignment_tokens place target reading ts es = sym (append_assoc (put_target reading.put target reading) (each_after (bare reading.put (Sign Comma)) (map (put_target reading.put) ts)) (kept reading.put (Sign Assign) place ∷ put_exprs reading.put es))
+  assignment_tokens : (place : Place) (target : Target) (ts : List Target) (es : List Expr)
+      → put_target reading.put target ++ (each_after (bare reading.put (Sign Comma)) (map (put_target reading.put) ts) ++ (kept reading.put (Sign Assign) place ∷ put_exprs reading.put es))
+      ≡ put_commas reading.put (map (put_target reading.put) (target ∷ ts)) ++ kept reading.put (Sign Assign) place ∷ put_exprs reading.put es
+  assignment_tokens place target ts es = sym (append_assoc (put_target reading.put target) (each_after (bare reading.put (Sign Comma)) (map (put_target reading.put) ts)) (kept reading.put (Sign Assign) place ∷ put_exprs reading.put es))
 
   pub assignment : {room : Room} {t : Built} → M reading room (rule_of s.Assignment) t → Shown reading room s.Assignment (node s.Assignment t)
   assignment (made.both {t = ts} ps (made.both eq (made.part {t = es} p))) =
-      λ target reading u q. also (beside q (within (beside (more_targets reading ps) (beside (one_kept eq) p.spells))))
-      (assignment_tokens _ target reading (more_targets_of ts) (exprs_of (node s.Exprs es)) ∙ sym (statement-Assign reading.put (target reading ∷ more_targets_of ts) _ _))
+      λ target u q. also (beside q (within (beside (more_targets reading ps) (beside (one_kept eq) p.spells))))
+      (assignment_tokens _ target (more_targets_of ts) (exprs_of (node s.Exprs es)) ∙ sym (statement-Assign reading.put (target ∷ more_targets_of ts) _ _))
 
   pub timed : {room : Room} {t : Built} → M reading room (rule_of s.Timed) t → Shown reading room s.Timed (node s.Timed t)
   timed (made.part p) = also (within p) (sym (statement-Communicate reading.put _))
@@ -197,9 +197,9 @@ module _ (reading : Reading) where
   alternative_shown (made.right (made.part p)) = within p
 
   pub unwound_alternatives : {room : Room} {t : Built} → M reading room (rule_of s.UnwoundAlternatives) t → Shown reading room s.UnwoundAlternatives (node s.UnwoundAlternatives t)
-  unwound_alternatives (made.both w (made.both (made.part {t = walk reading} p) (made.both c (made.both (made.deeper i (made.part {t = xs} q)) end)))) =
+  unwound_alternatives (made.both w (made.both (made.part {t = walk} p) (made.both c (made.both (made.deeper i (made.part {t = xs} q)) end)))) =
       also (within (beside (one_kept w) (beside p (beside (one c) (beside q (one end))))))
-      (unwound reading (kept reading.put (Word UnwindWord) _ ∷ []) (put_walk reading.put (walk_of (node s.Walk walk reading))) (bare reading.put (Sign Colon) ∷ separated (bare reading.put (Word AltWord)) (map (put_alternative reading.put) (alternatives_of (node s.Alternatives xs)))) (bare reading.put (Word EndWord) ∷ [])
+      (unwound reading (kept reading.put (Word UnwindWord) _ ∷ []) (put_walk reading.put (walk_of (node s.Walk walk))) (bare reading.put (Sign Colon) ∷ separated (bare reading.put (Word AltWord)) (map (put_alternative reading.put) (alternatives_of (node s.Alternatives xs)))) (bare reading.put (Word EndWord) ∷ [])
       ∙ sym (alternative-Unwind reading.put _ _ _))
 
   body_is : (block : List Step) (first : Step) (more : List Step) → block ≡ first ∷ more
@@ -219,28 +219,28 @@ module _ (reading : Reading) where
   abbrev Layer : Type 0
   Layer = Expr-F Expr Postfix TypeTree Entry Link Formal
 
-  name_tokens : (e : Expr) (steps : List Postfix) (target reading : Target) (x : Layer) → out-Expr e ≡ x → name_target x steps ≡ Some target reading
-      → put_expr reading.put e ++ all (map (put_postfix reading.put) steps) ≡ put_target reading.put target reading
-  name_tokens e steps target reading (Expr-F.Named n) h is =
+  name_tokens : (e : Expr) (steps : List Postfix) (target : Target) (x : Layer) → out-Expr e ≡ x → name_target x steps ≡ Some target
+      → put_expr reading.put e ++ all (map (put_postfix reading.put) steps) ≡ put_target reading.put target
+  name_tokens e steps target (Expr-F.Named n) h is =
       let named = sym (roll-out-Expr e) ∙ ap roll-Expr h ∙ expr.rolls-Named n in
       ap (λ d. put_expr reading.put d ++ all (map (put_postfix reading.put) steps)) named
       ∙ ap (λ ts. ts ++ all (map (put_postfix reading.put) steps)) (expr-Named reading.put n)
       ∙ ap (λ o. put_target reading.put (target_or_none o)) is
-  name_tokens e steps target reading _ h is = cc
+  name_tokens e steps target _ h is = cc
 
-  parts_tokens : (w : Expr) (steps : List Postfix) (target reading : Target) (b : Bool) → (if b then name_target (out-Expr w) steps else None) ≡ Some target reading
-      → put_expr reading.put w ++ all (map (put_postfix reading.put) steps) ≡ put_target reading.put target reading
-  parts_tokens w steps target reading true is = name_tokens w steps target reading (out-Expr w) refl is
-  parts_tokens w steps target reading false is = cc
+  parts_tokens : (w : Expr) (steps : List Postfix) (target : Target) (b : Bool) → (if b then name_target (out-Expr w) steps else None) ≡ Some target
+      → put_expr reading.put w ++ all (map (put_postfix reading.put) steps) ≡ put_target reading.put target
+  parts_tokens w steps target true is = name_tokens w steps target (out-Expr w) refl is
+  parts_tokens w steps target false is = cc
 
-  layer_tokens : (e : Expr) (target reading : Target) (x : Layer) → out-Expr e ≡ x → target_in x ≡ Some target reading → put_expr reading.put e ≡ put_target reading.put target reading
-  layer_tokens e target reading (Expr-F.Part w steps) h is =
+  layer_tokens : (e : Expr) (target : Target) (x : Layer) → out-Expr e ≡ x → target_in x ≡ Some target → put_expr reading.put e ≡ put_target reading.put target
+  layer_tokens e target (Expr-F.Part w steps) h is =
       ap (put_expr reading.put) (sym (roll-out-Expr e) ∙ ap roll-Expr h ∙ expr.rolls-Part w steps) ∙ expr-Part reading.put w steps
-      ∙ parts_tokens w steps target reading (list_all (λ p. is_step_in (out-Postfix p)) steps) is
-  layer_tokens e target reading x h is = sym (append-nil (put_expr reading.put e)) ∙ name_tokens e [] target reading x h is
+      ∙ parts_tokens w steps target (list_all (λ p. is_step_in (out-Postfix p)) steps) is
+  layer_tokens e target x h is = sym (append-nil (put_expr reading.put e)) ∙ name_tokens e [] target x h is
 
   option_tokens : (e : Expr) (o : Option Target) → as_target e ≡ o → is_some o ≡ true → put_expr reading.put e ≡ put_target reading.put (target_or_none o)
-  option_tokens e (Some target reading) is some = layer_tokens e target reading (out-Expr e) refl is
+  option_tokens e (Some target) is some = layer_tokens e target (out-Expr e) refl is
   option_tokens e None is some = cc
 
   target_tokens : (e : Expr) → is_some (as_target e) ≡ true → put_expr reading.put e ≡ put_target reading.put (target_or_none (as_target e))
