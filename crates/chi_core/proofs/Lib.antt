@@ -8,6 +8,7 @@ mod Forms
 mod Lists
 pub mod Opened
 mod SoundExample
+mod Standings
 pub mod Started
 mod Tidied
 mod UnsoundExpressions
