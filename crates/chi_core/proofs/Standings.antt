@@ -1,5 +1,5 @@
 -- What is left at a place of a sound body is sound.
-use Rattle.std.proofs.Common.{◌≡◌, ℕ, zero, suc, Bool, true, false, Option, Some, List, [], ◌∷◌, refl, subst}
+use Rattle.std.proofs.Common.{◌≡◌, ℕ, zero, suc, Bool, true, false, Option, Some, List, [], ◌∷◌, ◌++◌, refl, sym, subst}
 use Rattle.std.specs.Prelude.{slice_get}
 use Rattle.chi_value.specs.declared.value.Value.{Value}
 use Rattle.chi_core.specs.declared.communication.CComm.{CComm}
@@ -8,10 +8,14 @@ use Rattle.chi_core.specs.declared.statement.Branch.{Branch, out-Branch}
 use Rattle.chi_core.specs.declared.statement.CAlt.{CAlt, CAlt-F, out-CAlt}
 use Rattle.chi_core.specs.declared.statement.CStat.{CStat, CStat-F, out-CStat}
 use Rattle.chi_core.specs.Scopes.{Scope, Home}
-use Rattle.chi_core.specs.SetSlots.{StatLayer, Known, also_all, sets}
+use Rattle.chi_core.specs.SetSlots.{StatLayer, Known, also, also_all, sets}
 use Rattle.chi_core.specs.Sound.{SoundHome}
 use Rattle.chi_core.specs.SoundStatements.{SoundStat, chooses, loops, walks, selects, SoundBlock, no_statement, one_statement, SoundBranches, no_branch, one_branch, SoundAlternatives, one_alternative, SoundAlternative, guarded, unwinds}
 use Rattle.chi_core.specs.Standing.{Frame, Inner, Looping, Walking, is_within_loop, Among, here, later, inside, Standing, begins, next, in_branch, in_else, in_loop, at_turn, in_walk, at_walk_turn, in_body}
+
+also_append : (slots more : List ℕ) (known : Known) → also_all (slots ++ more) known ≡ also_all more (also_all slots known)
+also_append [] more known = refl
+also_append (slot ∷ slots) more known = also_append slots more (also slot known)
 
 module _ (scope : Scope) where
   first_sound : (loop : Bool) (known : Known) (x : CStat) (rest : List CStat) → SoundBlock scope loop known (x ∷ rest) → SoundStat scope loop known (out-CStat x)
@@ -43,14 +47,15 @@ module _ (scope : Scope) where
   more_alternatives : (loop : Bool) (known : Known) (a : CAlt) (more : List CAlt) → SoundAlternatives scope loop known (a ∷ more) → SoundAlternatives scope loop known more
   more_alternatives _ _ _ _ (one_alternative _ _ _ _ h rest) = rest
 
-  among_sound : (loop : Bool) (known inner : Known) (alternatives : List CAlt) (communication : CComm) (body : List CStat) → SoundAlternatives scope loop known alternatives
-      → Among known alternatives inner communication body → SoundBlock scope loop inner body
-  among_sound loop known _ _ _ _ h (here _ a more guard communication body e) =
+  among_sound : (loop : Bool) (known : Known) (alternatives : List CAlt) (bound : List ℕ) (communication : CComm) (body : List CStat) → SoundAlternatives scope loop known alternatives
+      → Among alternatives bound communication body → SoundBlock scope loop (also_all bound known) body
+  among_sound loop known _ _ _ _ h (here a more guard communication body e) =
       guarded_block loop known guard communication body (subst (SoundAlternative scope loop known) e (first_alternative loop known a more h))
-  among_sound loop known inner _ _ _ h (later _ _ a more communication body m) = among_sound loop known inner more communication body (more_alternatives loop known a more h) m
-  among_sound loop known inner _ _ _ h (inside _ _ a more slots container alternatives communication body e m) =
-      among_sound loop (also_all slots known) inner alternatives communication body
-      (unwound_alternatives loop known slots container alternatives (subst (SoundAlternative scope loop known) e (first_alternative loop known a more h))) m
+  among_sound loop known _ _ _ _ h (later a more bound communication body m) = among_sound loop known more bound communication body (more_alternatives loop known a more h) m
+  among_sound loop known _ _ _ _ h (inside a more slots container alternatives bound communication body e m) =
+      subst (λ z. SoundBlock scope loop z body) (sym (also_append slots bound known))
+      (among_sound loop (also_all slots known) alternatives bound communication body
+          (unwound_alternatives loop known slots container alternatives (subst (SoundAlternative scope loop known) e (first_alternative loop known a more h))) m)
 
   branches_of : (loop : Bool) (known : Known) (line : ℕ) (bs : List Branch) (otherwise : List CStat) → SoundStat scope loop known (CStat-F.If line bs otherwise)
       → SoundBranches scope loop known bs × SoundBlock scope loop known otherwise
@@ -82,6 +87,6 @@ sound_at d sound _ _ _ (in_walk known x rest frames line slots elements containe
     walk_block d.scope (is_within_loop frames) known line slots container block
     (stands d.scope (is_within_loop frames) known x rest (CStat-F.For line slots container block) e (sound_at d sound known (x ∷ rest) frames p))
 sound_at d sound _ _ _ (at_walk_turn known x rest frames line slots elements container block p e) = no_statement true known
-sound_at d sound _ _ _ (in_body known inner x rest frames line alternatives communication body p e m) =
-    among_sound d.scope (is_within_loop frames) known inner alternatives communication body
+sound_at d sound _ _ _ (in_body known x rest frames line alternatives bound communication body p e m) =
+    among_sound d.scope (is_within_loop frames) known alternatives bound communication body
     (alternatives_of d.scope (is_within_loop frames) known line alternatives (stands d.scope (is_within_loop frames) known x rest (CStat-F.Select line alternatives) e (sound_at d sound known (x ∷ rest) frames p))) m
