@@ -1,5 +1,5 @@
 -- What becomes of instances that wait or join: their offers are taken, or those that they wait for have finished.
-use Rattle.std.specs.Prelude.{ℕ, nat_eq, ℤ, Bool, false, Option, Some, None, List, [], ◌∷◌, slice_get, if◌then◌else◌}
+use Rattle.std.specs.Prelude.{ℕ, nat_eq, ℤ, int_lt, Bool, true, false, not, Option, Some, None, List, [], ◌∷◌, slice_get, if◌then◌else◌}
 use Rattle.std.specs.List.{flat_map, list_all}
 use Rattle.std.specs.Int.{int_min}
 use Rattle.chi_value.specs.declared.value.Value.{Value}
@@ -42,9 +42,11 @@ paired config p (Some i) (Some sends) q (Some j) (Some receives) view =
     if nat_eq p q then Amiss else met config p i sends sends.act q j receives receives.act view
 paired config p _ _ q _ _ view = Amiss
 
--- a delay of instance p has passed
+-- a delay of instance p is due
 abbrev pub woken_by : Config → ℕ → Instance → Offer → Act → Does Change
-woken_by config p i offer (Delay due) view = giving (λ woken. quietly (with_instance config p woken)) (resumed offer None None i view)
+woken_by config p i offer (Delay due) view =
+    if int_lt config.clock due then Amiss
+    else giving (λ woken. quietly (with_instance config p woken)) (resumed offer None None i view)
 woken_by config p i offer _ view = Amiss
 
 abbrev pub woken : Config → ℕ → Option Instance → Option Offer → Does Change
@@ -92,6 +94,11 @@ least_time (t ∷ ts) = earlier t (least_time ts)
 abbrev pub next_due : Config → Option ℤ
 next_due config = least_time (due_times config)
 
+-- the time doesn't go on past the stopping time, if there is one
+abbrev pub may_reach : Option ℤ → ℤ → Bool
+may_reach None t = true
+may_reach (Some until) t = not (int_lt until t)
+
 abbrev pub advanced : Config → Option ℤ → Does Change
-advanced config None = amiss
-advanced config (Some t) = gives (quietly (record config { clock = t }))
+advanced config None view = Amiss
+advanced config (Some t) view = if may_reach config.until t then Gives (quietly (record config { clock = t })) view else Amiss

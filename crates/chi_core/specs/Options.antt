@@ -7,7 +7,7 @@ use Rattle.chi_core.specs.declared.label.Label.TheVariants.{Local, Pair, Wake, J
 use Rattle.chi_core.specs.declared.verdict.Verdict.{Verdict}
 use Rattle.chi_core.specs.declared.verdict.Verdict.TheVariants.{Completed, Deadlock, Stopped}
 use Rattle.chi_core.specs.Config.{Config, Instance, Offer, Act, Send, Receive, Delay, State, Running, Waiting, Joining, Finished, offers_in, has_finished}
-use Rattle.chi_core.specs.Meeting.{next_due}
+use Rattle.chi_core.specs.Meeting.{next_due, may_reach}
 
 -- the numbers below n, ascending
 abbrev pub numbers : ℕ → List ℕ
@@ -76,11 +76,6 @@ options config p = options_of config p (slice_get config.instances p)
 -- the instances that have an option, ascending
 abbrev pub actors : Config → List ℕ
 actors config = filter (λ p. nat_lt 0 (length (options config p))) (numbers (length config.instances))
-
--- the time doesn't go on past the stopping time, if there is one
-abbrev pub may_reach : Option ℤ → ℤ → Bool
-may_reach None t = true
-may_reach (Some until) t = not (int_lt until t)
 
 abbrev pub advance_to : Config → Option ℤ → Option Label
 advance_to config None = None

@@ -12,7 +12,7 @@ use Rattle.chi_core.specs.declared.verdict.Verdict.TheVariants.{Fault, Exit}
 use Rattle.chi_core.specs.Answer as answer
 use Rattle.chi_core.specs.Answer.{Answer, Gives, Fails, View}
 use Rattle.chi_core.specs.Terms.{Item, Do, Loop, Walk, Term}
-use Rattle.chi_core.specs.Config.{Config, Instance, view_of, with_view}
+use Rattle.chi_core.specs.Config.{Config, Instance, State, Running, view_of, with_view}
 use Rattle.chi_core.specs.Performing.{Change, Goes, Exits, performed}
 use Rattle.chi_core.specs.Meeting.{offer_at, paired, woken, joined, next_due, advanced}
 
@@ -70,9 +70,14 @@ first_done core config p i [] view = Amiss
 first_done core config p i (item ∷ rest) view =
     after_step (fault_in (name_of core i.definition) (line_of item)) (performed core config p (record i { term = rest }) item view)
 
+abbrev pub local_in : Core → Config → ℕ → Instance → State → View → Outcome
+local_in core config p i Running view = first_done core config p i i.term view
+local_in core config p i _ view = Amiss
+
+-- instance p, which runs, does an item
 abbrev pub local : Core → Config → ℕ → Option Instance → View → Outcome
 local core config p None view = Amiss
-local core config p (Some i) view = first_done core config p i i.term view
+local core config p (Some i) view = local_in core config p i i.state view
 
 -- what isn't an item has no fault
 abbrev pub no_fault : FaultKind → Outcome
