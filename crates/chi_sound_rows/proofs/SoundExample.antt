@@ -49,7 +49,7 @@ use Rattle.chi_core.specs.SoundStatements.{declares, returns, writes, selects, r
 use Rattle.chi_core.specs.SoundTypes.{SoundType}
 use Rattle.chi_core.specs.SoundTypes as types
 use Rattle.chi_core.proofs.Beginnings.{start_kinded}
-use Rattle.chi_core.proofs.Building.{int_kind, channel_kind, slot_is, has, with_expression, with_statement, with_alternative, fills_at, alternative_fills_at, element_fills_at}
+use Rattle.chi_sound_rows.proofs.Building.{int_kind, channel_kind, slot_is, has, with_expression, with_statement, with_alternative, fills_at, alternative_fills_at, element_fills_at}
 use Rattle.chi_core.proofs.Lists.{every_nil, every_cons}
 
 abbrev pub slot : ℕ → CTarget
