@@ -1,16 +1,11 @@
-mod Alikes
-mod Beginnings
+pub mod Alikes
+pub mod Beginnings
 pub mod Bodies
-mod Building
 pub mod Equations
-mod Erased
-mod Forms
-mod Lists
+pub mod Erased
+pub mod Lists
 pub mod Opened
-mod SoundExample
+pub mod Standings
 pub mod Started
-mod Tidied
-mod UnsoundExpressions
-mod UnsoundStatements
-mod ValueExamples
-mod Worlds
+pub mod Tidied
+pub mod Worlds

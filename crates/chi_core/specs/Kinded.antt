@@ -17,7 +17,7 @@ use Rattle.chi_core.specs.Config.{Act, Send, Receive, Delay, Offer, State, Runni
 use Rattle.chi_core.specs.Kinds.{Kind, kind_of, is_void, Every}
 use Rattle.chi_core.specs.Of.{World, nowhere, Of, IsOf}
 use Rattle.chi_core.specs.Scopes.{Scope, Home, process_home, exit_of}
-use Rattle.chi_core.specs.SetSlots.{Known, also}
+use Rattle.chi_core.specs.SetSlots.{Known}
 use Rattle.chi_core.specs.SoundParts.{SlotsTake, MayStart}
 use Rattle.chi_core.specs.Standing.{Frame, Inner, Looping, Walking, term_of, Among, Standing}
 use Rattle.chi_core.specs.Terms.{Term}
@@ -43,11 +43,11 @@ WalksFit w scope (Looping line test block after ∷ frames) = WalksFit w scope f
 WalksFit w scope (Walking line slots elements container block after ∷ frames) =
     ((T : Kind) × SlotsTake scope slots T × Every (IsOf w T) elements) × WalksFit w scope frames
 
--- bindings of slots to values of their kinds lead from the slots that count as set to those that do then
-pub data Binds (w : World) (scope : Scope) : Known → Bindings → Known → Type 0 where
-  no_binding : (known : Known) → Binds w scope known [] known
-  one_binding : (known after : Known) (slot : ℕ) (v : Value) (bindings : Bindings) (T : Kind) → slice_get scope.slots slot ≡ Some T → Of w (out-Value v) T
-      → Binds w scope (also slot known) bindings after → Binds w scope known ((slot, v) ∷ bindings) after
+-- a binding for each slot in turn, to a value of its kind
+pub data Binds (w : World) (scope : Scope) : List ℕ → Bindings → Type 0 where
+  no_binding : Binds w scope [] []
+  one_binding : (slot : ℕ) (slots : List ℕ) (v : Value) (bindings : Bindings) (T : Kind) → slice_get scope.slots slot ≡ Some T → Of w (out-Value v) T
+      → Binds w scope slots bindings → Binds w scope (slot ∷ slots) ((slot, v) ∷ bindings)
 
 -- what is offered is what a communication offers, and fits what the channel carries: a value or a slot of that kind,
 -- and none exactly where that is void
@@ -64,11 +64,11 @@ pub data ActFits (w : World) (scope : Scope) : CComm → Act → Type 0 where
   waits_for_timer : (e : CExpr) (due : ℤ) → ActFits w scope (comm.Timer e) (Delay due)
 
 -- an offer is of one of the alternatives, with its body, and with a binding for each slot of the unwinds around it
-pub record OfferFits (w : World) (scope : Scope) (known : Known) (alternatives : List CAlt) (o : Offer) : Type 0 where
-  pub inner : Known
+pub record OfferFits (w : World) (scope : Scope) (alternatives : List CAlt) (o : Offer) : Type 0 where
+  pub slots : List ℕ
   pub communication : CComm
-  pub among : Among known alternatives inner communication o.body
-  pub binds : Binds w scope known o.bindings inner
+  pub among : Among alternatives slots communication o.body
+  pub binds : Binds w scope slots o.bindings
   pub act : ActFits w scope communication o.act
 
 -- directly before the place stands the select whose alternatives are offered
@@ -78,7 +78,7 @@ pub record Opened (w : World) (d : Home) (rest : List CStat) (frames : List Fram
   pub alternatives : List CAlt
   pub before : Standing d known (x ∷ rest) frames
   pub is : out-CStat x ≡ CStat-F.Select line alternatives
-  pub each : Every (OfferFits w d.scope known alternatives) offers
+  pub each : Every (OfferFits w d.scope alternatives) offers
   pub few : length offers ≤ MOST_OFFERS
 
 abbrev pub StateFits : World → Home → List CStat → List Frame → Known → State → Type 0

@@ -32,16 +32,15 @@ is_within_loop (Inner after ∷ frames) = is_within_loop frames
 is_within_loop (Looping line test block after ∷ frames) = true
 is_within_loop (Walking line slots elements container block after ∷ frames) = true
 
--- among alternatives, at which some slots count as set, one communicates, with a body, at which also those count as set
--- that the unwinds around it bind
-pub data Among : Known → List CAlt → Known → CComm → List CStat → Type 0 where
-  here : (known : Known) (a : CAlt) (more : List CAlt) (guard : Option CExpr) (communication : CComm) (body : List CStat) → out-CAlt a ≡ CAlt-F.Guarded guard communication body
-      → Among known (a ∷ more) known communication body
-  later : (known inner : Known) (a : CAlt) (more : List CAlt) (communication : CComm) (body : List CStat) → Among known more inner communication body
-      → Among known (a ∷ more) inner communication body
-  inside : (known inner : Known) (a : CAlt) (more : List CAlt) (slots : List ℕ) (container : CExpr) (alternatives : List CAlt) (communication : CComm) (body : List CStat)
-      → out-CAlt a ≡ CAlt-F.Unwind slots container alternatives → Among (also_all slots known) alternatives inner communication body
-      → Among known (a ∷ more) inner communication body
+-- among alternatives one communicates, with a body, within unwinds that bind these slots, the outermost first
+pub data Among : List CAlt → List ℕ → CComm → List CStat → Type 0 where
+  here : (a : CAlt) (more : List CAlt) (guard : Option CExpr) (communication : CComm) (body : List CStat) → out-CAlt a ≡ CAlt-F.Guarded guard communication body
+      → Among (a ∷ more) [] communication body
+  later : (a : CAlt) (more : List CAlt) (bound : List ℕ) (communication : CComm) (body : List CStat) → Among more bound communication body
+      → Among (a ∷ more) bound communication body
+  inside : (a : CAlt) (more : List CAlt) (slots : List ℕ) (container : CExpr) (alternatives : List CAlt) (bound : List ℕ) (communication : CComm) (body : List CStat)
+      → out-CAlt a ≡ CAlt-F.Unwind slots container alternatives → Among alternatives bound communication body
+      → Among (a ∷ more) (slots ++ bound) communication body
 
 -- There is a place in the definition's body at which these slots count as set, this is the rest of its block, and these
 -- frames stand around that block. Each way in is a rule, from the place before it.
@@ -69,6 +68,6 @@ pub data Standing (d : Home) : Known → List CStat → List Frame → Type 0 wh
       → Standing d known (x ∷ rest) frames → out-CStat x ≡ CStat-F.For line slots container block
       → Standing d known [] (Walking line slots elements container block rest ∷ frames)
   -- once an alternative is taken
-  in_body : (known inner : Known) (x : CStat) (rest : List CStat) (frames : List Frame) (line : ℕ) (alternatives : List CAlt) (communication : CComm) (body : List CStat)
-      → Standing d known (x ∷ rest) frames → out-CStat x ≡ CStat-F.Select line alternatives → Among known alternatives inner communication body
-      → Standing d inner body (Inner rest ∷ frames)
+  in_body : (known : Known) (x : CStat) (rest : List CStat) (frames : List Frame) (line : ℕ) (alternatives : List CAlt) (bound : List ℕ) (communication : CComm) (body : List CStat)
+      → Standing d known (x ∷ rest) frames → out-CStat x ≡ CStat-F.Select line alternatives → Among alternatives bound communication body
+      → Standing d (also_all bound known) body (Inner rest ∷ frames)

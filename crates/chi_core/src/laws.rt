@@ -12,11 +12,16 @@ ghost use Rattle.chi_value.specs.Plain.{is_plain, within};
 ghost use Rattle.chi_ops.specs.Tidy.{tidy};
 ghost use Rattle.chi_core.specs.declared.program.Core.{Core};
 ghost use Rattle.chi_core.specs.declared.program.ProcDef.{ProcDef};
+ghost use Rattle.chi_core.specs.declared.statement.CStat.{CStat};
 ghost use Rattle.chi_core.specs.Beginning.{first_config};
 ghost use Rattle.chi_core.specs.Kinded.{KindedConstants, Kinded};
 ghost use Rattle.chi_core.specs.Kinds.{Kind, kind_of, kinds_of, is_plain_kind, holds_channel};
 ghost use Rattle.chi_core.specs.Of.{World, Wider, at_start, IsOf, AreOf};
-ghost use Rattle.chi_core.specs.Sound.{Sound};
+ghost use Rattle.chi_core.specs.Scopes.{Home};
+ghost use Rattle.chi_core.specs.SetSlots.{Known};
+ghost use Rattle.chi_core.specs.Sound.{Sound, SoundHome};
+ghost use Rattle.chi_core.specs.SoundStatements.{SoundBlock};
+ghost use Rattle.chi_core.specs.Standing.{Frame, Standing, is_within_loop};
 
 /// A type that fits another has its kind, unless an int is converted to a real. Kinds forget only the
 /// ways of channels and the names of tuples' parts: types in which there is no channel are the same
@@ -40,6 +45,14 @@ pub fn values_are_of_kinds()
     ensures plain { (w : World) (a : Value) (T : Kind) → IsTrue (is_plain_kind T) → IsOf w T a → IsTrue (is_plain a) }
     ensures alike { (w : World) (a b : Value) (T : Kind) → IsOf w T a → IsOf w T b → IsTrue (alike a b) }
     ensures comparable { (w : World) (a b : Value) (T : Kind) → IsTrue (is_plain_kind T) → IsOf w T a → IsOf w T b → Alike a b }
+{}
+
+/// What is left to do at a place of a sound body is sound where the slots are set that count as set
+/// there.
+#[tactic(auto, using(crate::proofs::Standings::sound_at))]
+pub fn places_are_sound()
+    ensures sound { (d : Home) → SoundHome d → (known : Known) (rest : List CStat) (frames : List Frame) → Standing d known rest frames
+        → SoundBlock d.scope (is_within_loop frames) known rest }
 {}
 
 /// A sound program begins in a kinded configuration, where its constants are kinded and the arguments

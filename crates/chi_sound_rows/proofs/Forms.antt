@@ -35,7 +35,7 @@ use Rattle.chi_core.specs.SetSlots.{StatLayer, Known, params_known}
 use Rattle.chi_core.specs.Sound.{IsName, Sound, SoundEnumeration, nothing_known}
 use Rattle.chi_core.specs.SoundExpressions.{HasKind, fresh_default, tuple_literal, list_literal, set_literal, literal, variable, constant, operation, distribution, part, call, HaveKinds, no_expression, one_expression, LiteralKind, bool, int as int_literal, stream_operand}
 use Rattle.chi_core.specs.SoundStatements.{SoundStat, declares, returns, SoundBlock, one_statement}
-use Rattle.chi_core.proofs.Building.{int_kind, bool_kind}
+use Rattle.chi_sound_rows.proofs.Building.{int_kind, bool_kind}
 
 abbrev pub int : ℕ → CExpr
 int n = e.Lit (value.Int (pos n))

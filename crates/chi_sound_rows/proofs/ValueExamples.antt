@@ -13,6 +13,7 @@ use Rattle.chi_value.specs.declared.value.Value.{Value, Value-F, out-Value, fold
 use Rattle.chi_value.specs.declared.value.Value.TheVariants as value
 use Rattle.chi_value.specs.Order.{order, order_step}
 use Rattle.chi_sets.specs.Sets.{is_ascending}
+use Rattle.chi_sets.specs.Dictionaries.{ascending_by_key, key_in, key_of}
 use Rattle.chi_core.specs.Kinds.{Kind, tuple_of, entry_of}
 use Rattle.chi_core.proofs.Erased.{plain_at}
 use Rattle.chi_core.specs.Of.{World, Of, of_bool, of_int, of_real, of_text, of_choice, of_tuple, of_list, of_set, of_dictionary, of_channel, of_dist, of_timer, of_no_instance, of_instance, PartsOf, no_part, one_part, Yields, some_int, always_bool, IsOf}
@@ -29,6 +30,15 @@ plain_int = plain_at ty.Int Ty-F.Int ty.outs-Int
 
 a_bool : Of some_world (Value-F.Bool true) Ty-F.Bool
 a_bool = of_bool true
+
+an_int : Of some_world (Value-F.Int (negsuc 6)) Ty-F.Int
+an_int = of_int (negsuc 6)
+
+a_real : Of some_world (Value-F.Real (pos 1_500_000_000)) Ty-F.Real
+a_real = of_real (pos 1_500_000_000)
+
+a_timer : Of some_world (Value-F.Timer (pos 0)) Ty-F.Timer
+a_timer = of_timer (pos 0)
 
 a_text : Of some_world (Value-F.Text (codes "abc")) Ty-F.Text
 a_text = of_text (codes "abc") (omega arith)
@@ -69,6 +79,39 @@ no_set w _ (of_set _ t short plain ascending each) = false≢true (descending �
     descending : false ≡ is_ascending (value.Int (pos 2) ∷ value.Int (pos 1) ∷ [])
     descending = simp (order_int) refl
 
+-- two entries with keys in order
+entry : ℕ → Value
+entry n = value.TupleOf (value.Int (pos n) ∷ value.Int (pos 0) ∷ [])
+
+is_entry : (n : ℕ) → Of some_world (out-Value (entry n)) (entry_of ty.Int ty.Int)
+unfolding entry
+is_entry n = subst (λ x. Of some_world x (entry_of ty.Int ty.Int)) (sym (value.outs-TupleOf (value.Int (pos n) ∷ value.Int (pos 0) ∷ [])))
+    (of_tuple _ _
+        (one_part (value.Int (pos n)) _ ([], ty.Int) _ (is_int some_world (pos n) ty.Int ty.outs-Int)
+            (one_part (value.Int (pos 0)) [] ([], ty.Int) [] (is_int some_world (pos 0) ty.Int ty.outs-Int) no_part)))
+
+entries : (k : ℕ) (x : Value) → slice_get (entry 1 ∷ entry 2 ∷ []) k ≡ Some x → Of some_world (out-Value x) (entry_of ty.Int ty.Int)
+entries zero x e = let same : entry 1 ≡ x = cc in subst (λ x. Of some_world (out-Value x) (entry_of ty.Int ty.Int)) same (is_entry 1)
+entries (suc zero) x e = let same : entry 2 ≡ x = cc in subst (λ x. Of some_world (out-Value x) (entry_of ty.Int ty.Int)) same (is_entry 2)
+entries (suc (suc k)) x e = absurd (cc)
+
+key_of_entry : (n : ℕ) → key_of (entry n) ≡ Some (value.Int (pos n))
+unfolding entry
+key_of_entry n = ap key_in (value.outs-TupleOf (value.Int (pos n) ∷ value.Int (pos 0) ∷ []))
+
+a_dictionary : Of some_world (Value-F.DictOf (entry 1 ∷ entry 2 ∷ [])) (Ty-F.DictOf ty.Int ty.Int)
+a_dictionary = of_dictionary _ ty.Int ty.Int (omega arith) plain_int ascending entries
+  where
+    ascending : ascending_by_key (entry 1 ∷ entry 2 ∷ []) ≡ true
+    ascending = simp (key_of_entry, order_int) refl
+
+-- the entries of a dictionary stand in ascending order of their keys
+no_dictionary : (w : World) (T : Kind) → Of w (Value-F.DictOf (entry 1 ∷ entry 1 ∷ [])) T → ⊥
+no_dictionary w _ (of_dictionary _ key has short plain ascending each) = false≢true (tied ∙ ascending)
+  where
+    tied : false ≡ ascending_by_key (entry 1 ∷ entry 1 ∷ [])
+    tied = simp (key_of_entry, order_int) refl
+
 a_channel : Of some_world (Value-F.Chan 1) (Ty-F.Chan way.Both ty.Bool)
 unfolding some_world
 a_channel = of_channel 1 ty.Bool refl
@@ -84,6 +127,12 @@ an_instance = of_instance 1 (omega arith)
 no_instance : Of some_world (Value-F.Inst (Some 2)) Ty-F.Inst → ⊥
 unfolding some_world
 no_instance (of_instance _ l) = absurd (omega (arith, l))
+
+some_instance : Of some_world (Value-F.Inst None) Ty-F.Inst
+some_instance = of_no_instance
+
+a_dist : Of some_world (Value-F.Dist (dist.UniformInt (pos 0) (pos 1) 63)) (Ty-F.Dist ty.Int)
+a_dist = of_dist _ ty.Int (subst (Yields (dist.UniformInt (pos 0) (pos 1) 63)) (sym ty.outs-Int) (some_int (pos 0) (pos 1) 63 (omega arith)))
 
 -- a stream is one of sixty-four
 no_stream : (T : Kind) → Yields (dist.UniformInt (pos 0) (pos 1) 64) T → ⊥

@@ -35,9 +35,9 @@ use Rattle.chi_core.specs.Sound.{IsName, Sound}
 use Rattle.chi_core.specs.SoundExpressions.{HaveKinds, one_expression, no_expression}
 use Rattle.chi_core.specs.SoundParts.{StepsLead, no_step, TargetsTake, one_target, ChannelAt, Shows, fixed_point, SoundComm, receives, SoundExit, with_value, MayStart, its_own, none, SoundElements, one_element, SoundElement, makes}
 use Rattle.chi_core.specs.SoundStatements.{SoundStat, declares, assigns, spreads, exits, writes, selects, starts, SoundAlternatives, one_alternative, SoundAlternative, guarded}
-use Rattle.chi_core.proofs.Building.{int_kind, bool_kind, channel_kind, fills_at, element_fills_at}
+use Rattle.chi_sound_rows.proofs.Building.{int_kind, bool_kind, channel_kind, fills_at, element_fills_at}
 use Rattle.chi_core.proofs.Erased.{kind_at}
-use Rattle.chi_core.proofs.Forms.{int, model_with, alone, scope_in, first_statement, declared, int_is, bool_is, one_of}
+use Rattle.chi_sound_rows.proofs.Forms.{int, model_with, alone, scope_in, first_statement, declared, int_is, bool_is, one_of}
 
 abbrev slot : ℕ → CTarget
 slot n = record { slot = n; steps = [] }

@@ -34,6 +34,9 @@ use Rattle.chi_core.specs.declared.statement.CAlt.{CAlt}
 use Rattle.chi_core.specs.declared.statement.CAlt.TheVariants as a
 use Rattle.chi_core.specs.declared.statement.CStat.TheVariants as s
 use Rattle.chi_core.specs.declared.target.CTarget.{CTarget}
+use Rattle.chi_core.specs.Beginning.{first_config}
+use Rattle.chi_core.specs.Kinded.{Kinded}
+use Rattle.chi_core.specs.Of.{none_of}
 use Rattle.chi_core.specs.Fills.{Fill, Fills, filled, unwound, by_body, by_element, by_statement, SetOnce, UnwindsOwn}
 use Rattle.chi_core.specs.Kinds.{Kind, erased, kind_of, kinds_of, is_void, Every}
 use Rattle.chi_core.specs.OperatorKinds.{add_ints, range_to, ShapeKind, shape_int, shape_channel}
@@ -45,7 +48,8 @@ use Rattle.chi_core.specs.SoundParts.{ChannelAt, Walks, MayStart, no_step, eleme
 use Rattle.chi_core.specs.SoundStatements.{declares, returns, writes, selects, runs, SoundBlock, no_statement, no_alternative, guarded}
 use Rattle.chi_core.specs.SoundTypes.{SoundType}
 use Rattle.chi_core.specs.SoundTypes as types
-use Rattle.chi_core.proofs.Building.{int_kind, channel_kind, slot_is, has, with_expression, with_statement, with_alternative, fills_at, alternative_fills_at, element_fills_at}
+use Rattle.chi_core.proofs.Beginnings.{start_kinded}
+use Rattle.chi_sound_rows.proofs.Building.{int_kind, channel_kind, slot_is, has, with_expression, with_statement, with_alternative, fills_at, alternative_fills_at, element_fills_at}
 use Rattle.chi_core.proofs.Lists.{every_nil, every_cons}
 
 abbrev pub slot : ℕ → CTarget
@@ -378,3 +382,7 @@ line_is_sound = record {
           (every_cons (SoundProcess line_of_two) model [] sound_model (every_nil (SoundProcess line_of_two))));
   model = (model, refl);
 }
+
+-- so a run of it begins in a kinded configuration
+pub line_begins : Kinded line_of_two (first_config 0 None [] [] 2 model)
+line_begins = start_kinded line_of_two line_is_sound [] (λ number c e. absurd (cc)) model refl [] none_of 0 None

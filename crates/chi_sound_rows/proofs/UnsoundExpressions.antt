@@ -35,9 +35,9 @@ use Rattle.chi_core.specs.SetSlots.{StatLayer, Known, params_known}
 use Rattle.chi_core.specs.Sound.{IsName, Sound, SoundEnumeration, nothing_known}
 use Rattle.chi_core.specs.SoundExpressions.{HasKind, fresh_default, tuple_literal, list_literal, set_literal, literal, variable, constant, operation, distribution, part, call, HaveKinds, no_expression, one_expression, LiteralKind, bool, int as int_literal, stream_operand}
 use Rattle.chi_core.specs.SoundStatements.{SoundStat, declares, returns, SoundBlock, one_statement}
-use Rattle.chi_core.proofs.Building.{int_kind, bool_kind}
+use Rattle.chi_sound_rows.proofs.Building.{int_kind, bool_kind}
 use Rattle.chi_core.proofs.Erased.{plain_at}
-use Rattle.chi_core.proofs.Forms.{int, model_with, alone, scope_in, first_statement, declared, literal_kind, int_is, bool_is, row_of, two_of, one_of, default_of, tuple_of_parts, list_of_elements, set_of_elements, part_of_tuple, slot_is_set, function_is_there, constant_may_be_read, stream_of, returned}
+use Rattle.chi_sound_rows.proofs.Forms.{int, model_with, alone, scope_in, first_statement, declared, literal_kind, int_is, bool_is, row_of, two_of, one_of, default_of, tuple_of_parts, list_of_elements, set_of_elements, part_of_tuple, slot_is_set, function_is_there, constant_may_be_read, stream_of, returned}
 
 
 -- A model that declares its one variable with a value.

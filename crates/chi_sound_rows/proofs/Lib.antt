@@ -1,0 +1,6 @@
+mod Building
+mod Forms
+mod SoundExample
+mod UnsoundExpressions
+mod UnsoundStatements
+mod ValueExamples
