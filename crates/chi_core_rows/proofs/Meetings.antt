@@ -1,5 +1,5 @@
 -- Two instances that meet, up to their deadlock; and a select that offers both ends of one channel.
-use Rattle.std.proofs.Common.{◌≡◌, ◌⊎◌, ℕ, zero, suc, ℤ, pos, List, [], ◌∷◌, Option, Some, None, map, true, false, refl, sym, subst, inl, arith, Contains}
+use Rattle.std.proofs.Common.{◌≡◌, ℕ, suc, pos, List, [], ◌∷◌, Some, None, map, false, refl, sym, subst, inl, arith}
 use Rattle.std.specs.Prelude.{codes}
 use Rattle.std.specs.Fmt.{digits}
 use Rattle.chi_value.specs.declared.value.Value.TheVariants as value
@@ -7,7 +7,6 @@ use Rattle.chi_value.specs.declared.shape.Shape.TheVariants as shape
 use Rattle.chi_value.specs.declared.format.Piece.TheVariants as piece
 use Rattle.chi_types.specs.declared.ty.Ty.TheVariants as ty
 use Rattle.chi_types.specs.declared.ty.Way.TheVariants as way
-use Rattle.chi_core.specs.declared.expression.CExpr.{CExpr}
 use Rattle.chi_core.specs.declared.expression.CExpr.TheVariants as e
 use Rattle.chi_core.specs.declared.statement.CStat.{CStat}
 use Rattle.chi_core.specs.declared.statement.CStat.TheVariants as s
@@ -27,7 +26,7 @@ use Rattle.chi_core.specs.Options.{Ending, enabled, ending}
 use Rattle.chi_core.specs.Beginning.{start, Begins}
 use Rattle.chi_core.specs.Runs.{Runs, After, along, text_told, nothing, Told, MayDerive, Derivation}
 use Rattle.chi_core.specs.Picks.{picks_of, last_numbers, listed, MayPick, Picked}
-use Rattle.chi_core.specs.Step.{step, Outcome, Next, Amiss}
+use Rattle.chi_core.specs.Step.{step, Next, Amiss}
 use Rattle.chi_core.proofs.Equations.{eval_lit, eval_var, eval_default}
 use Rattle.chi_core_rows.proofs.Closed.{closed, layers}
 use Rattle.chi_core_rows.proofs.Parts.{parts}
