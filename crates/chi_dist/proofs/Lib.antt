@@ -3,4 +3,5 @@ mod Kept
 mod Period
 mod Rows
 mod Sampled
+mod SampledLaws
 mod Successes

@@ -5,7 +5,7 @@ use Rattle.std.proofs.lemmas.Nat.{mul-mod_first, mul-mod_second}
 use Rattle.rand_pcg.specs.Lcg.{next_state, state_after}
 use Rattle.rand_pcg.specs.Pcg.{multiplier_64}
 use Rattle.rand_pcg.proofs.LcgLemmas.{state_after_double}
-use Rattle.chi_dist.specs.Draws.{draw, stream_of}
+use Rattle.chi_dist.specs.Draws.{draw, stream_of, next_draw}
 
 -- the multiplier of 2 ^ i steps in one, and by what they multiply the increment
 unfoldable multiplier_of : ℕ → ℕ
@@ -84,9 +84,13 @@ start_below seed stream = mod-lt _ (omega arith)
 pub draws_again : (seed stream k q : ℕ) → draw seed stream (k + q * 2 ^ 63) ≡ draw seed stream k
 unfolding draw
 draws_again seed stream k q =
-    let g = stream_of seed stream in
+    let start = (stream_of seed stream).state in
+    let step = (stream_of seed stream).increment in
     let words : 2 * (k + q * 2 ^ 63) ≡ q * 2 ^ 64 + 2 * k = omega arith in
-    rw (words, around g.increment q (2 * k) g.state (start_below seed stream)) refl
+    let same : state_after 64 multiplier_64 step (2 * (k + q * 2 ^ 63)) start ≡ state_after 64 multiplier_64 step (2 * k) start =
+    rw words (around step q (2 * k) start (start_below seed stream))
+    in
+    ap (λ s. next_draw (record { state = s; increment = step })) same
 
 pub draw_again : (seed stream k : ℕ) → draw seed stream (k + 2 ^ 63) ≡ draw seed stream k
 draw_again seed stream k = let once : 1 * 2 ^ 63 ≡ 2 ^ 63 = refl in rw once at (draws_again seed stream k 1)

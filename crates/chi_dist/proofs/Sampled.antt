@@ -7,7 +7,7 @@ use Rattle.chi_num.specs.declared.dist.Dist.TheVariants as dist
 use Rattle.chi_dist.specs.declared.drawn.Drawn.{Drawn}
 use Rattle.chi_dist.specs.declared.drawn.Drawn.TheVariants as drawn
 use Rattle.chi_dist.specs.declared.fault.DistFault.{DistFault}
-use Rattle.chi_dist.specs.Draws.{Draws, draw, draws_from, between, succeeds, bounds_fault, chance_fault, trials_fault, Sampling, draws, refuses, unless_faulty, taking, sampled, after_draws, fault_of, has_stream}
+use Rattle.chi_dist.specs.Draws.{Draws, draw, draws_from, between, succeeds, bounds_fault, chance_fault, trials_fault, draws, refuses, taking, sampled, after_draws, fault_of, has_stream}
 
 -- so many draws were taken from a stream, and what is made of them has a property
 abbrev Took : Draws → Draws → ℕ → ℕ → (ℕ → Type 0) → Type 0

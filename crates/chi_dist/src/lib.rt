@@ -4,6 +4,7 @@
 mod drawn;
 mod fault;
 mod generator;
+mod laws;
 mod parameters;
 mod shares;
 mod stream;
@@ -11,3 +12,7 @@ mod stream;
 pub use drawn::Drawn;
 pub use fault::DistFault;
 pub use generator::Generator;
+pub use laws::draws_law;
+
+#[cfg(test)]
+mod tests;

@@ -151,6 +151,7 @@ real_tells text = by_parts (front_digits (unsigned text)) (decimals_of (after_di
   where
     has : (z : ℤ) → MeansReal text z → HasRealForm text
     has z (m, (w, (f, (i, v)))) = (m, (w, (f, i)))
+
     by_parts : (w : List ℕ) (d : Option (List ℕ)) → front_digits (unsigned text) ≡ w → decimals_of (after_digits (unsigned text)) ≡ d
         → Tells (units_meant (has_minus text) w d) (HasRealForm text) (MeansReal text)
     by_parts w None e q = tells_none (HasRealForm text) (MeansReal text) (λ h. let some = (real_parts text h).2 in absurd (cc)) has

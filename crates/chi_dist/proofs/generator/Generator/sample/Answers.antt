@@ -1,4 +1,4 @@
-use Rattle.std.proofs.Common.{◌≡◌, ◌<◌, length, ℕ, rules, ap, sym, ◌∙◌, to_z, of_z, w64, unsigned_abs}
+use Rattle.std.proofs.Common.{◌≡◌, length, rules, ap, sym, ◌∙◌, to_z, of_z, w64}
 use Rattle.std.proofs.lemmas.List.{length-map}
 use Rattle.chi_dist.specs.Draws.{between}
 use Rattle.chi_dist.specs.Streams.{taken_from}

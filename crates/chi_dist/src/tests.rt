@@ -1,0 +1,133 @@
+use crate::{DistFault, Drawn, Generator};
+use chi_num::{Dist, Real};
+use std::process::Abort;
+
+const ONE: i64 = 1_000_000_000;
+
+fn real(units: i64) -> Real {
+    Real::from_units(units)
+}
+
+// The first row is of the words that PCG's reference program writes for this seed and stream, two
+// to a draw. The others are those of an independent program.
+#[test]
+fn draws_are_the_published_words(rt: HostRuntime) {
+    for (seed, stream, wanted) in [
+        (
+            42,
+            54,
+            [0xa15c02b77b47f409, 0xba1d333083d2f293, 0xbfa4784bcbed606e],
+        ),
+        (
+            0,
+            0,
+            [0xe4c14788379c6516, 0x5c4ab3bb601d23e0, 0x1c382b8cd1faab16],
+        ),
+        (
+            0,
+            63,
+            [0x40b29785f34bc053, 0xf452f08a5346b4a5, 0xf7a4dfe51576c5ac],
+        ),
+        (
+            u64::MAX,
+            1,
+            [0xe2393051d4ee9aa6, 0x724075bddbc6f13b, 0xbfc7dd957b2d3585],
+        ),
+    ] {
+        let mut generator = Generator::new(seed);
+        for draw in wanted {
+            assert_eq!(&rt;
+                generator.draw(stream),
+                draw,
+                "seed {seed}, stream {stream}"
+            );
+        }
+    }
+}
+
+// Draws from one stream are the same before, between and after draws from another.
+#[test]
+fn streams_do_not_disturb_each_other(rt: HostRuntime) {
+    for seed in 0..10 {
+        let mut one = Generator::new(seed);
+        let first = (one.draw(3), one.draw(3), one.draw(60), one.draw(60));
+        let mut other = Generator::new(seed);
+        let second = (other.draw(60), other.draw(3), other.draw(60), other.draw(3));
+        assert_eq!(&rt; first.0, second.1, "seed {seed}");
+        assert_eq!(&rt; first.1, second.3, "seed {seed}");
+        assert_eq!(&rt; first.2, second.0, "seed {seed}");
+        assert_eq!(&rt; first.3, second.2, "seed {seed}");
+    }
+}
+
+fn samples(rt: &impl Abort) {
+    for (dist, wanted) in [
+        (Dist::ConstBool(true), Ok(Drawn::Bool(true))),
+        (Dist::ConstInt(-3), Ok(Drawn::Int(-3))),
+        (Dist::ConstReal(real(5)), Ok(Drawn::Real(real(5)))),
+        // The first draw of stream 0 of seed 42 is 2429506107436103504.
+        (
+            Dist::UniformInt(i64::MIN, i64::MAX, 0),
+            Ok(Drawn::Int(-6793865929418672305)),
+        ),
+        (Dist::UniformInt(7, 8, 0), Ok(Drawn::Int(7))),
+        (
+            Dist::UniformReal(real(0), real(ONE), 0),
+            Ok(Drawn::Real(real(131703789))),
+        ),
+        (Dist::Bernoulli(real(131703790), 0), Ok(Drawn::Bool(true))),
+        (Dist::Bernoulli(real(131703789), 0), Ok(Drawn::Bool(false))),
+        (Dist::Bernoulli(real(ONE), 0), Ok(Drawn::Bool(true))),
+        (Dist::Bernoulli(real(0), 0), Ok(Drawn::Bool(false))),
+        (Dist::Binomial(4, real(ONE), 0), Ok(Drawn::Int(4))),
+        (Dist::Binomial(0, real(ONE), 0), Ok(Drawn::Int(0))),
+        (Dist::Binomial(10_000, real(0), 0), Ok(Drawn::Int(0))),
+        (Dist::UniformInt(7, 7, 0), Err(DistFault::BadBounds)),
+        (
+            Dist::UniformReal(real(1), real(0), 0),
+            Err(DistFault::BadBounds),
+        ),
+        (Dist::Bernoulli(real(-1), 0), Err(DistFault::BadChance)),
+        (Dist::Bernoulli(real(ONE + 1), 0), Err(DistFault::BadChance)),
+        (
+            Dist::Binomial(-1, real(ONE + 1), 0),
+            Err(DistFault::BadBounds),
+        ),
+        (
+            Dist::Binomial(10_001, real(ONE + 1), 0),
+            Err(DistFault::TooMany),
+        ),
+        (
+            Dist::Binomial(10_000, real(ONE + 1), 0),
+            Err(DistFault::BadChance),
+        ),
+    ] {
+        let mut generator = Generator::new(42);
+        assert_eq!(rt; generator.sample(&dist), wanted, "{dist:?}");
+    }
+}
+
+// A constant and a fault draw nothing, and each other distribution as many as it has trials.
+fn draws_taken(rt: &impl Abort) {
+    for (dist, taken) in [
+        (Dist::ConstInt(1), 0),
+        (Dist::UniformInt(1, 1, 0), 0),
+        (Dist::Binomial(10_001, real(ONE), 0), 0),
+        (Dist::UniformInt(0, 9, 0), 1),
+        (Dist::Binomial(5, real(ONE / 2), 0), 5),
+    ] {
+        let mut generator = Generator::new(42);
+        let _ = generator.sample(&dist);
+        let mut other = Generator::new(42);
+        for _ in 0..taken {
+            other.draw(0);
+        }
+        assert_eq!(rt; generator.draw(0), other.draw(0), "after {dist:?}");
+    }
+}
+
+#[test]
+fn samplings(rt: HostRuntime) {
+    samples(&rt);
+    draws_taken(&rt);
+}
