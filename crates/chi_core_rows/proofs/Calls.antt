@@ -110,7 +110,7 @@ enters left = simp (eval_lit, eval_var, eval_op, s.outs-While, closed)
 
 adds_3 : (left : ℕ) → goes (both 3 0) (Do adds) (Do takes ∷ again ∷ last) left (both 3 3) (Do takes ∷ again ∷ last)
 unfolding denote.Hole.Carrier.out
-adds_3 left = simp (eval_var, eval_op, s.outs-Assign, closed)
+adds_3 left = simp (eval_lit, eval_var, eval_op, s.outs-Assign, closed)
 
 takes_3 : (left : ℕ) → goes (both 3 3) (Do takes) (again ∷ last) left (both 2 3) (again ∷ last)
 unfolding denote.Hole.Carrier.out
@@ -122,7 +122,7 @@ tests_2 left = simp (eval_lit, eval_var, eval_op, closed)
 
 adds_2 : (left : ℕ) → goes (both 2 3) (Do adds) (Do takes ∷ again ∷ last) left (both 2 5) (Do takes ∷ again ∷ last)
 unfolding denote.Hole.Carrier.out
-adds_2 left = simp (eval_var, eval_op, s.outs-Assign, closed)
+adds_2 left = simp (eval_lit, eval_var, eval_op, s.outs-Assign, closed)
 
 takes_2 : (left : ℕ) → goes (both 2 5) (Do takes) (again ∷ last) left (both 1 5) (again ∷ last)
 unfolding denote.Hole.Carrier.out
@@ -134,7 +134,7 @@ tests_1 left = simp (eval_lit, eval_var, eval_op, closed)
 
 adds_1 : (left : ℕ) → goes (both 1 5) (Do adds) (Do takes ∷ again ∷ last) left (both 1 6) (Do takes ∷ again ∷ last)
 unfolding denote.Hole.Carrier.out
-adds_1 left = simp (eval_var, eval_op, s.outs-Assign, closed)
+adds_1 left = simp (eval_lit, eval_var, eval_op, s.outs-Assign, closed)
 
 takes_1 : (left : ℕ) → goes (both 1 6) (Do takes) (again ∷ last) left (both 0 6) (again ∷ last)
 unfolding denote.Hole.Carrier.out

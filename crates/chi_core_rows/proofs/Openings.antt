@@ -47,7 +47,7 @@ guard_false : does (Some (value.Chan 4) ∷ None ∷ [])
     (Guarded (Some (truth false)) (comm.Send (whole 0) (Some (e.Var 1))) body ∷ Guarded (Some (truth true)) (comm.Receive (whole 0) (Some 1)) body ∷ [])
     ≡ waits (Some (value.Chan 4) ∷ None ∷ []) (record { act = Receive 4 (Some 1); bindings = []; body = body } ∷ [])
 unfolding step denote.Hole.Carrier.out
-guard_false = simp (s.outs-Select, parts, eval_lit, layers)
+guard_false = simp (s.outs-Select, parts, eval_lit, eval_var, layers)
 
 delay_below_0 : does [] (Guarded None (comm.Delay (e.Lit (value.Real (negsuc 0)))) body ∷ []) ≡ Over (Fault NegativeDelay (codes "P") 4)
 unfolding step denote.Hole.Carrier.out
