@@ -3,7 +3,7 @@ use Rattle.std.specs.Prelude.{ℕ, nat_eq, ℤ, int_lt, Bool, true, false, not, 
 use Rattle.std.specs.List.{flat_map, list_all}
 use Rattle.std.specs.Int.{int_min}
 use Rattle.chi_value.specs.declared.value.Value.{Value}
-use Rattle.chi_core.specs.Answer.{Gives, Amiss, Does, then_do, gives, amiss, wanted, giving}
+use Rattle.chi_core.specs.Answer.{Gives, Amiss, Does, then_do, amiss, wanted, giving}
 use Rattle.chi_core.specs.Variables.{Variables, with_slot, bind}
 use Rattle.chi_core.specs.Terms.{first_the}
 use Rattle.chi_core.specs.Config.{Config, Instance, Offer, Act, Send, Receive, Delay, State, Running, Joining, offers_in, has_finished, with_instance}

@@ -42,7 +42,7 @@ delayed clock delay view = then_do (wanted (real_of delay) view) (delayed_by clo
 abbrev pub due : Value → Does Act
 due timer = wanted (option_map Delay (due_of timer))
 
--- An offer is kept with its body and with what the names around it are bound to, where there may be so many.
+-- An offer is kept with its body and with what the names around it are bound to, where there may be one more.
 abbrev pub kept : List ℕ → List CStat → Opening → Act → Does Opening
 kept names body o act view =
     if nat_lt (length o.offers) MOST_OFFERS

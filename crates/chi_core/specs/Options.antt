@@ -1,5 +1,5 @@
 -- Options: which labels may come next, and how a run ends where there is none.
-use Rattle.std.specs.Prelude.{ℕ, zero, suc, ℤ, List, [], ◌∷◌, ◌++◌, Option, Some, None, Bool, true, false, length, nat_eq, nat_lt, int_lt, not, filter, map, slice_get, if◌then◌else◌}
+use Rattle.std.specs.Prelude.{ℕ, zero, suc, ℤ, List, [], ◌∷◌, ◌++◌, Option, Some, None, Bool, false, length, nat_eq, nat_lt, int_lt, not, filter, map, slice_get, if◌then◌else◌}
 use Rattle.std.specs.List.{flat_map, list_all}
 use Rattle.std.specs.Option.{option_to_list}
 use Rattle.chi_core.specs.declared.label.Label.{Label}

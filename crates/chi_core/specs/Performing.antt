@@ -29,7 +29,7 @@ quietly config = Goes config []
 
 -- writing
 
--- a text, which may be so long
+-- a text that isn't too long
 abbrev pub within_text : List ℕ → Does (List ℕ)
 within_text text view = if nat_le (length text) MOST_TEXT then Gives text view else Fails TooLarge
 
@@ -41,7 +41,7 @@ written core value_of pieces expressions view =
 
 -- exits
 
--- the value of an exit, which is plain and whose quoted text may be so long
+-- the value of an exit, which is plain and whose quoted text isn't too long
 abbrev pub exits_with : Core → Value → Does Change
 exits_with core v view =
     then_do (wanted (quoted_in core.names.kinds v) view) (λ text now.

@@ -28,7 +28,7 @@ taking count d = if nat_eq count (length d.params) then Some d else None
 abbrev pub started_by : List ProcDef → ℕ → ℕ → Option ProcDef
 started_by processes number count = option_and_then (taking count) (slice_get processes number)
 
--- the next number of an instance, where there may be so many
+-- the number of the next instance, where there may be one more
 abbrev pub numbered : Does ℕ
 numbered view =
     if nat_lt view.instances MOST_INSTANCES

@@ -1,8 +1,6 @@
 -- Beginnings: constants in file order, and a fault in one of them.
-use Rattle.std.proofs.Common.{◌≡◌, refl, ℕ, ℤ, pos, List, [], ◌∷◌, None, Some, true, false}
+use Rattle.std.proofs.Common.{◌≡◌, refl, ℕ, pos, List, [], ◌∷◌, None, Some}
 use Rattle.std.specs.Prelude.{codes}
-use Rattle.chi_value.specs.declared.value.Value.{Value}
-use Rattle.chi_value.specs.declared.value.Value.TheVariants as value
 use Rattle.chi_types.specs.declared.ty.Ty.TheVariants as ty
 use Rattle.chi_core.specs.declared.expression.CExpr.{CExpr}
 use Rattle.chi_core.specs.declared.expression.CExpr.TheVariants as e
@@ -14,8 +12,8 @@ use Rattle.chi_core.specs.declared.program.ProcDef.{ProcDef}
 use Rattle.chi_core.specs.declared.fault.FaultKind.TheVariants.{DivideByZero}
 use Rattle.chi_core.specs.declared.verdict.Verdict.TheVariants.{Fault}
 use Rattle.chi_core.specs.Terms.{Do}
-use Rattle.chi_core.specs.Config.{Config, Running}
-use Rattle.chi_core.specs.Beginning.{Beginning, Begins, Breaks, Amiss, start}
+use Rattle.chi_core.specs.Config.{Running}
+use Rattle.chi_core.specs.Beginning.{Begins, Breaks, Amiss, start}
 use Rattle.chi_core.proofs.Equations.{eval_lit, eval_const, eval_op}
 use Rattle.chi_core_rows.proofs.Closed.{closed}
 use Rattle.chi_core_rows.proofs.Small.{int, number, config_of, instance, set}

@@ -1,8 +1,7 @@
 -- Calls: one to its last step, and what it comes to where its cost is more than is left.
-use Rattle.std.proofs.Common.{◌≡◌, refl, ℕ, ℤ, List, [], ◌∷◌, pos, None, Some, true, false, map, ◌∙◌, arith}
+use Rattle.std.proofs.Common.{◌≡◌, refl, ℕ, [], ◌∷◌, pos, None, false, map, ◌∙◌, arith}
 use Rattle.std.specs.Prelude.{codes}
 use Rattle.std.specs.Fmt.{digits}
-use Rattle.chi_value.specs.declared.value.Value.TheVariants as value
 use Rattle.chi_value.specs.declared.shape.Shape.TheVariants as shape
 use Rattle.chi_value.specs.declared.format.Piece.TheVariants as piece
 use Rattle.chi_types.specs.declared.ty.Ty.TheVariants as ty
@@ -12,19 +11,17 @@ use Rattle.chi_core.specs.declared.op_name.OpName.TheVariants as op
 use Rattle.chi_core.specs.declared.statement.CStat.{CStat}
 use Rattle.chi_core.specs.declared.statement.CStat.TheVariants as s
 use Rattle.chi_core.specs.declared.fault.FaultKind.TheVariants.{CallDepth, NoReturn}
-use Rattle.chi_core.specs.declared.verdict.Verdict.TheVariants.{Fault}
 use Rattle.chi_core.specs.declared.program.Core.{Core}
 use Rattle.chi_core.specs.declared.program.FuncDef.{FuncDef}
 use Rattle.chi_core.specs.declared.program.ProcDef.{ProcDef}
 use Rattle.chi_core.specs.declared.label.Label.TheVariants.{Local}
-use Rattle.chi_core.specs.declared.view.View.{View}
 use Rattle.chi_core.specs.declared.scene.Scene.{Scene}
-use Rattle.chi_core.specs.Answer.{Answer, Gives, Fails, Spent, Amiss}
+use Rattle.chi_core.specs.Answer.{Gives, Fails, Spent, Amiss}
 use Rattle.chi_core.specs.Variables.{Variables}
 use Rattle.chi_core.specs.Evaluation.{eval, Run}
 use Rattle.chi_core.specs.Terms.{Do, Loop, Item, On, Returns, Term, act}
 use Rattle.chi_core.specs.Functions.{exec, run_at}
-use Rattle.chi_core.specs.Config.{Config, State, Running, Finished, scene_of, run_of}
+use Rattle.chi_core.specs.Config.{Config, Running, Finished, scene_of, run_of}
 use Rattle.chi_core.specs.Beginning.{start, Begins}
 use Rattle.chi_core.specs.Step as outcome
 use Rattle.chi_core.specs.Step.{step, Outcome, Next, Over}
@@ -113,7 +110,7 @@ enters left = simp (eval_lit, eval_var, eval_op, s.outs-While, closed)
 
 adds_3 : (left : ℕ) → goes (both 3 0) (Do adds) (Do takes ∷ again ∷ last) left (both 3 3) (Do takes ∷ again ∷ last)
 unfolding denote.Hole.Carrier.out
-adds_3 left = simp (eval_lit, eval_var, eval_op, s.outs-Assign, closed)
+adds_3 left = simp (eval_var, eval_op, s.outs-Assign, closed)
 
 takes_3 : (left : ℕ) → goes (both 3 3) (Do takes) (again ∷ last) left (both 2 3) (again ∷ last)
 unfolding denote.Hole.Carrier.out
@@ -125,7 +122,7 @@ tests_2 left = simp (eval_lit, eval_var, eval_op, closed)
 
 adds_2 : (left : ℕ) → goes (both 2 3) (Do adds) (Do takes ∷ again ∷ last) left (both 2 5) (Do takes ∷ again ∷ last)
 unfolding denote.Hole.Carrier.out
-adds_2 left = simp (eval_lit, eval_var, eval_op, s.outs-Assign, closed)
+adds_2 left = simp (eval_var, eval_op, s.outs-Assign, closed)
 
 takes_2 : (left : ℕ) → goes (both 2 5) (Do takes) (again ∷ last) left (both 1 5) (again ∷ last)
 unfolding denote.Hole.Carrier.out
@@ -137,7 +134,7 @@ tests_1 left = simp (eval_lit, eval_var, eval_op, closed)
 
 adds_1 : (left : ℕ) → goes (both 1 5) (Do adds) (Do takes ∷ again ∷ last) left (both 1 6) (Do takes ∷ again ∷ last)
 unfolding denote.Hole.Carrier.out
-adds_1 left = simp (eval_lit, eval_var, eval_op, s.outs-Assign, closed)
+adds_1 left = simp (eval_var, eval_op, s.outs-Assign, closed)
 
 takes_1 : (left : ℕ) → goes (both 1 6) (Do takes) (again ∷ last) left (both 0 6) (again ∷ last)
 unfolding denote.Hole.Carrier.out

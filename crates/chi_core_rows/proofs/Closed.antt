@@ -1,5 +1,5 @@
 -- What folds over values come to at values that are written out.
-use Rattle.std.proofs.Common.{◌≡◌, ℕ, ◌+◌, ℤ, pos, List, map, refl, sym, ap, ◌∙◌, Bool, true, false, ◌&&◌, None}
+use Rattle.std.proofs.Common.{◌≡◌, ℕ, ◌+◌, ℤ, pos, List, map, sym, ap, ◌∙◌, Bool, true}
 use Rattle.std.specs.declared.cmp.Ordering.{Ordering}
 use Rattle.std.specs.Ordering.{int_cmp}
 use Rattle.std.specs.List.{list_all}

@@ -1,11 +1,10 @@
 -- Expressions, of each kind.
-use Rattle.std.proofs.Common.{◌≡◌, refl, ℕ, zero, ℤ, List, [], ◌∷◌, pos, negsuc, None, Some, Bool, true, false, map, ◌∙◌, arith}
-use Rattle.std.specs.Prelude.{codes, int_lt}
+use Rattle.std.proofs.Common.{◌≡◌, ℕ, zero, List, [], ◌∷◌, pos, negsuc, None, Some, Bool, true, false, map}
+use Rattle.std.specs.Prelude.{int_lt}
 use Rattle.chi_value.specs.declared.value.Value.{Value, Value-F, out-Value}
 use Rattle.chi_value.specs.declared.value.Value.TheVariants as value
 use Rattle.chi_value.specs.declared.shape.Shape.TheVariants as shape
 use Rattle.chi_value.specs.declared.format.Kind.TheVariants as kind
-use Rattle.chi_ops.specs.Operations.{build, elements_built, of_kind, built}
 use Rattle.chi_ops.specs.Sequences.{insert_at}
 use Rattle.chi_core.specs.declared.expression.CExpr.{CExpr}
 use Rattle.chi_core.specs.declared.expression.CExpr.TheVariants as e
@@ -13,12 +12,12 @@ use Rattle.chi_core.specs.declared.op_name.OpName.TheVariants as op
 use Rattle.chi_core.specs.declared.fault.FaultKind.TheVariants.{TooLarge, TooManyChannels, DivideByZero}
 use Rattle.chi_core.specs.declared.view.View.{View}
 use Rattle.chi_core.specs.declared.scene.Scene.{Scene}
-use Rattle.chi_core.specs.Answer.{Answer, Gives, Fails, Spent, Amiss}
+use Rattle.chi_core.specs.Answer.{Answer, Gives, Fails, Amiss}
 use Rattle.chi_core.specs.Variables.{Variables}
 use Rattle.chi_core.specs.Evaluation.{eval, Run}
 use Rattle.chi_core.specs.Beginning.{no_draws}
 use Rattle.chi_core.proofs.Equations.{eval_lit, eval_var, eval_const, eval_op, eval_and, eval_or, eval_build, eval_part, eval_call, eval_insert, eval_default, eval_repeat}
-use Rattle.chi_core_rows.proofs.Closed.{closed, containers}
+use Rattle.chi_core_rows.proofs.Closed.{closed}
 use Rattle.chi_core_rows.proofs.Small.{int, number, set, left_of}
 
 abbrev scene : Scene

@@ -1,5 +1,5 @@
 -- Joins: an instance goes on once those for which it waits have finished.
-use Rattle.std.proofs.Common.{◌≡◌, ℕ, ℤ, pos, List, [], ◌∷◌, Option, Some, None, refl}
+use Rattle.std.proofs.Common.{◌≡◌, ℕ, pos, List, [], ◌∷◌, Some, refl}
 use Rattle.chi_core.specs.declared.label.Label.TheVariants.{Local, Join}
 use Rattle.chi_core.specs.declared.program.Core.{Core}
 use Rattle.chi_core.specs.declared.verdict.Verdict.TheVariants.{Deadlock}

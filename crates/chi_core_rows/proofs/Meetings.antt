@@ -1,5 +1,5 @@
 -- Two instances that meet, up to their deadlock; and a select that offers both ends of one channel.
-use Rattle.std.proofs.Common.{◌≡◌, ◌⊎◌, ℕ, zero, suc, ℤ, pos, List, [], ◌∷◌, Option, Some, None, map, true, false, refl, sym, subst, inl, arith, Contains}
+use Rattle.std.proofs.Common.{◌≡◌, ℕ, suc, pos, List, [], ◌∷◌, Some, None, map, false, refl, sym, subst, inl, arith}
 use Rattle.std.specs.Prelude.{codes}
 use Rattle.std.specs.Fmt.{digits}
 use Rattle.chi_value.specs.declared.value.Value.TheVariants as value
@@ -7,7 +7,6 @@ use Rattle.chi_value.specs.declared.shape.Shape.TheVariants as shape
 use Rattle.chi_value.specs.declared.format.Piece.TheVariants as piece
 use Rattle.chi_types.specs.declared.ty.Ty.TheVariants as ty
 use Rattle.chi_types.specs.declared.ty.Way.TheVariants as way
-use Rattle.chi_core.specs.declared.expression.CExpr.{CExpr}
 use Rattle.chi_core.specs.declared.expression.CExpr.TheVariants as e
 use Rattle.chi_core.specs.declared.statement.CStat.{CStat}
 use Rattle.chi_core.specs.declared.statement.CStat.TheVariants as s
@@ -18,7 +17,7 @@ use Rattle.chi_core.specs.declared.label.Label.{Label}
 use Rattle.chi_core.specs.declared.label.Label.TheVariants.{Local, Pair}
 use Rattle.chi_core.specs.declared.program.Core.{Core}
 use Rattle.chi_core.specs.declared.program.ProcDef.{ProcDef}
-use Rattle.chi_core.specs.declared.verdict.Verdict.TheVariants.{Deadlock}
+use Rattle.chi_core.specs.declared.verdict.Verdict.TheVariants.{Deadlock, OutOfSteps}
 use Rattle.chi_core.specs.declared.act.Act.TheVariants.{Send, Receive}
 use Rattle.chi_core.specs.Terms.{Do, Term}
 use Rattle.chi_core.specs.Config.{Config, Instance, Offer, State, Running, Waiting, Finished}
@@ -26,8 +25,8 @@ use Rattle.chi_core.specs.Starting.{makes, told_at, made_by}
 use Rattle.chi_core.specs.Options.{Ending, enabled, ending}
 use Rattle.chi_core.specs.Beginning.{start, Begins}
 use Rattle.chi_core.specs.Runs.{Runs, After, along, text_told, nothing, Told, MayDerive, Derivation}
-use Rattle.chi_core.specs.Picks.{picks_of, listed, MayPick, Picked}
-use Rattle.chi_core.specs.Step.{step, Outcome, Next, Amiss}
+use Rattle.chi_core.specs.Picks.{picks_of, last_numbers, listed, MayPick, Picked}
+use Rattle.chi_core.specs.Step.{step, Next, Amiss}
 use Rattle.chi_core.proofs.Equations.{eval_lit, eval_var, eval_default}
 use Rattle.chi_core_rows.proofs.Closed.{closed, layers}
 use Rattle.chi_core_rows.proofs.Parts.{parts}
@@ -210,6 +209,11 @@ derives =
 -- the policy that answers those numbers picks it
 picked : Picked core (start core [] 0 None) (listed numbers) 50 told
 picked = (runs (MayPick (listed numbers)) refl refl refl refl refl refl refl refl, sym output)
+
+-- where nothing is left of the bound, the first enabled label costs too much
+cut_off : last_numbers core OutOfSteps c4 0 ≡ 0 ∷ 0 ∷ []
+unfolding step
+cut_off = refl
 
 -- an instance isn't paired with itself
 abbrev both : Config

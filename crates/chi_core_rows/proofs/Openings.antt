@@ -1,11 +1,10 @@
 -- Openings: guards, delays, and unwinds with their bindings.
-use Rattle.std.proofs.Common.{◌≡◌, ℕ, ◌*◌, ℤ, pos, negsuc, List, [], ◌∷◌, Option, Some, None, map, Bool, true, false}
+use Rattle.std.proofs.Common.{◌≡◌, ℕ, pos, negsuc, List, [], ◌∷◌, Some, None, map, Bool, true, false}
 use Rattle.std.specs.Prelude.{codes, ◌^◌, ◌-◌}
 use Rattle.chi_value.specs.declared.value.Value.{Value}
 use Rattle.chi_value.specs.declared.value.Value.TheVariants as value
 use Rattle.chi_core.specs.declared.expression.CExpr.{CExpr}
 use Rattle.chi_core.specs.declared.expression.CExpr.TheVariants as e
-use Rattle.chi_core.specs.declared.op_name.OpName.TheVariants as op
 use Rattle.chi_core.specs.declared.statement.CStat.{CStat}
 use Rattle.chi_core.specs.declared.statement.CStat.TheVariants as s
 use Rattle.chi_core.specs.declared.statement.CAlt.{CAlt}
@@ -16,12 +15,12 @@ use Rattle.chi_core.specs.declared.label.Label.TheVariants.{Local}
 use Rattle.chi_core.specs.declared.program.Core.{Core}
 use Rattle.chi_core.specs.declared.fault.FaultKind.TheVariants.{NegativeDelay, RealRange}
 use Rattle.chi_core.specs.declared.verdict.Verdict.TheVariants.{Fault}
-use Rattle.chi_core.specs.declared.act.Act.TheVariants.{Send, Receive, Delay}
-use Rattle.chi_core.specs.Terms.{Do, Item}
+use Rattle.chi_core.specs.declared.act.Act.TheVariants.{Send, Receive}
+use Rattle.chi_core.specs.Terms.{Do}
 use Rattle.chi_core.specs.Config.{Offer, Running, Waiting}
-use Rattle.chi_core.specs.Variables.{Variables, Bindings}
+use Rattle.chi_core.specs.Variables.{Variables}
 use Rattle.chi_core.specs.Step.{step, Outcome, Next, Over}
-use Rattle.chi_core.proofs.Equations.{eval_lit, eval_var, eval_op}
+use Rattle.chi_core.proofs.Equations.{eval_lit, eval_var}
 use Rattle.chi_core_rows.proofs.Closed.{containers, layers}
 use Rattle.chi_core_rows.proofs.Parts.{parts}
 use Rattle.chi_core_rows.proofs.Small.{int, number, whole, process, core_of, config_of, instance, alone, set}
@@ -48,7 +47,7 @@ guard_false : does (Some (value.Chan 4) ∷ None ∷ [])
     (Guarded (Some (truth false)) (comm.Send (whole 0) (Some (e.Var 1))) body ∷ Guarded (Some (truth true)) (comm.Receive (whole 0) (Some 1)) body ∷ [])
     ≡ waits (Some (value.Chan 4) ∷ None ∷ []) (record { act = Receive 4 (Some 1); bindings = []; body = body } ∷ [])
 unfolding step denote.Hole.Carrier.out
-guard_false = simp (s.outs-Select, parts, eval_lit, eval_var, layers)
+guard_false = simp (s.outs-Select, parts, eval_lit, layers)
 
 delay_below_0 : does [] (Guarded None (comm.Delay (e.Lit (value.Real (negsuc 0)))) body ∷ []) ≡ Over (Fault NegativeDelay (codes "P") 4)
 unfolding step denote.Hole.Carrier.out

@@ -1,5 +1,5 @@
 -- Operators, predefined names and casts.
-use Rattle.std.proofs.Common.{◌≡◌, refl, ℕ, ℤ, pos, negsuc, List, [], ◌∷◌, None, Some, true, false}
+use Rattle.std.proofs.Common.{◌≡◌, refl, pos, negsuc, List, [], ◌∷◌, None, Some, true, false}
 use Rattle.std.specs.Prelude.{codes, ◌-◌, ◌^◌}
 use Rattle.std.specs.Fmt.{digits}
 use Rattle.chi_num.specs.Power.{power}
@@ -7,11 +7,11 @@ use Rattle.chi_num.specs.declared.dist.Dist.TheVariants as dist
 use Rattle.chi_num.specs.Decimal.{number_of}
 use Rattle.chi_ops.specs.Progression.{numbers}
 use Rattle.chi_dist.specs.Draws.{sampled}
-use Rattle.chi_value.specs.declared.value.Value.{Value, out-Value}
+use Rattle.chi_value.specs.declared.value.Value.{Value}
 use Rattle.chi_value.specs.declared.value.Value.TheVariants as value
 use Rattle.chi_core.specs.declared.op_name.OpName.{OpName}
 use Rattle.chi_core.specs.declared.op_name.OpName.TheVariants as op
-use Rattle.chi_core.specs.declared.fault.FaultKind.TheVariants.{IntRange, RealRange, DivideByZero, BadPower, IndexRange, KeyMissing, EmptyPop, TooLarge, SliceStep, BadText, BadDistribution}
+use Rattle.chi_core.specs.declared.fault.FaultKind.TheVariants.{IntRange, RealRange, DivideByZero, BadPower, IndexRange, EmptyPop, SliceStep, BadText, BadDistribution}
 use Rattle.chi_core.specs.declared.view.View.{View}
 use Rattle.chi_core.specs.declared.scene.Scene.{Scene}
 use Rattle.chi_core.specs.Answer.{Answer, Gives, Fails, Amiss}

@@ -10,7 +10,7 @@ use Rattle.chi_core.specs.declared.element.CElem.TheVariants as elem
 use Rattle.chi_core.specs.declared.target.CTarget.{CTarget}
 use Rattle.chi_core.specs.declared.program.ProcDef.{ProcDef}
 use Rattle.chi_core.specs.declared.view.View.{View}
-use Rattle.chi_core.specs.Answer.{Answer, then_do, wanted, through}
+use Rattle.chi_core.specs.Answer.{then_do, wanted, through}
 use Rattle.chi_core.specs.Reading.{elements_of}
 use Rattle.chi_core.specs.Variables.{Variables}
 use Rattle.chi_core.specs.Evaluation.{Evaluates}

@@ -1,37 +1,31 @@
 -- One step of each statement that only processes have.
-use Rattle.std.proofs.Common.{◌≡◌, ℕ, ◌*◌, ℤ, pos, negsuc, List, [], ◌∷◌, Option, Some, None, map, true, false, refl}
+use Rattle.std.proofs.Common.{◌≡◌, ℕ, ◌*◌, pos, List, [], ◌∷◌, Some, None, false}
 use Rattle.std.specs.Prelude.{codes}
 use Rattle.std.specs.Fmt.{digits}
-use Rattle.chi_value.specs.declared.value.Value.{Value, out-Value}
+use Rattle.chi_value.specs.declared.value.Value.{Value}
 use Rattle.chi_value.specs.declared.value.Value.TheVariants as value
 use Rattle.chi_value.specs.declared.format.Piece.TheVariants as piece
 use Rattle.chi_value.specs.Text.{quoted_text}
 use Rattle.chi_types.specs.declared.ty.Ty.TheVariants as ty
-use Rattle.chi_core.specs.declared.expression.CExpr.{CExpr}
 use Rattle.chi_core.specs.declared.expression.CExpr.TheVariants as e
-use Rattle.chi_core.specs.declared.op_name.OpName.TheVariants as op
 use Rattle.chi_core.specs.declared.statement.CStat.{CStat}
 use Rattle.chi_core.specs.declared.statement.CStat.TheVariants as s
 use Rattle.chi_core.specs.declared.statement.CAlt.{CAlt}
 use Rattle.chi_core.specs.declared.statement.CAlt.TheVariants as a
 use Rattle.chi_core.specs.declared.communication.CComm.{CComm}
 use Rattle.chi_core.specs.declared.communication.CComm.TheVariants as comm
-use Rattle.chi_core.specs.declared.element.CElem.{CElem}
 use Rattle.chi_core.specs.declared.element.CElem.TheVariants as elem
 use Rattle.chi_core.specs.declared.label.Label.TheVariants.{Local}
 use Rattle.chi_core.specs.declared.program.Core.{Core}
 use Rattle.chi_core.specs.declared.program.ProcDef.{ProcDef}
-use Rattle.chi_core.specs.declared.fault.FaultKind.TheVariants.{NegativeDelay, RealRange}
-use Rattle.chi_core.specs.declared.verdict.Verdict.TheVariants.{Fault, Exit}
+use Rattle.chi_core.specs.declared.verdict.Verdict.TheVariants.{Exit}
 use Rattle.chi_core.specs.declared.act.Act.TheVariants.{Send, Receive, Delay}
-use Rattle.chi_core.specs.Answer.{Answer}
-use Rattle.chi_core.specs.Terms.{Do, Item, Term}
-use Rattle.chi_core.specs.Config.{Config, Instance, Offer, State, Running, Waiting, Joining, Finished}
+use Rattle.chi_core.specs.Terms.{Do, Item}
+use Rattle.chi_core.specs.Config.{Instance, State, Running, Waiting, Joining}
 use Rattle.chi_core.specs.Variables.{Variables}
-use Rattle.chi_core.specs.Opening.{Opening}
 use Rattle.chi_core.specs.Starting.{makes, told_at, made_by}
-use Rattle.chi_core.specs.Step.{step, Outcome, Next, Over, Spent, Amiss}
-use Rattle.chi_core.proofs.Equations.{eval_lit, eval_var, eval_op}
+use Rattle.chi_core.specs.Step.{step, Outcome, Next, Over, Amiss}
+use Rattle.chi_core.proofs.Equations.{eval_lit, eval_var}
 use Rattle.chi_core_rows.proofs.Closed.{closed, layers}
 use Rattle.chi_core_rows.proofs.Parts.{parts}
 use Rattle.chi_core_rows.proofs.Small.{int, number, whole, process, core_of, config_of, instance, alone, set}

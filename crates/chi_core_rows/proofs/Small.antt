@@ -1,10 +1,9 @@
 -- Small programs and configurations, of which the rows are made.
-use Rattle.std.proofs.Common.{ℕ, ℤ, pos, List, [], ◌∷◌, Option, Some, None, map}
+use Rattle.std.proofs.Common.{ℕ, ℤ, pos, List, [], ◌∷◌, Option, Some, None}
 use Rattle.std.specs.Prelude.{codes}
 use Rattle.chi_value.specs.declared.value.Value.{Value}
 use Rattle.chi_value.specs.declared.value.Value.TheVariants as value
 use Rattle.chi_types.specs.declared.ty.Ty.{Ty}
-use Rattle.chi_types.specs.declared.ty.Ty.TheVariants as ty
 use Rattle.chi_core.specs.declared.expression.CExpr.{CExpr}
 use Rattle.chi_core.specs.declared.expression.CExpr.TheVariants as e
 use Rattle.chi_core.specs.declared.statement.CStat.{CStat}
@@ -13,7 +12,7 @@ use Rattle.chi_core.specs.declared.program.Core.{Core}
 use Rattle.chi_core.specs.declared.program.ProcDef.{ProcDef}
 use Rattle.chi_core.specs.declared.view.View.{View}
 use Rattle.chi_core.specs.Variables.{Variables}
-use Rattle.chi_core.specs.Terms.{Do, Item, Term}
+use Rattle.chi_core.specs.Terms.{Term}
 use Rattle.chi_core.specs.Config.{Config, Instance, State, Running}
 use Rattle.chi_core.specs.Beginning.{no_draws}
 

@@ -1,24 +1,23 @@
 -- One step of each statement that functions and processes share.
-use Rattle.std.proofs.Common.{◌≡◌, ℕ, ℤ, pos, List, [], ◌∷◌, Option, Some, None, map, true, false, refl}
+use Rattle.std.proofs.Common.{◌≡◌, ℕ, pos, List, [], ◌∷◌, Some, None, map, true, false, refl}
 use Rattle.std.specs.Prelude.{codes}
-use Rattle.chi_value.specs.declared.value.Value.{Value, out-Value}
+use Rattle.chi_value.specs.declared.value.Value.{Value}
 use Rattle.chi_value.specs.declared.value.Value.TheVariants as value
 use Rattle.chi_core.specs.declared.expression.CExpr.{CExpr}
 use Rattle.chi_core.specs.declared.expression.CExpr.TheVariants as e
-use Rattle.chi_core.specs.declared.op_name.OpName.TheVariants as op
 use Rattle.chi_core.specs.declared.statement.Branch.{Branch, roll-Branch}
 use Rattle.chi_core.specs.declared.statement.CStat.{CStat}
 use Rattle.chi_core.specs.declared.statement.CStat.TheVariants as s
-use Rattle.chi_core.specs.declared.target.CStep.TheVariants.{Index, Part}
+use Rattle.chi_core.specs.declared.target.CStep.TheVariants.{Index}
 use Rattle.chi_core.specs.declared.label.Label.TheVariants.{Local}
 use Rattle.chi_core.specs.declared.program.Core.{Core}
-use Rattle.chi_core.specs.declared.fault.FaultKind.TheVariants.{IndexRange, DivideByZero}
+use Rattle.chi_core.specs.declared.fault.FaultKind.TheVariants.{IndexRange}
 use Rattle.chi_core.specs.declared.verdict.Verdict.TheVariants.{Fault}
 use Rattle.chi_core.specs.Terms.{Do, Loop, Walk, Item, Term}
-use Rattle.chi_core.specs.Config.{Running, Finished}
+use Rattle.chi_core.specs.Config.{Finished}
 use Rattle.chi_core.specs.Variables.{Variables}
 use Rattle.chi_core.specs.Step.{step, Outcome, Next, Over, Spent, Amiss}
-use Rattle.chi_core.proofs.Equations.{eval_lit, eval_var, eval_op}
+use Rattle.chi_core.proofs.Equations.{eval_lit, eval_var}
 use Rattle.chi_core_rows.proofs.Closed.{containers, layers}
 use Rattle.chi_core_rows.proofs.Small.{int, number, whole, process, core_of, config_of, instance, alone, set}
 

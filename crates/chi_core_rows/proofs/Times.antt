@@ -1,5 +1,5 @@
 -- Time: delays, and a stopping time before, at and after a due time.
-use Rattle.std.proofs.Common.{◌≡◌, ℕ, ℤ, pos, List, [], ◌∷◌, Option, Some, None, refl}
+use Rattle.std.proofs.Common.{◌≡◌, ℤ, pos, [], ◌∷◌, Option, Some, None, refl}
 use Rattle.chi_core.specs.declared.label.Label.TheVariants.{Local, Advance, Wake}
 use Rattle.chi_core.specs.declared.program.Core.{Core}
 use Rattle.chi_core.specs.declared.verdict.Verdict.TheVariants.{Completed, Deadlock, Stopped}
@@ -9,7 +9,7 @@ use Rattle.chi_core.specs.declared.statement.CStat.TheVariants as s
 use Rattle.chi_core.specs.Config.{Config, Offer, State, Waiting, Finished, Running}
 use Rattle.chi_core.specs.Options.{enabled, ending}
 use Rattle.chi_core.specs.Step.{step, Next, Amiss}
-use Rattle.chi_core.specs.Terms.{Do, Term}
+use Rattle.chi_core.specs.Terms.{Do}
 use Rattle.chi_core_rows.proofs.Small.{process, core_of, config_of, instance}
 
 abbrev core : Core

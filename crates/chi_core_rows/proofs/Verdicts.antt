@@ -1,11 +1,10 @@
 -- The lines of verdicts.
-use Rattle.std.proofs.Common.{◌≡◌, refl, ℕ, ℤ, pos, List, [], ◌∷◌, None, Some}
+use Rattle.std.proofs.Common.{◌≡◌, refl, ℕ, pos, List, [], None, Some}
 use Rattle.std.specs.Prelude.{codes}
 use Rattle.std.specs.Fmt.{digits}
 use Rattle.chi_num.specs.Decimal.{last_digits}
 use Rattle.chi_num.specs.RealText.{trimmed}
 use Rattle.chi_value.specs.Text.{quoted_text}
-use Rattle.chi_value.specs.declared.value.Value.TheVariants as value
 use Rattle.chi_core.specs.declared.fault.FaultKind.TheVariants.{DivideByZero}
 use Rattle.chi_core.specs.declared.verdict.Verdict.{Verdict}
 use Rattle.chi_core.specs.declared.verdict.Verdict.TheVariants.{Completed, Exit, Deadlock, Fault, OutOfSteps, Stopped}
