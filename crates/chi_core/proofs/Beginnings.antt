@@ -1,16 +1,14 @@
 -- A run of a sound program with arguments of the model's kinds begins in a kinded configuration.
-use Rattle.std.proofs.Common.{◌≡◌, ℕ, zero, suc, ◌+◌, ◌-◌, ◌<◌, ℤ, Bool, true, nat_lt, ltb-true, Option, Some, None, List, [], ◌∷◌, ◌++◌, map, length, replicate, refl, sym, subst, ap, ◌∙◌, arith}
+use Rattle.std.proofs.Common.{◌≡◌, ℕ, zero, suc, ◌-◌, ◌<◌, ℤ, ltb-true, Option, Some, None, List, [], ◌∷◌, ◌++◌, map, length, replicate, refl, sym, subst, ap, ◌∙◌, arith}
 use Rattle.std.proofs.lemmas.List.{length-map, length-append, length-replicate, map-append}
-use Rattle.std.specs.Prelude.{slice_get, IsTrue}
-use Rattle.chi_types.specs.declared.ty.Ty.{Ty}
+use Rattle.std.specs.Prelude.{slice_get}
 use Rattle.chi_value.specs.declared.value.Value.{Value}
 use Rattle.chi_dist.specs.Draws.{stream_count}
 use Rattle.chi_core.specs.declared.program.Core.{Core}
 use Rattle.chi_core.specs.declared.program.ProcDef.{ProcDef}
-use Rattle.chi_core.specs.declared.statement.CStat.{CStat}
 use Rattle.chi_core.specs.Beginning.{first_config, no_draws}
-use Rattle.chi_core.specs.Config.{State, Running, Finished, rested, resting, new_instance, settled}
-use Rattle.chi_core.specs.Kinded.{HoldsOf, Held, StateFits, At, KindedInstance, KindedConstants, Kinded}
+use Rattle.chi_core.specs.Config.{rested, resting, new_instance, settled}
+use Rattle.chi_core.specs.Kinded.{HoldsOf, Held, StateFits, KindedInstance, KindedConstants, Kinded}
 use Rattle.chi_core.specs.Kinds.{Kind, kind_of, kinds_of}
 use Rattle.chi_core.specs.Of.{World, at_start, AreOf, none_of, one_of}
 use Rattle.chi_core.specs.Scopes.{process_home, exit_of}

@@ -66,7 +66,7 @@ nameless_layer (Ty-F.Dist a) = ap Ty-F.Dist a.1
 unnamed_erased : (a : Ty) → erased (unnamed a) ≡ erased a
 unnamed_erased = ind-Ty Nameless (λ x y e. subst (λ x. Nameless (roll-Ty x)) e
     (ap erased (unnamed_rolled (map-Ty Held Ty type_of y)) ∙ erased_rolled (bare (map-Ty Ty Ty unnamed (map-Ty Held Ty type_of y)))
-        ∙ ap roll-Ty (nameless_layer y) ∙ sym (erased_rolled (map-Ty Held Ty type_of y))))
+    ∙ ap roll-Ty (nameless_layer y) ∙ sym (erased_rolled (map-Ty Held Ty type_of y))))
 
 pub same_erased : (a b : Ty) → same a b ≡ true → erased a ≡ erased b
 same_erased a b h = sym (unnamed_erased a) ∙ ap erased (same_equal a b h) ∙ unnamed_erased b

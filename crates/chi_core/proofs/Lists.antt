@@ -1,6 +1,5 @@
 -- Facts on lists: elements by their places.
-use Rattle.std.proofs.Common.{◌≡◌, ℕ, zero, suc, List, [], ◌∷◌, Some, subst}
-use Rattle.std.specs.Prelude.{slice_get}
+use Rattle.std.proofs.Common.{◌≡◌, zero, suc, List, [], ◌∷◌, subst}
 use Rattle.chi_core.specs.Kinds.{Every}
 
 module _ {A : Type 0} (P : A → Type 0) where

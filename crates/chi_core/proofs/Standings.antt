@@ -1,7 +1,6 @@
 -- What is left at a place of a sound body is sound.
-use Rattle.std.proofs.Common.{◌≡◌, ℕ, zero, suc, Bool, true, false, Option, Some, List, [], ◌∷◌, ◌++◌, refl, sym, subst}
+use Rattle.std.proofs.Common.{◌≡◌, ℕ, zero, suc, Bool, true, Option, Some, List, [], ◌∷◌, ◌++◌, refl, sym, subst}
 use Rattle.std.specs.Prelude.{slice_get}
-use Rattle.chi_value.specs.declared.value.Value.{Value}
 use Rattle.chi_core.specs.declared.communication.CComm.{CComm}
 use Rattle.chi_core.specs.declared.expression.CExpr.{CExpr}
 use Rattle.chi_core.specs.declared.statement.Branch.{Branch, out-Branch}
@@ -11,7 +10,7 @@ use Rattle.chi_core.specs.Scopes.{Scope, Home}
 use Rattle.chi_core.specs.SetSlots.{StatLayer, Known, also, also_all, sets}
 use Rattle.chi_core.specs.Sound.{SoundHome}
 use Rattle.chi_core.specs.SoundStatements.{SoundStat, chooses, loops, walks, selects, SoundBlock, no_statement, one_statement, SoundBranches, no_branch, one_branch, SoundAlternatives, one_alternative, SoundAlternative, guarded, unwinds}
-use Rattle.chi_core.specs.Standing.{Frame, Inner, Looping, Walking, is_within_loop, Among, here, later, inside, Standing, begins, next, in_branch, in_else, in_loop, at_turn, in_walk, at_walk_turn, in_body}
+use Rattle.chi_core.specs.Standing.{Frame, is_within_loop, Among, here, later, inside, Standing, begins, next, in_branch, in_else, in_loop, at_turn, in_walk, at_walk_turn, in_body}
 
 also_append : (slots more : List ℕ) (known : Known) → also_all (slots ++ more) known ≡ also_all more (also_all slots known)
 also_append [] more known = refl
@@ -55,7 +54,7 @@ module _ (scope : Scope) where
   among_sound loop known _ _ _ _ h (inside a more slots container alternatives bound communication body e m) =
       subst (λ z. SoundBlock scope loop z body) (sym (also_append slots bound known))
       (among_sound loop (also_all slots known) alternatives bound communication body
-          (unwound_alternatives loop known slots container alternatives (subst (SoundAlternative scope loop known) e (first_alternative loop known a more h))) m)
+      (unwound_alternatives loop known slots container alternatives (subst (SoundAlternative scope loop known) e (first_alternative loop known a more h))) m)
 
   branches_of : (loop : Bool) (known : Known) (line : ℕ) (bs : List Branch) (otherwise : List CStat) → SoundStat scope loop known (CStat-F.If line bs otherwise)
       → SoundBranches scope loop known bs × SoundBlock scope loop known otherwise

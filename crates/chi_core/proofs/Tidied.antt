@@ -3,11 +3,11 @@ use Rattle.std.proofs.Common.{◌≡◌, ℕ, zero, suc, Bool, true, ◌&&◌, L
 use Rattle.std.proofs.lemmas.Bool.{and_from, and_parts}
 use Rattle.std.specs.List.{list_all, cons_option}
 use Rattle.std.specs.Prelude.{is_some}
-use Rattle.chi_types.specs.declared.ty.Ty.{Ty, Ty-F, out-Ty}
+use Rattle.chi_types.specs.declared.ty.Ty.{Ty, out-Ty}
 use Rattle.chi_types.specs.Plain.{holds}
 use Rattle.chi_types.specs.Plain as types
 use Rattle.chi_types.specs.Same.{beside}
-use Rattle.chi_value.specs.declared.value.Value.{Value, Value-F, out-Value, roll-out-Value, para-Value, para-roll-Value, fold_out-Value, map-Value}
+use Rattle.chi_value.specs.declared.value.Value.{Value, Value-F, out-Value, roll-out-Value, para-roll-Value, fold_out-Value, map-Value}
 use Rattle.chi_value.specs.Alike.{Alike, alike, all_alike, part_itself, part_holds, uniform, uniform_step}
 use Rattle.chi_value.specs.Plain.{is_plain, plain_step, itself, within, within_step}
 use Rattle.chi_sets.specs.Dictionaries.{are_entries, is_entry, keys, key_in}
@@ -74,7 +74,7 @@ module _ (w : World) where
       → (list_all part_holds (map with_uniform xs) && all_alike (map part_itself (map with_uniform xs))) ≡ true
   uniform_all xs T each passes = and_from _ _ (all_pass part_holds with_uniform xs passes)
       (ap all_alike (itselves uniform xs) ∙ each_passes (λ x. list_all (alike x) xs) xs
-          (λ k x e. each_passes (alike x) xs (λ j y e'. alike_of w x y T (each k x e) (each j y e'))))
+      (λ k x e. each_passes (alike x) xs (λ j y e'. alike_of w x y T (each k x e) (each j y e'))))
 
   mutual
     uniform_kinds : (x : Value-F Value) (T : Kind) → Of w x T → uniform_step (map-Value Value (Value × Bool) with_uniform x) ≡ true
@@ -141,11 +141,11 @@ module _ (w : World) where
     sorted_kinds _ _ (of_set xs t short plain ascending each) =
         and_from _ _ (all_pass part_holds with_sorted xs (λ k x e. sorted_out x ∙ sorted_kinds (out-Value x) (out-Ty t) (each k x e)))
         (ap is_set_list (itselves sorted xs)
-            ∙ and_from _ _ (each_passes is_plain xs (λ k x e. plain_of w x (out-Ty t) (kind_of_plain t plain) (each k x e))) ascending)
+        ∙ and_from _ _ (each_passes is_plain xs (λ k x e. plain_of w x (out-Ty t) (kind_of_plain t plain) (each k x e))) ascending)
     sorted_kinds _ _ (of_dictionary xs key has short plain ascending each) =
         and_from _ _ (all_pass part_holds with_sorted xs (λ k x e. sorted_out x ∙ sorted_kinds (out-Value x) (entry_of key has) (each k x e)))
         (ap is_dictionary_list (itselves sorted xs)
-            ∙ and_from _ _ (and_from _ _ (entries_stand w key has xs each) (keys_plain w key has plain xs each)) ascending)
+        ∙ and_from _ _ (and_from _ _ (entries_stand w key has xs each) (keys_plain w key has plain xs each)) ascending)
     sorted_kinds _ _ (of_channel n t e) = refl
     sorted_kinds _ _ (of_dist d t yields) = refl
     sorted_kinds _ _ (of_timer due) = refl

@@ -1,5 +1,5 @@
 -- What is of a kind stays so where more may be named.
-use Rattle.std.proofs.Common.{◌≡◌, ℕ, zero, suc, Some, None, le_refl, le_trans, lt_of_lt_of_le, List, [], ◌∷◌, ◌++◌, arith, refl, sym, subst, ◌∙◌}
+use Rattle.std.proofs.Common.{◌≡◌, ℕ, zero, suc, Some, le_refl, le_trans, lt_of_lt_of_le, List, [], ◌∷◌, ◌++◌, arith, refl, sym, subst, ◌∙◌}
 use Rattle.std.specs.Prelude.{slice_get}
 use Rattle.chi_types.specs.declared.ty.Ty.{Ty, out-Ty}
 use Rattle.chi_value.specs.declared.value.Value.{Value, Value-F, out-Value}

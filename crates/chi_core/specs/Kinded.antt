@@ -1,5 +1,5 @@
 -- Kinded configurations: what holds at each moment of a run of a sound program.
-use Rattle.std.specs.Prelude.{◌≡◌, ◌⊎◌, ℕ, ◌<◌, ◌≤◌, ℤ, Option, Some, None, List, [], ◌∷◌, length, slice_get, IsTrue, false}
+use Rattle.std.specs.Prelude.{◌≡◌, ℕ, ◌<◌, ◌≤◌, ℤ, Option, Some, None, List, [], ◌∷◌, length, slice_get, IsTrue, false}
 use Rattle.chi_types.specs.declared.ty.Ty.{Ty, out-Ty}
 use Rattle.chi_value.specs.declared.value.Value.{Value, out-Value}
 use Rattle.chi_dist.specs.Draws.{stream_count}

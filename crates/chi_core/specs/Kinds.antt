@@ -3,7 +3,6 @@
 use Rattle.std.specs.Prelude.{◌≡◌, ℕ, Bool, true, false, ◌||◌, List, [], ◌∷◌, map, Some, slice_get}
 use Rattle.std.specs.List.{list_any}
 use Rattle.chi_types.specs.declared.ty.Ty.{Ty, Ty-F, fold-Ty, map-Ty, out-Ty, roll-Ty}
-use Rattle.chi_types.specs.declared.ty.Ty.TheVariants as ty
 use Rattle.chi_types.specs.declared.ty.Way.TheVariants as way
 use Rattle.chi_types.specs.Plain.{is_plain, plain_step, holds}
 use Rattle.chi_types.specs.Same.{nameless}

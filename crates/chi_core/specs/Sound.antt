@@ -1,6 +1,6 @@
 -- When a checked program is sound: each value is of the kind that its place wants, what is read was set before, and
 -- each number names something.
-use Rattle.std.specs.Prelude.{◌≡◌, ℕ, ◌<◌, ◌≤◌, Bool, false, Option, Some, None, List, ◌++◌, length, slice_get}
+use Rattle.std.specs.Prelude.{◌≡◌, ℕ, ◌<◌, ◌≤◌, false, Option, Some, None, List, ◌++◌, length, slice_get}
 use Rattle.chi_token.specs.declared.token.Token.TheVariants.{Name}
 use Rattle.chi_token.specs.Tokens.{token_of}
 use Rattle.chi_types.specs.declared.ty.Ty.{Ty, out-Ty}

@@ -1,6 +1,6 @@
 -- Sound parts of statements: targets, channels, names that walks bind, what is written, what is offered, and what
 -- is started.
-use Rattle.std.specs.Prelude.{◌≡◌, ℕ, ◌≤◌, Bool, true, false, Option, Some, None, List, [], ◌∷◌, slice_get, IsTrue}
+use Rattle.std.specs.Prelude.{◌≡◌, ℕ, ◌≤◌, false, Option, Some, None, List, [], ◌∷◌, slice_get, IsTrue}
 use Rattle.chi_types.specs.declared.ty.Ty.{Ty, Ty-F, out-Ty}
 use Rattle.chi_types.specs.declared.ty.Way.TheVariants as way
 use Rattle.chi_value.specs.declared.format.Piece.{Piece}

@@ -9,7 +9,7 @@ use Rattle.chi_core.specs.declared.statement.CAlt.{CAlt, CAlt-F, out-CAlt}
 use Rattle.chi_core.specs.declared.statement.CStat.{CStat, CStat-F, out-CStat}
 use Rattle.chi_core.specs.Scopes.{Home}
 use Rattle.chi_core.specs.SetSlots.{Known, also_all, sets, params_known}
-use Rattle.chi_core.specs.Terms.{Item, Do, Loop, Walk, Term}
+use Rattle.chi_core.specs.Terms.{Do, Loop, Walk, Term}
 
 -- What stands around a block: the rest of the block around it; and before that, where it is the block of a loop or a
 -- walk under way, that loop, or that walk with its container and the elements that are left.

@@ -1,7 +1,7 @@
 -- Building proofs of soundness: from a layer to the tree that has it.
-use Rattle.std.proofs.Common.{◌≡◌, ℕ, Bool, true, Some, List, [], ◌∷◌, sym, subst, ap, ◌∙◌}
+use Rattle.std.proofs.Common.{◌≡◌, ℕ, Bool, Some, List, ◌∷◌, sym, subst, ap, ◌∙◌}
 use Rattle.std.specs.Prelude.{slice_get}
-use Rattle.chi_types.specs.declared.ty.Ty.{Ty, Ty-F, out-Ty}
+use Rattle.chi_types.specs.declared.ty.Ty.{Ty, Ty-F}
 use Rattle.chi_types.specs.declared.ty.Way.{Way}
 use Rattle.chi_types.specs.declared.ty.Way.TheVariants as way
 use Rattle.chi_types.specs.declared.ty.Ty.TheVariants as ty
@@ -15,7 +15,6 @@ use Rattle.chi_core.specs.Kinds.{Kind, erased, kind_of}
 use Rattle.chi_core.specs.Scopes.{Scope}
 use Rattle.chi_core.specs.SetSlots.{StatLayer, Known, sets}
 use Rattle.chi_core.specs.SoundExpressions.{HasKind, HaveKinds, one_expression}
-use Rattle.chi_core.specs.SoundParts.{SoundElements, SoundElement, one_element}
 use Rattle.chi_core.specs.SoundStatements.{SoundStat, SoundBlock, one_statement, SoundAlternatives, SoundAlternative, one_alternative}
 use Rattle.chi_core.proofs.Erased.{kind_at}
 

@@ -1,41 +1,27 @@
 -- What a sound statement or expression of one form says of its parts.
-use Rattle.std.proofs.Common.{◌≡◌, ◌≢◌, ℕ, zero, suc, ℤ, pos, Bool, true, false, Option, Some, None, List, [], ◌∷◌, ◌++◌, map, refl, sym, subst, ap, ◌∙◌, arith, ◌<◌}
+use Rattle.std.proofs.Common.{◌≡◌, ℕ, pos, Bool, true, false, Some, None, List, [], ◌∷◌, ◌++◌, map, refl, sym, subst, ◌∙◌, ◌<◌}
 use Rattle.std.proofs.lemmas.Bool.{false≢true}
 use Rattle.std.specs.Prelude.{slice_get, codes, IsTrue, length}
-use Rattle.chi_token.specs.Keywords.{keyword_of}
-use Rattle.chi_token.specs.Tables.{value_at}
-use Rattle.chi_token.specs.Tokens.{token_of}
 use Rattle.chi_types.specs.declared.ty.Ty.{Ty, Ty-F, out-Ty}
-use Rattle.chi_types.specs.declared.ty.Ty.TheVariants as ty
-use Rattle.chi_types.specs.declared.ty.Way.TheVariants as way
 use Rattle.chi_types.specs.Plain.{is_plain}
-use Rattle.chi_value.specs.declared.format.Field.{Field}
 use Rattle.chi_value.specs.declared.format.Kind.TheVariants as build
-use Rattle.chi_value.specs.declared.format.Piece.TheVariants as piece
-use Rattle.chi_value.specs.declared.shape.Shape.{Shape, out-Shape, fold_out-Shape, map-Shape}
-use Rattle.chi_value.specs.declared.shape.Shape.TheVariants as shape
+use Rattle.chi_value.specs.declared.shape.Shape.{Shape, out-Shape}
 use Rattle.chi_value.specs.declared.value.Value.{Value, Value-F, out-Value}
 use Rattle.chi_value.specs.declared.value.Value.TheVariants as value
 use Rattle.chi_dist.specs.Draws.{stream_count}
 use Rattle.chi_core.specs.declared.expression.CExpr.{CExpr, CExpr-F, out-CExpr}
 use Rattle.chi_core.specs.declared.expression.CExpr.TheVariants as e
 use Rattle.chi_core.specs.declared.op_name.OpName.{OpName}
-use Rattle.chi_core.specs.declared.op_name.OpName.TheVariants as op
-use Rattle.chi_core.specs.declared.program.ConstDef.{ConstDef}
 use Rattle.chi_core.specs.declared.program.Core.{Core}
 use Rattle.chi_core.specs.declared.program.FuncDef.{FuncDef}
 use Rattle.chi_core.specs.declared.program.ProcDef.{ProcDef}
 use Rattle.chi_core.specs.declared.statement.CStat.{CStat, CStat-F, out-CStat}
-use Rattle.chi_core.specs.declared.statement.CStat.TheVariants as s
-use Rattle.chi_core.specs.declared.target.CTarget.{CTarget}
 use Rattle.chi_core.specs.Kinds.{Kind, tuple_of}
-use Rattle.chi_core.specs.OperatorKinds.{OpKind, has_stream, time_now, uniform_int, ShapeKind}
-use Rattle.chi_core.specs.Scopes.{Scope, may_apply, may_read, may_make, process_home, function_home, constant_scope}
-use Rattle.chi_core.specs.SetSlots.{StatLayer, Known, params_known}
-use Rattle.chi_core.specs.Sound.{IsName, Sound, SoundEnumeration, nothing_known}
+use Rattle.chi_core.specs.OperatorKinds.{OpKind, has_stream, ShapeKind}
+use Rattle.chi_core.specs.Scopes.{Scope, may_apply, may_read, may_make, process_home}
+use Rattle.chi_core.specs.SetSlots.{StatLayer, Known}
 use Rattle.chi_core.specs.SoundExpressions.{HasKind, fresh_default, tuple_literal, list_literal, set_literal, literal, variable, constant, operation, distribution, part, call, HaveKinds, no_expression, one_expression, LiteralKind, bool, int as int_literal, stream_operand}
 use Rattle.chi_core.specs.SoundStatements.{SoundStat, declares, returns, SoundBlock, one_statement}
-use Rattle.chi_sound_rows.proofs.Building.{int_kind, bool_kind}
 
 abbrev pub int : ℕ → CExpr
 int n = e.Lit (value.Int (pos n))
@@ -90,7 +76,6 @@ module _ (scope : Scope) (known : Known) where
 
   pub two_of : (a b : CExpr) (Ts : List Kind) → HaveKinds scope known (a ∷ b ∷ []) Ts → (T : Kind) × (U : Kind) × HasKind scope known (out-CExpr a) T × HasKind scope known (out-CExpr b) U × (Ts ≡ T ∷ U ∷ [])
   two_of a b _ (one_expression _ _ T _ h (one_expression _ _ U _ l no_expression)) = (T, U, h, l, refl)
-
 
   pub one_of : (a : CExpr) (Ts : List Kind) → HaveKinds scope known (a ∷ []) Ts → (T : Kind) × HasKind scope known (out-CExpr a) T × (Ts ≡ T ∷ [])
   one_of a _ (one_expression _ _ T _ h no_expression) = (T, h, refl)

@@ -1,5 +1,6 @@
 mod Building
 mod Forms
+mod Line
 mod SoundExample
 mod UnsoundExpressions
 mod UnsoundStatements

@@ -1,97 +1,47 @@
--- A sound program: a model with a line of two processes that meet, started by an unwind, and one function.
---
---     func int twice(int n): return n + n end
---     proc S(chan! int a): a!twice(3) end
---     proc R(chan? int a): int x; a?x; writeln("%d", x) end
---     model M(): chan int c; run unwind i in range(1): S(c) end, R(c) end
-use Rattle.std.proofs.Common.{◌≡◌, ℕ, zero, suc, ℤ, pos, Bool, true, false, Option, Some, None, List, [], ◌∷◌, ◌++◌, map, refl, sym, subst, ap, ◌∙◌, arith, ◌<◌, ◌≤◌}
+-- The program of `Line` is sound, and a run of it begins in a kinded configuration.
+use Rattle.std.proofs.Common.{◌≡◌, ℕ, zero, suc, pos, Bool, true, false, Some, None, List, [], ◌∷◌, ◌++◌, refl, sym, subst, ap, ◌∙◌, arith}
 use Rattle.std.proofs.lemmas.Bool.{false≢true}
-use Rattle.std.specs.Prelude.{slice_get, codes, option_map}
+use Rattle.std.specs.Prelude.{slice_get, option_map}
 use Rattle.chi_token.specs.Keywords.{keyword_of}
 use Rattle.chi_token.specs.Tables.{value_at}
 use Rattle.chi_token.specs.Tokens.{token_of}
-use Rattle.chi_types.specs.declared.ty.Ty.{Ty, Ty-F, out-Ty}
+use Rattle.chi_types.specs.declared.ty.Ty.{Ty-F, out-Ty}
 use Rattle.chi_types.specs.declared.ty.Ty.TheVariants as ty
 use Rattle.chi_types.specs.declared.ty.Way.{Way}
 use Rattle.chi_types.specs.declared.ty.Way.TheVariants as way
-use Rattle.chi_value.specs.declared.format.Field.{Field}
 use Rattle.chi_value.specs.declared.format.Piece.{Piece}
 use Rattle.chi_value.specs.declared.format.Piece.TheVariants as piece
 use Rattle.chi_value.specs.declared.shape.Shape.{out-Shape}
 use Rattle.chi_value.specs.declared.shape.Shape.TheVariants as shape
 use Rattle.chi_value.specs.declared.value.Value.TheVariants as value
 use Rattle.chi_core.specs.declared.communication.CComm.TheVariants as comm
-use Rattle.chi_core.specs.declared.element.CElem.{CElem, CElem-F, out-CElem}
+use Rattle.chi_core.specs.declared.element.CElem.{CElem, out-CElem}
 use Rattle.chi_core.specs.declared.element.CElem.TheVariants as elem
 use Rattle.chi_core.specs.declared.expression.CExpr.{CExpr, CExpr-F, out-CExpr}
 use Rattle.chi_core.specs.declared.expression.CExpr.TheVariants as e
 use Rattle.chi_core.specs.declared.op_name.OpName.TheVariants as op
-use Rattle.chi_core.specs.declared.program.Core.{Core}
-use Rattle.chi_core.specs.declared.program.ConstDef.{ConstDef}
-use Rattle.chi_core.specs.declared.program.FuncDef.{FuncDef}
 use Rattle.chi_core.specs.declared.program.ProcDef.{ProcDef}
 use Rattle.chi_core.specs.declared.statement.CAlt.{CAlt}
 use Rattle.chi_core.specs.declared.statement.CAlt.TheVariants as a
 use Rattle.chi_core.specs.declared.statement.CStat.TheVariants as s
-use Rattle.chi_core.specs.declared.target.CTarget.{CTarget}
 use Rattle.chi_core.specs.Beginning.{first_config}
 use Rattle.chi_core.specs.Kinded.{Kinded}
 use Rattle.chi_core.specs.Of.{none_of}
 use Rattle.chi_core.specs.Fills.{Fill, Fills, filled, unwound, by_body, by_element, by_statement, SetOnce, UnwindsOwn}
-use Rattle.chi_core.specs.Kinds.{Kind, erased, kind_of, kinds_of, is_void, Every}
+use Rattle.chi_core.specs.Kinds.{Kind, erased, kind_of, kinds_of, is_void}
 use Rattle.chi_core.specs.OperatorKinds.{add_ints, range_to, ShapeKind, shape_int, shape_channel}
-use Rattle.chi_core.specs.Scopes.{Scope, Home, process, function, function_home, process_home}
-use Rattle.chi_core.specs.SetSlots.{Known, also, also_all, params_known}
-use Rattle.chi_core.specs.Sound.{IsName, Sound, SoundIn, SoundEnumeration, SoundHome, SoundFunction, SoundProcess}
+use Rattle.chi_core.specs.Scopes.{Scope, Home, function_home, process_home}
+use Rattle.chi_core.specs.SetSlots.{Known, also, params_known}
+use Rattle.chi_core.specs.Sound.{Sound, SoundIn, SoundEnumeration, SoundHome, SoundFunction, SoundProcess}
 use Rattle.chi_core.specs.SoundExpressions.{HasKind, literal, int as an_int, variable, operation, call, fresh_default, HaveKinds, no_expression, one_expression, LiteralKind}
-use Rattle.chi_core.specs.SoundParts.{ChannelAt, Walks, MayStart, no_step, element_itself, a_list, plain_text, whole_number, no_piece, sends, receives, no_guard, its_own, nowhere, SoundElements, SoundElement, no_element, one_element, makes, unwinds}
-use Rattle.chi_core.specs.SoundStatements.{declares, returns, writes, selects, runs, SoundBlock, no_statement, no_alternative, guarded}
+use Rattle.chi_core.specs.SoundParts.{ChannelAt, Walks, MayStart, no_step, element_itself, a_list, plain_text, whole_number, no_piece, sends, receives, no_guard, its_own, nowhere, SoundElement, no_element, one_element, makes, unwinds}
+use Rattle.chi_core.specs.SoundStatements.{declares, returns, writes, selects, runs, no_statement, no_alternative, guarded}
 use Rattle.chi_core.specs.SoundTypes.{SoundType}
 use Rattle.chi_core.specs.SoundTypes as types
 use Rattle.chi_core.proofs.Beginnings.{start_kinded}
-use Rattle.chi_sound_rows.proofs.Building.{int_kind, channel_kind, slot_is, has, with_expression, with_statement, with_alternative, fills_at, alternative_fills_at, element_fills_at}
+use Rattle.chi_sound_rows.proofs.Building.{int_kind, channel_kind, slot_is, has, with_statement, with_alternative, fills_at, alternative_fills_at, element_fills_at}
 use Rattle.chi_core.proofs.Lists.{every_nil, every_cons}
-
-abbrev pub slot : ℕ → CTarget
-slot n = record { slot = n; steps = [] }
-
-abbrev pub int : ℕ → CExpr
-int n = e.Lit (value.Int (pos n))
-
-abbrev pub bare : Field
-bare = record { left = false; width = 0 }
-
-abbrev pub twice : FuncDef
-twice = record {
-  name = codes "twice"; arity = 1; result = ty.Int; slots = ty.Int ∷ [];
-  body = s.Return 1 (e.Op op.Add (e.Var 0 ∷ e.Var 0 ∷ [])) ∷ [];
-}
-
-abbrev pub sender : ProcDef
-sender = record {
-  name = codes "S"; params = ty.Chan way.Send ty.Int ∷ []; exit = None; slots = ty.Chan way.Send ty.Int ∷ [];
-  body = s.Select 2 (a.Guarded None (comm.Send (slot 0) (Some (e.Call 0 (int 3 ∷ [])))) [] ∷ []) ∷ [];
-}
-
-abbrev pub receiver : ProcDef
-receiver = record {
-  name = codes "R"; params = ty.Chan way.Receive ty.Int ∷ []; exit = None; slots = ty.Chan way.Receive ty.Int ∷ ty.Int ∷ [];
-  body = s.Declare 3 1 (e.Default shape.Int)
-    ∷ s.Select 3 (a.Guarded None (comm.Receive (slot 0) (Some 1)) [] ∷ [])
-    ∷ s.Write 3 (piece.Whole bare ∷ piece.Plain (10 ∷ []) ∷ []) (e.Var 1 ∷ []) ∷ [];
-}
-
-abbrev pub model : ProcDef
-model = record {
-  name = codes "M"; params = []; exit = None; slots = ty.Chan way.Both ty.Int ∷ ty.Int ∷ [];
-  body = s.Declare 4 0 (e.Default shape.Chan)
-    ∷ s.Run 4 (elem.Unwind (1 ∷ []) (e.Op op.Range (int 1 ∷ [])) (elem.Make None 0 (e.Var 0 ∷ []) ∷ []) ∷ elem.Make None 1 (e.Var 0 ∷ []) ∷ []) ∷ [];
-}
-
-abbrev pub line_of_two : Core
-line_of_two = record {
-  consts = []; funcs = twice ∷ []; procs = sender ∷ receiver ∷ model ∷ []; model = 2; names = record { kinds = [] };
-}
+use Rattle.chi_sound_rows.proofs.Line.{slot, int, bare, twice, sender, receiver, model, line_of_two}
 
 -- types
 
@@ -124,15 +74,15 @@ unfolding in_twice
 twice_value =
     let n = slot_read in_twice.scope (params_known in_twice) 0 Ty-F.Int refl (ap Some int_kind) in
     has in_twice.scope (params_known in_twice) _ (CExpr-F.Op op.Add (e.Var 0 ∷ e.Var 0 ∷ [])) Ty-F.Int (e.outs-Op op.Add (e.Var 0 ∷ e.Var 0 ∷ []))
-        (operation op.Add (e.Var 0 ∷ e.Var 0 ∷ []) (Ty-F.Int ∷ Ty-F.Int ∷ []) Ty-F.Int add_ints refl refl
-            (one_expression (e.Var 0) (e.Var 0 ∷ []) Ty-F.Int (Ty-F.Int ∷ []) n (one_expression (e.Var 0) [] Ty-F.Int [] n no_expression)))
+    (operation op.Add (e.Var 0 ∷ e.Var 0 ∷ []) (Ty-F.Int ∷ Ty-F.Int ∷ []) Ty-F.Int add_ints refl refl
+    (one_expression (e.Var 0) (e.Var 0 ∷ []) Ty-F.Int (Ty-F.Int ∷ []) n (one_expression (e.Var 0) [] Ty-F.Int [] n no_expression)))
 
 twice_home : SoundHome in_twice
 unfolding in_twice
 twice_home = record {
   body = with_statement in_twice.scope false (params_known in_twice) _ [] _ (s.outs-Return 1 (e.Op op.Add (e.Var 0 ∷ e.Var 0 ∷ [])))
       (returns false (params_known in_twice) 1 (e.Op op.Add (e.Var 0 ∷ e.Var 0 ∷ [])) (kind_of ty.Int) refl
-          (as_int in_twice.scope (params_known in_twice) (e.Op op.Add (e.Var 0 ∷ e.Var 0 ∷ [])) twice_value))
+      (as_int in_twice.scope (params_known in_twice) (e.Op op.Add (e.Var 0 ∷ e.Var 0 ∷ [])) twice_value))
       (no_statement false (params_known in_twice));
   unwinds = subst (UnwindsOwn 1) (sym fills) (λ k slot e. absurd (cc));
 }
@@ -181,14 +131,14 @@ unfolding in_sender
 sender_home = record {
   body = with_statement in_sender.scope false known _ [] _ (s.outs-Select 2 (offer_to_send ∷ []))
       (selects false known 2 (offer_to_send ∷ []) None refl
-          (with_alternative in_sender.scope false known offer_to_send [] _ (a.outs-Guarded None (comm.Send (slot 0) (Some call_of_twice)) [])
-              (guarded false known None (comm.Send (slot 0) (Some call_of_twice)) [] no_guard
-                  (sends (slot 0) call_of_twice (erased ty.Int) (channel_at in_sender.scope known way.Send refl refl) (ap is_void int_kind)
-                      (has in_sender.scope known call_of_twice _ (kind_of ty.Int) (e.outs-Call 0 (int 3 ∷ []))
-                          (call 0 (int 3 ∷ []) twice refl refl
-                              (one_expression (int 3) [] (kind_of ty.Int) [] (as_int in_sender.scope known (int 3) (int_literal in_sender.scope known 3)) no_expression))))
-                  (no_statement false known))
-              (no_alternative false known)))
+      (with_alternative in_sender.scope false known offer_to_send [] _ (a.outs-Guarded None (comm.Send (slot 0) (Some call_of_twice)) [])
+      (guarded false known None (comm.Send (slot 0) (Some call_of_twice)) [] no_guard
+      (sends (slot 0) call_of_twice (erased ty.Int) (channel_at in_sender.scope known way.Send refl refl) (ap is_void int_kind)
+      (has in_sender.scope known call_of_twice _ (kind_of ty.Int) (e.outs-Call 0 (int 3 ∷ []))
+      (call 0 (int 3 ∷ []) twice refl refl
+      (one_expression (int 3) [] (kind_of ty.Int) [] (as_int in_sender.scope known (int 3) (int_literal in_sender.scope known 3)) no_expression))))
+      (no_statement false known))
+      (no_alternative false known)))
       (no_statement false known);
   unwinds = subst (UnwindsOwn 1) (sym fills) (λ k slot e. absurd (cc));
 }
@@ -199,7 +149,7 @@ sender_home = record {
     fills : by_body sender.body ≡ []
     fills = ap (λ (f : Fills). f ++ [])
         (fills_at _ _ (s.outs-Select 2 (offer_to_send ∷ []))
-            ∙ ap (λ (f : Fills). f ++ []) (alternative_fills_at _ _ (a.outs-Guarded None (comm.Send (slot 0) (Some call_of_twice)) [])))
+        ∙ ap (λ (f : Fills). f ++ []) (alternative_fills_at _ _ (a.outs-Guarded None (comm.Send (slot 0) (Some call_of_twice)) [])))
 
 sound_sender : SoundProcess line_of_two sender
 unfolding in_sender token_of keyword_of value_at
@@ -236,21 +186,21 @@ unfolding in_receiver
 receiver_home = record {
   body = with_statement receiver_scope false receiver_known _ _ _ (s.outs-Declare 3 1 (e.Default shape.Int))
       (declares false receiver_known 3 1 (e.Default shape.Int) (kind_of ty.Int) refl refl
-          (has receiver_scope receiver_known (e.Default shape.Int) _ (kind_of ty.Int) (e.outs-Default shape.Int)
-              (fresh_default shape.Int (kind_of ty.Int)
-                  (subst (ShapeKind 0 (out-Shape shape.Int)) (sym int_kind) (subst (λ z. ShapeKind 0 z Ty-F.Int) (sym shape.outs-Int) shape_int)) refl)))
+      (has receiver_scope receiver_known (e.Default shape.Int) _ (kind_of ty.Int) (e.outs-Default shape.Int)
+      (fresh_default shape.Int (kind_of ty.Int)
+      (subst (ShapeKind 0 (out-Shape shape.Int)) (sym int_kind) (subst (λ z. ShapeKind 0 z Ty-F.Int) (sym shape.outs-Int) shape_int)) refl)))
       (with_statement receiver_scope false receiver_after _ _ _ (s.outs-Select 3 (offer_to_receive ∷ []))
-          (selects false receiver_after 3 (offer_to_receive ∷ []) None refl
-              (with_alternative receiver_scope false receiver_after offer_to_receive [] _ (a.outs-Guarded None (comm.Receive (slot 0) (Some 1)) [])
-                  (guarded false receiver_after None (comm.Receive (slot 0) (Some 1)) [] no_guard
-                      (receives (slot 0) 1 (erased ty.Int) (channel_at receiver_scope receiver_after way.Receive refl refl) (ap is_void int_kind) refl)
-                      (no_statement false receiver_after))
-                  (no_alternative false receiver_after)))
-          (with_statement receiver_scope false receiver_after _ [] _ (s.outs-Write 3 receiver_pieces (e.Var 1 ∷ []))
-              (writes false receiver_after 3 receiver_pieces (e.Var 1 ∷ []) None (Ty-F.Int ∷ []) refl
-                  (one_expression (e.Var 1) [] Ty-F.Int [] (slot_read receiver_scope receiver_after 1 Ty-F.Int refl (ap Some int_kind)) no_expression)
-                  (whole_number bare (piece.Plain (10 ∷ []) ∷ []) [] (plain_text (10 ∷ []) [] [] no_piece)))
-              (no_statement false receiver_after)));
+      (selects false receiver_after 3 (offer_to_receive ∷ []) None refl
+      (with_alternative receiver_scope false receiver_after offer_to_receive [] _ (a.outs-Guarded None (comm.Receive (slot 0) (Some 1)) [])
+      (guarded false receiver_after None (comm.Receive (slot 0) (Some 1)) [] no_guard
+      (receives (slot 0) 1 (erased ty.Int) (channel_at receiver_scope receiver_after way.Receive refl refl) (ap is_void int_kind) refl)
+      (no_statement false receiver_after))
+      (no_alternative false receiver_after)))
+      (with_statement receiver_scope false receiver_after _ [] _ (s.outs-Write 3 receiver_pieces (e.Var 1 ∷ []))
+      (writes false receiver_after 3 receiver_pieces (e.Var 1 ∷ []) None (Ty-F.Int ∷ []) refl
+      (one_expression (e.Var 1) [] Ty-F.Int [] (slot_read receiver_scope receiver_after 1 Ty-F.Int refl (ap Some int_kind)) no_expression)
+      (whole_number bare (piece.Plain (10 ∷ []) ∷ []) [] (plain_text (10 ∷ []) [] [] no_piece)))
+      (no_statement false receiver_after)));
   unwinds = subst (UnwindsOwn 1) (sym fills) (λ k slot e. absurd (no_unwind k slot e));
 }
   where
@@ -293,11 +243,11 @@ made : (scope : Scope) (known : Known) (w : Way) (number : ℕ) (d : ProcDef) �
 made scope known w number d in_line there quiet params set is =
     subst (SoundElement scope None known) (sym (elem.outs-Make None number (e.Var 0 ∷ [])))
     (makes known None number (e.Var 0 ∷ []) d (subst (λ c. slice_get c.procs number ≡ Some d) (sym in_line) there)
-        (subst (λ x. MayStart None (option_map kind_of x)) (sym quiet) (its_own None))
-        (subst (λ ts. HaveKinds scope known (e.Var 0 ∷ []) (kinds_of ts)) (sym params)
-            (one_expression (e.Var 0) [] (kind_of (ty.Chan w ty.Int)) []
-                (slot_read scope known 0 (kind_of (ty.Chan w ty.Int)) set (slot_is scope.slots 0 _ _ is (channel_kind way.Both ty.Int ∙ sym (channel_kind w ty.Int)))) no_expression))
-        nowhere)
+    (subst (λ x. MayStart None (option_map kind_of x)) (sym quiet) (its_own None))
+    (subst (λ ts. HaveKinds scope known (e.Var 0 ∷ []) (kinds_of ts)) (sym params)
+    (one_expression (e.Var 0) [] (kind_of (ty.Chan w ty.Int)) []
+    (slot_read scope known 0 (kind_of (ty.Chan w ty.Int)) set (slot_is scope.slots 0 _ _ is (channel_kind way.Both ty.Int ∙ sym (channel_kind w ty.Int)))) no_expression))
+    nowhere)
 
 abbrev model_scope : Scope
 model_scope = (process_home line_of_two model).scope
@@ -313,18 +263,18 @@ unfolding in_model
 model_home = record {
   body = with_statement model_scope false model_known _ _ _ (s.outs-Declare 4 0 (e.Default shape.Chan))
       (declares false model_known 4 0 (e.Default shape.Chan) (kind_of (ty.Chan way.Both ty.Int)) refl refl
-          (has model_scope model_known (e.Default shape.Chan) _ (kind_of (ty.Chan way.Both ty.Int)) (e.outs-Default shape.Chan)
-              (fresh_default shape.Chan (kind_of (ty.Chan way.Both ty.Int))
-                  (subst (ShapeKind 0 (out-Shape shape.Chan)) (sym (channel_kind way.Both ty.Int))
-                      (subst (λ z. ShapeKind 0 z (Ty-F.Chan way.Both (erased ty.Int))) (sym shape.outs-Chan) (shape_channel (erased ty.Int)))) refl)))
+      (has model_scope model_known (e.Default shape.Chan) _ (kind_of (ty.Chan way.Both ty.Int)) (e.outs-Default shape.Chan)
+      (fresh_default shape.Chan (kind_of (ty.Chan way.Both ty.Int))
+      (subst (ShapeKind 0 (out-Shape shape.Chan)) (sym (channel_kind way.Both ty.Int))
+      (subst (λ z. ShapeKind 0 z (Ty-F.Chan way.Both (erased ty.Int))) (sym shape.outs-Chan) (shape_channel (erased ty.Int)))) refl)))
       (with_statement model_scope false model_after _ [] _ (s.outs-Run 4 (start_senders ∷ start_receiver ∷ []))
-          (runs false model_after 4 (start_senders ∷ start_receiver ∷ []) None refl
-              (one_element model_after start_senders (start_receiver ∷ [])
-                  (subst (SoundElement model_scope None model_after) (sym (elem.outs-Unwind (1 ∷ []) (e.Op op.Range (int 1 ∷ [])) (elem.Make None 0 (e.Var 0 ∷ []) ∷ [])))
-                      (unwinds model_after (1 ∷ []) (e.Op op.Range (int 1 ∷ [])) (elem.Make None 0 (e.Var 0 ∷ []) ∷ []) over_range
-                          (one_element (also 1 model_after) (elem.Make None 0 (e.Var 0 ∷ [])) [] (made model_scope (also 1 model_after) way.Send 0 sender refl refl refl refl refl refl) (no_element (also 1 model_after)))))
-                  (one_element model_after start_receiver [] (made model_scope model_after way.Receive 1 receiver refl refl refl refl refl refl) (no_element model_after))))
-          (no_statement false model_after));
+      (runs false model_after 4 (start_senders ∷ start_receiver ∷ []) None refl
+      (one_element model_after start_senders (start_receiver ∷ [])
+      (subst (SoundElement model_scope None model_after) (sym (elem.outs-Unwind (1 ∷ []) (e.Op op.Range (int 1 ∷ [])) (elem.Make None 0 (e.Var 0 ∷ []) ∷ [])))
+      (unwinds model_after (1 ∷ []) (e.Op op.Range (int 1 ∷ [])) (elem.Make None 0 (e.Var 0 ∷ []) ∷ []) over_range
+      (one_element (also 1 model_after) (elem.Make None 0 (e.Var 0 ∷ [])) [] (made model_scope (also 1 model_after) way.Send 0 sender refl refl refl refl refl refl) (no_element (also 1 model_after)))))
+      (one_element model_after start_receiver [] (made model_scope model_after way.Receive 1 receiver refl refl refl refl refl refl) (no_element model_after))))
+      (no_statement false model_after));
   unwinds = subst (UnwindsOwn 0) (sym fills) owned;
 }
   where
@@ -379,7 +329,7 @@ line_is_sound = record {
   functions = every_cons (SoundFunction line_of_two) twice [] sound_twice (every_nil (SoundFunction line_of_two));
   processes = every_cons (SoundProcess line_of_two) sender (receiver ∷ model ∷ []) sound_sender
       (every_cons (SoundProcess line_of_two) receiver (model ∷ []) sound_receiver
-          (every_cons (SoundProcess line_of_two) model [] sound_model (every_nil (SoundProcess line_of_two))));
+      (every_cons (SoundProcess line_of_two) model [] sound_model (every_nil (SoundProcess line_of_two))));
   model = (model, refl);
 }
 

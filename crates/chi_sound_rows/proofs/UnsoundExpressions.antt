@@ -1,44 +1,31 @@
 -- Programs in which one expression breaks one condition of soundness, and which so aren't sound.
-use Rattle.std.proofs.Common.{◌≡◌, ◌≢◌, ℕ, zero, suc, ℤ, pos, Bool, true, false, Option, Some, None, List, [], ◌∷◌, ◌++◌, map, refl, sym, subst, ap, ◌∙◌, arith, ◌<◌}
+use Rattle.std.proofs.Common.{◌≡◌, ℕ, pos, Bool, true, false, Some, None, List, [], ◌∷◌, ◌++◌, map, refl, sym, subst, ap, ◌∙◌, arith}
 use Rattle.std.proofs.lemmas.Bool.{false≢true}
 use Rattle.std.specs.Prelude.{slice_get, codes, not}
-use Rattle.chi_token.specs.Keywords.{keyword_of}
-use Rattle.chi_token.specs.Tables.{value_at}
-use Rattle.chi_token.specs.Tokens.{token_of}
 use Rattle.chi_types.specs.declared.ty.Ty.{Ty, Ty-F, out-Ty}
 use Rattle.chi_types.specs.declared.ty.Ty.TheVariants as ty
-use Rattle.chi_types.specs.declared.ty.Way.TheVariants as way
-use Rattle.chi_types.specs.Plain.{is_plain}
-use Rattle.chi_value.specs.declared.format.Field.{Field}
 use Rattle.chi_value.specs.declared.format.Kind.TheVariants as build
-use Rattle.chi_value.specs.declared.format.Piece.TheVariants as piece
-use Rattle.chi_value.specs.declared.shape.Shape.{Shape, Shape-F, out-Shape, fold_out-Shape, map-Shape}
+use Rattle.chi_value.specs.declared.shape.Shape.{Shape, Shape-F, fold_out-Shape, map-Shape}
 use Rattle.chi_value.specs.declared.shape.Shape.TheVariants as shape
 use Rattle.chi_value.specs.declared.value.Value.{Value, Value-F, out-Value}
 use Rattle.chi_value.specs.declared.value.Value.TheVariants as value
-use Rattle.chi_dist.specs.Draws.{stream_count}
 use Rattle.chi_core.specs.declared.expression.CExpr.{CExpr, CExpr-F, out-CExpr}
 use Rattle.chi_core.specs.declared.expression.CExpr.TheVariants as e
-use Rattle.chi_core.specs.declared.op_name.OpName.{OpName}
 use Rattle.chi_core.specs.declared.op_name.OpName.TheVariants as op
 use Rattle.chi_core.specs.declared.program.ConstDef.{ConstDef}
 use Rattle.chi_core.specs.declared.program.Core.{Core}
 use Rattle.chi_core.specs.declared.program.FuncDef.{FuncDef}
 use Rattle.chi_core.specs.declared.program.ProcDef.{ProcDef}
-use Rattle.chi_core.specs.declared.statement.CStat.{CStat, CStat-F, out-CStat}
+use Rattle.chi_core.specs.declared.statement.CStat.{CStat-F}
 use Rattle.chi_core.specs.declared.statement.CStat.TheVariants as s
-use Rattle.chi_core.specs.declared.target.CTarget.{CTarget}
 use Rattle.chi_core.specs.Kinds.{Kind, kind_of, nameless_parts}
 use Rattle.chi_core.specs.OperatorKinds.{OpKind, ShapeKind, shape_instance}
 use Rattle.chi_core.specs.Scopes.{Scope, makes_channel, makes_channel_step, process_home, function_home, constant_scope}
-use Rattle.chi_core.specs.SetSlots.{StatLayer, Known, params_known}
-use Rattle.chi_core.specs.Sound.{IsName, Sound, SoundEnumeration, nothing_known}
-use Rattle.chi_core.specs.SoundExpressions.{HasKind, fresh_default, tuple_literal, list_literal, set_literal, literal, variable, constant, operation, distribution, part, call, HaveKinds, no_expression, one_expression, LiteralKind, bool, int as int_literal, stream_operand}
-use Rattle.chi_core.specs.SoundStatements.{SoundStat, declares, returns, SoundBlock, one_statement}
-use Rattle.chi_sound_rows.proofs.Building.{int_kind, bool_kind}
+use Rattle.chi_core.specs.SetSlots.{Known, params_known}
+use Rattle.chi_core.specs.Sound.{Sound, nothing_known}
+use Rattle.chi_core.specs.SoundExpressions.{HasKind, LiteralKind, stream_operand}
 use Rattle.chi_core.proofs.Erased.{plain_at}
 use Rattle.chi_sound_rows.proofs.Forms.{int, model_with, alone, scope_in, first_statement, declared, literal_kind, int_is, bool_is, row_of, two_of, one_of, default_of, tuple_of_parts, list_of_elements, set_of_elements, part_of_tuple, slot_is_set, function_is_there, constant_may_be_read, stream_of, returned}
-
 
 -- A model that declares its one variable with a value.
 
@@ -71,7 +58,7 @@ no_sum sound =
     let r = row_of (scope_of sum) (known_in sum) op.Add (int 1 ∷ e.Lit (value.Bool true) ∷ []) d.0 refl d.2 in
     let both = two_of (scope_of sum) (known_in sum) (int 1) (e.Lit (value.Bool true)) r.0 r.3 in
     let same : r.0 ≡ Ty-F.Int ∷ Ty-F.Bool ∷ [] =
-        both.4 ∙ (λ i. int_is (scope_of sum) (known_in sum) 1 both.0 both.2 i ∷ bool_is (scope_of sum) (known_in sum) true both.1 both.3 i ∷ []) in
+    both.4 ∙ (λ i. int_is (scope_of sum) (known_in sum) 1 both.0 both.2 i ∷ bool_is (scope_of sum) (known_in sum) true both.1 both.3 i ∷ []) in
     no_sum_row d.0 (subst (λ Ts. OpKind op.Add Ts d.0) same r.1)
 
 -- the elements of a set aren't plain

@@ -1,5 +1,5 @@
 -- Programs in which one statement or definition breaks one condition of soundness, and which so aren't sound.
-use Rattle.std.proofs.Common.{◌≡◌, ℕ, zero, suc, ℤ, pos, Bool, true, false, Option, Some, None, List, [], ◌∷◌, ◌++◌, refl, sym, subst, ap, ◌∙◌, arith, ◌<◌, ◌≤◌}
+use Rattle.std.proofs.Common.{◌≡◌, ℕ, pos, Bool, true, false, Option, Some, None, List, [], ◌∷◌, ◌++◌, refl, sym, subst, ap, ◌∙◌, arith}
 use Rattle.std.proofs.lemmas.Bool.{false≢true}
 use Rattle.std.specs.Prelude.{slice_get, codes}
 use Rattle.chi_token.specs.Keywords.{keyword_of}
@@ -12,11 +12,10 @@ use Rattle.chi_value.specs.declared.format.Field.{Field}
 use Rattle.chi_value.specs.declared.format.Piece.TheVariants as piece
 use Rattle.chi_value.specs.declared.shape.Shape.TheVariants as shape
 use Rattle.chi_value.specs.declared.value.Value.TheVariants as value
-use Rattle.chi_core.specs.declared.communication.CComm.{CComm}
 use Rattle.chi_core.specs.declared.communication.CComm.TheVariants as comm
-use Rattle.chi_core.specs.declared.element.CElem.{CElem, CElem-F, out-CElem}
+use Rattle.chi_core.specs.declared.element.CElem.{CElem, CElem-F}
 use Rattle.chi_core.specs.declared.element.CElem.TheVariants as elem
-use Rattle.chi_core.specs.declared.expression.CExpr.{CExpr, out-CExpr}
+use Rattle.chi_core.specs.declared.expression.CExpr.{CExpr}
 use Rattle.chi_core.specs.declared.expression.CExpr.TheVariants as e
 use Rattle.chi_core.specs.declared.op_name.OpName.TheVariants as op
 use Rattle.chi_core.specs.declared.program.Core.{Core}
@@ -27,17 +26,17 @@ use Rattle.chi_core.specs.declared.statement.CAlt.TheVariants as a
 use Rattle.chi_core.specs.declared.statement.CStat.{CStat, CStat-F, out-CStat}
 use Rattle.chi_core.specs.declared.statement.CStat.TheVariants as s
 use Rattle.chi_core.specs.declared.target.CTarget.{CTarget}
-use Rattle.chi_core.specs.Fills.{Fill, Fills, filled, unwound, by_body, by_element, by_statement}
+use Rattle.chi_core.specs.Fills.{Fills, filled, unwound, by_body, by_statement}
 use Rattle.chi_core.specs.Kinds.{Kind, erased, kind_of, is_plain_kind}
-use Rattle.chi_core.specs.Scopes.{Role, process, Scope, process_home}
+use Rattle.chi_core.specs.Scopes.{process, Scope, process_home}
 use Rattle.chi_core.specs.SetSlots.{StatLayer, Known, params_known}
-use Rattle.chi_core.specs.Sound.{IsName, Sound}
+use Rattle.chi_core.specs.Sound.{Sound}
 use Rattle.chi_core.specs.SoundExpressions.{HaveKinds, one_expression, no_expression}
-use Rattle.chi_core.specs.SoundParts.{StepsLead, no_step, TargetsTake, one_target, ChannelAt, Shows, fixed_point, SoundComm, receives, SoundExit, with_value, MayStart, its_own, none, SoundElements, one_element, SoundElement, makes}
-use Rattle.chi_core.specs.SoundStatements.{SoundStat, declares, assigns, spreads, exits, writes, selects, starts, SoundAlternatives, one_alternative, SoundAlternative, guarded}
+use Rattle.chi_core.specs.SoundParts.{StepsLead, no_step, TargetsTake, one_target, ChannelAt, Shows, fixed_point, SoundComm, receives, SoundExit, with_value, MayStart, its_own, none, one_element, SoundElement, makes}
+use Rattle.chi_core.specs.SoundStatements.{SoundStat, assigns, spreads, exits, writes, selects, starts, one_alternative, SoundAlternative, guarded}
 use Rattle.chi_sound_rows.proofs.Building.{int_kind, bool_kind, channel_kind, fills_at, element_fills_at}
 use Rattle.chi_core.proofs.Erased.{kind_at}
-use Rattle.chi_sound_rows.proofs.Forms.{int, model_with, alone, scope_in, first_statement, declared, int_is, bool_is, one_of}
+use Rattle.chi_sound_rows.proofs.Forms.{int, model_with, alone, scope_in, first_statement, declared, int_is, bool_is}
 
 abbrev slot : ℕ → CTarget
 slot n = record { slot = n; steps = [] }
@@ -84,7 +83,10 @@ no_spread sound =
 
 abbrev receives_int : ProcDef
 receives_int = record {
-  name = codes "R"; params = ty.Chan way.Receive ty.Int ∷ []; exit = None; slots = ty.Chan way.Receive ty.Int ∷ ty.Bool ∷ [];
+  name = codes "R";
+  params = ty.Chan way.Receive ty.Int ∷ [];
+  exit = None;
+  slots = ty.Chan way.Receive ty.Int ∷ ty.Bool ∷ [];
   body = s.Select 1 (a.Guarded None (comm.Receive (slot 0) (Some 1)) [] ∷ []) ∷ [];
 }
 
@@ -112,11 +114,11 @@ no_receive sound =
     let body = (sound.processes 0 receives_int refl).home.body in
     let x : CAlt = a.Guarded None (comm.Receive (slot 0) (Some 1)) [] in
     let r = received scope known false (slot 0) 1
-        (chosen scope known false 1 x _ (a.outs-Guarded None (comm.Receive (slot 0) (Some 1)) [])
-            (first_statement scope known false (s.Select 1 (x ∷ [])) [] _ (s.outs-Select 1 (x ∷ [])) body)) in
+    (chosen scope known false 1 x _ (a.outs-Guarded None (comm.Receive (slot 0) (Some 1)) [])
+    (first_statement scope known false (s.Select 1 (x ∷ [])) [] _ (s.outs-Select 1 (x ∷ [])) body)) in
     let slot_kind : kind_of (ty.Chan way.Receive ty.Int) ≡ r.1.kind = cc (r.1.is) in
     let carried : Ty-F.Chan way.Both (erased ty.Int) ≡ Ty-F.Chan way.Both r.0 =
-        sym (channel_kind way.Receive ty.Int) ∙ slot_kind ∙ no_way_in scope known r.1.kind (Ty-F.Chan way.Both r.0) r.1.steps in
+    sym (channel_kind way.Receive ty.Int) ∙ slot_kind ∙ no_way_in scope known r.1.kind (Ty-F.Chan way.Both r.0) r.1.steps in
     let element : erased ty.Int ≡ r.0 = cc in
     let into : kind_of ty.Bool ≡ out-Ty r.0 = cc in
     let same : Ty-F.Int ≡ Ty-F.Bool = sym int_kind ∙ ap out-Ty element ∙ sym into ∙ bool_kind in

@@ -1,9 +1,8 @@
 -- A value of each kind; and values that are of no kind.
-use Rattle.std.proofs.Common.{◌≡◌, ℕ, zero, suc, ℤ, pos, negsuc, true, false, Some, None, List, [], ◌∷◌, refl, sym, subst, ap, ◌∙◌, arith, ◌<◌}
+use Rattle.std.proofs.Common.{◌≡◌, ℕ, zero, suc, ℤ, pos, negsuc, true, false, Some, None, [], ◌∷◌, refl, sym, subst, ap, ◌∙◌, arith}
 use Rattle.std.proofs.lemmas.Bool.{false≢true}
-use Rattle.std.specs.Prelude.{slice_get, codes, IsTrue, replicate, length}
+use Rattle.std.specs.Prelude.{slice_get, codes}
 use Rattle.std.specs.declared.cmp.Ordering.{Ordering}
-use Rattle.std.specs.Ordering.{is_lt}
 use Rattle.chi_num.specs.declared.dist.Dist.TheVariants as dist
 use Rattle.chi_types.specs.declared.ty.Ty.{Ty, Ty-F, out-Ty}
 use Rattle.chi_types.specs.declared.ty.Ty.TheVariants as ty
@@ -16,7 +15,7 @@ use Rattle.chi_sets.specs.Sets.{is_ascending}
 use Rattle.chi_sets.specs.Dictionaries.{ascending_by_key, key_in, key_of}
 use Rattle.chi_core.specs.Kinds.{Kind, tuple_of, entry_of}
 use Rattle.chi_core.proofs.Erased.{plain_at}
-use Rattle.chi_core.specs.Of.{World, Of, of_bool, of_int, of_real, of_text, of_choice, of_tuple, of_list, of_set, of_dictionary, of_channel, of_dist, of_timer, of_no_instance, of_instance, PartsOf, no_part, one_part, Yields, some_int, always_bool, IsOf}
+use Rattle.chi_core.specs.Of.{World, Of, of_bool, of_int, of_real, of_text, of_choice, of_tuple, of_list, of_set, of_dictionary, of_channel, of_dist, of_timer, of_no_instance, of_instance, no_part, one_part, Yields, some_int}
 
 -- one enumeration with two values; a channel of ints, and one of bools; and two instances
 some_world : World
@@ -50,7 +49,7 @@ blue = of_choice 0 1 (codes "blue") refl
 a_pair : Of some_world (Value-F.TupleOf (value.Int (pos 1) ∷ value.Int (pos 2) ∷ [])) (tuple_of (ty.Int ∷ ty.Int ∷ []))
 a_pair = of_tuple _ _
     (one_part (value.Int (pos 1)) _ ([], ty.Int) _ (is_int some_world (pos 1) ty.Int ty.outs-Int)
-        (one_part (value.Int (pos 2)) [] ([], ty.Int) [] (is_int some_world (pos 2) ty.Int ty.outs-Int) no_part))
+    (one_part (value.Int (pos 2)) [] ([], ty.Int) [] (is_int some_world (pos 2) ty.Int ty.outs-Int) no_part))
 
 ints : (k : ℕ) (x : Value) → slice_get (value.Int (pos 1) ∷ value.Int (pos 2) ∷ []) k ≡ Some x → Of some_world (out-Value x) (out-Ty ty.Int)
 ints zero x e = let same : value.Int (pos 1) ≡ x = cc in subst (λ x. Of some_world (out-Value x) (out-Ty ty.Int)) same (is_int some_world (pos 1) ty.Int ty.outs-Int)
@@ -87,8 +86,8 @@ is_entry : (n : ℕ) → Of some_world (out-Value (entry n)) (entry_of ty.Int ty
 unfolding entry
 is_entry n = subst (λ x. Of some_world x (entry_of ty.Int ty.Int)) (sym (value.outs-TupleOf (value.Int (pos n) ∷ value.Int (pos 0) ∷ [])))
     (of_tuple _ _
-        (one_part (value.Int (pos n)) _ ([], ty.Int) _ (is_int some_world (pos n) ty.Int ty.outs-Int)
-            (one_part (value.Int (pos 0)) [] ([], ty.Int) [] (is_int some_world (pos 0) ty.Int ty.outs-Int) no_part)))
+    (one_part (value.Int (pos n)) _ ([], ty.Int) _ (is_int some_world (pos n) ty.Int ty.outs-Int)
+    (one_part (value.Int (pos 0)) [] ([], ty.Int) [] (is_int some_world (pos 0) ty.Int ty.outs-Int) no_part)))
 
 entries : (k : ℕ) (x : Value) → slice_get (entry 1 ∷ entry 2 ∷ []) k ≡ Some x → Of some_world (out-Value x) (entry_of ty.Int ty.Int)
 entries zero x e = let same : entry 1 ≡ x = cc in subst (λ x. Of some_world (out-Value x) (entry_of ty.Int ty.Int)) same (is_entry 1)
