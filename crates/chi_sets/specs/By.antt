@@ -1,4 +1,4 @@
--- The orders by which lists ascend.
+-- The orders by which lists ascend. Private to proofs.
 use Rattle.std.specs.declared.cmp.Ordering.{Ordering}
 use Rattle.chi_value.specs.declared.value.Value.{Value}
 use Rattle.chi_value.specs.Order.{order}
