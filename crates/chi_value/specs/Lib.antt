@@ -1,8 +1,6 @@
 pub mod Alike
 pub mod Default
 pub mod Dictionaries
-pub mod Format
-pub mod FormatCodes
 pub mod Limit
 pub mod Names
 pub mod Operations
