@@ -1,2 +1,4 @@
 pub mod Format
 pub mod FormatCodes
+pub mod Growth
+pub mod Refusal

@@ -1,6 +1,6 @@
 -- How long a text may be.
 use Rattle.std.specs.Prelude.{◌≡◌, ℕ, ◌+◌, ◌<◌, ◌≤◌, List, ◌++◌, length, Result, Ok, Err}
-use Rattle.chi_value.specs.declared.text.append.TheConstants.{MOST_TEXT}
+use Rattle.chi_value.specs.declared.text.limit.TheConstants.{MOST_TEXT}
 use Rattle.chi_value.specs.declared.text.fault.TextFault.{TextFault}
 use Rattle.chi_value.specs.declared.text.fault.TextFault.TheVariants as fault
 

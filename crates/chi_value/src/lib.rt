@@ -18,7 +18,7 @@ pub use laws::order_is_total;
 pub use names::Names;
 pub use ordering::compare;
 pub use shape::Shape;
-pub use text::{MOST_TEXT, TextFault, quoted_of, text_of};
+pub use text::{MOST_TEXT, TextFault, append, quoted_of, text_of};
 pub use value::{Items, MOST_ELEMENTS, Value};
 
 #[cfg(test)]

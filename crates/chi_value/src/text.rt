@@ -1,8 +1,8 @@
 //! Texts of values: as they are written, and with strings in quotes.
 
-mod append;
 mod containers;
 mod fault;
+mod limit;
 mod scalars;
 
 ghost use Rattle.std.specs.Prelude.{◌≡◌, ◌++◌, ◌≤◌, length, OnOk, OnErr, IfErr, IsTrue};
@@ -11,9 +11,9 @@ ghost use Rattle.chi_value.specs.Text.{text, quoted_text};
 ghost use Rattle.chi_value.specs.Limit.{PastLimit};
 
 use crate::{Names, Value};
-pub use append::MOST_TEXT;
 pub(crate) use containers::put;
 pub use fault::TextFault;
+pub use limit::{MOST_TEXT, append};
 use std::alloc::Global;
 
 /// Appends a value's text. The limit is that of the text alone, whatever `out` holds.
@@ -32,7 +32,7 @@ pub fn text_of(
 {
     let mut text = Vec::new(alloc);
     match value {
-        Value::Text(bytes) => append::append(&mut text, bytes.as_slice())?,
+        Value::Text(bytes) => append(&mut text, bytes.as_slice())?,
         _ => put(value, alloc, names, &mut text)?,
     }
     out.extend_from_slice(text.as_slice())?;

@@ -3,7 +3,7 @@ ghost use Rattle.chi_value.specs.Limit.{Appends};
 ghost use Rattle.chi_value.specs.Text.{quoted_text, quoted_texts, entry_text, entry_texts, joined_by, bracketed};
 
 use super::TextFault;
-use super::append::append;
+use super::limit::append;
 use super::scalars::{put_int, put_name, put_real, put_string, put_truth};
 use crate::{Names, Value};
 use std::alloc::Global;

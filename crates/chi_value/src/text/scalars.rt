@@ -7,7 +7,7 @@ ghost use Rattle.chi_value.specs.Text.{truth_text};
 ghost use Rattle.chi_value.specs.Names.{name_of};
 
 use super::TextFault;
-use super::append::append;
+use super::limit::append;
 use crate::Names;
 use chi_num::{Real, real_text};
 use chi_token::quoted;
