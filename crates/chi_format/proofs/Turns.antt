@@ -15,6 +15,7 @@ use Rattle.chi_value.specs.Limit as limit
 use Rattle.chi_value.specs.Plain.{is_plain, within}
 use Rattle.chi_format.specs.Format.{any_text, whole_text, fixed_text, filled, shown, before, rendered, is_whole, is_real, takes, may_render}
 use Rattle.chi_format.specs.Growth.{Grows}
+use Rattle.chi_format.specs.SoFar.{is_shown}
 use Rattle.chi_format.specs.Refusal.{PastLimit, refusal_of}
 
 abbrev Names : Type 0
@@ -64,12 +65,6 @@ rendered_is names (Whole field ∷ pieces) (v ∷ values) = one_more names (Whol
 rendered_is names (Fixed field k ∷ pieces) (v ∷ values) = one_more names (Fixed field k) v _ _ (rendered_is names pieces values)
 
 -- one piece more
-
-abbrev pub is_shown : Piece → Bool
-is_shown (Plain bytes) = false
-is_shown (Any field) = true
-is_shown (Whole field) = true
-is_shown (Fixed field k) = true
 
 -- each piece that isn't plain is shown
 pub shown_kind : (p : Piece) → ((x : Field) × p ≡ Any x) ⊎ (((x : Field) × p ≡ Whole x) ⊎ ((x : Field) × (k : ℕ) × p ≡ Fixed x k)) → is_shown p ≡ true

@@ -3,6 +3,9 @@ use Rattle.std.specs.Prelude.{ℕ, ◌<◌, Option, Some, None, List, length}
 use Rattle.chi_value.specs.declared.text.limit.TheConstants.{MOST_TEXT}
 use Rattle.chi_value.specs.declared.text.fault.TextFault.{TextFault}
 use Rattle.chi_value.specs.declared.text.fault.TextFault.TheVariants as text_fault
+use Rattle.chi_format.specs.FormatCodes.{HasBadCode}
+use Rattle.chi_format.specs.declared.format_fault.FormatFault.{FormatFault}
+use Rattle.chi_format.specs.declared.format_fault.FormatFault.TheVariants as format_fault
 use Rattle.chi_format.specs.declared.render_fault.RenderFault.{RenderFault}
 use Rattle.chi_format.specs.declared.render_fault.RenderFault.TheVariants as fault
 
@@ -16,3 +19,8 @@ PastLimit fault.NoMemory text = Unit {0}
 abbrev pub refusal_of : TextFault → RenderFault
 refusal_of text_fault.Limit = fault.Limit
 refusal_of text_fault.NoMemory = fault.NoMemory
+
+-- the fault of a bad code stands only at the first percent sign that begins no code
+abbrev pub IsBadFormat : FormatFault → List ℕ → Type 0
+IsBadFormat (format_fault.BadCode offset) text = HasBadCode text offset
+IsBadFormat format_fault.NoMemory text = Unit {0}
