@@ -1,5 +1,5 @@
 //! The values of Chi 3: their copies and their order, the default of each shape, and their texts.
-//! The written definitions of the operations on containers and of formats stand here too.
+//! The written definitions of the operations on containers stand here too.
 #![tactic(auto)]
 
 mod copying;
