@@ -1,7 +1,7 @@
 -- What the items of a process do: those that it shares with functions, and its own statements.
 use Rattle.std.specs.Prelude.{ℕ, nat_le, nat_lt, Option, Some, None, List, [], ◌∷◌, ◌++◌, length, map, if◌then◌else◌}
 use Rattle.std.specs.List.{range_with_len}
-use Rattle.chi_value.specs.declared.text.append.TheConstants.{MOST_TEXT}
+use Rattle.chi_value.specs.declared.text.limit.TheConstants.{MOST_TEXT}
 use Rattle.chi_value.specs.declared.value.Value.{Value}
 use Rattle.chi_value.specs.declared.format.Piece.{Piece}
 use Rattle.chi_format.specs.Format.{rendered}
