@@ -17,13 +17,13 @@ fn type_line(ty: &TypeTree) -> u32
 {
     match ty {
         TypeTree::Defined(name) => name.place.line,
-        TypeTree::Word(_, place)
-        | TypeTree::List(place, _, _)
-        | TypeTree::Set(place, _)
-        | TypeTree::Dist(place, _)
-        | TypeTree::Dict(place, _, _)
-        | TypeTree::Tuple(place, _)
-        | TypeTree::Chan(place, _, _) => place.line,
+        TypeTree::Word { place, .. }
+        | TypeTree::List { place, .. }
+        | TypeTree::Set { place, .. }
+        | TypeTree::Dist { place, .. }
+        | TypeTree::Dict { place, .. }
+        | TypeTree::Tuple { place, .. }
+        | TypeTree::Chan { place, .. } => place.line,
     }
 }
 

@@ -137,7 +137,13 @@ pub fn definition_of(
     ensures { IfOk result (λ process. process ≡ definition_of headers.now item.now) }
 {
     match &item.definition {
-        Definition::Proc(_, None, name, formals, steps) => {
+        Definition::Proc {
+            exit_type: None,
+            name,
+            formals,
+            block,
+            ..
+        } => {
             let Some(parameters) = parameters_of(alloc, formals.as_slice())? else {
                 return Ok(None);
             };
@@ -146,16 +152,22 @@ pub fn definition_of(
                 alloc,
                 headers,
                 name,
-                steps.as_slice(),
+                block.as_slice(),
                 parameters.as_slice(),
             )?)
         }
-        Definition::Model(_, None, name, formals, steps) => {
+        Definition::Model {
+            exit_type: None,
+            name,
+            formals,
+            block,
+            ..
+        } => {
             if !formals.as_slice().is_empty() {
                 return Ok(None);
             }
             let name = name.text.as_slice();
-            Ok(process_of(alloc, headers, name, steps.as_slice(), &[])?)
+            Ok(process_of(alloc, headers, name, block.as_slice(), &[])?)
         }
         _ => Ok(None),
     }

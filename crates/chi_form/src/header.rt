@@ -61,7 +61,12 @@ fn header_in(
     ensures { IfOk result (λ header. header ≡ header_in number definition.now) }
 {
     match definition {
-        Definition::Proc(_, None, name, formals, _) => {
+        Definition::Proc {
+            exit_type: None,
+            name,
+            formals,
+            ..
+        } => {
             let Some(parameters) = parameters_of(alloc, formals.as_slice())? else {
                 return Ok(None);
             };
@@ -69,7 +74,12 @@ fn header_in(
             let role = Role::Process(parameters);
             Ok(Some(Header { name, number, role }))
         }
-        Definition::Model(_, None, name, formals, _) => {
+        Definition::Model {
+            exit_type: None,
+            name,
+            formals,
+            ..
+        } => {
             if !formals.as_slice().is_empty() {
                 return Ok(None);
             }

@@ -31,7 +31,10 @@ fn is_int(ty: &TypeTree) -> bool
     ensures { result ≡ is_int (out-TypeTree ty.now) }
 {
     match ty {
-        TypeTree::Word(TypeWord::Int, _) => true,
+        TypeTree::Word {
+            word: TypeWord::Int,
+            ..
+        } => true,
         _ => false,
     }
 }
@@ -52,8 +55,15 @@ impl Kind {
         ensures { result ≡ kind_of ty.now }
     {
         match ty {
-            TypeTree::Word(TypeWord::Int, _) => Some(Kind::Int),
-            TypeTree::Chan(_, way, Some(element)) => {
+            TypeTree::Word {
+                word: TypeWord::Int,
+                ..
+            } => Some(Kind::Int),
+            TypeTree::Chan {
+                way,
+                carried: Some(element),
+                ..
+            } => {
                 if is_int(element.get()) {
                     Some(Kind::Chan(way_of(*way)))
                 } else {

@@ -17,10 +17,10 @@ fn line_of(communication: &Communication) -> u32
     ensures { result ≡ line_of communication.now }
 {
     match communication {
-        Communication::Send(target, _, _) | Communication::Receive(target, _, _) => {
+        Communication::Send { target, .. } | Communication::Receive { target, .. } => {
             target.name.place.line
         }
-        Communication::Delay(place, _) => place.line,
+        Communication::Delay { place, .. } => place.line,
     }
 }
 
@@ -64,11 +64,15 @@ fn element_of(
     ensures { IfOk result (λ e. e ≡ element_of headers.now locals.now element.now) }
 {
     match element {
-        Element::Make(None, name, values) => {
+        Element::Make {
+            target: None,
+            name,
+            arguments,
+        } => {
             let Some(header) = header_of(headers, name.text.as_slice()) else {
                 return Ok(None);
             };
-            Ok(make_of(alloc, locals, values.as_slice(), header)?)
+            Ok(make_of(alloc, locals, arguments.as_slice(), header)?)
         }
         _ => Ok(None),
     }
@@ -107,19 +111,25 @@ fn statement_of(
             None => Ok(None),
             Some(made) => Ok(Some(alone(alloc, line_of(communication), made)?)),
         },
-        Statement::Start(place, elements) => {
+        Statement::Start { place, elements } => {
             match elements_of(alloc, headers, locals, elements.as_slice())? {
                 None => Ok(None),
                 Some(made) => Ok(Some(CStat::Start(place.line, made))),
             }
         }
-        Statement::Write(place, ends, text, _, values) => {
+        Statement::Write {
+            place,
+            ends_line,
+            format,
+            values,
+            ..
+        } => {
             Ok(write_of(
                 alloc,
                 locals,
                 place.line,
-                *ends,
-                text.as_slice(),
+                *ends_line,
+                format.as_slice(),
                 values.as_slice(),
             )?)
         }
@@ -137,7 +147,7 @@ pub fn with_step(
 ) -> Result<Option<Body>, NoMemory>
     ensures { IfOk result (λ next. next ≡ with_step headers.now body step.now) }
 {
-    if let Statement::Declare(ty, variables) = &step.statement {
+    if let Statement::Declare { ty, variables } = &step.statement {
         return Ok(with_declaration(alloc, headers, body, ty, variables.as_slice())?);
     }
     match statement_of(alloc, headers, body.locals.as_slice(), &step.statement)? {

@@ -28,7 +28,7 @@ pub fn value_as(locals: &[Local], wanted: Kind, value: &Expr) -> Option<CExpr>
     ensures { result ≡ value_as locals.now wanted value.now }
 {
     match value {
-        Expr::Int(digits, _) => int_as(wanted, digits.as_slice()),
+        Expr::Int { digits, .. } => int_as(wanted, digits.as_slice()),
         Expr::Named(name) => {
             let slot = slot_as(locals, wanted, name.text.as_slice())?;
             Some(CExpr::Var(slot))
@@ -69,11 +69,11 @@ fn delay_of(length: &Expr) -> Option<CExpr>
     ensures { result ≡ delay_of length.now }
 {
     match length {
-        Expr::Int(digits, _) => {
+        Expr::Int { digits, .. } => {
             let int = int_of(digits.as_slice())?;
             Some(CExpr::Widen(int))
         }
-        Expr::Real(digits, _) => {
+        Expr::Real { digits, .. } => {
             let real = real_of(digits.as_slice())?;
             Some(CExpr::Lit(Value::Real(real)))
         }
@@ -98,17 +98,25 @@ pub fn communication_of(locals: &[Local], communication: &Communication) -> Opti
     ensures { result ≡ communication_of locals.now communication.now }
 {
     match communication {
-        Communication::Send(target, _, Some(value)) => {
+        Communication::Send {
+            target,
+            value: Some(value),
+            ..
+        } => {
             let channel = channel_as(locals, Way::Send, target)?;
             let value = value_as(locals, Kind::Int, value)?;
             Some(CComm::Send(channel, value))
         }
-        Communication::Receive(target, _, Some(name)) => {
+        Communication::Receive {
+            target,
+            name: Some(name),
+            ..
+        } => {
             let channel = channel_as(locals, Way::Receive, target)?;
             let slot = slot_as(locals, Kind::Int, name.text.as_slice())?;
             Some(CComm::Receive(channel, slot))
         }
-        Communication::Delay(_, length) => {
+        Communication::Delay { length, .. } => {
             let length = delay_of(length)?;
             Some(CComm::Delay(length))
         }

@@ -47,3 +47,9 @@ pub mod Answered
 pub mod FormedParts
 pub mod ProgramAnswers
 pub mod PartAnswers
+pub mod Readers
+pub mod Refilled
+pub mod ExprPlaces
+pub mod RefilledStatements
+pub mod StatementPlaces
+pub mod PlacedOnce

@@ -98,7 +98,7 @@ build_variable b (formed.bare {name = n}) = record {
 build_variable b (formed.with_value {name = n} {place = place} p) = let u = build_expr b p in record {
   tree = node s.Variable (pair (name_leaf n) (node s.Initial (pair (mark_at place Assign) u.tree)));
   built = is.part (is.both (is.word refl) (is.once (is.part (is.both (is.word refl) u.built))));
-  shown = λ i. variable n (Some (record { place = place; value = u.shown i }));
+  shown = λ i. variable n (Some (record { equals = place; value = u.shown i }));
   nests = ap (λ ns. outside ∷ outside ∷ ns) u.nests;
 }
 

@@ -28,7 +28,7 @@ shown_walk (node s.Walk (pair ns (pair w e))) = λ i. record { names = shown_nam
 shown_walk _ = λ i. record { names = []; container = no_expr_shown i }
 
 pub shown_initial : (t : Built) → option_map unplaced_initial (initial_of t) ≡ initial_of (unplaced_tree t)
-shown_initial (node s.Initial (pair eq e)) = λ i. Some (record { place = shown_place eq i; value = shown_expr e i })
+shown_initial (node s.Initial (pair eq e)) = λ i. Some (record { equals = shown_place eq i; value = shown_expr e i })
 shown_initial _ = refl
 
 pub shown_variable : (t : Built) → unplaced_variable (variable_of t) ≡ variable_of (unplaced_tree t)

@@ -49,7 +49,7 @@ variable name initial = record { name = name; initial = initial }
 pub data FormedVariable : ℕ → Variable → Type 0 where
   bare : {d : ℕ} {name : Name} → FormedVariable d (variable name None)
   with_value : {d : ℕ} {name : Name} {place : Place} {e : Expr}
-      → FormedExpr level.Expr d e → FormedVariable d (variable name (Some (record { place = place; value = e })))
+      → FormedExpr level.Expr d e → FormedVariable d (variable name (Some (record { equals = place; value = e })))
 
 -- name [ "=" expr ] { "," name [ "=" expr ] }
 pub data FormedVariables : ℕ → List Variable → Type 0 where

@@ -26,7 +26,7 @@ use Rattle.chi_grammar_laws.specs.Unplaced.{unplaced_name, unplaced_type, unplac
 -- variables, targets, walks and communications
 
 abbrev pub unplaced_initial : Initial → Initial
-unplaced_initial initial = record { place = nowhere; value = unplaced_expr initial.value }
+unplaced_initial initial = record { equals = nowhere; value = unplaced_expr initial.value }
 
 abbrev pub unplaced_variable : Variable → Variable
 unplaced_variable variable = record { name = unplaced_name variable.name; initial = option_map unplaced_initial variable.initial }

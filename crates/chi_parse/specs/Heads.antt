@@ -1,4 +1,4 @@
--- Statements as a block has them: each with what decides whether the `;` after it may be left out.
+-- Statements as a block has them: each with what decides whether the `;` after it may be left out. Private to proofs.
 use Rattle.std.specs.Prelude.{Bool, true, false}
 use Rattle.chi_grammar.specs.Rules.{Rule, none, node, part, ◌∣◌}
 use Rattle.chi_token.specs.declared.place.Spanned.{Spanned}

@@ -8,15 +8,16 @@ ghost use Rattle.chi_token.specs.declared.keyword.Keyword.TheVariants.{AltWord};
 ghost use Rattle.chi_tree.specs.Statements.{alternative_body_of, alternative_of, alternatives_of, block_of, body_of, branch_of, elifs_of, else_of, inner_of, more_alternatives_of, statement_of};
 ghost use Rattle.chi_parse.specs.Heads.{shown, statement};
 
-use crate::classes::{FIRST_OF_ALTERNATIVES, FIRST_OF_BLOCK, FIRST_OF_CLOSED, FIRST_OF_LAUNCH};
 use crate::launches::launch;
-use crate::look::optional_semicolon;
 use crate::offers::offer;
+use crate::semicolon::optional_semicolon;
 use crate::simple::open;
 use crate::walks::walk;
 use chi_base::Items;
 use chi_grammar::{Nesting, ParseFault, Room};
-use chi_parse_expr::{begins, enter, expr, take};
+use chi_look::classes::{FIRST_OF_ALTERNATIVES, FIRST_OF_BLOCK, FIRST_OF_CLOSED, FIRST_OF_LAUNCH};
+use chi_look::{begins, enter, take};
+use chi_parse_expr::expr;
 use chi_token::{Keyword, Sign, Spanned};
 use chi_tree::{Alternative, Block, Branch, Class, Statement, Step};
 use std::alloc::Global;
@@ -199,7 +200,14 @@ fn branching(
     let (branches, next) = more_branches(alloc, tokens, middle, room, first)?;
     let (other, last) = otherwise(alloc, tokens, next, room)?;
     let (_, end) = take(tokens, last, Class::Word(Keyword::EndWord))?;
-    Ok((Statement::If(word.place, branches, other), end))
+    Ok((
+        Statement::If {
+            place: word.place,
+            branches,
+            otherwise: other,
+        },
+        end,
+    ))
 }
 
 #[cycle(blocks)]
@@ -216,7 +224,14 @@ fn repetition(
     let (word, start) = take(tokens, at, Class::Word(Keyword::WhileWord))?;
     let (condition, middle) = expr(alloc, tokens, start, room)?;
     let (block, end) = body(alloc, tokens, middle, room)?;
-    Ok((Statement::While(word.place, condition, block), end))
+    Ok((
+        Statement::While {
+            place: word.place,
+            condition,
+            block,
+        },
+        end,
+    ))
 }
 
 #[cycle(blocks)]
@@ -233,7 +248,14 @@ fn walking(
     let (word, start) = take(tokens, at, Class::Word(Keyword::ForWord))?;
     let (walk, middle) = walk(alloc, tokens, start, room)?;
     let (block, end) = body(alloc, tokens, middle, room)?;
-    Ok((Statement::For(word.place, walk, block), end))
+    Ok((
+        Statement::For {
+            place: word.place,
+            walk,
+            block,
+        },
+        end,
+    ))
 }
 
 #[cycle(blocks)]
@@ -250,7 +272,13 @@ fn select(
     let (word, start) = take(tokens, at, Class::Word(Keyword::SelectWord))?;
     let (alternatives, middle) = alternatives(alloc, tokens, start, room)?;
     let (_, end) = take(tokens, middle, Class::Word(Keyword::EndWord))?;
-    Ok((Statement::Select(word.place, alternatives), end))
+    Ok((
+        Statement::Select {
+            place: word.place,
+            alternatives,
+        },
+        end,
+    ))
 }
 
 #[cycle(blocks)]
@@ -327,7 +355,14 @@ fn unwound_alternatives(
     let inner = enter(tokens, from, room, Nesting::Block, &FIRST_OF_ALTERNATIVES)?;
     let (alternatives, last) = alternatives(alloc, tokens, from, inner)?;
     let (_, end) = take(tokens, last, Class::Word(Keyword::EndWord))?;
-    Ok((Alternative::Unwind(word.place, walk, alternatives), end))
+    Ok((
+        Alternative::Unwind {
+            place: word.place,
+            walk,
+            alternatives,
+        },
+        end,
+    ))
 }
 
 #[cycle(blocks)]
@@ -343,7 +378,14 @@ fn guarded_alternative(
 {
     let ((guard, communication), middle) = offer(alloc, tokens, at, room)?;
     let (block, end) = alternative_body(alloc, tokens, middle, room)?;
-    Ok((Alternative::Guarded(guard, communication, block), end))
+    Ok((
+        Alternative::Guarded {
+            guard,
+            communication,
+            block,
+        },
+        end,
+    ))
 }
 
 /// The block of an alternative, empty where there is none.

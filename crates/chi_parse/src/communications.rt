@@ -9,7 +9,9 @@ ghost use Rattle.chi_tree.specs.View.{expr_of, name_in, optional};
 
 use crate::targets::target;
 use chi_grammar::{ParseFault, Room};
-use chi_parse_expr::{FIRST_OF_EXPR, begins, expr, take, take_name};
+use chi_look::classes::FIRST_OF_EXPR;
+use chi_look::{begins, take, take_name};
+use chi_parse_expr::expr;
 use chi_token::{Keyword, Sign, Spanned};
 use chi_tree::{Class, Communication, Expr, Name, Target};
 use std::alloc::Global;
@@ -63,7 +65,14 @@ fn sending(
 {
     let (sign, start) = take(tokens, at, Class::Sign(Sign::Bang))?;
     let (value, end) = optional_expr(alloc, tokens, start, room)?;
-    Ok((Communication::Send(target, sign.place, value), end))
+    Ok((
+        Communication::Send {
+            target,
+            place: sign.place,
+            value,
+        },
+        end,
+    ))
 }
 
 fn receiving(
@@ -79,7 +88,14 @@ fn receiving(
 {
     let (sign, start) = take(tokens, at, Class::Sign(Sign::Question))?;
     let (variable, end) = optional_name(alloc, tokens, start, room)?;
-    Ok((Communication::Receive(target, sign.place, variable), end))
+    Ok((
+        Communication::Receive {
+            target,
+            place: sign.place,
+            name: variable,
+        },
+        end,
+    ))
 }
 
 /// What stands after the target of a communication.
@@ -112,7 +128,13 @@ pub fn delay(
 {
     let (word, start) = take(tokens, at, Class::Word(Keyword::DelayWord))?;
     let (time, end) = expr(alloc, tokens, start, room)?;
-    Ok((Communication::Delay(word.place, time), end))
+    Ok((
+        Communication::Delay {
+            place: word.place,
+            length: time,
+        },
+        end,
+    ))
 }
 
 pub fn communication(

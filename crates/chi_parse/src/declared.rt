@@ -9,7 +9,8 @@ ghost use Rattle.chi_tree.specs.Statements.{initial_of, more_variables_of, varia
 
 use chi_base::Items;
 use chi_grammar::{ParseFault, Room};
-use chi_parse_expr::{begins, expr, take, take_name};
+use chi_look::{begins, take, take_name};
+use chi_parse_expr::expr;
 use chi_token::{Sign, Spanned};
 use chi_tree::{Class, Initial, Variable};
 use std::alloc::Global;
@@ -30,7 +31,7 @@ fn initial(
     let (sign, start) = take(tokens, at, Class::Sign(Sign::Assign))?;
     let (value, end) = expr(alloc, tokens, start, room)?;
     let initial = Initial {
-        place: sign.place,
+        equals: sign.place,
         value,
     };
     Ok((Some(initial), end))

@@ -8,10 +8,11 @@ ghost use Rattle.chi_tree.specs.Statements.{definition_of, item_of};
 
 use crate::blocks::body;
 use crate::formal::{head, parameters};
-use crate::look::optional_semicolon;
+use crate::semicolon::optional_semicolon;
 use crate::walks::names;
 use chi_grammar::{Nesting, ParseFault, Room};
-use chi_parse_expr::{any_type, begins, enter, expr, take, take_name};
+use chi_look::{begins, enter, take, take_name};
+use chi_parse_expr::{any_type, expr};
 use chi_token::{Keyword, Sign, Spanned};
 use chi_tree::{Class, Definition, Item};
 use std::alloc::Global;
@@ -39,7 +40,14 @@ fn enumeration(
     let (_, next) = take(tokens, from, Class::Sign(Sign::LeftBrace))?;
     let (names, last) = names(alloc, tokens, next)?;
     let (_, end) = take(tokens, last, Class::Sign(Sign::RightBrace))?;
-    Ok((Definition::Enum(word.place, name, names), end))
+    Ok((
+        Definition::Enum {
+            place: word.place,
+            name,
+            values: names,
+        },
+        end,
+    ))
 }
 
 fn constant(
@@ -58,7 +66,13 @@ fn constant(
     let (sign, from) = take(tokens, next, Class::Sign(Sign::Assign))?;
     let (value, end) = expr(alloc, tokens, from, room)?;
     Ok((
-        Definition::Const(word.place, ty, name, sign.place, value),
+        Definition::Const {
+            place: word.place,
+            ty,
+            name,
+            equals: sign.place,
+            value,
+        },
         end,
     ))
 }
@@ -77,7 +91,14 @@ fn type_name(
     let (name, middle) = take_name(alloc, tokens, start)?;
     let (_, from) = take(tokens, middle, Class::Sign(Sign::Assign))?;
     let (ty, end) = any_type(alloc, tokens, from, room)?;
-    Ok((Definition::Type(word.place, name, ty), end))
+    Ok((
+        Definition::Type {
+            place: word.place,
+            name,
+            ty,
+        },
+        end,
+    ))
 }
 
 fn function(
@@ -95,7 +116,16 @@ fn function(
     let (name, next) = take_name(alloc, tokens, middle)?;
     let (formals, last) = parameters(alloc, tokens, next, room)?;
     let (block, end) = body(alloc, tokens, last, room)?;
-    Ok((Definition::Func(word.place, ty, name, formals, block), end))
+    Ok((
+        Definition::Func {
+            place: word.place,
+            result_type: ty,
+            name,
+            formals,
+            block,
+        },
+        end,
+    ))
 }
 
 fn process(
@@ -112,7 +142,16 @@ fn process(
     let ((ty, name), middle) = head(alloc, tokens, start, room)?;
     let (formals, last) = parameters(alloc, tokens, middle, room)?;
     let (block, end) = body(alloc, tokens, last, room)?;
-    Ok((Definition::Proc(word.place, ty, name, formals, block), end))
+    Ok((
+        Definition::Proc {
+            place: word.place,
+            exit_type: ty,
+            name,
+            formals,
+            block,
+        },
+        end,
+    ))
 }
 
 fn model(
@@ -129,7 +168,16 @@ fn model(
     let ((ty, name), middle) = head(alloc, tokens, start, room)?;
     let (formals, last) = parameters(alloc, tokens, middle, room)?;
     let (block, end) = body(alloc, tokens, last, room)?;
-    Ok((Definition::Model(word.place, ty, name, formals, block), end))
+    Ok((
+        Definition::Model {
+            place: word.place,
+            exit_type: ty,
+            name,
+            formals,
+            block,
+        },
+        end,
+    ))
 }
 
 fn experiment(
@@ -154,7 +202,14 @@ fn experiment(
     let (_, next) = take(tokens, middle, Class::Sign(Sign::LeftParen))?;
     let (_, last) = take(tokens, next, Class::Sign(Sign::RightParen))?;
     let (block, end) = body(alloc, tokens, last, room)?;
-    Ok((Definition::Xper(word.place, name, block), end))
+    Ok((
+        Definition::Xper {
+            place: word.place,
+            name,
+            block,
+        },
+        end,
+    ))
 }
 
 fn defined(

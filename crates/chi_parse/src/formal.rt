@@ -7,12 +7,11 @@ ghost use Rattle.chi_tree.specs.Tables.{table};
 ghost use Rattle.chi_tree.specs.View.{formal_of, formals_of, more_formals_of};
 ghost use Rattle.chi_tree.specs.Statements.{head_of, parameters_of};
 
-use crate::classes::FIRST_OF_MORE_FORMAL;
 use chi_base::{Boxed, Items};
 use chi_grammar::{Nesting, ParseFault, Room};
-use chi_parse_expr::{
-    FIRST_OF_BUILT_TYPE, FIRST_OF_TYPE, any_type, begins, built_type, enter, take, take_name,
-};
+use chi_look::classes::{FIRST_OF_BUILT_TYPE, FIRST_OF_MORE_FORMAL, FIRST_OF_TYPE};
+use chi_look::{begins, enter, take, take_name};
+use chi_parse_expr::{any_type, built_type};
 use chi_token::{Sign, Spanned};
 use chi_tree::{Class, Formal, Name, TypeTree};
 use std::alloc::Global;

@@ -11,12 +11,13 @@ ghost use Rattle.chi_tree.specs.declared.statement.Element.{out-Element};
 ghost use Rattle.chi_parse.specs.Heads.{shown};
 ghost use Rattle.chi_tree.specs.Statements.{element_of, elements_of, ends_element, last_ends, made, more_elements_of};
 
-use crate::classes::{FIRST_OF_ELEMENTS, FIRST_OF_LAUNCH};
 use crate::targets::{is_bare, target};
 use crate::walks::walk;
 use chi_base::Items;
 use chi_grammar::{Nesting, ParseFault, Room};
-use chi_parse_expr::{arguments, begins, enter, take, take_name, take_one_of};
+use chi_look::classes::{FIRST_OF_ELEMENTS, FIRST_OF_LAUNCH};
+use chi_look::{begins, enter, take, take_name, take_one_of};
+use chi_parse_expr::arguments;
 use chi_token::{Keyword, Sign, Spanned, Token};
 use chi_tree::{Class, Element, Statement, Target};
 use std::alloc::Global;
@@ -95,7 +96,14 @@ fn unwound_elements(
     let inner = enter(tokens, from, room, Nesting::Block, &FIRST_OF_ELEMENTS)?;
     let (elements, last) = elements(alloc, tokens, from, inner)?;
     let (_, end) = take(tokens, last, Class::Word(Keyword::EndWord))?;
-    Ok((Element::Unwind(word.place, walk, elements), end))
+    Ok((
+        Element::Unwind {
+            place: word.place,
+            walk,
+            elements,
+        },
+        end,
+    ))
 }
 
 fn make(
@@ -132,7 +140,14 @@ fn made(
     }
     let (arguments, end) = arguments(alloc, tokens, at, room)?;
     let Target { name, steps: _ } = target;
-    Ok((Element::Make(None, name, arguments), end))
+    Ok((
+        Element::Make {
+            target: None,
+            name,
+            arguments,
+        },
+        end,
+    ))
 }
 
 /// What stands after the target with which an element begins.
@@ -150,14 +165,21 @@ fn assigned_make(
     let (_, start) = take(tokens, at, Class::Sign(Sign::Assign))?;
     let (name, middle) = take_name(alloc, tokens, start)?;
     let (arguments, end) = arguments(alloc, tokens, middle, room)?;
-    Ok((Element::Make(Some(target), name, arguments), end))
+    Ok((
+        Element::Make {
+            target: Some(target),
+            name,
+            arguments,
+        },
+        end,
+    ))
 }
 
 /// Whether the last token of an element is `end`.
 fn ends(element: &Element) -> bool
     ensures { result ≡ ends_element (out-Element element.now) }
 {
-    matches!(element, Element::Unwind(_, _, _))
+    matches!(element, Element::Unwind { .. })
 }
 
 /// Whether the last token of some elements is `end`.
@@ -174,9 +196,15 @@ fn launched(word: &Spanned, elements: Items<Element>) -> Statement
     ensures { result ≡ (if is_run word.now.token then statement.Run word.now.place elements else statement.Start word.now.place elements) }
 {
     if matches!(word.token, Token::Word(Keyword::RunWord)) {
-        Statement::Run(word.place, elements)
+        Statement::Run {
+            place: word.place,
+            elements,
+        }
     } else {
-        Statement::Start(word.place, elements)
+        Statement::Start {
+            place: word.place,
+            elements,
+        }
     }
 }
 

@@ -3,15 +3,14 @@
 #![tactic(auto)]
 
 mod blocks;
-mod classes;
 mod communications;
 mod declared;
 mod definitions;
 mod formal;
 mod launches;
-mod look;
 mod offers;
 mod program;
+mod semicolon;
 mod simple;
 mod targets;
 mod walks;

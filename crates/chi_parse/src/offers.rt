@@ -11,7 +11,8 @@ ghost use Rattle.chi_tree.specs.Statements.{as_target, is_some, is_step_in, name
 use crate::communications::{communication, communication_end, delay};
 use chi_base::{Items, NoMemory};
 use chi_grammar::{ParseFault, Room};
-use chi_parse_expr::{begins, expr, take};
+use chi_look::{begins, take};
+use chi_parse_expr::expr;
 use chi_token::{Keyword, Sign, Spanned};
 use chi_tree::{Class, Communication, Expr, Postfix, Target};
 use std::alloc::Global;
@@ -30,7 +31,7 @@ fn is_named(e: &Expr) -> bool
 fn is_step(step: &Postfix) -> bool
     ensures { result ≡ is_step_in (out-Postfix step.now) }
 {
-    matches!(step, Postfix::Index(_, _) | Postfix::Field(_))
+    matches!(step, Postfix::Index { .. } | Postfix::Field(_))
 }
 
 /// Whether an expression is a name, or parts of one by indexes and fields.
@@ -39,8 +40,8 @@ fn is_target(e: &Expr) -> bool
 {
     match e {
         Expr::Named(_) => true,
-        Expr::Part(base, steps) => is_named(base.get())
-            && steps.as_slice().iter().all(|step| is_step(step)),
+        Expr::Part { whole, postfixes } => is_named(whole.get())
+            && postfixes.as_slice().iter().all(|step| is_step(step)),
         _ => false,
     }
 }
@@ -55,8 +56,11 @@ fn into_target(alloc: Global, e: Expr) -> Result<Target, NoMemory>
             let steps = Items::of(alloc, Vec::new(alloc))?;
             Ok(Target { name, steps })
         }
-        Expr::Part(base, steps) => match base.into_inner() {
-            Expr::Named(name) => Ok(Target { name, steps }),
+        Expr::Part { whole, postfixes } => match whole.into_inner() {
+            Expr::Named(name) => Ok(Target {
+                name,
+                steps: postfixes,
+            }),
             _ => unreachable!(),
         },
         _ => unreachable!(),

@@ -8,11 +8,11 @@ ghost use Rattle.chi_tree.specs.Statements.{items_of, program_of};
 ghost use Rattle.chi_tree.specs.Limits.{whole_room};
 ghost use Rattle.chi_tree.specs.Tables.{table};
 
-use crate::classes::FIRST_OF_DEFINITION;
 use crate::definitions::definition;
 use chi_base::Items;
 use chi_grammar::{ParseFault, Room};
-use chi_parse_expr::begins;
+use chi_look::begins;
+use chi_look::classes::FIRST_OF_DEFINITION;
 use chi_token::{Place, Spanned};
 use chi_tree::{Item, Program, whole_room};
 use std::alloc::Global;

@@ -8,15 +8,15 @@ ghost use Rattle.chi_tree.specs.Statements.{led, statement_of};
 ghost use Rattle.chi_tree.specs.Tables.{table};
 ghost use Rattle.chi_tree.specs.Tokens.{ends_line, jump_of};
 
-use crate::classes::{FIRST_OF_COMMUNICATION_END, FIRST_OF_JUMP, FIRST_OF_WRITE};
 use crate::communications::{communication_end, delay, optional_expr};
 use crate::declared::variables;
 use crate::targets::{is_bare, more_targets, target};
 use chi_grammar::{Nesting, ParseFault, Room};
-use chi_parse_expr::{
-    FIRST_OF_BUILT_TYPE, begins, built_type, bytes_of, enter, expr, exprs, more_exprs, take,
-    take_one_of,
+use chi_look::classes::{
+    FIRST_OF_BUILT_TYPE, FIRST_OF_COMMUNICATION_END, FIRST_OF_JUMP, FIRST_OF_WRITE,
 };
+use chi_look::{begins, bytes_of, enter, take, take_one_of};
+use chi_parse_expr::{built_type, expr, exprs, more_exprs};
 use chi_token::{Bytes, Keyword, Place, Sign, Spanned, Token};
 use chi_tree::{Class, Statement, Target, TypeTree};
 use std::alloc::Global;
@@ -34,7 +34,7 @@ fn declaration(
 {
     let (ty, middle) = built_type(alloc, tokens, at, room)?;
     let (variables, end) = variables(alloc, tokens, middle, room)?;
-    Ok((Statement::Declare(ty, variables), end))
+    Ok((Statement::Declare { ty, variables }, end))
 }
 
 /// A statement that begins with a target.
@@ -72,7 +72,8 @@ fn after_name(
     }
     let (variables, end) = variables(alloc, tokens, at, room)?;
     let Target { name, steps: _ } = target;
-    Ok((Statement::Declare(TypeTree::Defined(name), variables), end))
+    let ty = TypeTree::Defined(name);
+    Ok((Statement::Declare { ty, variables }, end))
 }
 
 /// What stands after the target with which a statement begins.
@@ -109,7 +110,14 @@ fn assignment(
     let (targets, middle) = more_targets(alloc, tokens, at, room, target)?;
     let (sign, start) = take(tokens, middle, Class::Sign(Sign::Assign))?;
     let (values, end) = exprs(alloc, tokens, start, room)?;
-    Ok((Statement::Assign(targets, sign.place, values), end))
+    Ok((
+        Statement::Assign {
+            targets,
+            equals: sign.place,
+            values,
+        },
+        end,
+    ))
 }
 
 fn timed(
@@ -157,7 +165,13 @@ fn returned(
 {
     let (word, start) = take(tokens, at, Class::Word(Keyword::ReturnWord))?;
     let (value, end) = expr(alloc, tokens, start, room)?;
-    Ok((Statement::Return(word.place, value), end))
+    Ok((
+        Statement::Return {
+            place: word.place,
+            value,
+        },
+        end,
+    ))
 }
 
 fn exit(
@@ -172,7 +186,13 @@ fn exit(
 {
     let (word, start) = take(tokens, at, Class::Word(Keyword::ExitWord))?;
     let (value, end) = optional_expr(alloc, tokens, start, room)?;
-    Ok((Statement::Exit(word.place, value), end))
+    Ok((
+        Statement::Exit {
+            place: word.place,
+            value,
+        },
+        end,
+    ))
 }
 
 fn finish(
@@ -187,7 +207,13 @@ fn finish(
 {
     let (word, start) = take(tokens, at, Class::Word(Keyword::FinishWord))?;
     let (instances, end) = exprs(alloc, tokens, start, room)?;
-    Ok((Statement::Finish(word.place, instances), end))
+    Ok((
+        Statement::Finish {
+            place: word.place,
+            instances,
+        },
+        end,
+    ))
 }
 
 fn ends_line(token: &Token) -> bool
@@ -219,13 +245,13 @@ fn write(
     let (values, last) = more_exprs(alloc, tokens, middle, inner, Vec::new(alloc))?;
     let (_, end) = take(tokens, last, Class::Sign(Sign::RightParen))?;
     let format = Bytes::copy_of(alloc, bytes_of(&text.token))?;
-    let statement = Statement::Write(
-        word.place,
-        ends_line(&word.token),
+    let statement = Statement::Write {
+        place: word.place,
+        ends_line: ends_line(&word.token),
         format,
-        text.place,
+        format_place: text.place,
         values,
-    );
+    };
     Ok((statement, end))
 }
 

@@ -8,10 +8,11 @@ ghost use Rattle.chi_tree.specs.Tables.{table};
 ghost use Rattle.chi_tree.specs.Statements.{is_bare, more_targets_of, target_of};
 ghost use Rattle.chi_tree.specs.View.{postfix_of, postfixes_of};
 
-use crate::classes::FIRST_OF_TARGET_STEP;
 use chi_base::{Boxed, Items};
 use chi_grammar::{Nesting, ParseFault, Room};
-use chi_parse_expr::{begins, enter, expr, field, take, take_name};
+use chi_look::classes::FIRST_OF_POSTFIX;
+use chi_look::{begins, enter, take, take_name};
+use chi_parse_expr::{expr, field};
 use chi_token::{Sign, Spanned};
 use chi_tree::{Class, Postfix, Target};
 use std::alloc::Global;
@@ -41,7 +42,13 @@ fn target_step(
     let (value, middle) = expr(alloc, tokens, start, inner)?;
     let (_, end) = take(tokens, middle, Class::Sign(Sign::RightBracket))?;
     let index = Boxed::new(alloc, value)?;
-    Ok((Postfix::Index(bracket.place, index), end))
+    Ok((
+        Postfix::Index {
+            place: bracket.place,
+            index,
+        },
+        end,
+    ))
 }
 
 fn target_steps(
@@ -56,7 +63,7 @@ fn target_steps(
 {
     let mut steps = Vec::new(alloc);
     let mut end = at;
-    'turn: while begins(tokens, end, &FIRST_OF_TARGET_STEP) {
+    'turn: while begins(tokens, end, &FIRST_OF_POSTFIX) {
         let (step, stop) = target_step(alloc, tokens, end, room)?;
         steps.push(step)?;
         end = stop;

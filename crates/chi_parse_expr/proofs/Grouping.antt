@@ -20,8 +20,8 @@ use Rattle.chi_tree.specs.View.{Built, expr_of, links_of, link_of, chained}
 use Rattle.chi_parse_expr.specs.declared.level.Level.{Level}
 use Rattle.chi_parse_expr.specs.declared.level.Level.TheVariants.{Or, And, Sum, Product}
 use Rattle.chi_parse_expr.specs.Grouping.{chain_part, link_part, operand_part}
-use Rattle.chi_parse_expr.specs.Taking.{OneAt, NoneAt}
-use Rattle.chi_parse_expr.proofs.Words.{run_one_of, run_none_of}
+use Rattle.chi_look.specs.Taking.{OneAt, NoneAt}
+use Rattle.chi_look.proofs.Words.{run_one_of, run_none_of}
 
 -- an operator of the level
 abbrev pub operator_rule : Level → Rule Spanned Part

@@ -1,4 +1,3 @@
-pub mod Words
 pub mod Shapes
 pub mod Loops
 pub mod Grouping

@@ -18,7 +18,7 @@ use Rattle.chi_tree.specs.Parts.{Part}
 use Rattle.chi_tree.specs.Parts as s
 use Rattle.chi_tree.specs.Rules.{grammar, nested, name}
 use Rattle.chi_tree.specs.Tables.{table}
-use Rattle.chi_parse_expr.specs.Taking.{Passes, PassesTo}
+use Rattle.chi_parse_expr.specs.Passing.{Passes, PassesTo}
 use Rattle.chi_tree.specs.View.{Built, optional, called, carried_of, type_of, formal_in, name_in, blank}
 
 -- a part is no empty tree

@@ -1,3 +1,3 @@
-pub mod Taking
+pub mod Passing
 pub mod Nested
 pub mod Grouping

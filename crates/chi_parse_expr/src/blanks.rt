@@ -1,18 +1,20 @@
 //! Empty literals, whose type is given.
 ghost use Rattle.std.specs.Prelude.{◌^◌, ◌<◌, ◌≤◌, length};
 ghost use Rattle.chi_grammar.specs.Rules.{part, ◌∣◌, pair};
-ghost use Rattle.chi_parse_expr.specs.Taking.{Passes};
+ghost use Rattle.chi_parse_expr.specs.Passing.{Passes};
 ghost use Rattle.chi_grammar.specs.Reads.{Reads};
 ghost use Rattle.chi_tree.specs.Tables.{table};
 ghost use Rattle.chi_tree.specs.Rules.{grammar, nested};
 ghost use Rattle.chi_tree.specs.View.{Built, expr_of, blank};
 ghost use Rattle.chi_tree.specs.Parts as s;
 
-use crate::classes::{COLON, GREATER, LEFT_BRACE, LEFT_BRACKET, LESS, RIGHT_BRACE, RIGHT_BRACKET};
-use crate::look::{begins, enter, take};
 use crate::types::boxed_type;
 use chi_base::Boxed;
 use chi_grammar::{Nesting, ParseFault, Room};
+use chi_look::classes::{
+    COLON, GREATER, LEFT_BRACE, LEFT_BRACKET, LESS, RIGHT_BRACE, RIGHT_BRACKET,
+};
+use chi_look::{begins, enter, take};
 use chi_token::{Place, Spanned};
 use chi_tree::{Expr, TypeTree};
 use std::alloc::Global;
@@ -54,7 +56,14 @@ fn blank_end(
     let (value, middle) = boxed_type(alloc, tokens, start, room)?;
     let (_, last) = take(tokens, middle, GREATER)?;
     let end = no_elements(tokens, last, room)?;
-    Ok((Expr::EmptyDict(place, of, value), end))
+    Ok((
+        Expr::EmptyDict {
+            place,
+            key: of,
+            value,
+        },
+        end,
+    ))
 }
 
 /// An empty list or an empty set, after its type.
@@ -71,10 +80,10 @@ fn blank_items(
 {
     if begins(tokens, at, &[LEFT_BRACKET]) {
         let end = no_items(tokens, at, room)?;
-        return Ok((Expr::EmptyList(place, of), end));
+        return Ok((Expr::EmptyList { place, element: of }, end));
     }
     let end = no_elements(tokens, at, room)?;
-    Ok((Expr::EmptySet(place, of), end))
+    Ok((Expr::EmptySet { place, element: of }, end))
 }
 
 fn no_items(tokens: &[Spanned], at: u32, room: Room) -> Result<u32, ParseFault>

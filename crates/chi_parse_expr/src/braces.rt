@@ -7,12 +7,12 @@ ghost use Rattle.chi_tree.specs.Rules.{grammar, nested};
 ghost use Rattle.chi_tree.specs.View.{expr_of, braced, entries_of, entry_of};
 ghost use Rattle.chi_tree.specs.Parts as s;
 
-use crate::classes::{COLON, COMMA, LEFT_BRACE, RIGHT_BRACE};
 use crate::levels::expr;
-use crate::look::{begins, enter, take};
 use crate::sequences::exprs_after;
 use chi_base::Items;
 use chi_grammar::{Nesting, ParseFault, Room};
+use chi_look::classes::{COLON, COMMA, LEFT_BRACE, RIGHT_BRACE};
+use chi_look::{begins, enter, take};
 use chi_token::{Place, Spanned};
 use chi_tree::{Entry, Expr};
 use std::alloc::Global;
@@ -54,7 +54,13 @@ fn set_or_dict(
     }
     let found = vec![in alloc; first]?;
     let values = Items::of(alloc, found)?;
-    Ok((Expr::SetOf(place, values), at))
+    Ok((
+        Expr::SetOf {
+            place,
+            elements: values,
+        },
+        at,
+    ))
 }
 
 #[cycle(expr)]
@@ -74,7 +80,13 @@ fn contents(
         let (_, start) = take(tokens, at, COMMA)?;
         let found = vec![in alloc; first]?;
         let (values, end) = exprs_after(alloc, tokens, start, room, found)?;
-        return Ok((Expr::SetOf(place, values), end));
+        return Ok((
+            Expr::SetOf {
+                place,
+                elements: values,
+            },
+            end,
+        ));
     }
     entries(alloc, tokens, at, room, place, first)
 }
@@ -96,7 +108,13 @@ fn entries(
     let (value, middle) = expr(alloc, tokens, start, room)?;
     let found = vec![in alloc; Entry { key, value }]?;
     let (values, end) = more_entries(alloc, tokens, middle, room, found)?;
-    Ok((Expr::DictOf(place, values), end))
+    Ok((
+        Expr::DictOf {
+            place,
+            entries: values,
+        },
+        end,
+    ))
 }
 
 #[cycle(expr)]

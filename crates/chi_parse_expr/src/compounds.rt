@@ -9,14 +9,14 @@ ghost use Rattle.chi_token.specs.declared.sign.Sign.TheVariants.{Bang, Question}
 ghost use Rattle.chi_grammar.specs.declared.room.Room.{Room};
 ghost use Rattle.chi_tree.specs.Parts as s;
 
-use crate::classes::{
-    CHAN, COLON, COMMA, DICT, LEFT_PAREN, RIGHT_PAREN, SEMICOLON, TUPLE, VOID, WAY_SIGNS,
-};
-use crate::look::{begins, enter, take, take_name, take_one_of};
 use crate::nodes::way_of;
 use crate::types::nested_type;
 use chi_base::{Boxed, Items};
 use chi_grammar::{Nesting, ParseFault, Room};
+use chi_look::classes::{
+    CHAN, COLON, COMMA, DICT, LEFT_PAREN, RIGHT_PAREN, SEMICOLON, TUPLE, VOID, WAY_SIGNS,
+};
+use chi_look::{begins, enter, take, take_name, take_one_of};
 use chi_token::Spanned;
 use chi_tree::{Formal, TypeTree, Way};
 use std::alloc::Global;
@@ -39,7 +39,14 @@ pub fn dict_type(
     let (_, next) = take(tokens, middle, COLON)?;
     let (value, right) = nested_type(alloc, tokens, next, inner)?;
     let (_, end) = take(tokens, right, RIGHT_PAREN)?;
-    Ok((TypeTree::Dict(word.place, key, value), end))
+    Ok((
+        TypeTree::Dict {
+            place: word.place,
+            key,
+            value,
+        },
+        end,
+    ))
 }
 
 #[cycle(expr)]
@@ -58,7 +65,13 @@ pub fn tuple_type(
     let (_, left) = take(tokens, start, LEFT_PAREN)?;
     let (formals, right) = fields(alloc, tokens, left, inner)?;
     let (_, end) = take(tokens, right, RIGHT_PAREN)?;
-    Ok((TypeTree::Tuple(word.place, formals), end))
+    Ok((
+        TypeTree::Tuple {
+            place: word.place,
+            fields: formals,
+        },
+        end,
+    ))
 }
 
 #[cycle(expr)]
@@ -138,7 +151,14 @@ pub fn chan_type(
     let (word, start) = take(tokens, at, CHAN)?;
     let (way, middle) = channel_way(tokens, start)?;
     let (sent, end) = carried(alloc, tokens, middle, room)?;
-    Ok((TypeTree::Chan(word.place, way, sent), end))
+    Ok((
+        TypeTree::Chan {
+            place: word.place,
+            way,
+            carried: sent,
+        },
+        end,
+    ))
 }
 
 fn channel_way(tokens: &[Spanned], at: u32) -> Result<(Way, u32), ParseFault>

@@ -8,13 +8,13 @@ ghost use Rattle.chi_tree.specs.View.{expr_of, links_of, link_of, related};
 ghost use Rattle.chi_tree.specs.Parts as s;
 ghost use Rattle.chi_parse_expr.specs.Grouping.{chain_part, link_part, operand_part};
 
-use crate::classes::{NOT, RELATION_SIGNS};
 use crate::level::Level;
-use crate::look::{begins, enter, take, take_one_of};
 use crate::nodes::{chained, operator_of, relation_of};
 use crate::terms::unary;
 use chi_base::{Boxed, Items};
 use chi_grammar::{Nesting, ParseFault, Room};
+use chi_look::classes::{NOT, RELATION_SIGNS};
+use chi_look::{begins, enter, take, take_one_of};
 use chi_token::Spanned;
 use chi_tree::{Expr, Link, PrefixSign};
 use std::alloc::Global;
@@ -148,7 +148,14 @@ fn not_neg(
     let (word, start) = take(tokens, at, NOT)?;
     let (operand, end) = neg(alloc, tokens, start, inner)?;
     let boxed = Boxed::new(alloc, operand)?;
-    Ok((Expr::Prefix(PrefixSign::Not, word.place, boxed), end))
+    Ok((
+        Expr::Prefix {
+            sign: PrefixSign::Not,
+            place: word.place,
+            operand: boxed,
+        },
+        end,
+    ))
 }
 
 #[cycle(expr)]
@@ -181,7 +188,12 @@ fn rel_link(
     let first = Boxed::new(alloc, left)?;
     let second = Boxed::new(alloc, right)?;
     Ok((
-        Expr::Relation(first, relation_of(&word.token), word.place, second),
+        Expr::Relation {
+            left: first,
+            sign: relation_of(&word.token),
+            place: word.place,
+            right: second,
+        },
         end,
     ))
 }

@@ -3,8 +3,8 @@ ghost use Rattle.std.specs.Prelude.{◌≡◌, IfOk};
 ghost use Rattle.chi_tree.specs.Tokens.{bytes_of, operator_of, relation_of, prefix_of, cast_of, type_word_of, way_of, literal_of};
 ghost use Rattle.chi_tree.specs.View.{chained, parted};
 
-use crate::look::bytes_of;
 use chi_base::{Boxed, Items, NoMemory};
+use chi_look::bytes_of;
 use chi_token::{Bytes, Keyword, Place, Sign, Spanned, Token};
 use chi_tree::{CastWord, Expr, Link, Operator, Postfix, PrefixSign, RelationSign, TypeWord, Way};
 use std::alloc::Global;
@@ -91,11 +91,23 @@ pub fn literal_of(alloc: Global, spanned: &Spanned) -> Result<Expr, NoMemory>
 {
     let place = spanned.place;
     match &spanned.token {
-        Token::Int(digits) => Ok(Expr::Int(Bytes::copy_of(alloc, digits.as_slice())?, place)),
-        Token::Real(digits) => Ok(Expr::Real(Bytes::copy_of(alloc, digits.as_slice())?, place)),
-        Token::Text(text) => Ok(Expr::Text(Bytes::copy_of(alloc, text.as_slice())?, place)),
-        Token::Word(Keyword::TrueWord) => Ok(Expr::Bool(true, place)),
-        Token::Word(Keyword::FalseWord) => Ok(Expr::Bool(false, place)),
+        Token::Int(digits) => {
+            let digits = Bytes::copy_of(alloc, digits.as_slice())?;
+            Ok(Expr::Int { digits, place })
+        }
+        Token::Real(digits) => {
+            let digits = Bytes::copy_of(alloc, digits.as_slice())?;
+            Ok(Expr::Real { digits, place })
+        }
+        Token::Text(text) => {
+            let bytes = Bytes::copy_of(alloc, text.as_slice())?;
+            Ok(Expr::Text { bytes, place })
+        }
+        Token::Word(Keyword::TrueWord) => Ok(Expr::Bool { truth: true, place }),
+        Token::Word(Keyword::FalseWord) => Ok(Expr::Bool {
+            truth: false,
+            place,
+        }),
         _ => Ok(Expr::Time(place)),
     }
 }
@@ -107,8 +119,8 @@ pub fn chained(alloc: Global, first: Expr, links: Items<Link>) -> Result<Expr, N
     if links.as_slice().is_empty() {
         return Ok(first);
     }
-    let boxed = Boxed::new(alloc, first)?;
-    Ok(Expr::Chain(boxed, links))
+    let first = Boxed::new(alloc, first)?;
+    Ok(Expr::Chain { first, links })
 }
 
 /// An expression with the indexes, slices and fields after it, where there are any.
@@ -118,6 +130,9 @@ pub fn parted(alloc: Global, whole: Expr, parts: Items<Postfix>) -> Result<Expr,
     if parts.as_slice().is_empty() {
         return Ok(whole);
     }
-    let boxed = Boxed::new(alloc, whole)?;
-    Ok(Expr::Part(boxed, parts))
+    let whole = Boxed::new(alloc, whole)?;
+    Ok(Expr::Part {
+        whole,
+        postfixes: parts,
+    })
 }

@@ -8,13 +8,13 @@ ghost use Rattle.chi_tree.specs.View.{expr_of, postfixes_of, postfix_of, inside,
 ghost use Rattle.chi_grammar.specs.declared.room.Room.{Room};
 ghost use Rattle.chi_tree.specs.Parts as s;
 
-use crate::classes::{COLON, DOT, FIRST_OF_EXPR, FIRST_OF_POSTFIX, LEFT_BRACKET, RIGHT_BRACKET};
 use crate::levels::expr;
-use crate::look::{begins, enter, take, take_name};
 use crate::nodes::parted;
 use crate::primaries::primary;
 use chi_base::{Boxed, Items};
 use chi_grammar::{Nesting, ParseFault, Room};
+use chi_look::classes::{COLON, DOT, FIRST_OF_EXPR, FIRST_OF_POSTFIX, LEFT_BRACKET, RIGHT_BRACKET};
+use chi_look::{begins, enter, take, take_name};
 use chi_token::{Place, Spanned};
 use chi_tree::{Expr, Postfix};
 use std::alloc::Global;
@@ -139,7 +139,7 @@ fn indexed(
     if begins(tokens, at, &[COLON]) {
         return sliced(alloc, tokens, at, room, place, Some(from));
     }
-    Ok((Postfix::Index(place, from), at))
+    Ok((Postfix::Index { place, index: from }, at))
 }
 
 #[cycle(expr)]
@@ -177,9 +177,27 @@ fn stepped(
     if begins(tokens, at, &[COLON]) {
         let (_, start) = take(tokens, at, COLON)?;
         let (step, end) = optional_expr(alloc, tokens, start, room)?;
-        return Ok((Postfix::Slice(place, from, upto, true, step), end));
+        return Ok((
+            Postfix::Slice {
+                place,
+                from,
+                upto,
+                second_colon: true,
+                by: step,
+            },
+            end,
+        ));
     }
-    Ok((Postfix::Slice(place, from, upto, false, None), at))
+    Ok((
+        Postfix::Slice {
+            place,
+            from,
+            upto,
+            second_colon: false,
+            by: None,
+        },
+        at,
+    ))
 }
 
 #[cycle(expr)]

@@ -10,17 +10,17 @@ ghost use Rattle.chi_tree.specs.Parts as s;
 
 use crate::blanks::blank;
 use crate::braces::curly;
-use crate::classes::{
-    CAST_WORDS, COMMA, LEFT_BRACE, LEFT_BRACKET, LEFT_PAREN, LITERALS, NAME, RIGHT_BRACKET,
-    RIGHT_PAREN,
-};
 use crate::levels::expr;
-use crate::look::{begins, enter, take, take_name, take_one_of};
 use crate::nodes::{cast_of, literal_of};
 use crate::postfixes::boxed_expr;
 use crate::sequences::{arguments, exprs, exprs_after};
 use chi_base::Boxed;
 use chi_grammar::{Nesting, ParseFault, Room};
+use chi_look::classes::{
+    CAST_WORDS, COMMA, LEFT_BRACE, LEFT_BRACKET, LEFT_PAREN, LITERALS, NAME, RIGHT_BRACKET,
+    RIGHT_PAREN,
+};
+use chi_look::{begins, enter, take, take_name, take_one_of};
 use chi_token::{Place, Spanned};
 use chi_tree::Expr;
 use std::alloc::Global;
@@ -76,7 +76,13 @@ fn named(alloc: Global, tokens: &[Spanned], at: u32, room: Room) -> Result<(Expr
     let (name, middle) = take_name(alloc, tokens, at)?;
     if begins(tokens, middle, &[LEFT_PAREN]) {
         let (values, end) = arguments(alloc, tokens, middle, room)?;
-        return Ok((Expr::Call(name, values), end));
+        return Ok((
+            Expr::Call {
+                name,
+                arguments: values,
+            },
+            end,
+        ));
     }
     Ok((Expr::Named(name), middle))
 }
@@ -92,7 +98,14 @@ fn cast(alloc: Global, tokens: &[Spanned], at: u32, room: Room) -> Result<(Expr,
     let (_, left) = take(tokens, start, LEFT_PAREN)?;
     let (operand, right) = boxed_expr(alloc, tokens, left, inner)?;
     let (_, end) = take(tokens, right, RIGHT_PAREN)?;
-    Ok((Expr::Cast(cast_of(&word.token), word.place, operand), end))
+    Ok((
+        Expr::Cast {
+            word: cast_of(&word.token),
+            place: word.place,
+            operand,
+        },
+        end,
+    ))
 }
 
 #[cycle(expr)]
@@ -126,10 +139,22 @@ fn tuple_or_round(
         let (_, start) = take(tokens, at, COMMA)?;
         let found = vec![in alloc; first]?;
         let (values, end) = exprs_after(alloc, tokens, start, room, found)?;
-        return Ok((Expr::TupleOf(place, values), end));
+        return Ok((
+            Expr::TupleOf {
+                place,
+                parts: values,
+            },
+            end,
+        ));
     }
     let boxed = Boxed::new(alloc, first)?;
-    Ok((Expr::Round(place, boxed), at))
+    Ok((
+        Expr::Round {
+            place,
+            inner: boxed,
+        },
+        at,
+    ))
 }
 
 #[cycle(expr)]
@@ -142,5 +167,11 @@ fn square(alloc: Global, tokens: &[Spanned], at: u32, room: Room) -> Result<(Exp
     let (word, start) = take(tokens, at, LEFT_BRACKET)?;
     let (values, last) = exprs(alloc, tokens, start, inner)?;
     let (_, end) = take(tokens, last, RIGHT_BRACKET)?;
-    Ok((Expr::ListOf(word.place, values), end))
+    Ok((
+        Expr::ListOf {
+            place: word.place,
+            elements: values,
+        },
+        end,
+    ))
 }

@@ -8,11 +8,11 @@ ghost use Rattle.chi_tree.specs.View.{arguments_of, exprs_of, more_exprs_of};
 ghost use Rattle.chi_token.specs.declared.sign.Sign.TheVariants.{Comma};
 ghost use Rattle.chi_tree.specs.Parts as s;
 
-use crate::classes::{COMMA, FIRST_OF_EXPR, LEFT_PAREN, RIGHT_PAREN};
 use crate::levels::expr;
-use crate::look::{begins, enter, take};
 use chi_base::Items;
 use chi_grammar::{Nesting, ParseFault, Room};
+use chi_look::classes::{COMMA, FIRST_OF_EXPR, LEFT_PAREN, RIGHT_PAREN};
+use chi_look::{begins, enter, take};
 use chi_token::Spanned;
 use chi_tree::Expr;
 use std::alloc::Global;

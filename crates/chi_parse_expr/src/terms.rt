@@ -7,12 +7,12 @@ ghost use Rattle.chi_tree.specs.Rules.{grammar, nested};
 ghost use Rattle.chi_tree.specs.View.{expr_of, powered};
 ghost use Rattle.chi_tree.specs.Parts as s;
 
-use crate::classes::{CARET, FIRST_OF_UNARY, PREFIX_SIGNS};
-use crate::look::{begins, enter, take, take_one_of};
 use crate::nodes::prefix_of;
 use crate::postfixes::post;
 use chi_base::Boxed;
 use chi_grammar::{Nesting, ParseFault, Room};
+use chi_look::classes::{CARET, FIRST_OF_UNARY, PREFIX_SIGNS};
+use chi_look::{begins, enter, take, take_one_of};
 use chi_token::Spanned;
 use chi_tree::Expr;
 use std::alloc::Global;
@@ -49,7 +49,14 @@ fn prefixed(
     let (word, start) = take_one_of(tokens, at, &PREFIX_SIGNS)?;
     let (operand, end) = unary(alloc, tokens, start, inner)?;
     let boxed = Boxed::new(alloc, operand)?;
-    Ok((Expr::Prefix(prefix_of(&word.token), word.place, boxed), end))
+    Ok((
+        Expr::Prefix {
+            sign: prefix_of(&word.token),
+            place: word.place,
+            operand: boxed,
+        },
+        end,
+    ))
 }
 
 #[cycle(expr)]
@@ -82,5 +89,12 @@ fn power_link(
     let (right, end) = unary(alloc, tokens, start, inner)?;
     let first = Boxed::new(alloc, base)?;
     let second = Boxed::new(alloc, right)?;
-    Ok((Expr::Power(first, word.place, second), end))
+    Ok((
+        Expr::Power {
+            base: first,
+            place: word.place,
+            exponent: second,
+        },
+        end,
+    ))
 }

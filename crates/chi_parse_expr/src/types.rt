@@ -9,16 +9,16 @@ ghost use Rattle.chi_token.specs.declared.sign.Sign.TheVariants.{LeftParen, Righ
 ghost use Rattle.chi_grammar.specs.declared.room.Room.{Room};
 ghost use Rattle.chi_tree.specs.Parts as s;
 
-use crate::classes::{
-    DICT, DIST, FIRST_OF_BUILT_TYPE, FIRST_OF_TYPE, LEFT_PAREN, LIST, RIGHT_PAREN, SET, TUPLE,
-    TYPE_WORDS,
-};
 use crate::compounds::{chan_type, dict_type, tuple_type};
-use crate::look::{begins, enter, take, take_name, take_one_of};
 use crate::nodes::type_word_of;
 use crate::postfixes::boxed_expr;
 use chi_base::Boxed;
 use chi_grammar::{Nesting, ParseFault, Room};
+use chi_look::classes::{
+    DICT, DIST, FIRST_OF_BUILT_TYPE, FIRST_OF_TYPE, LEFT_PAREN, LIST, RIGHT_PAREN, SET, TUPLE,
+    TYPE_WORDS,
+};
+use chi_look::{begins, enter, take, take_name, take_one_of};
 use chi_token::Spanned;
 use chi_tree::{Expr, TypeTree};
 use std::alloc::Global;
@@ -120,7 +120,13 @@ fn word_type(tokens: &[Spanned], at: u32) -> Result<(TypeTree, u32), ParseFault>
     ensures { (room : Room) → Reads grammar table tokens.now type_of room (part s.WordType) at result }
 {
     let (word, end) = take_one_of(tokens, at, &TYPE_WORDS)?;
-    Ok((TypeTree::Word(type_word_of(&word.token), word.place), end))
+    Ok((
+        TypeTree::Word {
+            word: type_word_of(&word.token),
+            place: word.place,
+        },
+        end,
+    ))
 }
 
 #[cycle(expr)]
@@ -137,7 +143,14 @@ fn list_type(
     let (word, start) = take(tokens, at, LIST)?;
     let (size, middle) = list_size(alloc, tokens, start, room)?;
     let (of, end) = nested_type(alloc, tokens, middle, room)?;
-    Ok((TypeTree::List(word.place, size, of), end))
+    Ok((
+        TypeTree::List {
+            place: word.place,
+            size,
+            element: of,
+        },
+        end,
+    ))
 }
 
 #[cycle(expr)]
@@ -174,7 +187,13 @@ fn set_type(
 {
     let (word, start) = take(tokens, at, SET)?;
     let (of, end) = nested_type(alloc, tokens, start, room)?;
-    Ok((TypeTree::Set(word.place, of), end))
+    Ok((
+        TypeTree::Set {
+            place: word.place,
+            element: of,
+        },
+        end,
+    ))
 }
 
 #[cycle(expr)]
@@ -190,5 +209,11 @@ fn dist_type(
 {
     let (word, start) = take(tokens, at, DIST)?;
     let (of, end) = nested_type(alloc, tokens, start, room)?;
-    Ok((TypeTree::Dist(word.place, of), end))
+    Ok((
+        TypeTree::Dist {
+            place: word.place,
+            drawn: of,
+        },
+        end,
+    ))
 }

@@ -1,12 +1,8 @@
-//! Tests of the tree, and of both parsers over sources.
+//! Tests of the tree, its spelling, and the parser, over sources.
 #![tactic(auto)]
 
 #[cfg(test)]
-mod expressions;
-#[cfg(test)]
 mod programs;
-#[cfg(test)]
-mod shapes;
 #[cfg(test)]
 mod spellings;
 #[cfg(test)]

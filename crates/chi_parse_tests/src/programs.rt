@@ -108,7 +108,13 @@ fn a_tree_has_what_its_tokens_say(rt: HostRuntime) -> Result<(), Fail> {
     assert_eq!(rt; program.last.column, 82);
     let item = program.items.as_slice().first().ok_or("no item")?;
     assert!(rt; item.semicolon);
-    let Definition::Model(_, None, _, formals, block) = &item.definition else {
+    let Definition::Model {
+        exit_type: None,
+        formals,
+        block,
+        ..
+    } = &item.definition
+    else {
         return Err(Fail::from("no model"));
     };
     assert!(rt; formals.as_slice().is_empty());
@@ -116,12 +122,12 @@ fn a_tree_has_what_its_tokens_say(rt: HostRuntime) -> Result<(), Fail> {
         return Err(Fail::from("not three statements"));
     };
     assert!(rt; select.semicolon && !run.semicolon && !exit.semicolon);
-    assert!(rt; matches!(exit.statement, Statement::Exit(_, None)));
-    let Statement::Run(_, elements) = &run.statement else {
+    assert!(rt; matches!(exit.statement, Statement::Exit { value: None, .. }));
+    let Statement::Run { elements, .. } = &run.statement else {
         return Err(Fail::from("no run"));
     };
-    assert!(rt; matches!(elements.as_slice(), [Element::Unwind(_, _, _)]));
-    let Statement::Select(_, alternatives) = &select.statement else {
+    assert!(rt; matches!(elements.as_slice(), [Element::Unwind { .. }]));
+    let Statement::Select { alternatives, .. } = &select.statement else {
         return Err(Fail::from("no select"));
     };
     let [first, second] = alternatives.as_slice() else {
@@ -130,13 +136,21 @@ fn a_tree_has_what_its_tokens_say(rt: HostRuntime) -> Result<(), Fail> {
     assert!(rt;
         matches!(
             first,
-            Alternative::Guarded(Some(_), Communication::Receive(_, _, Some(_)), _)
+            Alternative::Guarded {
+                guard: Some(_),
+                communication: Communication::Receive { name: Some(_), .. },
+                ..
+            }
         )
     );
     assert!(rt;
         matches!(
             second,
-            Alternative::Guarded(None, Communication::Send(_, _, None), _)
+            Alternative::Guarded {
+                guard: None,
+                communication: Communication::Send { value: None, .. },
+                ..
+            }
         )
     );
     Ok(())

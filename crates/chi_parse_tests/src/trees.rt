@@ -1,9 +1,9 @@
 use chi_base::{Boxed, Items, NoMemory};
 use chi_grammar_laws::{
-    answer_law, formed_law, grammar_law, last_token_law, nesting_law, one_tree_law, parsed_law,
-    parsed_part_law,
+    answer_law, formed_law, grammar_law, last_token_law, nesting_law, one_program_law, one_tree_law,
+    parsed_law, parsed_part_law,
 };
-use chi_spell::{spell, spelling_law};
+use chi_spell::{places_law, spell, spelling_law};
 use chi_token::{Bytes, Keyword, Place, Sign, Token, spelling};
 use chi_tree::{
     Class, Definition, Expr, Formal, Item, Link, MOST_BLOCKS, MOST_EXPRESSIONS, Name, Operator,
@@ -26,35 +26,65 @@ fn named(alloc: Global, text: &[u8]) -> Result<Boxed<Expr>, NoMemory> {
 }
 
 fn int(alloc: Global, digits: &[u8]) -> Result<Boxed<Expr>, NoMemory> {
-    Ok(Boxed::new(alloc, Expr::Int(Bytes::copy_of(alloc, digits)?, HERE))?)
+    let digits = Bytes::copy_of(alloc, digits)?;
+    Ok(Boxed::new(
+        alloc,
+        Expr::Int {
+            digits,
+            place: HERE,
+        },
+    )?)
+}
+
+fn word(word: TypeWord) -> TypeTree {
+    TypeTree::Word { word, place: HERE }
 }
 
 /// `x [ : 2 : ] - - y`
 fn difference(alloc: Global) -> Result<Expr, NoMemory> {
     let mut parts = Vec::new(alloc);
-    parts.push(Postfix::Slice(HERE, None, Some(int(alloc, b"2")?), true, None))?;
-    let whole = Expr::Part(named(alloc, b"x")?, Items::of(alloc, parts)?);
+    parts.push(Postfix::Slice {
+        place: HERE,
+        from: None,
+        upto: Some(int(alloc, b"2")?),
+        second_colon: true,
+        by: None,
+    })?;
+    let whole = Expr::Part {
+        whole: named(alloc, b"x")?,
+        postfixes: Items::of(alloc, parts)?,
+    };
     let mut links = Vec::new(alloc);
     links.push(Link {
         operator: Operator::Subtract,
         place: HERE,
-        operand: Expr::Prefix(PrefixSign::Minus, HERE, named(alloc, b"y")?),
+        operand: Expr::Prefix {
+            sign: PrefixSign::Minus,
+            place: HERE,
+            operand: named(alloc, b"y")?,
+        },
     })?;
-    Ok(Expr::Chain(Boxed::new(alloc, whole)?, Items::of(alloc, links)?))
+    Ok(Expr::Chain {
+        first: Boxed::new(alloc, whole)?,
+        links: Items::of(alloc, links)?,
+    })
 }
 
 /// `tuple ( int a , b )`
 fn two_fields(alloc: Global) -> Result<TypeTree, NoMemory> {
     let mut fields = Vec::new(alloc);
     fields.push(Formal {
-        ty: Some(Boxed::new(alloc, TypeTree::Word(TypeWord::Int, HERE))?),
+        ty: Some(Boxed::new(alloc, word(TypeWord::Int))?),
         name: name(alloc, b"a")?,
     })?;
     fields.push(Formal {
         ty: None,
         name: name(alloc, b"b")?,
     })?;
-    Ok(TypeTree::Tuple(HERE, Items::of(alloc, fields)?))
+    Ok(TypeTree::Tuple {
+        place: HERE,
+        fields: Items::of(alloc, fields)?,
+    })
 }
 
 /// `while true : x = 2 ; break end`
@@ -68,14 +98,25 @@ fn loop_of_two(alloc: Global) -> Result<Statement, NoMemory> {
     values.push(Boxed::into_inner(int(alloc, b"2")?))?;
     let mut steps = Vec::new(alloc);
     steps.push(Step {
-        statement: Statement::Assign(Items::of(alloc, targets)?, HERE, Items::of(alloc, values)?),
+        statement: Statement::Assign {
+            targets: Items::of(alloc, targets)?,
+            equals: HERE,
+            values: Items::of(alloc, values)?,
+        },
         semicolon: true,
     })?;
     steps.push(Step {
         statement: Statement::Break(HERE),
         semicolon: false,
     })?;
-    Ok(Statement::While(HERE, Expr::Bool(true, HERE), Items::of(alloc, steps)?))
+    Ok(Statement::While {
+        place: HERE,
+        condition: Expr::Bool {
+            truth: true,
+            place: HERE,
+        },
+        block: Items::of(alloc, steps)?,
+    })
 }
 
 fn source(alloc: Global) -> Result<Program, NoMemory> {
@@ -86,16 +127,29 @@ fn source(alloc: Global) -> Result<Program, NoMemory> {
     })?;
     let mut items = Vec::new(alloc);
     items.push(Item {
-        definition: Definition::Type(HERE, name(alloc, b"pair")?, two_fields(alloc)?),
+        definition: Definition::Type {
+            place: HERE,
+            name: name(alloc, b"pair")?,
+            ty: two_fields(alloc)?,
+        },
         semicolon: true,
     })?;
-    let real = TypeTree::Word(TypeWord::Real, HERE);
     items.push(Item {
-        definition: Definition::Const(HERE, real, name(alloc, b"c")?, HERE, difference(alloc)?),
+        definition: Definition::Const {
+            place: HERE,
+            ty: word(TypeWord::Real),
+            name: name(alloc, b"c")?,
+            equals: HERE,
+            value: difference(alloc)?,
+        },
         semicolon: false,
     })?;
     items.push(Item {
-        definition: Definition::Xper(HERE, name(alloc, b"e")?, Items::of(alloc, block)?),
+        definition: Definition::Xper {
+            place: HERE,
+            name: name(alloc, b"e")?,
+            block: Items::of(alloc, block)?,
+        },
         semicolon: false,
     })?;
     Ok(Program {
@@ -148,6 +202,7 @@ fn the_whole_room_is_64_blocks_and_200_expressions(rt: HostRuntime) -> Result<()
 #[test]
 fn the_laws_hold(_rt: HostRuntime) -> Result<(), Fail> {
     spelling_law();
+    places_law();
     formed_law();
     one_tree_law();
     last_token_law();
@@ -156,5 +211,6 @@ fn the_laws_hold(_rt: HostRuntime) -> Result<(), Fail> {
     nesting_law();
     parsed_part_law();
     grammar_law();
+    one_program_law();
     Ok(())
 }

@@ -7,6 +7,7 @@ pub mod StatementTokens
 pub mod TargetSpelling
 pub mod StatementSpelling
 pub mod DefinitionSpelling
+pub mod EachPart
 pub mod ProgramSpelling
 pub mod Rest
 pub mod SlicePut

@@ -1,3 +1,4 @@
+pub mod Marks
 pub mod Words
 pub mod Expressions
 pub mod Statements

@@ -1,5 +1,6 @@
--- The token of each operator and of each word, and tokens with others between them.
+-- The token of each operator and of each word, and lists with others between them.
 use Rattle.std.specs.Prelude.{Bool, true, false, List, [], ◌∷◌, ◌++◌, Option, Some, None}
+use Rattle.chi_token.specs.declared.keyword.Keyword.{Keyword}
 use Rattle.chi_token.specs.declared.keyword.Keyword.TheVariants as keyword
 use Rattle.chi_token.specs.declared.sign.Sign.TheVariants as sign
 use Rattle.chi_token.specs.declared.place.Spanned.{Spanned}
@@ -8,8 +9,6 @@ use Rattle.chi_token.specs.declared.token.Token.TheVariants.{Word, Sign, Name}
 use Rattle.chi_tree.specs.declared.type_tree.Name as name
 use Rattle.chi_tree.specs.declared.type_tree.TypeWord.{TypeWord}
 use Rattle.chi_tree.specs.declared.type_tree.TypeWord.TheVariants as type_word
-use Rattle.chi_tree.specs.declared.type_tree.Way.{Way}
-use Rattle.chi_tree.specs.declared.type_tree.Way.TheVariants as way
 use Rattle.chi_tree.specs.declared.operator.Operator.{Operator}
 use Rattle.chi_tree.specs.declared.operator.Operator.TheVariants as operator
 use Rattle.chi_tree.specs.declared.operator.RelationSign.{RelationSign}
@@ -22,7 +21,7 @@ use Rattle.chi_tree.specs.declared.operator.CastWord.TheVariants as cast
 abbrev pub Tokens : Type 0
 Tokens = List Token
 
--- a token without its place
+-- the token of one that stands in a source
 abbrev pub token_of : Spanned → Token
 token_of x = x.token
 
@@ -71,35 +70,30 @@ abbrev pub truth_token : Bool → Token
 truth_token true = Word keyword.TrueWord
 truth_token false = Word keyword.FalseWord
 
+-- that of a write, by whether it ends its line
+abbrev pub write_word : Bool → Keyword
+write_word false = keyword.WriteWord
+write_word true = keyword.WritelnWord
+
 abbrev pub name_token : name.Name → Token
 name_token n = Name n.text
 
--- what stands after `chan`
-abbrev pub way_tokens : Way → Tokens
-way_tokens way.Both = []
-way_tokens way.Send = Sign sign.Bang ∷ []
-way_tokens way.Receive = Sign sign.Question ∷ []
-
--- the tokens of what may be left out
-abbrev pub if_any : Option Tokens → Tokens
+-- what may be left out
+abbrev pub if_any : {X : Type 0} → Option (List X) → List X
 if_any None = []
 if_any (Some tokens) = tokens
 
 -- all of them in turn
-abbrev pub all : List Tokens → Tokens
+abbrev pub all : {X : Type 0} → List (List X) → List X
 all [] = []
 all (tokens ∷ more) = tokens ++ all more
 
--- each of them after this token
-abbrev pub each_after : Token → List Tokens → Tokens
+-- each of them after this one
+abbrev pub each_after : {X : Type 0} → X → List (List X) → List X
 each_after between [] = []
 each_after between (tokens ∷ more) = between ∷ tokens ++ each_after between more
 
--- all of them, with this token between each two
-abbrev pub separated : Token → List Tokens → Tokens
+-- all of them, with this one between each two
+abbrev pub separated : {X : Type 0} → X → List (List X) → List X
 separated between [] = []
 separated between (tokens ∷ more) = tokens ++ each_after between more
-
--- all of them, with commas between
-abbrev pub commas : List Tokens → Tokens
-commas = separated (Sign sign.Comma)

@@ -24,42 +24,65 @@ impl Speller {
         ensures { OnOk result (self.new.tokens.items ≡ self.old.tokens.items ++ spelled_definition definition.now) }
     {
         match definition {
-            Definition::Enum(_, name, names) => {
+            Definition::Enum { name, values, .. } => {
                 self.word(Keyword::EnumWord)?;
                 self.name(name)?;
                 self.sign(Sign::Assign)?;
-                self.in_braces(names.as_slice())
+                self.in_braces(values.as_slice())
             }
-            Definition::Const(_, ty, name, _, value) => {
+            Definition::Const {
+                ty,
+                name,
+                value,
+                ..
+            } => {
                 self.word(Keyword::ConstWord)?;
                 self.ty(ty)?;
                 self.name(name)?;
                 self.sign(Sign::Assign)?;
                 self.expr(value)
             }
-            Definition::Type(_, name, ty) => {
+            Definition::Type { name, ty, .. } => {
                 self.word(Keyword::TypeWord)?;
                 self.name(name)?;
                 self.sign(Sign::Assign)?;
                 self.ty(ty)
             }
-            Definition::Func(_, ty, name, parameters, block) => {
+            Definition::Func {
+                result_type,
+                name,
+                formals,
+                block,
+                ..
+            } => {
                 self.word(Keyword::FuncWord)?;
-                self.ty(ty)?;
+                self.ty(result_type)?;
                 self.name(name)?;
-                self.callable(parameters.as_slice(), block.as_slice())
+                self.callable(formals.as_slice(), block.as_slice())
             }
-            Definition::Proc(_, ty, name, parameters, block) => {
+            Definition::Proc {
+                exit_type,
+                name,
+                formals,
+                block,
+                ..
+            } => {
                 self.word(Keyword::ProcWord)?;
-                self.head(ty, name)?;
-                self.callable(parameters.as_slice(), block.as_slice())
+                self.head(exit_type, name)?;
+                self.callable(formals.as_slice(), block.as_slice())
             }
-            Definition::Model(_, ty, name, parameters, block) => {
+            Definition::Model {
+                exit_type,
+                name,
+                formals,
+                block,
+                ..
+            } => {
                 self.word(Keyword::ModelWord)?;
-                self.head(ty, name)?;
-                self.callable(parameters.as_slice(), block.as_slice())
+                self.head(exit_type, name)?;
+                self.callable(formals.as_slice(), block.as_slice())
             }
-            Definition::Xper(_, name, block) => {
+            Definition::Xper { name, block, .. } => {
                 self.word(Keyword::XperWord)?;
                 self.name(name)?;
                 self.callable(&[], block.as_slice())

@@ -27,11 +27,15 @@ impl Speller {
         ensures { OnOk result (self.new.tokens.items ≡ self.old.tokens.items ++ spelled_element element.now) }
     {
         match element {
-            Element::Make(target, name, arguments) => {
+            Element::Make {
+                target,
+                name,
+                arguments,
+            } => {
                 self.assigned(target)?;
                 self.call(name, arguments.as_slice())
             }
-            Element::Unwind(_, walk, elements) => {
+            Element::Unwind { walk, elements, .. } => {
                 self.word(Keyword::UnwindWord)?;
                 self.walk(walk)?;
                 self.sign(Sign::Colon)?;

@@ -2,8 +2,8 @@ ghost use Rattle.std.specs.Prelude.{◌≡◌, ◌∷◌, [], ◌++◌, OnOk, ma
 ghost use Rattle.std.specs.Option.{option_map};
 ghost use Rattle.chi_token.specs.declared.sign.Sign.TheVariants as sign;
 ghost use Rattle.chi_token.specs.declared.token.Token.TheVariants as token;
-ghost use Rattle.chi_spell.specs.Words.{all, each_after, commas, if_any, name_token, cast_token};
-ghost use Rattle.chi_spell.specs.Expressions.{round, curly, step_tokens, spelled_expr, spelled_link, spelled_postfix, spelled_entry, spelled_type};
+ghost use Rattle.chi_spell.specs.Words.{all, each_after, if_any, name_token, cast_token};
+ghost use Rattle.chi_spell.specs.Expressions.{commas, round, curly, step_tokens, spelled_expr, spelled_link, spelled_postfix, spelled_entry, spelled_type};
 
 use crate::speller::Speller;
 use crate::words::{cast_token, operator_token, prefix_token, relation_token, truth_token};
@@ -26,39 +26,44 @@ impl Speller {
         ensures { OnOk result (self.new.tokens.items ≡ self.old.tokens.items ++ spelled_expr expr.now) }
     {
         match expr {
-            Expr::Chain(first, links) => {
+            Expr::Chain { first, links } => {
                 self.expr(first.get())?;
                 self.links(links.as_slice())
             }
-            Expr::Prefix(sign, _, operand) => self.prefixed(prefix_token(*sign), operand.get()),
-            Expr::Relation(left, sign, _, right) => {
+            Expr::Prefix { sign, operand, .. } => self.prefixed(prefix_token(*sign), operand.get()),
+            Expr::Relation {
+                left,
+                sign,
+                right,
+                ..
+            } => {
                 self.expr(left.get())?;
                 self.prefixed(relation_token(*sign), right.get())
             }
-            Expr::Power(base, _, exponent) => {
+            Expr::Power { base, exponent, .. } => {
                 self.expr(base.get())?;
                 self.prefixed(Token::Sign(Sign::Caret), exponent.get())
             }
-            Expr::Part(whole, postfixes) => {
+            Expr::Part { whole, postfixes } => {
                 self.expr(whole.get())?;
                 self.postfixes(postfixes.as_slice())
             }
-            Expr::Int(digits, _) => self.int(digits),
-            Expr::Real(digits, _) => self.real(digits),
-            Expr::Text(text, _) => self.text(text),
-            Expr::Bool(truth, _) => self.put(truth_token(*truth)),
+            Expr::Int { digits, .. } => self.int(digits),
+            Expr::Real { digits, .. } => self.real(digits),
+            Expr::Text { bytes, .. } => self.text(bytes),
+            Expr::Bool { truth, .. } => self.put(truth_token(*truth)),
             Expr::Time(_) => self.word(Keyword::TimeWord),
             Expr::Named(name) => self.name(name),
-            Expr::Call(name, arguments) => self.call(name, arguments.as_slice()),
-            Expr::Cast(word, _, operand) => self.cast(*word, operand.get()),
-            Expr::Round(_, inner) => self.in_round(inner.get()),
-            Expr::TupleOf(_, parts) => self.exprs_in(ROUND, parts.as_slice()),
-            Expr::ListOf(_, items) => self.exprs_in(SQUARE, items.as_slice()),
-            Expr::SetOf(_, items) => self.exprs_in(CURLY, items.as_slice()),
-            Expr::DictOf(_, entries) => self.dictionary(entries.as_slice()),
-            Expr::EmptyList(_, ty) => self.empty(Sign::Less, ty.get(), SQUARE),
-            Expr::EmptySet(_, ty) => self.empty(Sign::Less, ty.get(), CURLY),
-            Expr::EmptyDict(_, key, value) => {
+            Expr::Call { name, arguments } => self.call(name, arguments.as_slice()),
+            Expr::Cast { word, operand, .. } => self.cast(*word, operand.get()),
+            Expr::Round { inner, .. } => self.in_round(inner.get()),
+            Expr::TupleOf { parts, .. } => self.exprs_in(ROUND, parts.as_slice()),
+            Expr::ListOf { elements, .. } => self.exprs_in(SQUARE, elements.as_slice()),
+            Expr::SetOf { elements, .. } => self.exprs_in(CURLY, elements.as_slice()),
+            Expr::DictOf { entries, .. } => self.dictionary(entries.as_slice()),
+            Expr::EmptyList { element, .. } => self.empty(Sign::Less, element.get(), SQUARE),
+            Expr::EmptySet { element, .. } => self.empty(Sign::Less, element.get(), CURLY),
+            Expr::EmptyDict { key, value, .. } => {
                 self.after(Sign::Less, key.get())?;
                 self.empty(Sign::Colon, value.get(), CURLY)
             }
@@ -146,17 +151,23 @@ impl Speller {
         ensures { OnOk result (self.new.tokens.items ≡ self.old.tokens.items ++ spelled_postfix postfix.now) }
     {
         match postfix {
-            Postfix::Index(_, index) => {
+            Postfix::Index { index, .. } => {
                 self.sign(Sign::LeftBracket)?;
                 self.expr(index.get())?;
                 self.sign(Sign::RightBracket)
             }
-            Postfix::Slice(_, from, upto, has_by, by) => {
+            Postfix::Slice {
+                from,
+                upto,
+                second_colon,
+                by,
+                ..
+            } => {
                 self.sign(Sign::LeftBracket)?;
                 self.expr_if(from)?;
                 self.sign(Sign::Colon)?;
                 self.expr_if(upto)?;
-                self.by_step(*has_by, by)?;
+                self.by_step(*second_colon, by)?;
                 self.sign(Sign::RightBracket)
             }
             Postfix::Field(name) => self.field(name),
@@ -165,10 +176,10 @@ impl Speller {
 
     /// The second colon of a slice, where one stands, and what is after it.
     #[cycle(spell)]
-    fn by_step(&mut self, has_by: bool, by: &Option<Boxed<Expr>>) -> Result<(), NoMemory>
-        ensures { OnOk result (self.new.tokens.items ≡ self.old.tokens.items ++ step_tokens has_by (option_map spelled_expr by.now)) }
+    fn by_step(&mut self, second_colon: bool, by: &Option<Boxed<Expr>>) -> Result<(), NoMemory>
+        ensures { OnOk result (self.new.tokens.items ≡ self.old.tokens.items ++ step_tokens second_colon (option_map spelled_expr by.now)) }
     {
-        if !has_by {
+        if !second_colon {
             return Ok(());
         }
         self.sign(Sign::Colon)?;

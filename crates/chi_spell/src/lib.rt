@@ -1,5 +1,5 @@
 //! The spelling of a tree: its tokens, one after the other. What the grammar's rules build of tokens is shown as a tree that
-//! spells them.
+//! spells them, and that keeps no place but those of its tokens.
 #![tactic(auto)]
 
 mod definitions;
@@ -13,5 +13,5 @@ mod statements;
 mod types;
 mod words;
 
-pub use laws::spelling_law;
+pub use laws::{places_law, spelling_law};
 pub use spelling::spell;

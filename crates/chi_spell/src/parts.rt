@@ -2,8 +2,8 @@ ghost use Rattle.std.specs.Prelude.{◌≡◌, ◌∷◌, [], ◌++◌, OnOk, ma
 ghost use Rattle.std.specs.Option.{option_map};
 ghost use Rattle.chi_token.specs.declared.sign.Sign.TheVariants as sign;
 ghost use Rattle.chi_token.specs.declared.token.Token.TheVariants as token;
-ghost use Rattle.chi_spell.specs.Words.{commas, each_after, if_any};
-ghost use Rattle.chi_spell.specs.Expressions.{spelled_expr};
+ghost use Rattle.chi_spell.specs.Words.{each_after, if_any};
+ghost use Rattle.chi_spell.specs.Expressions.{commas, spelled_expr};
 ghost use Rattle.chi_spell.specs.Statements.{semicolon_if, spelled_name, spelled_names, initial_tokens, spelled_variable, spelled_target, spelled_walk, spelled_communication};
 
 use crate::speller::Speller;
@@ -110,19 +110,19 @@ impl Speller {
         ensures { OnOk result (self.new.tokens.items ≡ self.old.tokens.items ++ spelled_communication communication.now) }
     {
         match communication {
-            Communication::Send(target, _, value) => {
+            Communication::Send { target, value, .. } => {
                 self.target(target)?;
                 self.sign(Sign::Bang)?;
                 self.some_expr(value)
             }
-            Communication::Receive(target, _, name) => {
+            Communication::Receive { target, name, .. } => {
                 self.target(target)?;
                 self.sign(Sign::Question)?;
                 self.some_name(name)
             }
-            Communication::Delay(_, value) => {
+            Communication::Delay { length, .. } => {
                 self.word(Keyword::DelayWord)?;
-                self.expr(value)
+                self.expr(length)
             }
         }
     }

@@ -3,9 +3,9 @@ ghost use Rattle.std.specs.Option.{option_map};
 ghost use Rattle.chi_token.specs.declared.keyword.Keyword.TheVariants as keyword;
 ghost use Rattle.chi_token.specs.declared.sign.Sign.TheVariants as sign;
 ghost use Rattle.chi_token.specs.declared.token.Token.TheVariants as token;
-ghost use Rattle.chi_spell.specs.Words.{commas, each_after, if_any, separated};
-ghost use Rattle.chi_spell.specs.Expressions.{round, spelled_expr, spelled_type};
-ghost use Rattle.chi_spell.specs.Statements.{write_word, body_tokens, else_tokens, guard_tokens, to_end, spelled_alternative, spelled_block, spelled_branch, spelled_elements, spelled_exprs, spelled_statement, spelled_step, spelled_target, spelled_variable, spelled_walk};
+ghost use Rattle.chi_spell.specs.Words.{each_after, if_any, separated, write_word};
+ghost use Rattle.chi_spell.specs.Expressions.{commas, round, spelled_expr, spelled_type};
+ghost use Rattle.chi_spell.specs.Statements.{body_tokens, else_tokens, guard_tokens, to_end, spelled_alternative, spelled_block, spelled_branch, spelled_elements, spelled_exprs, spelled_statement, spelled_step, spelled_target, spelled_variable, spelled_walk};
 
 use crate::speller::Speller;
 use chi_base::{Items, NoMemory};
@@ -31,39 +31,59 @@ impl Speller {
         ensures { OnOk result (self.new.tokens.items ≡ self.old.tokens.items ++ spelled_statement statement.now) }
     {
         match statement {
-            Statement::Declare(ty, variables) => self.declare(ty, variables.as_slice()),
-            Statement::Assign(targets, _, values) => self.assign(targets, values),
+            Statement::Declare { ty, variables } => self.declare(ty, variables.as_slice()),
+            Statement::Assign {
+                targets,
+                values,
+                ..
+            } => self.assign(targets, values),
             Statement::Communicate(communication) => self.communication(communication),
             Statement::Pass(_) => self.word(Keyword::PassWord),
             Statement::Break(_) => self.word(Keyword::BreakWord),
             Statement::Continue(_) => self.word(Keyword::ContinueWord),
-            Statement::Select(_, alternatives) => {
+            Statement::Select { alternatives, .. } => {
                 self.word(Keyword::SelectWord)?;
                 self.alternatives(alternatives.as_slice())?;
                 self.word(Keyword::EndWord)
             }
-            Statement::If(_, branches, otherwise) => {
+            Statement::If {
+                branches,
+                otherwise,
+                ..
+            } => {
                 self.word(Keyword::IfWord)?;
                 self.branches(branches.as_slice())?;
                 self.otherwise(otherwise.as_slice())?;
                 self.word(Keyword::EndWord)
             }
-            Statement::While(_, condition, block) => {
+            Statement::While {
+                condition,
+                block,
+                ..
+            } => {
                 self.word(Keyword::WhileWord)?;
                 self.expr(condition)?;
                 self.to_end(block.as_slice())
             }
-            Statement::For(_, walk, block) => {
+            Statement::For { walk, block, .. } => {
                 self.word(Keyword::ForWord)?;
                 self.walk(walk)?;
                 self.to_end(block.as_slice())
             }
-            Statement::Return(_, value) => self.return_value(value),
-            Statement::Exit(_, value) => self.exit(value),
-            Statement::Run(_, elements) => self.launch(Keyword::RunWord, elements.as_slice()),
-            Statement::Start(_, elements) => self.launch(Keyword::StartWord, elements.as_slice()),
-            Statement::Finish(_, values) => self.finish(values.as_slice()),
-            Statement::Write(_, line, text, _, values) => self.write(*line, text, values),
+            Statement::Return { value, .. } => self.return_value(value),
+            Statement::Exit { value, .. } => self.exit(value),
+            Statement::Run { elements, .. } => self.launch(Keyword::RunWord, elements.as_slice()),
+            Statement::Start { elements, .. } => self.launch(
+                Keyword::StartWord,
+                elements.as_slice(),
+            ),
+            Statement::Finish { instances, .. } => self.finish(instances.as_slice()),
+            Statement::Write {
+                ends_line,
+                format,
+                values,
+                ..
+            } => self.write(*ends_line, format, values),
         }
     }
 
@@ -193,12 +213,20 @@ impl Speller {
         ensures { OnOk result (self.new.tokens.items ≡ self.old.tokens.items ++ spelled_alternative alternative.now) }
     {
         match alternative {
-            Alternative::Guarded(guard, communication, block) => {
+            Alternative::Guarded {
+                guard,
+                communication,
+                block,
+            } => {
                 self.guard(guard)?;
                 self.communication(communication)?;
                 self.body(block.as_slice())
             }
-            Alternative::Unwind(_, walk, alternatives) => {
+            Alternative::Unwind {
+                walk,
+                alternatives,
+                ..
+            } => {
                 self.word(Keyword::UnwindWord)?;
                 self.walk(walk)?;
                 self.sign(Sign::Colon)?;

@@ -1,7 +1,7 @@
 ghost use Rattle.std.specs.Prelude.{◌≡◌, ◌∷◌, [], ◌++◌, OnOk, map};
 ghost use Rattle.std.specs.Option.{option_map};
-ghost use Rattle.chi_spell.specs.Words.{if_any, way_tokens};
-ghost use Rattle.chi_spell.specs.Expressions.{further, size_tokens, carried_tokens, spelled_expr, spelled_type, spelled_formals, declared};
+ghost use Rattle.chi_spell.specs.Words.{if_any};
+ghost use Rattle.chi_spell.specs.Expressions.{further, way_tokens, size_tokens, carried_tokens, spelled_expr, spelled_type, spelled_formals, declared};
 
 use crate::speller::Speller;
 use crate::words::type_token;
@@ -15,22 +15,22 @@ impl Speller {
         ensures { OnOk result (self.new.tokens.items ≡ self.old.tokens.items ++ spelled_type ty.now) }
     {
         match ty {
-            TypeTree::Word(word, _) => self.put(type_token(*word)),
+            TypeTree::Word { word, .. } => self.put(type_token(*word)),
             TypeTree::Defined(name) => self.name(name),
-            TypeTree::List(_, size, item) => {
+            TypeTree::List { size, element, .. } => {
                 self.word(Keyword::ListWord)?;
                 self.size(size)?;
-                self.ty(item.get())
+                self.ty(element.get())
             }
-            TypeTree::Set(_, item) => {
+            TypeTree::Set { element, .. } => {
                 self.word(Keyword::SetWord)?;
-                self.ty(item.get())
+                self.ty(element.get())
             }
-            TypeTree::Dist(_, item) => {
+            TypeTree::Dist { drawn, .. } => {
                 self.word(Keyword::DistWord)?;
-                self.ty(item.get())
+                self.ty(drawn.get())
             }
-            TypeTree::Dict(_, key, value) => {
+            TypeTree::Dict { key, value, .. } => {
                 self.word(Keyword::DictWord)?;
                 self.sign(Sign::LeftParen)?;
                 self.ty(key.get())?;
@@ -38,13 +38,13 @@ impl Speller {
                 self.ty(value.get())?;
                 self.sign(Sign::RightParen)
             }
-            TypeTree::Tuple(_, fields) => {
+            TypeTree::Tuple { fields, .. } => {
                 self.word(Keyword::TupleWord)?;
                 self.sign(Sign::LeftParen)?;
                 self.formals(fields.as_slice())?;
                 self.sign(Sign::RightParen)
             }
-            TypeTree::Chan(_, way, carried) => {
+            TypeTree::Chan { way, carried, .. } => {
                 self.word(Keyword::ChanWord)?;
                 self.way(*way)?;
                 self.carried(carried)

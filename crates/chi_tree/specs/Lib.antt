@@ -1,4 +1,5 @@
 pub mod Classes
+pub mod Words
 pub mod Parts
 pub mod Tokens
 pub mod View

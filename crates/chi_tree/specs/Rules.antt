@@ -4,13 +4,14 @@ use Rattle.chi_grammar.specs.declared.room.Nesting.TheVariants as nesting
 use Rattle.chi_grammar.specs.Rules.{Tree, Rule, Grammar, part, ◌▸◌, ◌∣◌, maybe, many, when}
 use Rattle.chi_grammar.specs.Rules as rule
 use Rattle.chi_token.specs.declared.keyword.Keyword.{Keyword}
-use Rattle.chi_token.specs.declared.keyword.Keyword.TheVariants.{AltWord, AndWord, BoolWord, BreakWord, ChanWord, ConstWord, ContinueWord, DelayWord, DictWord, DistWord, DivWord, ElifWord, ElseWord, EndWord, EnumWord, ExitWord, FalseWord, FinishWord, ForWord, FuncWord, IfWord, InWord, InstWord, IntWord, ListWord, ModWord, ModelWord, NotWord, OrWord, PassWord, ProcWord, RealWord, ReturnWord, RunWord, SampleWord, SelectWord, SetWord, StartWord, StringWord, SubWord, TimeWord, TimerWord, TrueWord, TupleWord, TypeWord, UnwindWord, VoidWord, WhileWord, WriteWord, WritelnWord, XperWord}
+use Rattle.chi_token.specs.declared.keyword.Keyword.TheVariants.{AltWord, AndWord, ChanWord, ConstWord, DelayWord, DictWord, DistWord, ElifWord, ElseWord, EndWord, EnumWord, ExitWord, FinishWord, ForWord, FuncWord, IfWord, InWord, ListWord, ModelWord, NotWord, OrWord, ProcWord, ReturnWord, SelectWord, SetWord, TupleWord, TypeWord, UnwindWord, VoidWord, WhileWord, XperWord}
 use Rattle.chi_token.specs.declared.sign.Sign.{Sign}
-use Rattle.chi_token.specs.declared.sign.Sign.TheVariants.{LeftParen, RightParen, LeftBracket, RightBracket, LeftBrace, RightBrace, Less, LessEqual, Equal, NotEqual, Greater, GreaterEqual, Assign, Plus, Minus, Star, Slash, Caret, Bang, Question, Comma, Semicolon, Colon, Dot}
+use Rattle.chi_token.specs.declared.sign.Sign.TheVariants.{LeftParen, RightParen, LeftBracket, RightBracket, LeftBrace, RightBrace, Less, Greater, Assign, Caret, Bang, Question, Comma, Semicolon, Colon, Dot}
 use Rattle.chi_token.specs.declared.place.Spanned.{Spanned}
 use Rattle.chi_tree.specs.declared.class.Class.{Class}
 use Rattle.chi_tree.specs.declared.class.Class.TheVariants as class
 use Rattle.chi_tree.specs.Classes.{class_of, number_of}
+use Rattle.chi_tree.specs.Words.{Words, relation_signs, sum_signs, product_signs, prefix_signs, type_words, cast_words, literals, jumps, write_words, launch_words}
 use Rattle.chi_tree.specs.Parts.{Part}
 use Rattle.chi_tree.specs.Parts as s
 use Rattle.chi_tree.specs.Statements.{is_name, is_target, ends_in_end}
@@ -34,6 +35,9 @@ abbrev pub one_of : Class → List Class → Rule Spanned Part
 one_of c [] = rule.word (number_of c)
 one_of c (d ∷ ds) = rule.word (number_of c) ∣ one_of d ds
 
+abbrev pub any_of : Words → Rule Spanned Part
+any_of words = one_of words.first words.more
+
 -- An open bracket, a prefix operator, the right side of a power, or a type inside a type: it is one level deeper in
 -- expressions. An inner block, or what an unwind repeats, is one level deeper in blocks.
 
@@ -45,37 +49,35 @@ inner_block = rule.deeper nesting.Block
 
 -- the words of operators and types
 
--- "<" | "<=" | "==" | "!=" | ">" | ">=" | "in" | "sub"
 abbrev pub relation_sign : Rule Spanned Part
-relation_sign = one_of (class.Sign Less) (class.Sign LessEqual ∷ class.Sign Equal ∷ class.Sign NotEqual ∷ class.Sign Greater ∷ class.Sign GreaterEqual ∷ class.Word InWord ∷ class.Word SubWord ∷ [])
+relation_sign = any_of relation_signs
 
--- "+" | "-"
 abbrev pub sum_sign : Rule Spanned Part
-sum_sign = one_of (class.Sign Plus) (class.Sign Minus ∷ [])
+sum_sign = any_of sum_signs
 
--- "*" | "/" | "div" | "mod"
 abbrev pub product_sign : Rule Spanned Part
-product_sign = one_of (class.Sign Star) (class.Sign Slash ∷ class.Word DivWord ∷ class.Word ModWord ∷ [])
+product_sign = any_of product_signs
 
--- "-" | "+" | "sample"
 abbrev pub prefix_sign : Rule Spanned Part
-prefix_sign = one_of (class.Sign Minus) (class.Sign Plus ∷ class.Word SampleWord ∷ [])
+prefix_sign = any_of prefix_signs
 
--- "bool" | "int" | "real" | "string" | "timer" | "inst"
 abbrev pub type_word : Rule Spanned Part
-type_word = one_of (class.Word BoolWord) (class.Word IntWord ∷ class.Word RealWord ∷ class.Word StringWord ∷ class.Word TimerWord ∷ class.Word InstWord ∷ [])
+type_word = any_of type_words
 
--- "int" | "real" | "string" | "bool" | "timer"
 abbrev pub cast_word : Rule Spanned Part
-cast_word = one_of (class.Word IntWord) (class.Word RealWord ∷ class.Word StringWord ∷ class.Word BoolWord ∷ class.Word TimerWord ∷ [])
+cast_word = any_of cast_words
 
--- int | real | text | "true" | "false" | "time"
 abbrev pub literal : Rule Spanned Part
-literal = one_of class.Int (class.Real ∷ class.Text ∷ class.Word TrueWord ∷ class.Word FalseWord ∷ class.Word TimeWord ∷ [])
+literal = any_of literals
 
--- "pass" | "break" | "continue"
 abbrev pub jump : Rule Spanned Part
-jump = one_of (class.Word PassWord) (class.Word BreakWord ∷ class.Word ContinueWord ∷ [])
+jump = any_of jumps
+
+abbrev pub write_word : Rule Spanned Part
+write_word = any_of write_words
+
+abbrev pub launch_word : Rule Spanned Part
+launch_word = any_of launch_words
 
 abbrev pub rule_of : Part → Rule Spanned Part
 -- program = definition { definition }
@@ -155,7 +157,7 @@ rule_of s.Return = keyword ReturnWord ▸ part s.Expr
 rule_of s.Exit = keyword ExitWord ▸ maybe (part s.Expr)
 rule_of s.Finish = keyword FinishWord ▸ part s.Exprs
 -- ( "write" | "writeln" ) "(" text { "," expr } ")"
-rule_of s.Write = one_of (class.Word WriteWord) (class.Word WritelnWord ∷ []) ▸ nested (part s.Written)
+rule_of s.Write = write_word ▸ nested (part s.Written)
 rule_of s.Written = sign LeftParen ▸ text ▸ many (sign Comma ▸ part s.Expr) ▸ sign RightParen
 -- "if" expr ":" block { "elif" expr ":" block } [ "else" ":" block ] "end"
 rule_of s.If = keyword IfWord ▸ part s.Branch ▸ many (part s.Elif) ▸ maybe (part s.Else) ▸ keyword EndWord
@@ -190,7 +192,7 @@ rule_of s.Offer = part s.Delay ∣ when (part s.Expr) is_target (part s.Offered)
 rule_of s.Offered = part s.Guarded ∣ part s.CommunicationEnd
 rule_of s.Guarded = sign Comma ▸ part s.Communication
 -- ( "run" | "start" ) elements, where elements = element { "," element }
-rule_of s.Launch = one_of (class.Word RunWord) (class.Word StartWord ∷ []) ▸ part s.Elements
+rule_of s.Launch = launch_word ▸ part s.Elements
 rule_of s.Elements = part s.Element ▸ many (sign Comma ▸ part s.Element)
 -- element = [ target "=" ] name "(" [ exprs ] ")" | "unwind" walk ":" elements "end"
 rule_of s.Element = part s.UnwoundElements ∣ part s.Make

@@ -48,7 +48,7 @@ walk_of (node s.Walk (pair ns (pair w e))) = record { names = names_in ns; conta
 walk_of _ = record { names = []; container = no_expr }
 
 abbrev pub initial_of : Built → Option Initial
-initial_of (node s.Initial (pair eq e)) = Some (record { place = place_in eq; value = expr_of e })
+initial_of (node s.Initial (pair eq e)) = Some (record { equals = place_in eq; value = expr_of e })
 initial_of _ = None
 
 abbrev pub variable_of : Built → Variable

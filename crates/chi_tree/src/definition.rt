@@ -22,13 +22,48 @@ pub struct Item {
 /// A definition as it is written. The place is that of its first token.
 #[derive(Debug, Drop)]
 pub enum Definition {
-    Enum(Place, Name, Items<Name>),
-    /// The type, the name, the place of `=`, and the value.
-    Const(Place, TypeTree, Name, Place, Expr),
-    Type(Place, Name, TypeTree),
-    Func(Place, TypeTree, Name, Items<Formal>, Items<Step>),
-    /// A process with its exit type, where it has one.
-    Proc(Place, Option<TypeTree>, Name, Items<Formal>, Items<Step>),
-    Model(Place, Option<TypeTree>, Name, Items<Formal>, Items<Step>),
-    Xper(Place, Name, Items<Step>),
+    Enum {
+        place: Place,
+        name: Name,
+        values: Items<Name>,
+    },
+    Const {
+        place: Place,
+        ty: TypeTree,
+        name: Name,
+        /// That of `=`.
+        equals: Place,
+        value: Expr,
+    },
+    Type {
+        place: Place,
+        name: Name,
+        ty: TypeTree,
+    },
+    Func {
+        place: Place,
+        result_type: TypeTree,
+        name: Name,
+        formals: Items<Formal>,
+        block: Items<Step>,
+    },
+    Proc {
+        place: Place,
+        exit_type: Option<TypeTree>,
+        name: Name,
+        formals: Items<Formal>,
+        block: Items<Step>,
+    },
+    Model {
+        place: Place,
+        exit_type: Option<TypeTree>,
+        name: Name,
+        formals: Items<Formal>,
+        block: Items<Step>,
+    },
+    Xper {
+        place: Place,
+        name: Name,
+        block: Items<Step>,
+    },
 }

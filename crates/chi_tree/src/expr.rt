@@ -9,37 +9,99 @@ use chi_token::{Bytes, Place};
 #[cycle(expr)]
 pub enum Expr {
     /// Operands with operators of one level between them.
-    Chain(Boxed<Expr>, Items<Link>),
-    Prefix(PrefixSign, Place, Boxed<Expr>),
-    Relation(Boxed<Expr>, RelationSign, Place, Boxed<Expr>),
-    /// The base, the place of `^`, and the exponent.
-    Power(Boxed<Expr>, Place, Boxed<Expr>),
+    Chain {
+        first: Boxed<Expr>,
+        links: Items<Link>,
+    },
+    Prefix {
+        sign: PrefixSign,
+        place: Place,
+        operand: Boxed<Expr>,
+    },
+    Relation {
+        left: Boxed<Expr>,
+        sign: RelationSign,
+        place: Place,
+        right: Boxed<Expr>,
+    },
+    Power {
+        base: Boxed<Expr>,
+        place: Place,
+        exponent: Boxed<Expr>,
+    },
     /// Indexes, slices and fields of an expression.
-    Part(Boxed<Expr>, Items<Postfix>),
+    Part {
+        whole: Boxed<Expr>,
+        postfixes: Items<Postfix>,
+    },
     /// The digits, as written.
-    Int(Bytes, Place),
+    Int {
+        digits: Bytes,
+        place: Place,
+    },
     /// The digits and the point, as written.
-    Real(Bytes, Place),
-    /// The bytes that the text means.
-    Text(Bytes, Place),
-    Bool(bool, Place),
+    Real {
+        digits: Bytes,
+        place: Place,
+    },
+    Text {
+        /// Those that the text means.
+        bytes: Bytes,
+        place: Place,
+    },
+    Bool {
+        truth: bool,
+        place: Place,
+    },
     Time(Place),
     Named(Name),
-    Call(Name, Items<Expr>),
-    Cast(CastWord, Place, Boxed<Expr>),
+    Call {
+        name: Name,
+        arguments: Items<Expr>,
+    },
+    Cast {
+        word: CastWord,
+        place: Place,
+        operand: Boxed<Expr>,
+    },
     /// An expression in brackets.
-    Round(Place, Boxed<Expr>),
+    Round {
+        place: Place,
+        inner: Boxed<Expr>,
+    },
     /// Two parts at least.
-    TupleOf(Place, Items<Expr>),
-    ListOf(Place, Items<Expr>),
-    SetOf(Place, Items<Expr>),
-    DictOf(Place, Items<Entry>),
+    TupleOf {
+        place: Place,
+        parts: Items<Expr>,
+    },
+    ListOf {
+        place: Place,
+        elements: Items<Expr>,
+    },
+    SetOf {
+        place: Place,
+        elements: Items<Expr>,
+    },
+    DictOf {
+        place: Place,
+        entries: Items<Entry>,
+    },
     /// `<T>[]`
-    EmptyList(Place, Boxed<TypeTree>),
+    EmptyList {
+        place: Place,
+        element: Boxed<TypeTree>,
+    },
     /// `<T>{}`
-    EmptySet(Place, Boxed<TypeTree>),
+    EmptySet {
+        place: Place,
+        element: Boxed<TypeTree>,
+    },
     /// `<K : V>{}`
-    EmptyDict(Place, Boxed<TypeTree>, Boxed<TypeTree>),
+    EmptyDict {
+        place: Place,
+        key: Boxed<TypeTree>,
+        value: Boxed<TypeTree>,
+    },
 }
 
 /// A further operand of a chain, after its operator.
@@ -56,9 +118,19 @@ pub struct Link {
 #[derive(Debug, Drop)]
 #[cycle(expr)]
 pub enum Postfix {
-    Index(Place, Boxed<Expr>),
-    /// `[from : upto]`, each of which may be left out; where the truth value holds, `[from : upto : by]`.
-    Slice(Place, Option<Boxed<Expr>>, Option<Boxed<Expr>>, bool, Option<Boxed<Expr>>),
+    Index {
+        place: Place,
+        index: Boxed<Expr>,
+    },
+    /// `[from : upto]` or `[from : upto : by]`, each part of which may be left out.
+    Slice {
+        place: Place,
+        from: Option<Boxed<Expr>>,
+        upto: Option<Boxed<Expr>>,
+        /// Whether a second colon stands there; without one nothing stands in `by`.
+        second_colon: bool,
+        by: Option<Boxed<Expr>>,
+    },
     Field(Name),
 }
 

@@ -19,25 +19,69 @@ pub struct Step {
 #[derive(Debug, Drop)]
 #[cycle(statement)]
 pub enum Statement {
-    Declare(TypeTree, Items<Variable>),
-    /// The targets, the place of `=`, and the values.
-    Assign(Items<Target>, Place, Items<Expr>),
+    Declare {
+        ty: TypeTree,
+        variables: Items<Variable>,
+    },
+    Assign {
+        targets: Items<Target>,
+        /// That of `=`.
+        equals: Place,
+        values: Items<Expr>,
+    },
     Communicate(Communication),
     Pass(Place),
     Break(Place),
     Continue(Place),
-    Select(Place, Items<Alternative>),
-    /// The branches of `if` and of each `elif`, and the block of `else`, empty where there is none.
-    If(Place, Items<Branch>, Items<Step>),
-    While(Place, Expr, Items<Step>),
-    For(Place, Walk, Items<Step>),
-    Return(Place, Expr),
-    Exit(Place, Option<Expr>),
-    Run(Place, Items<Element>),
-    Start(Place, Items<Element>),
-    Finish(Place, Items<Expr>),
-    /// Whether it is `writeln`, the format with its place, and the values.
-    Write(Place, bool, Bytes, Place, Items<Expr>),
+    Select {
+        place: Place,
+        alternatives: Items<Alternative>,
+    },
+    If {
+        place: Place,
+        /// That of `if`, and that of each `elif`.
+        branches: Items<Branch>,
+        /// The block of `else`, empty where there is none.
+        otherwise: Items<Step>,
+    },
+    While {
+        place: Place,
+        condition: Expr,
+        block: Items<Step>,
+    },
+    For {
+        place: Place,
+        walk: Walk,
+        block: Items<Step>,
+    },
+    Return {
+        place: Place,
+        value: Expr,
+    },
+    Exit {
+        place: Place,
+        value: Option<Expr>,
+    },
+    Run {
+        place: Place,
+        elements: Items<Element>,
+    },
+    Start {
+        place: Place,
+        elements: Items<Element>,
+    },
+    Finish {
+        place: Place,
+        instances: Items<Expr>,
+    },
+    Write {
+        place: Place,
+        /// Whether the word is `writeln`.
+        ends_line: bool,
+        format: Bytes,
+        format_place: Place,
+        values: Items<Expr>,
+    },
 }
 
 /// A declared variable.
@@ -47,10 +91,11 @@ pub struct Variable {
     pub initial: Option<Initial>,
 }
 
-/// An initial value, with the place of its `=`.
+/// An initial value.
 #[derive(Debug, Drop)]
 pub struct Initial {
-    pub place: Place,
+    /// That of `=`.
+    pub equals: Place,
     pub value: Expr,
 }
 
@@ -64,9 +109,20 @@ pub struct Target {
 /// What an instance may do with another, or wait for. The place is that of `!`, `?` or `delay`.
 #[derive(Debug, Drop)]
 pub enum Communication {
-    Send(Target, Place, Option<Expr>),
-    Receive(Target, Place, Option<Name>),
-    Delay(Place, Expr),
+    Send {
+        target: Target,
+        place: Place,
+        value: Option<Expr>,
+    },
+    Receive {
+        target: Target,
+        place: Place,
+        name: Option<Name>,
+    },
+    Delay {
+        place: Place,
+        length: Expr,
+    },
 }
 
 /// A condition and what is done where it holds.
@@ -88,16 +144,34 @@ pub struct Walk {
 #[derive(Debug, Drop)]
 #[cycle(statement)]
 pub enum Alternative {
-    /// The guard, the communication, and the block, which is empty where there is none.
-    Guarded(Option<Expr>, Communication, Items<Step>),
-    /// The place of `unwind`, the walk, and the alternatives for each element.
-    Unwind(Place, Walk, Items<Alternative>),
+    Guarded {
+        guard: Option<Expr>,
+        communication: Communication,
+        /// Empty where there is none.
+        block: Items<Step>,
+    },
+    Unwind {
+        /// That of `unwind`.
+        place: Place,
+        walk: Walk,
+        /// Those for each element of the walk's container.
+        alternatives: Items<Alternative>,
+    },
 }
 
 /// What is run or started.
 #[derive(Debug, Drop)]
 pub enum Element {
-    Make(Option<Target>, Name, Items<Expr>),
-    /// The place of `unwind`, the walk, and the elements for each of the walk's.
-    Unwind(Place, Walk, Items<Element>),
+    Make {
+        target: Option<Target>,
+        name: Name,
+        arguments: Items<Expr>,
+    },
+    Unwind {
+        /// That of `unwind`.
+        place: Place,
+        walk: Walk,
+        /// Those for each element of the walk's container.
+        elements: Items<Element>,
+    },
 }

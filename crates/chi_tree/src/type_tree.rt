@@ -34,19 +34,42 @@ pub enum Way {
 #[derive(Debug, Drop)]
 #[cycle(expr)]
 pub enum TypeTree {
-    Word(TypeWord, Place),
+    Word {
+        word: TypeWord,
+        place: Place,
+    },
     /// By the name of its definition.
     Defined(Name),
-    /// With its size in brackets, where one is written.
-    List(Place, Option<Boxed<Expr>>, Boxed<TypeTree>),
-    Set(Place, Boxed<TypeTree>),
-    Dist(Place, Boxed<TypeTree>),
-    /// The keys' type and the values'.
-    Dict(Place, Boxed<TypeTree>, Boxed<TypeTree>),
+    List {
+        place: Place,
+        /// In brackets, where one is written.
+        size: Option<Boxed<Expr>>,
+        element: Boxed<TypeTree>,
+    },
+    Set {
+        place: Place,
+        element: Boxed<TypeTree>,
+    },
+    Dist {
+        place: Place,
+        drawn: Boxed<TypeTree>,
+    },
+    Dict {
+        place: Place,
+        key: Boxed<TypeTree>,
+        value: Boxed<TypeTree>,
+    },
     /// Two fields at least.
-    Tuple(Place, Items<Formal>),
-    /// What is sent, and none for `void`.
-    Chan(Place, Way, Option<Boxed<TypeTree>>),
+    Tuple {
+        place: Place,
+        fields: Items<Formal>,
+    },
+    Chan {
+        place: Place,
+        way: Way,
+        /// None for `void`.
+        carried: Option<Boxed<TypeTree>>,
+    },
 }
 
 /// A formal or a field. Its type stands before it, or it stands after a comma and has the type of the one before it.

@@ -22,4 +22,4 @@ returns-in_err-value c = failed grammar table _ initial_of _ (maybe (part s.Init
 pub returns : goal.returns
 returns c = read grammar table _ (initial_of) c.requires.inside
     (runs.once (c.begins.ensures ∙ c.if-not-begins.false) (runs.part (runs.both (run_word grammar table _ c.in_ok-sign.ensures) c.in_ok-value.ensures.runs)))
-    (λ i. Some (record { place = c.in_ok-sign.sign.now.place; value = (c.in_ok-value.ensures.shows i) }))
+    (λ i. Some (record { equals = c.in_ok-sign.sign.now.place; value = (c.in_ok-value.ensures.shows i) }))

@@ -10,8 +10,8 @@ use Rattle.chi_parse.proofs.offers.is_target.Goals as goal
 
 pub returns-then-is_named : goal.returns-then-is_named
 returns-then-is_named c =
-    let base = c.in-Part.base in
-    let steps = c.in-Part.steps in
+    let base = c.in-Part.whole in
+    let steps = c.in-Part.postfixes in
     all_from_yields_List (λ p. is_step_in (out-Postfix p)) _ _ _ c.all.ensures.ran (YieldsList-from_slice steps cc) (λ x b q k. search rules)
     ∙ sym (kept_where (list_all (λ p. is_step_in (out-Postfix p)) steps) (name_target (out-Expr base) steps)
     (ap (λ e. is_some (name_target (out-Expr e) steps)) (sym c.get.ensures.same) ∙ sym (c.is_named.ensures steps) ∙ c.if-is_named.true))

@@ -11,7 +11,7 @@ use Rattle.chi_tree.specs.Rules.{grammar}
 use Rattle.chi_tree.specs.Tables.{table}
 use Rattle.chi_tree.specs.View.{more_exprs_of}
 use Rattle.chi_tree.specs.Statements.{statement_of}
-use Rattle.chi_parse_expr.proofs.Words.{run_one_of, run_none_of}
+use Rattle.chi_look.proofs.Words.{run_one_of, run_none_of}
 use Rattle.chi_parse.proofs.simple.write.Goals as goal
 
 pub returns-in_err-word : goal.returns-in_err-word

@@ -7,7 +7,7 @@ use Rattle.chi_tree.specs.declared.class.Class.TheVariants as class
 use Rattle.chi_tree.specs.Rules.{grammar, sign}
 use Rattle.chi_tree.specs.Tables.{table}
 use Rattle.chi_tree.specs.View.{way_in}
-use Rattle.chi_parse_expr.proofs.Words.{run_one_of, run_none_of}
+use Rattle.chi_look.proofs.Words.{run_one_of, run_none_of}
 use Rattle.chi_parse_expr.proofs.compounds.channel_way.Goals as goal
 
 pub returns-in_err-word : goal.returns-in_err-word

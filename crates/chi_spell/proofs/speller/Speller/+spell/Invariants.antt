@@ -1,8 +1,8 @@
 use Rattle.std.proofs.Common.{◌≡◌, ◌++◌, map, drop}
 use Rattle.chi_token.specs.declared.sign.Sign.TheVariants.{Comma}
 use Rattle.chi_token.specs.declared.token.Token.TheVariants.{Sign}
-use Rattle.chi_spell.specs.Words.{all, each_after, commas}
-use Rattle.chi_spell.specs.Expressions.{further, spelled_expr, spelled_link, spelled_postfix, spelled_entry, spelled_formals, declared}
+use Rattle.chi_spell.specs.Words.{all, each_after}
+use Rattle.chi_spell.specs.Expressions.{commas, further, spelled_expr, spelled_link, spelled_postfix, spelled_entry, spelled_formals, declared}
 use Rattle.chi_spell.proofs.speller.Speller.+spell.Given as goal
 
 abbrev pub invariant-links-loop-link : goal.invariant-links-loop-link

@@ -1,7 +1,8 @@
 use Rattle.std.proofs.Common.{◌≡◌, ◌++◌, map, drop}
 use Rattle.chi_token.specs.declared.sign.Sign.TheVariants.{Comma}
 use Rattle.chi_token.specs.declared.token.Token.TheVariants.{Sign}
-use Rattle.chi_spell.specs.Words.{each_after, commas}
+use Rattle.chi_spell.specs.Words.{each_after}
+use Rattle.chi_spell.specs.Expressions.{commas}
 use Rattle.chi_spell.specs.Statements.{spelled_target}
 use Rattle.chi_spell.proofs.speller.Speller.targets.Given as goal
 

@@ -1,0 +1,308 @@
+//! With which classes of tokens the parts of the grammar begin, in the order of the grammar's table; the parsers' proofs hold each
+//! list against that table.
+use chi_token::{Keyword, Sign};
+use chi_tree::Class;
+
+/// An expression.
+pub const FIRST_OF_EXPR: [Class; 20] = [
+    Class::Word(Keyword::NotWord),
+    Class::Sign(Sign::Minus),
+    Class::Sign(Sign::Plus),
+    Class::Word(Keyword::SampleWord),
+    Class::Int,
+    Class::Real,
+    Class::Text,
+    Class::Word(Keyword::TrueWord),
+    Class::Word(Keyword::FalseWord),
+    Class::Word(Keyword::TimeWord),
+    Class::Name,
+    Class::Word(Keyword::IntWord),
+    Class::Word(Keyword::RealWord),
+    Class::Word(Keyword::StringWord),
+    Class::Word(Keyword::BoolWord),
+    Class::Word(Keyword::TimerWord),
+    Class::Sign(Sign::LeftParen),
+    Class::Sign(Sign::LeftBracket),
+    Class::Sign(Sign::LeftBrace),
+    Class::Sign(Sign::Less),
+];
+
+/// The right side of a power.
+pub const FIRST_OF_UNARY: [Class; 19] = [
+    Class::Sign(Sign::Minus),
+    Class::Sign(Sign::Plus),
+    Class::Word(Keyword::SampleWord),
+    Class::Int,
+    Class::Real,
+    Class::Text,
+    Class::Word(Keyword::TrueWord),
+    Class::Word(Keyword::FalseWord),
+    Class::Word(Keyword::TimeWord),
+    Class::Name,
+    Class::Word(Keyword::IntWord),
+    Class::Word(Keyword::RealWord),
+    Class::Word(Keyword::StringWord),
+    Class::Word(Keyword::BoolWord),
+    Class::Word(Keyword::TimerWord),
+    Class::Sign(Sign::LeftParen),
+    Class::Sign(Sign::LeftBracket),
+    Class::Sign(Sign::LeftBrace),
+    Class::Sign(Sign::Less),
+];
+
+/// A type that is no name.
+pub const FIRST_OF_BUILT_TYPE: [Class; 12] = [
+    Class::Word(Keyword::BoolWord),
+    Class::Word(Keyword::IntWord),
+    Class::Word(Keyword::RealWord),
+    Class::Word(Keyword::StringWord),
+    Class::Word(Keyword::TimerWord),
+    Class::Word(Keyword::InstWord),
+    Class::Word(Keyword::ListWord),
+    Class::Word(Keyword::SetWord),
+    Class::Word(Keyword::DistWord),
+    Class::Word(Keyword::DictWord),
+    Class::Word(Keyword::TupleWord),
+    Class::Word(Keyword::ChanWord),
+];
+
+/// A type.
+pub const FIRST_OF_TYPE: [Class; 13] = [
+    Class::Word(Keyword::BoolWord),
+    Class::Word(Keyword::IntWord),
+    Class::Word(Keyword::RealWord),
+    Class::Word(Keyword::StringWord),
+    Class::Word(Keyword::TimerWord),
+    Class::Word(Keyword::InstWord),
+    Class::Word(Keyword::ListWord),
+    Class::Word(Keyword::SetWord),
+    Class::Word(Keyword::DistWord),
+    Class::Word(Keyword::DictWord),
+    Class::Word(Keyword::TupleWord),
+    Class::Word(Keyword::ChanWord),
+    Class::Name,
+];
+
+/// What stands after an expression and takes a part of it.
+pub const FIRST_OF_POSTFIX: [Class; 2] = [Class::Sign(Sign::LeftBracket), Class::Sign(Sign::Dot)];
+
+/// A type that is one word.
+pub const TYPE_WORDS: [Class; 6] = [
+    Class::Word(Keyword::BoolWord),
+    Class::Word(Keyword::IntWord),
+    Class::Word(Keyword::RealWord),
+    Class::Word(Keyword::StringWord),
+    Class::Word(Keyword::TimerWord),
+    Class::Word(Keyword::InstWord),
+];
+
+/// What a channel may be used for.
+pub const WAY_SIGNS: [Class; 2] = [Class::Sign(Sign::Bang), Class::Sign(Sign::Question)];
+
+/// A cast.
+pub const CAST_WORDS: [Class; 5] = [
+    Class::Word(Keyword::IntWord),
+    Class::Word(Keyword::RealWord),
+    Class::Word(Keyword::StringWord),
+    Class::Word(Keyword::BoolWord),
+    Class::Word(Keyword::TimerWord),
+];
+
+/// A literal of one token.
+pub const LITERALS: [Class; 6] = [
+    Class::Int,
+    Class::Real,
+    Class::Text,
+    Class::Word(Keyword::TrueWord),
+    Class::Word(Keyword::FalseWord),
+    Class::Word(Keyword::TimeWord),
+];
+
+/// An operator before its operand.
+pub const PREFIX_SIGNS: [Class; 3] = [
+    Class::Sign(Sign::Minus),
+    Class::Sign(Sign::Plus),
+    Class::Word(Keyword::SampleWord),
+];
+
+/// An operator between two sums.
+pub const RELATION_SIGNS: [Class; 8] = [
+    Class::Sign(Sign::Less),
+    Class::Sign(Sign::LessEqual),
+    Class::Sign(Sign::Equal),
+    Class::Sign(Sign::NotEqual),
+    Class::Sign(Sign::Greater),
+    Class::Sign(Sign::GreaterEqual),
+    Class::Word(Keyword::InWord),
+    Class::Word(Keyword::SubWord),
+];
+
+/// An operator between the operands of a sum.
+pub const SUM_SIGNS: [Class; 2] = [Class::Sign(Sign::Plus), Class::Sign(Sign::Minus)];
+
+/// An operator between the operands of a product.
+pub const PRODUCT_SIGNS: [Class; 4] = [
+    Class::Sign(Sign::Star),
+    Class::Sign(Sign::Slash),
+    Class::Word(Keyword::DivWord),
+    Class::Word(Keyword::ModWord),
+];
+
+/// A block.
+pub const FIRST_OF_BLOCK: [Class; 28] = [
+    Class::Word(Keyword::SelectWord),
+    Class::Word(Keyword::IfWord),
+    Class::Word(Keyword::WhileWord),
+    Class::Word(Keyword::ForWord),
+    Class::Word(Keyword::RunWord),
+    Class::Word(Keyword::StartWord),
+    Class::Word(Keyword::BoolWord),
+    Class::Word(Keyword::IntWord),
+    Class::Word(Keyword::RealWord),
+    Class::Word(Keyword::StringWord),
+    Class::Word(Keyword::TimerWord),
+    Class::Word(Keyword::InstWord),
+    Class::Word(Keyword::ListWord),
+    Class::Word(Keyword::SetWord),
+    Class::Word(Keyword::DistWord),
+    Class::Word(Keyword::DictWord),
+    Class::Word(Keyword::TupleWord),
+    Class::Word(Keyword::ChanWord),
+    Class::Name,
+    Class::Word(Keyword::DelayWord),
+    Class::Word(Keyword::PassWord),
+    Class::Word(Keyword::BreakWord),
+    Class::Word(Keyword::ContinueWord),
+    Class::Word(Keyword::ReturnWord),
+    Class::Word(Keyword::ExitWord),
+    Class::Word(Keyword::FinishWord),
+    Class::Word(Keyword::WriteWord),
+    Class::Word(Keyword::WritelnWord),
+];
+
+/// A statement whose last token is `end`.
+pub const FIRST_OF_CLOSED: [Class; 4] = [
+    Class::Word(Keyword::SelectWord),
+    Class::Word(Keyword::IfWord),
+    Class::Word(Keyword::WhileWord),
+    Class::Word(Keyword::ForWord),
+];
+
+/// A launch of instances.
+pub const FIRST_OF_LAUNCH: [Class; 2] = [
+    Class::Word(Keyword::RunWord),
+    Class::Word(Keyword::StartWord),
+];
+
+/// A statement of one word.
+pub const FIRST_OF_JUMP: [Class; 3] = [
+    Class::Word(Keyword::PassWord),
+    Class::Word(Keyword::BreakWord),
+    Class::Word(Keyword::ContinueWord),
+];
+
+/// A write.
+pub const FIRST_OF_WRITE: [Class; 2] = [
+    Class::Word(Keyword::WriteWord),
+    Class::Word(Keyword::WritelnWord),
+];
+
+/// The alternatives of a select.
+pub const FIRST_OF_ALTERNATIVES: [Class; 22] = [
+    Class::Word(Keyword::UnwindWord),
+    Class::Word(Keyword::DelayWord),
+    Class::Word(Keyword::NotWord),
+    Class::Sign(Sign::Minus),
+    Class::Sign(Sign::Plus),
+    Class::Word(Keyword::SampleWord),
+    Class::Int,
+    Class::Real,
+    Class::Text,
+    Class::Word(Keyword::TrueWord),
+    Class::Word(Keyword::FalseWord),
+    Class::Word(Keyword::TimeWord),
+    Class::Name,
+    Class::Word(Keyword::IntWord),
+    Class::Word(Keyword::RealWord),
+    Class::Word(Keyword::StringWord),
+    Class::Word(Keyword::BoolWord),
+    Class::Word(Keyword::TimerWord),
+    Class::Sign(Sign::LeftParen),
+    Class::Sign(Sign::LeftBracket),
+    Class::Sign(Sign::LeftBrace),
+    Class::Sign(Sign::Less),
+];
+
+/// What is run or started.
+pub const FIRST_OF_ELEMENTS: [Class; 2] = [Class::Word(Keyword::UnwindWord), Class::Name];
+
+/// What stands after the target of a communication.
+pub const FIRST_OF_COMMUNICATION_END: [Class; 2] = [
+    Class::Sign(Sign::Bang),
+    Class::Sign(Sign::Question),
+];
+
+/// A further formal.
+pub const FIRST_OF_MORE_FORMAL: [Class; 2] = [
+    Class::Sign(Sign::Comma),
+    Class::Sign(Sign::Semicolon),
+];
+
+/// A definition.
+pub const FIRST_OF_DEFINITION: [Class; 7] = [
+    Class::Word(Keyword::EnumWord),
+    Class::Word(Keyword::ConstWord),
+    Class::Word(Keyword::TypeWord),
+    Class::Word(Keyword::FuncWord),
+    Class::Word(Keyword::ProcWord),
+    Class::Word(Keyword::ModelWord),
+    Class::Word(Keyword::XperWord),
+];
+
+pub const NOT: Class = Class::Word(Keyword::NotWord);
+
+pub const AND: Class = Class::Word(Keyword::AndWord);
+
+pub const OR: Class = Class::Word(Keyword::OrWord);
+
+pub const LIST: Class = Class::Word(Keyword::ListWord);
+
+pub const SET: Class = Class::Word(Keyword::SetWord);
+
+pub const DIST: Class = Class::Word(Keyword::DistWord);
+
+pub const DICT: Class = Class::Word(Keyword::DictWord);
+
+pub const TUPLE: Class = Class::Word(Keyword::TupleWord);
+
+pub const CHAN: Class = Class::Word(Keyword::ChanWord);
+
+pub const VOID: Class = Class::Word(Keyword::VoidWord);
+
+pub const LEFT_PAREN: Class = Class::Sign(Sign::LeftParen);
+
+pub const RIGHT_PAREN: Class = Class::Sign(Sign::RightParen);
+
+pub const LEFT_BRACKET: Class = Class::Sign(Sign::LeftBracket);
+
+pub const RIGHT_BRACKET: Class = Class::Sign(Sign::RightBracket);
+
+pub const LEFT_BRACE: Class = Class::Sign(Sign::LeftBrace);
+
+pub const RIGHT_BRACE: Class = Class::Sign(Sign::RightBrace);
+
+pub const LESS: Class = Class::Sign(Sign::Less);
+
+pub const GREATER: Class = Class::Sign(Sign::Greater);
+
+pub const CARET: Class = Class::Sign(Sign::Caret);
+
+pub const COMMA: Class = Class::Sign(Sign::Comma);
+
+pub const SEMICOLON: Class = Class::Sign(Sign::Semicolon);
+
+pub const COLON: Class = Class::Sign(Sign::Colon);
+
+pub const DOT: Class = Class::Sign(Sign::Dot);
+
+pub const NAME: Class = Class::Name;

@@ -1,0 +1,8 @@
+//! What stands next among the tokens: the functions by which both parsers look at single tokens, and the one table of the classes
+//! with which the parts that they read begin.
+#![tactic(auto)]
+
+pub mod classes;
+mod look;
+
+pub use look::{begins, bytes_of, enter, refuse, take, take_name, take_one_of};
