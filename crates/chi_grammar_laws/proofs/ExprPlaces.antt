@@ -1,6 +1,6 @@
 -- The places that the marks of an expression or a type keep are all its places: put in anew from places that fit they make
 -- the same tree.
-use Rattle.std.proofs.Common.{◌≡◌, ℕ, true, false, List, [], ◌∷◌, Option, Some, None, map, ap}
+use Rattle.std.proofs.Common.{ℕ, true, false, List, [], ◌∷◌, Option, Some, None, map, ap}
 use Rattle.std.specs.Option.{option_map}
 use Rattle.chi_token.specs.declared.sign.Sign.TheVariants.{Comma}
 use Rattle.chi_token.specs.declared.token.Token.TheVariants.{Sign}
@@ -16,14 +16,14 @@ use Rattle.chi_tree.specs.declared.expr.Link.{Link}
 use Rattle.chi_tree.specs.declared.expr.Entry.{Entry}
 use Rattle.chi_tree.specs.declared.expr.Postfix.{Postfix}
 use Rattle.chi_tree.specs.View.{chained, parted}
-use Rattle.chi_spell.specs.Expressions.{bare, put_commas, put_expr, put_postfix, put_type, put_entry, put_link, put_declared, put_further, declared_formals, put_way}
+use Rattle.chi_spell.specs.Expressions.{put_expr, put_postfix, put_type, put_entry, put_link, put_declared, put_further, declared_formals, put_way}
 use Rattle.chi_spell.specs.Marks.{mark}
 use Rattle.chi_spell.specs.Words.{if_any, all, each_after, separated}
 use Rattle.chi_spell.proofs.ExprTokens as spelled
 use Rattle.chi_grammar_laws.specs.Levels.{Level}
 use Rattle.chi_grammar_laws.specs.Expressions.{FormedType, FormedFormals, MoreFormals, FormedExpr, FormedLinks, FormedPostfix, FormedPostfixes, FormedIfAny, FormedExprs, FormedEntries}
 use Rattle.chi_grammar_laws.specs.Expressions as formed
-use Rattle.chi_grammar_laws.specs.Unplaced.{unplaced_expr, unplaced_postfix, unplaced_type, unplaced_entry, unplaced_link, unplaced_formal}
+use Rattle.chi_grammar_laws.specs.Unplaced.{unplaced_expr, unplaced_postfix, unplaced_entry, unplaced_link, unplaced_formal}
 use Rattle.chi_grammar_laws.proofs.Readers.{each, after_each, between, optional, Gives, gives-done, gives-keep, gives-pass, gives-bind, gives-last, gives_as, gives-more, gives-after_more, gives-between}
 use Rattle.chi_grammar_laws.proofs.Refilled.{further, formals, way_reader, refilled_expr, refilled_postfix, refilled_type, refilled_entry, refilled_link, refilled_formal, again_expr, again_postfix, again_type, again_entry, again_link, again_formal}
 use Rattle.chi_grammar_laws.proofs.Refilled as again

@@ -18,7 +18,7 @@ use Rattle.chi_tree.specs.declared.statement.Element.TheVariants as element
 use Rattle.chi_tree.specs.declared.statement.Step.{Step, Step-F, fold-Step, fold_out-Step}
 use Rattle.chi_tree.specs.declared.statement.Statement.{Statement, Statement-F, fold-Statement, fold-roll-Statement}
 use Rattle.chi_tree.specs.declared.statement.Statement.TheVariants as statement
-use Rattle.chi_tree.specs.declared.statement.Branch.{Branch, Branch-F, fold-Branch, roll-Branch, fold-roll-Branch}
+use Rattle.chi_tree.specs.declared.statement.Branch.{Branch, Branch-F, fold-Branch, fold-roll-Branch}
 use Rattle.chi_tree.specs.declared.statement.Alternative.{Alternative, Alternative-F, fold-Alternative, fold-roll-Alternative}
 use Rattle.chi_tree.specs.declared.statement.Alternative.TheVariants as alternative
 use Rattle.chi_tree.specs.declared.definition.Definition.{Definition}

@@ -1,5 +1,5 @@
 -- The places that the marks of a statement, a definition and a program keep are all its places.
-use Rattle.std.proofs.Common.{◌≡◌, ℕ, Bool, true, false, List, [], ◌∷◌, Option, Some, None, map, ap}
+use Rattle.std.proofs.Common.{ℕ, Bool, true, false, List, [], ◌∷◌, Option, Some, None, map}
 use Rattle.std.specs.Option.{option_map}
 use Rattle.chi_token.specs.declared.keyword.Keyword.TheVariants.{AltWord, ElifWord}
 use Rattle.chi_token.specs.declared.sign.Sign.TheVariants.{Comma}
@@ -9,7 +9,6 @@ use Rattle.chi_tree.specs.declared.type_tree.TypeTree.{TypeTree}
 use Rattle.chi_tree.specs.declared.type_tree.Formal.{Formal}
 use Rattle.chi_tree.specs.declared.expr.Expr.{Expr}
 use Rattle.chi_tree.specs.declared.expr.Postfix.{Postfix}
-use Rattle.chi_tree.specs.declared.expr.Postfix.TheVariants as postfix
 use Rattle.chi_tree.specs.declared.statement.Variable.{Variable}
 use Rattle.chi_tree.specs.declared.statement.Target.{Target}
 use Rattle.chi_tree.specs.declared.statement.Walk.{Walk}
@@ -41,7 +40,7 @@ use Rattle.chi_grammar_laws.proofs.Refilled.{refilled_postfix, refilled_type}
 use Rattle.chi_grammar_laws.proofs.Refilled as again_expr
 use Rattle.chi_grammar_laws.proofs.RefilledStatements.{refilled_name, refilled_variable, refilled_target, refilled_walk, refilled_communication, guard_reader, body_reader, else_reader, to_end, semicolon_reader, refilled_element, again_element, refilled_step, again_step, refilled_statement, again_statement, refilled_branch, again_branch, refilled_alternative, again_alternative, callable_reader, head_reader, refilled_definition, refilled_item}
 use Rattle.chi_grammar_laws.proofs.RefilledStatements as again
-use Rattle.chi_grammar_laws.proofs.ExprPlaces.{PostfixesAgain, FormalsAgain, IfAnyAgain, ExprAgain, TypeAgain, type_again, formals_again, expr_again, if_again, exprs_again, exprs_after}
+use Rattle.chi_grammar_laws.proofs.ExprPlaces.{PostfixesAgain, FormalsAgain, ExprAgain, type_again, formals_again, expr_again, if_again, exprs_again, exprs_after}
 
 -- names, targets, variables, walks and communications
 
