@@ -1,20 +1,19 @@
 -- What an exact parser answers of a part, from an index on, said of what is formed: the longest that stands there, the token
 -- with which nothing goes on, or the first that is too deep.
-use Rattle.std.proofs.Common.{◌≡◌, ℕ, ◌+◌, ◌-◌, ◌<◌, ◌≤◌, Some, List, ◌++◌, map, length, take, drop, slice_range, ◌⊎◌, inl, inr, refl, ap, sym, subst, ◌∙◌, arith, take-take}
+use Rattle.std.proofs.Common.{◌≡◌, ℕ, ◌+◌, ◌-◌, ◌<◌, ◌≤◌, Some, List, ◌++◌, map, length, take, drop, ◌⊎◌, inl, inr, ap, sym, subst, ◌∙◌, arith, take-take}
 use Rattle.std.proofs.lemmas.Bool.{cases_lt}
 use Rattle.std.proofs.lemmas.List.{length-map, length-drop, length-take-le, take-append-drop, take-map}
 use Rattle.chi_grammar.specs.declared.room.Room.{Room}
 use Rattle.chi_grammar.specs.Exact.{Stands, TreeTo, FrontTo, NoneFurther, IsStuck, IsLongest, IsTooDeep, IsBad}
 use Rattle.chi_grammar.specs.Fronts.{Front}
 use Rattle.chi_grammar.specs.Rules.{part, spelling}
-use Rattle.chi_grammar.specs.Trees.{Is}
 use Rattle.chi_grammar.proofs.Prefixes.{front_before}
 use Rattle.chi_token.specs.declared.place.Spanned.{Spanned}
 use Rattle.chi_tree.specs.Parts.{Part}
 use Rattle.chi_tree.specs.Rules.{grammar}
 use Rattle.chi_tree.specs.View.{Built}
 use Rattle.chi_spell.specs.Words.{Tokens, token_of}
-use Rattle.chi_grammar_laws.specs.Beginnings.{Begins, BeginsWithin, NamesDepth, NoneGoesOn, NoneHas, NamesFault, StandsLongest, NamesStop}
+use Rattle.chi_grammar_laws.specs.Beginnings.{Begins, BeginsWithin, NamesDepth, NoneGoesOn, NamesFault, StandsLongest, NamesStop}
 use Rattle.chi_grammar_laws.specs.Nestings.{Nestings, first_passing}
 use Rattle.chi_grammar_laws.proofs.FormedPart.{FormedPart, placed, begins_of, front_of, begins_within, front_within, first_deep, deep_fronts}
 use Rattle.chi_grammar_laws.proofs.Leaves.{levels}

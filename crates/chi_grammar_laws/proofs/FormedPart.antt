@@ -1,15 +1,15 @@
 -- What is formed is what the rule of a part builds, with the same tokens and nestings; and so the fronts of the part are the
 -- tokens with which something formed begins, within the same limits.
-use Rattle.std.proofs.Common.{◌≡◌, ℕ, suc, ◌↔◌, ◌+◌, ◌-◌, ◌<◌, ◌≤◌, Option, Some, None, List, [], ◌∷◌, ◌++◌, map, length, take, ◌⊎◌, inl, inr, refl, ap, sym, subst, ◌∙◌, arith, take-take}
+use Rattle.std.proofs.Common.{◌≡◌, ℕ, ◌↔◌, ◌+◌, ◌-◌, ◌<◌, ◌≤◌, Option, Some, None, List, [], ◌∷◌, ◌++◌, map, length, take, ◌⊎◌, inl, inr, refl, ap, sym, subst, ◌∙◌, arith}
 use Rattle.std.proofs.Math.Seq.{take-length, take-append_seam, take-append-add}
 use Rattle.std.proofs.lemmas.Bool.{cases_lt}
-use Rattle.std.proofs.lemmas.List.{map-append, length-map, length-append, take-append-le, length-take-le, take-append-drop}
+use Rattle.std.proofs.lemmas.List.{map-append, length-map, length-append, take-append-le}
 use Rattle.chi_grammar.specs.declared.fault.ParseFault.TheVariants.{TooDeep}
 use Rattle.chi_grammar.specs.declared.room.Room.{Room}
 use Rattle.chi_grammar.specs.Exact.{Stands}
 use Rattle.chi_grammar.specs.Fronts.{Front}
 use Rattle.chi_grammar.specs.Rules.{part, spelling}
-use Rattle.chi_grammar.specs.Runs.{Done, Fail, Runs}
+use Rattle.chi_grammar.specs.Runs.{Fail, Runs}
 use Rattle.chi_grammar.specs.Trees.{Is}
 use Rattle.chi_grammar.proofs.Answers.{means}
 use Rattle.chi_grammar.proofs.At.{At, Stands-from_At, At-from_Stands}

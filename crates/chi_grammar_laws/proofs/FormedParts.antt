@@ -1,9 +1,6 @@
 -- Programs, blocks, expressions and types are each what the rule of a part builds.
 use Rattle.std.proofs.Common.{map, refl, ap, sym, ◌∙◌}
-use Rattle.chi_grammar.specs.declared.room.Room.{Room}
 use Rattle.chi_tree.specs.declared.definition.Program.{Program}
-use Rattle.chi_tree.specs.declared.expr.Expr.{Expr}
-use Rattle.chi_tree.specs.declared.type_tree.TypeTree.{TypeTree}
 use Rattle.chi_tree.specs.Parts as s
 use Rattle.chi_tree.specs.Statements.{block_of, program_of}
 use Rattle.chi_tree.specs.View.{type_of, expr_of}

@@ -1,5 +1,5 @@
 -- What a parser answers of an expression or a type from an index on.
-use Rattle.std.proofs.Common.{◌≡◌, ℕ, ◌↔◌, ◌+◌, ◌-◌, ◌≤◌, List, map, length, drop, Ok, Err, refl, ap, sym, subst, ◌∙◌, arith}
+use Rattle.std.proofs.Common.{◌≡◌, ℕ, ◌↔◌, ◌+◌, ◌-◌, ◌≤◌, List, map, length, drop, Ok, Err, refl, sym, subst, arith}
 use Rattle.chi_grammar.specs.declared.fault.ParseFault.TheVariants.{Syntax, TooDeep}
 use Rattle.chi_grammar.specs.declared.room.Room.{Room}
 use Rattle.chi_grammar.specs.Exact.{IsLongest, IsStuck, IsTooDeep, Parses}

@@ -18,12 +18,15 @@ place_of x = x.place
 
 fit_of : (ms : List Mark) (xs : List Spanned) → Agree ms xs → Fit ms (map place_of xs)
 fit_of [] [] marks.none = marks.none
+fit_of [] (x ∷ xs) h = elim h [ ]
+fit_of (m ∷ ms) [] h = elim h [ ]
 fit_of (m ∷ ms) (x ∷ xs) (marks.more r h) = marks.more r.place (fit_of ms xs h)
 
 no_last : (p : Place) → IsLastPlace [] p → ⊥
-no_last p ()
+no_last p h = elim h [ ]
 
 one_last : (xs : List Spanned) (p q : Place) → IsLastPlace xs p → IsLastPlace xs q → p ≡ q
+one_last [] p q h k = elim h [ ]
 one_last (x ∷ []) p q last last = refl
 one_last (x ∷ []) p q last (later h) = absurd (no_last q h)
 one_last (x ∷ []) p q (later h) k = absurd (no_last p h)

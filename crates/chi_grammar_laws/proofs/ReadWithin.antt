@@ -226,10 +226,10 @@ module _ {A S : Type 0} (g : Grammar A S) (table : Table S) (fine : Fine g table
       (halts_before (going_on table a) (first table b ++ first table c) (going_on table (when a test b c)) d.1 q s.back d.4
       (λ h. in_left g.class_of (first table b) (first table c) (slice_get ts s.mid) h)
       (λ e h. in_left g.class_of after (going_on table b ++ going_on table c) (slice_get ts j)
-          (if_or_left (may_be_empty b) (may_be_empty c) (going_on table a) (slice_get ts j) e h)) halts) in
+      (if_or_left (may_be_empty b) (may_be_empty c) (going_on table a) (slice_get ts j) e h)) halts) in
       let y = read_within room d.1 q s.back
       (λ h. halts (in_right g.class_of after (going_on table b ++ going_on table c) (slice_get ts j)
-          (in_left g.class_of (going_on table b) (going_on table c) (slice_get ts j) h))) in
+      (in_left g.class_of (going_on table b) (going_on table c) (slice_get ts j) h))) in
       joined room (when a test b c) i j (pair t u) (depths p) (depths q)
       (chosen_ended room a b c test i (length (depths p)) s.mid j t u _ _ (along p s.front) e x y)
   read_within room {i = i} {j = j} d (is.otherwise {a = a} {b = b} {c = c} {test = test} {t = t} {u = u} p e q) at halts =
@@ -239,10 +239,10 @@ module _ {A S : Type 0} (g : Grammar A S) (table : Table S) (fine : Fine g table
       (halts_before (going_on table a) (first table b ++ first table c) (going_on table (when a test b c)) d.2 q s.back d.4
       (λ h. in_right g.class_of (first table b) (first table c) (slice_get ts s.mid) h)
       (λ e h. in_left g.class_of after (going_on table b ++ going_on table c) (slice_get ts j)
-          (if_or_right (may_be_empty b) (may_be_empty c) (going_on table a) (slice_get ts j) e h)) halts) in
+      (if_or_right (may_be_empty b) (may_be_empty c) (going_on table a) (slice_get ts j) e h)) halts) in
       let y = read_within room d.2 q s.back
       (λ h. halts (in_right g.class_of after (going_on table b ++ going_on table c) (slice_get ts j)
-          (in_right g.class_of (going_on table b) (going_on table c) (slice_get ts j) h))) in
+      (in_right g.class_of (going_on table b) (going_on table c) (slice_get ts j) h))) in
       joined room (when a test b c) i j (pair t u) (depths p) (depths q)
       (otherwise_ended room a b c test i (length (depths p)) s.mid j t u _ _ (along p s.front) e x y)
 

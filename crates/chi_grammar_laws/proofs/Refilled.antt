@@ -78,11 +78,11 @@ expr_reader (Expr-F.SetOf p es) = keep (λ q. bind (between es) (λ xs. pass (do
 expr_reader (Expr-F.DictOf p es) = keep (λ q. bind (between es) (λ xs. pass (done (expr.DictOf q xs))))
 expr_reader (Expr-F.EmptyList p t) = keep (λ q. bind t (λ x. pass (pass (pass (done (expr.EmptyList q x))))))
 expr_reader (Expr-F.EmptySet p t) = keep (λ q. bind t (λ x. pass (pass (pass (done (expr.EmptySet q x))))))
-expr_reader (Expr-F.EmptyDict p k v) = keep (λ q. bind (bind k (λ x. pass (last v (λ y. (x, y))))) (λ z. pass (pass (pass (done (expr.EmptyDict q z.0 z.1))))))
+expr_reader (Expr-F.EmptyDict p k v) = keep (λ q. bind {A = TypeTree × TypeTree} (bind k (λ x. pass (last v (λ y. (x, y))))) (λ z. pass (pass (pass (done (expr.EmptyDict q z.0 z.1))))))
 
 abbrev pub postfix_reader : Postfix-F (Reader Expr) (Reader Postfix) (Reader TypeTree) (Reader Entry) (Reader Link) Declared → Reader Postfix
 postfix_reader (Postfix-F.Index p e) = keep (λ q. bind e (λ x. pass (done (postfix.Index q x))))
-postfix_reader (Postfix-F.Slice p from upto has by) = keep (λ q. bind (bind (bind (optional from) (λ a. pass (last (optional upto) (λ c. (a, c))))) (λ z. last (by_reader has by) (λ d. (z, d)))) (λ z. pass (done (postfix.Slice q z.0.0 z.0.1 has z.1))))
+postfix_reader (Postfix-F.Slice p from upto has by) = keep (λ q. bind {A = (Option Expr × Option Expr) × Option Expr} (bind {A = Option Expr × Option Expr} (bind (optional from) (λ a. pass (last (optional upto) (λ c. (a, c))))) (λ z. last (by_reader has by) (λ d. (z, d)))) (λ z. pass (done (postfix.Slice q z.0.0 z.0.1 has z.1))))
 postfix_reader (Postfix-F.Field n) = pass (keep (λ q. done (postfix.Field (name_at n.text q))))
 
 abbrev pub type_reader : TypeTree-F (Reader Expr) (Reader Postfix) (Reader TypeTree) (Reader Entry) (Reader Link) Declared → Reader TypeTree
@@ -91,7 +91,7 @@ type_reader (TypeTree-F.Defined n) = keep (λ q. done (type.Defined (name_at n.t
 type_reader (TypeTree-F.List p size t) = keep (λ q. bind (size_reader size) (λ a. last t (λ x. type.List q a x)))
 type_reader (TypeTree-F.Set p t) = keep (λ q. last t (λ x. type.Set q x))
 type_reader (TypeTree-F.Dist p t) = keep (λ q. last t (λ x. type.Dist q x))
-type_reader (TypeTree-F.Dict p k v) = keep (λ q. pass (bind (bind k (λ x. pass (last v (λ y. (x, y))))) (λ z. pass (done (type.Dict q z.0 z.1)))))
+type_reader (TypeTree-F.Dict p k v) = keep (λ q. pass (bind {A = TypeTree × TypeTree} (bind k (λ x. pass (last v (λ y. (x, y))))) (λ z. pass (done (type.Dict q z.0 z.1)))))
 type_reader (TypeTree-F.Tuple p fs) = keep (λ q. pass (bind (formals fs) (λ xs. pass (done (type.Tuple q xs)))))
 type_reader (TypeTree-F.Chan p way t) = keep (λ q. bind (way_reader way) (λ u. last (carried_reader t) (λ x. type.Chan q way x)))
 
@@ -246,7 +246,7 @@ expr-EmptySet p t =
     ap refilled_expr (ap unplaced_expr (sym (expr.rolls-EmptySet p t)) ∙ fold-roll-Expr Expr Postfix TypeTree Entry Link Formal expr_without postfix_without type_without entry_without link_without formal_without (Expr-F.EmptySet p t))
     ∙ (ap refilled_expr (sym (expr.rolls-EmptySet nowhere (unplaced_type t))) ∙ fold-roll-Expr (Reader Expr) (Reader Postfix) (Reader TypeTree) (Reader Entry) (Reader Link) Declared expr_reader postfix_reader type_reader entry_reader link_reader formal_reader (Expr-F.EmptySet nowhere (unplaced_type t)))
 
-pub expr-EmptyDict : (p : Place) (k : TypeTree) (v : TypeTree) → again_expr (expr.EmptyDict p k v) ≡ keep (λ q. bind (bind (again_type k) (λ x. pass (last (again_type v) (λ y. (x, y))))) (λ z. pass (pass (pass (done (expr.EmptyDict q z.0 z.1))))))
+pub expr-EmptyDict : (p : Place) (k : TypeTree) (v : TypeTree) → again_expr (expr.EmptyDict p k v) ≡ keep (λ q. bind {A = TypeTree × TypeTree} (bind (again_type k) (λ x. pass (last (again_type v) (λ y. (x, y))))) (λ z. pass (pass (pass (done (expr.EmptyDict q z.0 z.1))))))
 expr-EmptyDict p k v =
     ap refilled_expr (ap unplaced_expr (sym (expr.rolls-EmptyDict p k v)) ∙ fold-roll-Expr Expr Postfix TypeTree Entry Link Formal expr_without postfix_without type_without entry_without link_without formal_without (Expr-F.EmptyDict p k v))
     ∙ (ap refilled_expr (sym (expr.rolls-EmptyDict nowhere (unplaced_type k) (unplaced_type v))) ∙ fold-roll-Expr (Reader Expr) (Reader Postfix) (Reader TypeTree) (Reader Entry) (Reader Link) Declared expr_reader postfix_reader type_reader entry_reader link_reader formal_reader (Expr-F.EmptyDict nowhere (unplaced_type k) (unplaced_type v)))
@@ -256,7 +256,7 @@ postfix-Index p e =
     ap refilled_postfix (ap unplaced_postfix (sym (postfix.rolls-Index p e)) ∙ fold-roll-Postfix Expr Postfix TypeTree Entry Link Formal expr_without postfix_without type_without entry_without link_without formal_without (Postfix-F.Index p e))
     ∙ (ap refilled_postfix (sym (postfix.rolls-Index nowhere (unplaced_expr e))) ∙ fold-roll-Postfix (Reader Expr) (Reader Postfix) (Reader TypeTree) (Reader Entry) (Reader Link) Declared expr_reader postfix_reader type_reader entry_reader link_reader formal_reader (Postfix-F.Index nowhere (unplaced_expr e)))
 
-pub postfix-Slice : (p : Place) (from : Option Expr) (upto : Option Expr) (has : Bool) (by : Option Expr) → again_postfix (postfix.Slice p from upto has by) ≡ keep (λ q. bind (bind (bind (optional (option_map refilled_expr (option_map unplaced_expr from))) (λ a. pass (last (optional (option_map refilled_expr (option_map unplaced_expr upto))) (λ c. (a, c))))) (λ z. last (by_reader has (option_map refilled_expr (option_map unplaced_expr by))) (λ d. (z, d)))) (λ z. pass (done (postfix.Slice q z.0.0 z.0.1 has z.1))))
+pub postfix-Slice : (p : Place) (from : Option Expr) (upto : Option Expr) (has : Bool) (by : Option Expr) → again_postfix (postfix.Slice p from upto has by) ≡ keep (λ q. bind {A = (Option Expr × Option Expr) × Option Expr} (bind {A = Option Expr × Option Expr} (bind (optional (option_map refilled_expr (option_map unplaced_expr from))) (λ a. pass (last (optional (option_map refilled_expr (option_map unplaced_expr upto))) (λ c. (a, c))))) (λ z. last (by_reader has (option_map refilled_expr (option_map unplaced_expr by))) (λ d. (z, d)))) (λ z. pass (done (postfix.Slice q z.0.0 z.0.1 has z.1))))
 postfix-Slice p None None has None =
     ap refilled_postfix (ap unplaced_postfix (sym (postfix.rolls-Slice p None None has None)) ∙ fold-roll-Postfix Expr Postfix TypeTree Entry Link Formal expr_without postfix_without type_without entry_without link_without formal_without (Postfix-F.Slice p None None has None))
     ∙ (ap refilled_postfix (sym (postfix.rolls-Slice nowhere None None has None)) ∙ fold-roll-Postfix (Reader Expr) (Reader Postfix) (Reader TypeTree) (Reader Entry) (Reader Link) Declared expr_reader postfix_reader type_reader entry_reader link_reader formal_reader (Postfix-F.Slice nowhere None None has None))
@@ -315,7 +315,7 @@ type-Dist p t =
     ap refilled_type (ap unplaced_type (sym (type.rolls-Dist p t)) ∙ fold-roll-TypeTree Expr Postfix TypeTree Entry Link Formal expr_without postfix_without type_without entry_without link_without formal_without (TypeTree-F.Dist p t))
     ∙ (ap refilled_type (sym (type.rolls-Dist nowhere (unplaced_type t))) ∙ fold-roll-TypeTree (Reader Expr) (Reader Postfix) (Reader TypeTree) (Reader Entry) (Reader Link) Declared expr_reader postfix_reader type_reader entry_reader link_reader formal_reader (TypeTree-F.Dist nowhere (unplaced_type t)))
 
-pub type-Dict : (p : Place) (k : TypeTree) (v : TypeTree) → again_type (type.Dict p k v) ≡ keep (λ q. pass (bind (bind (again_type k) (λ x. pass (last (again_type v) (λ y. (x, y))))) (λ z. pass (done (type.Dict q z.0 z.1)))))
+pub type-Dict : (p : Place) (k : TypeTree) (v : TypeTree) → again_type (type.Dict p k v) ≡ keep (λ q. pass (bind {A = TypeTree × TypeTree} (bind (again_type k) (λ x. pass (last (again_type v) (λ y. (x, y))))) (λ z. pass (done (type.Dict q z.0 z.1)))))
 type-Dict p k v =
     ap refilled_type (ap unplaced_type (sym (type.rolls-Dict p k v)) ∙ fold-roll-TypeTree Expr Postfix TypeTree Entry Link Formal expr_without postfix_without type_without entry_without link_without formal_without (TypeTree-F.Dict p k v))
     ∙ (ap refilled_type (sym (type.rolls-Dict nowhere (unplaced_type k) (unplaced_type v))) ∙ fold-roll-TypeTree (Reader Expr) (Reader Postfix) (Reader TypeTree) (Reader Entry) (Reader Link) Declared expr_reader postfix_reader type_reader entry_reader link_reader formal_reader (TypeTree-F.Dict nowhere (unplaced_type k) (unplaced_type v)))

@@ -18,7 +18,7 @@ use Rattle.chi_tree.specs.declared.statement.Element.TheVariants as element
 use Rattle.chi_tree.specs.declared.statement.Step.{Step, Step-F, fold-Step, fold_out-Step}
 use Rattle.chi_tree.specs.declared.statement.Statement.{Statement, Statement-F, fold-Statement, fold-roll-Statement}
 use Rattle.chi_tree.specs.declared.statement.Statement.TheVariants as statement
-use Rattle.chi_tree.specs.declared.statement.Branch.{Branch, Branch-F, fold-Branch, roll-Branch, fold-roll-Branch}
+use Rattle.chi_tree.specs.declared.statement.Branch.{Branch, Branch-F, fold-Branch, fold-roll-Branch}
 use Rattle.chi_tree.specs.declared.statement.Alternative.{Alternative, Alternative-F, fold-Alternative, fold-roll-Alternative}
 use Rattle.chi_tree.specs.declared.statement.Alternative.TheVariants as alternative
 use Rattle.chi_tree.specs.declared.definition.Definition.{Definition}
@@ -90,7 +90,7 @@ semicolon_reader true = pass (done tt)
 
 abbrev pub element_reader : Element-F (Reader Element) → Reader Element
 element_reader (Element-F.Make t n es) = bind (assigned_reader t) (λ u. keep (λ q. pass (bind (between (map refilled_expr es)) (λ ys. pass (done (element.Make u (name_at n.text q) ys))))))
-element_reader (Element-F.Unwind p w xs) = keep (λ q. bind (bind (refilled_walk w) (λ u. pass (last (between xs) (λ ys. (u, ys))))) (λ z. pass (done (element.Unwind q z.0 z.1))))
+element_reader (Element-F.Unwind p w xs) = keep (λ q. bind {A = Walk × List Element} (bind (refilled_walk w) (λ u. pass (last (between xs) (λ ys. (u, ys))))) (λ z. pass (done (element.Unwind q z.0 z.1))))
 
 abbrev pub refilled_element : Element → Reader Element
 refilled_element = fold-Element (Reader Element) element_reader
@@ -104,7 +104,7 @@ element-Make t n es =
     ap refilled_element (ap unplaced_element (sym (element.rolls-Make t n es)) ∙ fold-roll-Element Element element_without (Element-F.Make t n es))
     ∙ (ap refilled_element (sym (element.rolls-Make (option_map unplaced_target t) (unplaced_name n) (map unplaced_expr es))) ∙ fold-roll-Element (Reader Element) element_reader (Element-F.Make (option_map unplaced_target t) (unplaced_name n) (map unplaced_expr es)))
 
-pub element-Unwind : (p : Place) (w : Walk) (xs : List Element) → again_element (element.Unwind p w xs) ≡ keep (λ q. bind (bind (refilled_walk (unplaced_walk w)) (λ u. pass (last (between (map refilled_element (map unplaced_element xs))) (λ ys. (u, ys))))) (λ z. pass (done (element.Unwind q z.0 z.1))))
+pub element-Unwind : (p : Place) (w : Walk) (xs : List Element) → again_element (element.Unwind p w xs) ≡ keep (λ q. bind {A = Walk × List Element} (bind (refilled_walk (unplaced_walk w)) (λ u. pass (last (between (map refilled_element (map unplaced_element xs))) (λ ys. (u, ys))))) (λ z. pass (done (element.Unwind q z.0 z.1))))
 element-Unwind p w xs =
     ap refilled_element (ap unplaced_element (sym (element.rolls-Unwind p w xs)) ∙ fold-roll-Element Element element_without (Element-F.Unwind p w xs))
     ∙ (ap refilled_element (sym (element.rolls-Unwind nowhere (unplaced_walk w) (map unplaced_element xs))) ∙ fold-roll-Element (Reader Element) element_reader (Element-F.Unwind nowhere (unplaced_walk w) (map unplaced_element xs)))
@@ -117,7 +117,7 @@ statement_reader (Statement-F.Pass p) = keep (λ q. done (statement.Pass q))
 statement_reader (Statement-F.Break p) = keep (λ q. done (statement.Break q))
 statement_reader (Statement-F.Continue p) = keep (λ q. done (statement.Continue q))
 statement_reader (Statement-F.Select p xs) = keep (λ q. bind (between xs) (λ ys. pass (done (statement.Select q ys))))
-statement_reader (Statement-F.If p bs other) = keep (λ q. bind (bind (between bs) (λ ys. last (else_reader other) (λ zs. (ys, zs)))) (λ z. pass (done (statement.If q z.0 z.1))))
+statement_reader (Statement-F.If p bs other) = keep (λ q. bind {A = List Branch × List Step} (bind (between bs) (λ ys. last (else_reader other) (λ zs. (ys, zs)))) (λ z. pass (done (statement.If q z.0 z.1))))
 statement_reader (Statement-F.While p e b) = keep (λ q. bind (refilled_expr e) (λ x. last (to_end b) (λ ys. statement.While q x ys)))
 statement_reader (Statement-F.For p w b) = keep (λ q. bind (refilled_walk w) (λ u. last (to_end b) (λ ys. statement.For q u ys)))
 statement_reader (Statement-F.Return p e) = keep (λ q. last (refilled_expr e) (λ x. statement.Return q x))
@@ -128,8 +128,8 @@ statement_reader (Statement-F.Finish p es) = keep (λ q. last (between (map refi
 statement_reader (Statement-F.Write p line text at es) = keep (λ q. pass (keep (λ r. bind (after_each (map refilled_expr es)) (λ ys. pass (done (statement.Write q line text r ys))))))
 
 abbrev pub alternative_reader : Alternative-F (Reader Alternative) (Reader Statement) (Reader Branch) (Reader Step) → Reader Alternative
-alternative_reader (Alternative-F.Guarded guard c b) = bind (bind (guard_reader guard) (λ g. last (refilled_communication c) (λ x. (g, x)))) (λ z. last (body_reader b) (λ ys. alternative.Guarded z.0 z.1 ys))
-alternative_reader (Alternative-F.Unwind p w xs) = keep (λ q. bind (bind (refilled_walk w) (λ u. pass (last (between xs) (λ ys. (u, ys))))) (λ z. pass (done (alternative.Unwind q z.0 z.1))))
+alternative_reader (Alternative-F.Guarded guard c b) = bind {A = Option Expr × Communication} (bind (guard_reader guard) (λ g. last (refilled_communication c) (λ x. (g, x)))) (λ z. last (body_reader b) (λ ys. alternative.Guarded z.0 z.1 ys))
+alternative_reader (Alternative-F.Unwind p w xs) = keep (λ q. bind {A = Walk × List Alternative} (bind (refilled_walk w) (λ u. pass (last (between xs) (λ ys. (u, ys))))) (λ z. pass (done (alternative.Unwind q z.0 z.1))))
 
 abbrev pub branch_reader : Branch-F (Reader Alternative) (Reader Statement) (Reader Branch) (Reader Step) → Reader Branch
 branch_reader b = bind (refilled_expr b.condition) (λ x. pass (last (each b.block) (λ ys. branch x ys)))
@@ -196,7 +196,7 @@ statement-Select p xs =
     ap refilled_statement (ap unplaced_statement (sym (statement.rolls-Select p xs)) ∙ fold-roll-Statement Alternative Statement Branch Step alternative_without statement_without branch_without step_without (Statement-F.Select p xs))
     ∙ (ap refilled_statement (sym (statement.rolls-Select nowhere (map unplaced_alternative xs))) ∙ fold-roll-Statement (Reader Alternative) (Reader Statement) (Reader Branch) (Reader Step) alternative_reader statement_reader branch_reader step_reader (Statement-F.Select nowhere (map unplaced_alternative xs)))
 
-pub statement-If : (p : Place) (bs : List Branch) (other : List Step) → again_statement (statement.If p bs other) ≡ keep (λ q. bind (bind (between (map refilled_branch (map unplaced_branch bs))) (λ ys. last (else_reader (map refilled_step (map unplaced_step other))) (λ zs. (ys, zs)))) (λ z. pass (done (statement.If q z.0 z.1))))
+pub statement-If : (p : Place) (bs : List Branch) (other : List Step) → again_statement (statement.If p bs other) ≡ keep (λ q. bind {A = List Branch × List Step} (bind (between (map refilled_branch (map unplaced_branch bs))) (λ ys. last (else_reader (map refilled_step (map unplaced_step other))) (λ zs. (ys, zs)))) (λ z. pass (done (statement.If q z.0 z.1))))
 statement-If p bs other =
     ap refilled_statement (ap unplaced_statement (sym (statement.rolls-If p bs other)) ∙ fold-roll-Statement Alternative Statement Branch Step alternative_without statement_without branch_without step_without (Statement-F.If p bs other))
     ∙ (ap refilled_statement (sym (statement.rolls-If nowhere (map unplaced_branch bs) (map unplaced_step other))) ∙ fold-roll-Statement (Reader Alternative) (Reader Statement) (Reader Branch) (Reader Step) alternative_reader statement_reader branch_reader step_reader (Statement-F.If nowhere (map unplaced_branch bs) (map unplaced_step other)))
@@ -241,12 +241,12 @@ statement-Write p line text at es =
     ap refilled_statement (ap unplaced_statement (sym (statement.rolls-Write p line text at es)) ∙ fold-roll-Statement Alternative Statement Branch Step alternative_without statement_without branch_without step_without (Statement-F.Write p line text at es))
     ∙ (ap refilled_statement (sym (statement.rolls-Write nowhere line text nowhere (map unplaced_expr es))) ∙ fold-roll-Statement (Reader Alternative) (Reader Statement) (Reader Branch) (Reader Step) alternative_reader statement_reader branch_reader step_reader (Statement-F.Write nowhere line text nowhere (map unplaced_expr es)))
 
-pub alternative-Guarded : (guard : Option Expr) (c : Communication) (b : List Step) → again_alternative (alternative.Guarded guard c b) ≡ bind (bind (guard_reader (option_map unplaced_expr guard)) (λ g. last (refilled_communication (unplaced_communication c)) (λ x. (g, x)))) (λ z. last (body_reader (map refilled_step (map unplaced_step b))) (λ ys. alternative.Guarded z.0 z.1 ys))
+pub alternative-Guarded : (guard : Option Expr) (c : Communication) (b : List Step) → again_alternative (alternative.Guarded guard c b) ≡ bind {A = Option Expr × Communication} (bind (guard_reader (option_map unplaced_expr guard)) (λ g. last (refilled_communication (unplaced_communication c)) (λ x. (g, x)))) (λ z. last (body_reader (map refilled_step (map unplaced_step b))) (λ ys. alternative.Guarded z.0 z.1 ys))
 alternative-Guarded guard c b =
     ap refilled_alternative (ap unplaced_alternative (sym (alternative.rolls-Guarded guard c b)) ∙ fold-roll-Alternative Alternative Statement Branch Step alternative_without statement_without branch_without step_without (Alternative-F.Guarded guard c b))
     ∙ (ap refilled_alternative (sym (alternative.rolls-Guarded (option_map unplaced_expr guard) (unplaced_communication c) (map unplaced_step b))) ∙ fold-roll-Alternative (Reader Alternative) (Reader Statement) (Reader Branch) (Reader Step) alternative_reader statement_reader branch_reader step_reader (Alternative-F.Guarded (option_map unplaced_expr guard) (unplaced_communication c) (map unplaced_step b)))
 
-pub alternative-Unwind : (p : Place) (w : Walk) (xs : List Alternative) → again_alternative (alternative.Unwind p w xs) ≡ keep (λ q. bind (bind (refilled_walk (unplaced_walk w)) (λ u. pass (last (between (map refilled_alternative (map unplaced_alternative xs))) (λ ys. (u, ys))))) (λ z. pass (done (alternative.Unwind q z.0 z.1))))
+pub alternative-Unwind : (p : Place) (w : Walk) (xs : List Alternative) → again_alternative (alternative.Unwind p w xs) ≡ keep (λ q. bind {A = Walk × List Alternative} (bind (refilled_walk (unplaced_walk w)) (λ u. pass (last (between (map refilled_alternative (map unplaced_alternative xs))) (λ ys. (u, ys))))) (λ z. pass (done (alternative.Unwind q z.0 z.1))))
 alternative-Unwind p w xs =
     ap refilled_alternative (ap unplaced_alternative (sym (alternative.rolls-Unwind p w xs)) ∙ fold-roll-Alternative Alternative Statement Branch Step alternative_without statement_without branch_without step_without (Alternative-F.Unwind p w xs))
     ∙ (ap refilled_alternative (sym (alternative.rolls-Unwind nowhere (unplaced_walk w) (map unplaced_alternative xs))) ∙ fold-roll-Alternative (Reader Alternative) (Reader Statement) (Reader Branch) (Reader Step) alternative_reader statement_reader branch_reader step_reader (Alternative-F.Unwind nowhere (unplaced_walk w) (map unplaced_alternative xs)))

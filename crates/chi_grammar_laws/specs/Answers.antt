@@ -1,13 +1,15 @@
 -- What the tokens of a source are as a program; and what those from an index on are as an expression or a type.
-use Rattle.std.specs.Prelude.{ℕ, ◌+◌, ◌≡◌, List, map, drop}
+use Rattle.std.specs.Prelude.{ℕ, ◌+◌, ◌≡◌, List, map, drop, Result, Ok, Err}
 use Rattle.chi_token.specs.declared.place.Spanned.{Spanned}
 use Rattle.chi_tree.specs.declared.definition.Program.{Program}
 use Rattle.chi_tree.specs.declared.expr.Expr.{Expr}
 use Rattle.chi_tree.specs.declared.type_tree.TypeTree.{TypeTree}
+use Rattle.chi_grammar.specs.declared.fault.ParseFault.{ParseFault}
+use Rattle.chi_grammar.specs.declared.fault.ParseFault.TheVariants.{Syntax, TooDeep, NoMemory}
 use Rattle.chi_grammar.specs.declared.room.Room.{Room}
 use Rattle.chi_tree.specs.Limits.{whole_room}
 use Rattle.chi_spell.specs.Expressions.{spelled_expr, spelled_type}
-use Rattle.chi_spell.specs.Statements.{spelled}
+use Rattle.chi_spell.specs.Statements.{spelled, AgreesWith}
 use Rattle.chi_spell.specs.Words.{token_of}
 use Rattle.chi_grammar_laws.specs.Beginnings.{NamesDepth, NamesFault, StandsLongest, NamesStop}
 use Rattle.chi_grammar_laws.specs.Definitions.{FormedProgram}
@@ -26,10 +28,12 @@ TypeWithin b d ty = FormedType d ty
 
 -- a source
 
--- the tokens are those of this program, which is formed within the limits
+-- the tokens are this program: it is formed within the limits, they are its spelling, and each place that it keeps is that of
+-- its token
 pub record IsProgram (tokens : List Spanned) (program : Program) : Type 0 where
   pub formed : FormedProgram whole_room.blocks whole_room.expressions program
   pub same : spelled program ≡ map token_of tokens
+  pub agrees : AgreesWith program tokens
 
 -- token k of them is the first that is too deep
 abbrev pub IsDepth : List Spanned → ℕ → Type 0
@@ -38,6 +42,13 @@ IsDepth tokens k = NamesDepth FormedProgram spelled nestings whole_room.blocks w
 -- they are no program: token k is the first with which none goes on
 abbrev pub IsFault : List Spanned → ℕ → Type 0
 IsFault tokens k = NamesFault FormedProgram spelled nestings whole_room.blocks whole_room.expressions (map token_of tokens) k
+
+-- They are this program, or they are none: token k is at fault, or the first that is too deep. Want of memory is none of these.
+abbrev pub IsAnswer : List Spanned → Result Program ParseFault → Type 0
+IsAnswer tokens (Ok program) = IsProgram tokens program
+IsAnswer tokens (Err (Syntax k)) = IsFault tokens k
+IsAnswer tokens (Err (TooDeep k)) = IsDepth tokens k
+IsAnswer tokens (Err NoMemory) = ⊥
 
 -- the tokens from an index on, within limits on nesting; an index is counted among all the tokens
 module _ (tokens : List Spanned) (at : ℕ) (room : Room) where

@@ -1,6 +1,6 @@
 -- With which tokens something formed can begin, and how a list of tokens isn't formed: at one token it nests too deep, or at
 -- one token nothing goes on. What is formed are programs, expressions or types, with their spelling and the nestings of its tokens.
-use Rattle.std.specs.Prelude.{ℕ, ◌+◌, ◌<◌, ◌≤◌, ◌≡◌, Some, None, List, ◌++◌, length, take}
+use Rattle.std.specs.Prelude.{ℕ, ◌+◌, ◌<◌, ◌≤◌, ◌≡◌, Some, None, ◌++◌, length, take}
 use Rattle.chi_spell.specs.Words.{Tokens}
 use Rattle.chi_grammar_laws.specs.Nestings.{Nestings, first_passing}
 

@@ -1,5 +1,5 @@
-ghost use Rattle.std.specs.Prelude.{◌≡◌, ◌↔◌, ◌≤◌, ◌⊎◌, ℕ, Bool, true, None, List, [], ◌∷◌, ◌++◌, length, map, Ok, Err};
-ghost use Rattle.chi_grammar_laws.specs.Answers.{IsProgram, IsDepth, IsFault, IsLongestExpr, IsExprStop, IsExprDepth, IsLongestType, IsTypeStop, IsTypeDepth};
+ghost use Rattle.std.specs.Prelude.{◌≡◌, ◌↔◌, ◌≤◌, ℕ, Bool, true, None, List, [], ◌∷◌, ◌++◌, length, map, Result, Ok, Err};
+ghost use Rattle.chi_grammar_laws.specs.Answers.{IsProgram, IsDepth, IsFault, IsAnswer, IsLongestExpr, IsExprStop, IsExprDepth, IsLongestType, IsTypeStop, IsTypeDepth};
 ghost use Rattle.chi_grammar_laws.specs.Definitions.{FormedItems, FormedProgram};
 ghost use Rattle.chi_grammar_laws.specs.Expressions.{FormedExpr, FormedType};
 ghost use Rattle.chi_grammar_laws.specs.ExprNestings.{expr_nestings, type_nestings};
@@ -9,6 +9,7 @@ ghost use Rattle.chi_grammar_laws.specs.StatementNestings.{block_nestings, nesti
 ghost use Rattle.chi_grammar_laws.specs.Statements.{FormedBlock, FormedStatement};
 ghost use Rattle.chi_grammar_laws.specs.Unplaced.{unplaced_expr, unplaced_type};
 ghost use Rattle.chi_grammar_laws.specs.UnplacedStatements.{unplaced, unplaced_block};
+ghost use Rattle.chi_grammar.specs.declared.fault.ParseFault.{ParseFault};
 ghost use Rattle.chi_grammar.specs.declared.fault.ParseFault.TheVariants.{Syntax, TooDeep};
 ghost use Rattle.chi_grammar.specs.declared.room.Room.{Room};
 ghost use Rattle.chi_grammar.specs.Exact.{Parses, ParsesAll};
@@ -29,7 +30,7 @@ ghost use Rattle.chi_tree.specs.Parts as s;
 ghost use Rattle.chi_tree.specs.Rules.{grammar};
 ghost use Rattle.chi_tree.specs.Tables.{table};
 ghost use Rattle.chi_spell.specs.Expressions.{spelled_expr, spelled_type};
-ghost use Rattle.chi_spell.specs.Statements.{spelled, spelled_block, spelled_statement};
+ghost use Rattle.chi_spell.specs.Statements.{spelled, spelled_block, spelled_statement, AgreesWith};
 ghost use Rattle.chi_tree.specs.Statements.{block_of, program_of};
 ghost use Rattle.chi_tree.specs.View.{Built, type_of, expr_of};
 ghost use Rattle.chi_spell.specs.Words.{Tokens, token_of};
@@ -68,8 +69,7 @@ pub fn last_token_law()
 /// What an exact parser answers for all the tokens of a source, said of formed programs.
 pub fn parsed_law()
     ensures tree { (tokens : List Spanned) (program : Program)
-        → ParsesAll grammar tokens program_of whole_room (part s.Program) (Ok program)
-        → FormedProgram whole_room.blocks whole_room.expressions program × (spelled program ≡ map token_of tokens) }
+        → ParsesAll grammar tokens program_of whole_room (part s.Program) (Ok program) ↔ IsProgram tokens program }
     ensures every_tree { (tokens : List Spanned) (program : Program)
         → FormedProgram whole_room.blocks whole_room.expressions program → spelled program ≡ map token_of tokens
         → (parsed : Program) × ParsesAll grammar tokens program_of whole_room (part s.Program) (Ok parsed) × (unplaced parsed ≡ unplaced program) }
@@ -100,15 +100,17 @@ pub fn nesting_law()
 {}
 
 /// The tokens of a source are a program, or one of them is the first too deep, or they are at fault at one index: exactly one
-/// of the three, and with one index.
+/// of the three, with one program or one index.
 pub fn answer_law()
-    ensures some { (tokens : List Spanned)
-        → ((program : Program) × IsProgram tokens program) ⊎ (((k : ℕ) × IsDepth tokens k) ⊎ ((k : ℕ) × IsFault tokens k)) }
-    ensures program_or_depth { (tokens : List Spanned) (program : Program) (k : ℕ) → IsProgram tokens program → IsDepth tokens k → ⊥ }
-    ensures program_or_fault { (tokens : List Spanned) (program : Program) (k : ℕ) → IsProgram tokens program → IsFault tokens k → ⊥ }
-    ensures depth_or_fault { (tokens : List Spanned) (j k : ℕ) → IsDepth tokens j → IsFault tokens k → ⊥ }
-    ensures one_depth { (tokens : List Spanned) (j k : ℕ) → IsDepth tokens j → IsDepth tokens k → j ≡ k }
-    ensures one_fault { (tokens : List Spanned) (j k : ℕ) → IsFault tokens j → IsFault tokens k → j ≡ k }
+    ensures some { (tokens : List Spanned) → (result : Result Program ParseFault) × IsAnswer tokens result }
+    ensures one { (tokens : List Spanned) (result other : Result Program ParseFault)
+        → IsAnswer tokens result → IsAnswer tokens other → result ≡ other }
+{}
+
+/// Programs that are formed and have the same tokens, with which the places of both agree, are the same.
+pub fn one_program_law()
+    ensures { (b c d e : ℕ) (program other : Program) (tokens : List Spanned) → FormedProgram b c program → FormedProgram d e other
+        → AgreesWith program tokens → AgreesWith other tokens → unplaced program ≡ unplaced other → program ≡ other }
 {}
 
 /// What an exact parser answers of an expression or a type, from an index on, said of formed ones: the longest that stands

@@ -4,4 +4,7 @@
 
 mod laws;
 
-pub use laws::{answer_law, formed_law, grammar_law, last_token_law, nesting_law, one_tree_law, parsed_law, parsed_part_law};
+pub use laws::{
+    answer_law, formed_law, grammar_law, last_token_law, nesting_law, one_program_law,
+    one_tree_law, parsed_law, parsed_part_law,
+};

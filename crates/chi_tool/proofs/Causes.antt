@@ -17,7 +17,7 @@ use Rattle.chi_tool.specs.Call.{Call, SinkUse, SinkRose}
 use Rattle.chi_tool.specs.Headline.{NothingFailed, IsReportedOrLost, IsAskedProgram, EndsWith, EndsAs, IsFault, HasLexicalFault, HasSyntaxFault, IsNotBuilt, IsUnfit, CannotBeRead, IsExactly, Causes, IsComplete}
 use Rattle.chi_tool.specs.Delivery.{Delivers, whole, out_broke, log_broke, DeliversReport, Serves, reported, missing, long, failed, lost}
 use Rattle.chi_tool.proofs.Built.{built-Sound}
-use Rattle.chi_tool.proofs.Reports.{report_one}
+use Rattle.chi_tool.proofs.ReportLaw.{ReportLaw}
 use Rattle.chi_tool.proofs.ReportCases.{CaseOf, asks_nothing, is_missing, is_long, is_faulty, is_no_program, is_unbuilt, runs, case_of, lexical_report, syntax_report, unbuilt_report, run_is_report}
 use Rattle.chi_tool.proofs.Promises.{MeetsOne, where_told, served_told, usage_told, goes_stopped, not_none}
 
@@ -106,7 +106,7 @@ exactly : (r : Report) (call : Call) (n : ℕ) (cause : Type 0) → n ≢ 6 → 
 exactly r call n cause above (inl wanting) to from = ((λ is. absurd (above (sym is ∙ wanting))), λ h. inr wanting)
 exactly r call n cause above (inr met) to from = ((λ is. to (sym met.status ∙ is)), λ h. inl (met.status ∙ from h))
 
-module _ (call : Call) (files : Files) (one : MeetsOne call files) (none : NothingFailed call) where
+module _ (law : ReportLaw) (call : Call) (files : Files) (one : MeetsOne call files) (none : NothingFailed call) where
   met : IsReportedOrLost one.0 call
   met = one.2.whole none
 
@@ -114,7 +114,7 @@ module _ (call : Call) (files : Files) (one : MeetsOne call files) (none : Nothi
   case = case_of call files one.0 one.1
 
   same_status : (s : Report) → IsReport call.words files s → one.0.status ≡ s.status
-  same_status s is = status_ap one.0 s (report_one call.words files one.0 s one.1 is)
+  same_status s is = status_ap one.0 s (law.one call.words files one.0 s one.1 is)
 
   -- the run ends with a verdict of which P holds, exactly where the status is n
   run_exactly : (n : ℕ) (P : Verdict → Type 0) → n ≢ 3 → n ≢ 4 → n ≢ 6 → n ≢ 20 → n ≢ 21 → n ≢ 22
@@ -269,19 +269,19 @@ served_unread call name (failed rose status out log) e = inl rose
 served_unread call name (lost status out log) e = absurd (omega arith)
 
 -- the parts of the causes that rest on how the call was served
-module _ (call : Call) (told : (files : Files) → call.shelf.files ≡ Some files → MeetsOne call files)
+module _ (law : ReportLaw) (call : Call) (told : (files : Files) → call.shelf.files ≡ Some files → MeetsOne call files)
     (breaks : Breaks call.status call.out call.log)
     (request : call.out.stopped ≡ false → call.log.stopped ≡ false → IsExactly call 3 (request_of call.words ≡ None))
     (unread : call.status ≡ 4 → CannotBeRead call.shelf (request_of call.words)) where
   causes : Causes call
   causes = record {
-    completed = where_told call.shelf.files (λ files is none. completed_exactly call files (told files is) none);
-    deadlock = where_told call.shelf.files (λ files is none. deadlock_exactly call files (told files is) none);
-    fault = where_told call.shelf.files (λ files is none. fault_exactly call files (told files is) none);
-    out_of_steps = where_told call.shelf.files (λ files is none. out_of_steps_exactly call files (told files is) none);
-    lexical = where_told call.shelf.files (λ files is none. lexical_exactly call files (told files is) none);
-    syntax = where_told call.shelf.files (λ files is none. syntax_exactly call files (told files is) none);
-    not_built = where_told call.shelf.files (λ files is none. not_built_exactly call files (told files is) none);
+    completed = where_told call.shelf.files (λ files is none. completed_exactly law call files (told files is) none);
+    deadlock = where_told call.shelf.files (λ files is none. deadlock_exactly law call files (told files is) none);
+    fault = where_told call.shelf.files (λ files is none. fault_exactly law call files (told files is) none);
+    out_of_steps = where_told call.shelf.files (λ files is none. out_of_steps_exactly law call files (told files is) none);
+    lexical = where_told call.shelf.files (λ files is none. lexical_exactly law call files (told files is) none);
+    syntax = where_told call.shelf.files (λ files is none. syntax_exactly law call files (told files is) none);
+    not_built = where_told call.shelf.files (λ files is none. not_built_exactly law call files (told files is) none);
     no_request = request;
     not_read = unread;
     not_written = (breaks.stops, breaks.tells);
@@ -289,19 +289,19 @@ module _ (call : Call) (told : (files : Files) → call.shelf.files ≡ Some fil
   }
 
   complete : IsComplete call
-  complete = where_told call.shelf.files (λ files is none core asked. ends_complete call files (told files is) none core asked)
+  complete = where_told call.shelf.files (λ files is none core asked. ends_complete law call files (told files is) none core asked)
 
-pub served-causes : (call : Call) (name : List ℕ) → request_of call.words ≡ Some (Sim name)
+pub served-causes : ReportLaw → (call : Call) (name : List ℕ) → request_of call.words ≡ Some (Sim name)
     → Serves name call.shelf call.status call.out call.log → Causes call
-served-causes call name asked s =
-    causes call (λ files told. served_told call name files asked told s) (served_breaks call name s)
+served-causes law call name asked s =
+    causes law call (λ files told. served_told law call name files asked told s) (served_breaks call name s)
     (λ out log. ((λ is. absurd (served_request call name s is)), λ none. absurd (not_none (request_of call.words) (Sim name) asked none)))
     (λ is. let P : Option Request → Type 0 = CannotBeRead call.shelf in subst P (sym asked) (served_unread call name s is))
 
-pub served-complete : (call : Call) (name : List ℕ) → request_of call.words ≡ Some (Sim name)
+pub served-complete : ReportLaw → (call : Call) (name : List ℕ) → request_of call.words ≡ Some (Sim name)
     → Serves name call.shelf call.status call.out call.log → IsComplete call
-served-complete call name asked s =
-    complete call (λ files told. served_told call name files asked told s) (served_breaks call name s)
+served-complete law call name asked s =
+    complete law call (λ files told. served_told law call name files asked told s) (served_breaks call name s)
     (λ out log. ((λ is. absurd (served_request call name s is)), λ none. absurd (not_none (request_of call.words) (Sim name) asked none)))
     (λ is. let P : Option Request → Type 0 = CannotBeRead call.shelf in subst P (sym asked) (served_unread call name s is))
 
@@ -315,12 +315,12 @@ usage_unread : (call : Call) → DeliversReport usage call.status call.out call.
     → CannotBeRead call.shelf (request_of call.words)
 usage_unread call d is = absurd (delivered_status _ 4 _ _ _ call.out call.log (λ h. omega arith) (λ h. omega arith) d is)
 
-pub usage-causes : (call : Call) → request_of call.words ≡ None → DeliversReport usage call.status call.out call.log → Causes call
-usage-causes call none d =
-    causes call (λ files told. usage_told call files none d) (delivered_breaks _ _ _ _ call.out call.log (λ e. omega arith) d)
+pub usage-causes : ReportLaw → (call : Call) → request_of call.words ≡ None → DeliversReport usage call.status call.out call.log → Causes call
+usage-causes law call none d =
+    causes law call (λ files told. usage_told call files none d) (delivered_breaks _ _ _ _ call.out call.log (λ e. omega arith) d)
     (usage_exactly call none d) (usage_unread call d)
 
-pub usage-complete : (call : Call) → request_of call.words ≡ None → DeliversReport usage call.status call.out call.log → IsComplete call
-usage-complete call none d =
-    complete call (λ files told. usage_told call files none d) (delivered_breaks _ _ _ _ call.out call.log (λ e. omega arith) d)
+pub usage-complete : ReportLaw → (call : Call) → request_of call.words ≡ None → DeliversReport usage call.status call.out call.log → IsComplete call
+usage-complete law call none d =
+    complete law call (λ files told. usage_told call files none d) (delivered_breaks _ _ _ _ call.out call.log (λ e. omega arith) d)
     (usage_exactly call none d) (usage_unread call d)

@@ -1,6 +1,6 @@
 pub mod Sizes
 pub mod Built
-pub mod OneReading
+pub mod ReportLaw
 pub mod TokenReports
 pub mod TurnLemmas
 pub mod Reports

@@ -10,7 +10,7 @@ use Rattle.chi_tool.specs.Call.{Call, SinkUse, Took, TookFront, TookSome, SinkSt
 use Rattle.chi_tool.specs.Headline.{NothingFailed, IsReported, IsReportedOrLost, IsReportedInFront, IsRefusedByFault, Meets, Headline}
 use Rattle.chi_tool.specs.Delivery.{TookWhole, Delivers, whole, out_broke, log_broke, DeliversReport, Serves, reported, missing, long, failed, lost}
 use Rattle.chi_tool.proofs.Sinks.{whole_front, none_front, broken_front, none_some, none_whole}
-use Rattle.chi_tool.proofs.Reports.{report_some}
+use Rattle.chi_tool.proofs.ReportLaw.{ReportLaw}
 
 -- how a call may stand to the report of its words and files
 data Stands (r : Report) (call : Call) : Type 0 where
@@ -96,8 +96,8 @@ by_report : (call : Call) (files : Files) (r : Report) → IsReport call.words f
 by_report call files r is s = (r, is, meets r call s)
 
 -- whatever the report is
-by_any : (call : Call) (files : Files) → ((r : Report) → Stands r call) → MeetsOne call files
-by_any call files s = let p = report_some call.words files in by_report call files p.0 p.1 (s p.0)
+by_any : ReportLaw → (call : Call) (files : Files) → ((r : Report) → Stands r call) → MeetsOne call files
+by_any law call files s = let p = law.some call.words files in by_report call files p.0 p.1 (s p.0)
 
 pub is_report : (call : Call) (name : List ℕ) (files : Files) (o : Option (List ℕ)) (r : Report) → request_of call.words ≡ Some (Sim name)
     → files name ≡ o → IsReportOfFile o r → IsReport call.words files r
@@ -106,17 +106,17 @@ is_report call name files o r asked there is =
     let at_file : Option (List ℕ) → Type 0 = λ x. IsReportOfFile x r in
     subst at_request (sym asked) (subst at_file (sym there) is)
 
-pub served_told : (call : Call) (name : List ℕ) (files : Files) → request_of call.words ≡ Some (Sim name) → call.shelf.files ≡ Some files
+pub served_told : ReportLaw → (call : Call) (name : List ℕ) (files : Files) → request_of call.words ≡ Some (Sim name) → call.shelf.files ≡ Some files
     → Serves name call.shelf call.status call.out call.log → MeetsOne call files
-served_told call name files asked told (reported source within is r report d) =
+served_told law call name files asked told (reported source within is r report d) =
     let P : Option Files → Type 0 = λ o. IfSome o (λ f. f name ≡ Some source) in
     by_report call files r (is_report call name files (Some source) r asked (subst P told is) (inr (within, report))) (delivered d)
-served_told call name files asked told (missing (inr rose) d) = by_any call files (λ r. misread rose no_such_file (inl refl) d)
-served_told call name files asked told (missing (inl lacks) d) =
+served_told law call name files asked told (missing (inr rose) d) = by_any law call files (λ r. misread rose no_such_file (inl refl) d)
+served_told law call name files asked told (missing (inl lacks) d) =
     let P : Option Files → Type 0 = λ o. IsSomeAnd o (λ f. f name ≡ None) in
     by_report call files no_such_file (is_report call name files None no_such_file asked (subst P told lacks) refl) (delivered d)
-served_told call name files asked told (long (inr rose) d) = by_any call files (λ r. misread rose file_too_long (inr refl) d)
-served_told call name files asked told (long (inl exceeds) d) =
+served_told law call name files asked told (long (inr rose) d) = by_any law call files (λ r. misread rose file_too_long (inr refl) d)
+served_told law call name files asked told (long (inl exceeds) d) =
     let P : Option Files → Type 0 = λ o. IsSomeAnd o (λ f. IsSomeAnd (f name) (λ source. MOST_BYTES < length source)) in
     by_file (files name) refl (subst P told exceeds)
   where
@@ -124,8 +124,8 @@ served_told call name files asked told (long (inl exceeds) d) =
     by_file None there e = absurd e
     by_file (Some source) there e =
         by_report call files file_too_long (is_report call name files (Some source) file_too_long asked there (inl (e, refl))) (delivered d)
-served_told call name files asked told (failed rose status out log) = by_any call files (λ r. silent rose status out log)
-served_told call name files asked told (lost status out log) = by_any call files (λ r. wanting status out log)
+served_told law call name files asked told (failed rose status out log) = by_any law call files (λ r. silent rose status out log)
+served_told law call name files asked told (lost status out log) = by_any law call files (λ r. wanting status out log)
 
 -- what holds where the shelf tells its files
 pub where_told : {P : Files → Type 0} (o : Option Files) → ((files : Files) → o ≡ Some files → P files) → IfSome o P
@@ -151,10 +151,10 @@ served_stopped call name (lost status out log) stopped = log.took
 pub not_none : (o : Option Request) (request : Request) → o ≡ Some request → o ≡ None → ⊥
 not_none o request some none = cc
 
-pub served-headline : (call : Call) (name : List ℕ) → request_of call.words ≡ Some (Sim name)
+pub served-headline : ReportLaw → (call : Call) (name : List ℕ) → request_of call.words ≡ Some (Sim name)
     → Serves name call.shelf call.status call.out call.log → Headline call
-served-headline call name asked s = record {
-  report = where_told call.shelf.files (λ files told. served_told call name files asked told s);
+served-headline law call name asked s = record {
+  report = where_told call.shelf.files (λ files told. served_told law call name files asked told s);
   no_request = λ none out log. absurd (not_none (request_of call.words) (Sim name) asked none);
   out_stopped = served_stopped call name s;
 }

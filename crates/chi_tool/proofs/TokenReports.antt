@@ -15,7 +15,8 @@ use Rattle.chi_tree.specs.Statements.{program_of}
 use Rattle.chi_form.specs.Form.{built}
 use Rattle.chi_tool.specs.declared.report.Reported.{Reported}
 use Rattle.chi_tool.specs.Reported.{report_in}
-use Rattle.chi_tool.specs.Syntax.{syntax_text}
+use Rattle.chi_grammar_laws.specs.Answers.{IsFault, IsDepth}
+use Rattle.chi_tool.specs.Syntax.{HasTree, syntax_text}
 use Rattle.chi_tool.specs.Report.{refused, IsReportOfBuilt, IsReportOfTokens, of_tree, of_fault}
 
 -- what the parser answers, but for want of memory
@@ -23,17 +24,19 @@ abbrev Parsed : List Spanned → Result Program ParseFault → Type 0
 Parsed tokens result = ParsesAll grammar tokens program_of whole_room (part s.Program) result
 
 module _ (source : List ℕ) (tokens : List Spanned) where
-  pub tree_report : (tree : Program) (result : Result Reported NoMemory) → Parsed tokens (Ok tree)
+  pub tree_report : (tree : Program) (result : Result Reported NoMemory) → HasTree tokens tree
       → IfOk result (λ r. IsReportOfBuilt (built tree) (report_in r)) → IfOk result (λ r. IsReportOfTokens source tokens (report_in r))
   tree_report tree (Ok r) has is = of_tree tree has is
   tree_report tree (Err lost) has is = tt
 
-  pub syntax_report : (fault : ParseFault) (k : ℕ) (result : Result Reported NoMemory) → fault ≡ Syntax k → Parsed tokens (Err fault)
+  pub syntax_report : (fault : ParseFault) (k : ℕ) (result : Result Reported NoMemory) → (Parsed tokens (Err (Syntax k)) → IsFault tokens k)
+      → fault ≡ Syntax k → Parsed tokens (Err fault)
       → IfOk result (λ r. report_in r ≡ refused 21 (syntax_text source tokens (Syntax k))) → IfOk result (λ r. IsReportOfTokens source tokens (report_in r))
-  syntax_report fault k (Ok r) e has is = of_fault (Syntax k) (subst (λ f. Parsed tokens (Err f)) e has) is
-  syntax_report fault k (Err lost) e has is = tt
+  syntax_report fault k (Ok r) named e has is = of_fault (Syntax k) (named (subst (λ f. Parsed tokens (Err f)) e has)) is
+  syntax_report fault k (Err lost) named e has is = tt
 
-  pub too_deep_report : (fault : ParseFault) (k : ℕ) (result : Result Reported NoMemory) → fault ≡ TooDeep k → Parsed tokens (Err fault)
+  pub too_deep_report : (fault : ParseFault) (k : ℕ) (result : Result Reported NoMemory) → (Parsed tokens (Err (TooDeep k)) → IsDepth tokens k)
+      → fault ≡ TooDeep k → Parsed tokens (Err fault)
       → IfOk result (λ r. report_in r ≡ refused 21 (syntax_text source tokens (TooDeep k))) → IfOk result (λ r. IsReportOfTokens source tokens (report_in r))
-  too_deep_report fault k (Ok r) e has is = of_fault (TooDeep k) (subst (λ f. Parsed tokens (Err f)) e has) is
-  too_deep_report fault k (Err lost) e has is = tt
+  too_deep_report fault k (Ok r) named e has is = of_fault (TooDeep k) (named (subst (λ f. Parsed tokens (Err f)) e has)) is
+  too_deep_report fault k (Err lost) named e has is = tt

@@ -1,30 +1,23 @@
 -- What the tokens of a source are as a program, and the lines of the parser's refusals.
-use Rattle.std.specs.Prelude.{ℕ, ◌≡◌, List, [], ◌++◌, length, slice_get, codes, Option, Some, None}
+use Rattle.std.specs.Prelude.{ℕ, List, [], ◌++◌, length, slice_get, codes, Option, Some, None}
 use Rattle.std.specs.Fmt.{decimal}
 use Rattle.chi_token.specs.declared.place.Place.{Place}
 use Rattle.chi_token.specs.declared.place.Spanned.{Spanned}
 use Rattle.chi_lex.specs.Places.{place_of}
 use Rattle.chi_grammar.specs.declared.fault.ParseFault.{ParseFault}
 use Rattle.chi_grammar.specs.declared.fault.ParseFault.TheVariants.{Syntax, TooDeep, NoMemory}
-use Rattle.chi_grammar.specs.Rules.{part, spelling}
-use Rattle.chi_grammar.specs.Trees.{Is}
-use Rattle.chi_grammar.specs.Exact.{IsBad, IsTooDeep}
 use Rattle.chi_tree.specs.declared.definition.Program.{Program}
-use Rattle.chi_tree.specs.Limits.{whole_room}
-use Rattle.chi_tree.specs.Parts as s
-use Rattle.chi_tree.specs.Rules.{grammar}
-use Rattle.chi_tree.specs.Statements.{program_of}
-use Rattle.chi_tree.specs.View.{Built}
+use Rattle.chi_grammar_laws.specs.Answers.{IsProgram, IsFault, IsDepth}
 
--- the grammar builds this program of the tokens, within the room for nesting
+-- the tokens are this program: it is formed within the limits on nesting, and they are its spelling, with its places
 abbrev pub HasTree : List Spanned → Program → Type 0
-HasTree tokens tree = (t : Built) × (program_of t ≡ tree) × Is grammar whole_room (part s.Program) t × (spelling t ≡ tokens)
+HasTree tokens tree = IsProgram tokens tree
 
 -- The tokens are no program: token k is the first with which none goes on, or the first that stands too deep.
 -- Want of memory is no fault of the tokens.
 abbrev pub HasFault : List Spanned → ParseFault → Type 0
-HasFault tokens (Syntax k) = IsBad grammar tokens whole_room (part s.Program) k
-HasFault tokens (TooDeep k) = IsTooDeep grammar tokens whole_room (part s.Program) 0 k
+HasFault tokens (Syntax k) = IsFault tokens k
+HasFault tokens (TooDeep k) = IsDepth tokens k
 HasFault tokens NoMemory = ⊥
 
 -- where a line of a refusal stands

@@ -10,6 +10,7 @@ use crate::syntax::refused_token;
 use chi_base::NoMemory;
 use chi_form::program_of;
 use chi_grammar::ParseFault;
+use chi_grammar_laws::parsed_law;
 use chi_lex::{LexFault, MOST_BYTES, lex};
 use chi_parse::parse;
 use chi_token::Spanned;
@@ -50,6 +51,7 @@ fn report_of_tokens(alloc: Global, source: &[u8], tokens: &[Spanned]) -> Result<
     requires short { length tokens.now < 2 ^ 32 }
     ensures { IfOk result (λ r. IsReportOfTokens source.now tokens.now (report_in r)) }
 {
+    parsed_law();
     match parse(alloc, tokens) {
         Ok(tree) => report_of_tree(alloc, &tree),
         Err(ParseFault::Syntax(index)) => refused_token(alloc, source, tokens, "syntax", index),

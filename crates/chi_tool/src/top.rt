@@ -3,6 +3,7 @@ ghost use Rattle.chi_tool.specs.Call.{Call, sink_use, shelf_use};
 ghost use Rattle.chi_tool.specs.Headline.{Headline, Causes, IsComplete};
 
 use crate::deliver::deliver;
+use crate::laws::report_law;
 use crate::serve::serve;
 use crate::words::asked_file;
 use chi_io::{Shelf, Sink};
@@ -48,6 +49,7 @@ pub fn chi<H: Shelf, O: Sink, L: Sink>(
       log = sink_use L.taken L.faults L.stopped log.old log.new;
     }) }
 {
+    report_law();
     match asked_file(words) {
         Some(file) => serve(alloc, file.as_bytes(), shelf, out, log),
         None => deliver(
