@@ -1,7 +1,7 @@
 use chi_base::{Boxed, Items, NoMemory};
 use chi_grammar_laws::{
-    answer_law, formed_law, grammar_law, last_token_law, nesting_law, one_program_law, one_tree_law,
-    parsed_law, parsed_part_law,
+    answer_law, formed_law, grammar_law, last_token_law, nesting_law, one_program_law,
+    one_tree_law, parsed_law, parsed_part_law,
 };
 use chi_spell::{places_law, spell, spelling_law};
 use chi_token::{Bytes, Keyword, Place, Sign, Token, spelling};

@@ -63,11 +63,11 @@ with_entry_value es key x =
 pub with_entry_others : (es : List Value) (key x other : Value) → ties other key ≡ false → value_at (with_entry es (entry key x)) other ≡ value_at es other
 with_entry_others es key x other apart =
     let apart' : ties_by by_key (entry other other) (entry key x) ≡ false =
-        (λ i. is_eq (option_cmp order (entry_key other other i) (entry_key key x i))) ∙ apart in
+    (λ i. is_eq (option_cmp order (entry_key other other i) (entry_key key x i))) ∙ apart in
     ap (option_and_then value_of) (
-        find_key other other (with_entry es (entry key x)) ∙
-        find_others by_key by_key_total es (entry key x) (entry other other) apart' ∙
-        sym (find_key other other es))
+    find_key other other (with_entry es (entry key x)) ∙
+    find_others by_key by_key_total es (entry key x) (entry other other) apart' ∙
+    sym (find_key other other es))
 
 -- the union
 
@@ -107,9 +107,9 @@ pub union_values : (a b : List Value) (key : Value) → ascending_by_key a ≡ t
     value_at (dictionary_union a b) key ≡ option_or (value_at b key) (value_at a key)
 union_values a b key up up' =
     ap (option_and_then value_of) (
-        find_key key key (dictionary_union a b) ∙
-        find_both by_key by_key_total a b (entry key key) up up' ∙
-        ap₂ option_or (sym (find_key key key b)) (sym (find_key key key a))) ∙
+    find_key key key (dictionary_union a b) ∙
+    find_both by_key by_key_total a b (entry key key) up up' ∙
+    ap₂ option_or (sym (find_key key key b)) (sym (find_key key key a))) ∙
     found_value key b (find (has_key key) a)
 
 -- without some keys

@@ -130,8 +130,8 @@ module _ {A K : Type 0} (f : A → K) (R : K → K → Ordering) (o : IsTotalOrd
   placed_in_gap (y ∷ ys) (suc i) less greater =
       placed_after (on f R) (on_total f o) y x ys (ap is_lt (less 0 y (omega arith) (omega arith))) ∙
       ap (λ zs. y ∷ zs) (placed_in_gap ys i
-          (λ j d low within. less (suc j) d (omega arith) (omega (arith, within)))
-          (λ j d low within. greater (suc j) d (omega (arith, low)) (omega (arith, within))))
+      (λ j d low within. less (suc j) d (omega arith) (omega (arith, within)))
+      (λ j d low within. greater (suc j) d (omega (arith, low)) (omega (arith, within))))
 
   pub placed_at_gap : (xs : List A) (i : ℕ) → ascends (on f R) xs ≡ true → IsBinarySearchResult standing xs (Err i) → placed (on f R) xs x ≡ insert xs i x
   placed_at_gap xs i up parted = let parts = parted (rises f R o (f x) xs up) in placed_in_gap xs i parts.0 parts.1

@@ -51,7 +51,6 @@ module _ {A : Type 0} {R : A → A → Ordering} (o : IsTotalOrder R) (left righ
 
     -- of the union
 
-
     pub merged_less : (done more whole : List A) → Less ≡ R x y → done ++ in_order R (left ++ right) ≡ whole → more ≡ done ++ x ∷ [] →
         more ++ in_order R (xs ++ right) ≡ whole
     merged_less done more whole e is pushed =

@@ -180,7 +180,12 @@ fn push_copies(alloc: Global, items: &mut Vec<Value>, values: &[Value]) -> Resul
     Ok(())
 }
 
-fn push_copy_if(alloc: Global, items: &mut Vec<Value>, value: &Value, wanted: bool) -> Result<(), NoMemory>
+fn push_copy_if(
+    alloc: Global,
+    items: &mut Vec<Value>,
+    value: &Value,
+    wanted: bool,
+) -> Result<(), NoMemory>
     ensures pushed { OnOk result (items.new.items ≡ cond wanted (items.old.items ++ value.now ∷ []) items.old.items) }
 {
     if wanted {
@@ -189,7 +194,12 @@ fn push_copy_if(alloc: Global, items: &mut Vec<Value>, value: &Value, wanted: bo
     Ok(())
 }
 
-fn push_copies_if(alloc: Global, items: &mut Vec<Value>, values: &[Value], wanted: bool) -> Result<(), NoMemory>
+fn push_copies_if(
+    alloc: Global,
+    items: &mut Vec<Value>,
+    values: &[Value],
+    wanted: bool,
+) -> Result<(), NoMemory>
     ensures pushed { OnOk result (items.new.items ≡ cond wanted (items.old.items ++ values.now) items.old.items) }
 {
     if wanted {
