@@ -149,12 +149,12 @@ module _ {A : Type 0} (R : A → A → Ordering) (o : IsTotalOrder R) where
       rw (e, back w x Equal e) (placed_first x ws (tied_above x w ws (back w x Equal e) all))
 
   -- what holds of the elements and of one more holds of all after it is placed
-  all_placed : (p : A → Bool) (ws : List A) (x : A) → list_all p ws ≡ true → p x ≡ true → list_all p (place ws x) ≡ true
+  pub all_placed : (p : A → Bool) (ws : List A) (x : A) → list_all p ws ≡ true → p x ≡ true → list_all p (place ws x) ≡ true
   all_placed p ws x all one =
       list_all-append p (filter (λ y. below y x) ws) (x ∷ filter (below x) ws) ∙
       and_from _ _ (all_filter p _ ws all) (and_from _ _ one (all_filter p _ ws all))
 
-  all_gathered : (p : A → Bool) (ws xs : List A) → list_all p ws ≡ true → list_all p xs ≡ true → list_all p (fold place ws xs) ≡ true
+  pub all_gathered : (p : A → Bool) (ws xs : List A) → list_all p ws ≡ true → list_all p xs ≡ true → list_all p (fold place ws xs) ≡ true
   all_gathered p ws [] all more = all
   all_gathered p ws (x ∷ xs) all more =
       let both = and_parts (p x) (list_all p xs) more in

@@ -56,7 +56,7 @@ module _ {A : Type 0} (R : A → A → Ordering) (o : IsTotalOrder R) where
   abbrev class : A → List A → List A
   class z = filter (ties_by R z)
 
-  class_placed : (z x : A) (ws : List A) → class z (placed R ws x) ≡ cond (ties_by R z x) (x ∷ []) (class z ws)
+  pub class_placed : (z x : A) (ws : List A) → class z (placed R ws x) ≡ cond (ties_by R z x) (x ∷ []) (class z ws)
   class_placed z x ws = filter-append (ties_by R z) (filter (λ y. below y x) ws) (x ∷ filter (below x) ws) ∙ split (R z x) refl
     where
       -- of those that tie with z, how one stands to x

@@ -1,0 +1,5 @@
+//! Tests of sets and dictionaries as lists.
+#![tactic(auto)]
+
+#[cfg(test)]
+mod tests;
