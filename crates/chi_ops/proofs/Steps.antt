@@ -9,7 +9,6 @@ use Rattle.std.specs.Int.Signed.{lt_z_yes, lt_z_no}
 use Rattle.std.specs.Prelude.{T, not, int_lt, unsigned_abs, negsuc, option_to_list, if◌then◌else◌}
 use Rattle.std.specs.List.{cons_option}
 use Rattle.chi_ops.specs.Progression.{numbers, comes_before, steps_over, count_from, progression}
-use Rattle.chi_ops.specs.Slices.{elements_at}
 
 -- steps over a distance
 
@@ -38,7 +37,7 @@ steps_none s some =
 steps_more : (d s : ℕ) → 0 < s → 0 < d → steps_over d s ≡ suc (steps_over (d - s) s)
 steps_more d s some far =
     steps_is d s some far ∙ ap suc (elim (cases_lt d s) [
-      inl less ↦
+      | inl less ↦
           let small : d - 1 < s = omega (arith, less) in
           let gone : d - s ≡ 0 = omega (arith, less) in
           small_over (d - 1) s small ∙ sym (ap (λ n. steps_over n s) gone ∙ steps_none s some)
@@ -131,20 +130,9 @@ progression_more by a b moves h = numbers_next by a (count_from a b by) (count_f
 pub progression_done : (by a b : ℤ) → comes_before by a b ≡ false → progression a b by ≡ []
 progression_done by a b h = numbers_none by a (count_from a b by) (counted false by a b h)
 
-cons_option_is : {A : Type 0} (x : Option A) (xs : List A) → cons_option x xs ≡ option_to_list x ++ xs
+pub cons_option_is : {A : Type 0} (x : Option A) (xs : List A) → cons_option x xs ≡ option_to_list x ++ xs
 cons_option_is None xs = refl
 cons_option_is (Some x) xs = refl
-
-module _ {A : Type 0} (items : List A) where
-  pub elements_more : (by a b : ℤ) → by ≢ pos 0 → comes_before by a b ≡ true →
-      elements_at items (progression a b by) ≡
-      option_to_list (slice_get items (unsigned_abs a)) ++ elements_at items (progression (a +ℤ by) b by)
-  elements_more by a b moves h =
-      ap (elements_at items) (progression_more by a b moves h) ∙
-      cons_option_is (slice_get items (unsigned_abs a)) (elements_at items (progression (a +ℤ by) b by))
-
-  pub elements_done : (by a b : ℤ) → comes_before by a b ≡ false → elements_at items (progression a b by) ≡ []
-  elements_done by a b h = ap (elements_at items) (progression_done by a b h)
 
 -- where an int stands that doesn't come before the first, and comes before the last
 
@@ -203,9 +191,9 @@ pub goes_on : (by a first : ℤ) → comes_before by a first ≡ false → comes
 goes_on by a first k =
     not_before (int_lt by (pos 0)) (a +ℤ by) first (onward (int_lt by (pos 0)) by a first refl k)
 
+not_before_at : (down : Bool) (a : ℤ) → (if down then int_lt a a else int_lt a a) ≡ false
+not_before_at true a = grind (arith, ints)
+not_before_at false a = grind (arith, ints)
+
 pub not_before_itself : (by a : ℤ) → comes_before by a a ≡ false
-not_before_itself by a = not_before_by (int_lt by (pos 0))
-  where
-    not_before_by : (down : Bool) → (if down then int_lt a a else int_lt a a) ≡ false
-    not_before_by true = grind (arith, ints)
-    not_before_by false = grind (arith, ints)
+not_before_itself by a = not_before_at (int_lt by (pos 0)) a

@@ -11,11 +11,11 @@ use Rattle.chi_sets.specs.Dictionaries.{are_entries, ascending_by_key, keys}
 use Rattle.chi_ops.specs.Conditions.{are_peers}
 use Rattle.chi_ops.specs.Tidy.{tidy, sorted, sorted_step, is_set_list, is_dictionary_list}
 
-abbrev beside : Value → Value × Bool
+abbrev pub beside : Value → Value × Bool
 beside v = (v, sorted v)
 
 -- the outermost decides, with what is known of the parts
-sorted_at : (v : Value) (layer : Value-F Value) → out-Value v ≡ layer → sorted v ≡ sorted_step (map-Value Value (Value × Bool) beside layer)
+pub sorted_at : (v : Value) (layer : Value-F Value) → out-Value v ≡ layer → sorted v ≡ sorted_step (map-Value Value (Value × Bool) beside layer)
 sorted_at v layer is =
     ap sorted (sym (roll-out-Value v)) ∙ para-roll-Value Bool sorted_step (out-Value v) ∙
     ap (λ l. sorted_step (map-Value Value (Value × Bool) beside l)) is
@@ -60,3 +60,14 @@ peers_left a b more h = (and_parts (tidy a) (tidy b) (and_parts (tidy a && tidy 
 
 pub peers_right : (a b : Value) (more : Bool) → IsTrue (are_peers a b && more) → IsTrue (tidy b)
 peers_right a b more h = (and_parts (tidy a) (tidy b) (and_parts (tidy a && tidy b) (alike a b) (and_parts (are_peers a b) more h).0).0).1
+
+-- the first of the facts of a condition
+
+pub first_of_two : (v : Value) (more : Bool) → IsTrue (tidy v && more) → IsTrue (tidy v)
+first_of_two v more h = (and_parts (tidy v) more h).0
+
+pub first_of_three : (v : Value) (more others : Bool) → IsTrue ((tidy v && more) && others) → IsTrue (tidy v)
+first_of_three v more others h = (and_parts (tidy v) more (and_parts (tidy v && more) others h).0).0
+
+pub second_of_three : (v w : Value) (others : Bool) → IsTrue ((tidy v && tidy w) && others) → IsTrue (tidy w)
+second_of_three v w others h = (and_parts (tidy v) (tidy w) (and_parts (tidy v && tidy w) others h).0).1

@@ -18,31 +18,40 @@ is_key x = is_plain x && tidy x
 abbrev pub are_peers : Value → Value → Bool
 are_peers a b = tidy a && tidy b && alike a b
 
-abbrev pub may_size : Value → Bool
-may_size v = tidy v && elim (out-Value v) [
-  Value-F.Text bytes ↦ nat_lt (length bytes) (2 ^ 32)
+-- a container or string, whose size 32 bits hold
+abbrev pub has_size : Value → Bool
+has_size v = elim (out-Value v) [
+  | Value-F.Text bytes ↦ nat_lt (length bytes) (2 ^ 32)
   | Value-F.ListOf items ↦ nat_lt (length items) (2 ^ 32)
   | Value-F.SetOf items ↦ nat_lt (length items) (2 ^ 32)
   | Value-F.DictOf items ↦ nat_lt (length items) (2 ^ 32)
   | _ ↦ false
 ]
 
+abbrev pub may_size : Value → Bool
+may_size v = tidy v && has_size v
+
 abbrev pub may_index : Value → ℤ → Bool
 may_index v i = tidy v && is_sequence v
 
-abbrev pub may_lookup : Value → Value → Bool
-may_lookup d key = tidy d && is_key key && elim (out-Value d) [
-  Value-F.DictOf items ↦ list_all (alike key) (keys items)
-  | _ ↦ false
-]
+-- a dictionary to whose keys another is alike
+abbrev pub takes_key : Value → Value → Bool
+takes_key d key = elim (out-Value d) [ Value-F.DictOf items ↦ list_all (alike key) (keys items) | _ ↦ false ]
 
-abbrev pub may_has : Value → Value → Bool
-may_has v x = tidy v && is_key x && elim (out-Value v) [
-  Value-F.ListOf items ↦ list_all is_plain items && list_all (alike x) items
+abbrev pub may_lookup : Value → Value → Bool
+may_lookup d key = tidy d && is_key key && takes_key d key
+
+-- a list of plain elements, a set or a dictionary, to whose elements or keys a value is alike
+abbrev pub may_hold : Value → Value → Bool
+may_hold v x = elim (out-Value v) [
+  | Value-F.ListOf items ↦ list_all is_plain items && list_all (alike x) items
   | Value-F.SetOf items ↦ list_all (alike x) items
   | Value-F.DictOf items ↦ list_all (alike x) (keys items)
   | _ ↦ false
 ]
+
+abbrev pub may_has : Value → Value → Bool
+may_has v x = tidy v && is_key x && may_hold v x
 
 abbrev pub may_sub : Value → Value → Bool
 may_sub a b = are_peers a b && is_set a
@@ -56,11 +65,12 @@ may_join a b = are_peers a b && is_sequence a
 abbrev pub may_pop : Value → Bool
 may_pop v = tidy v && is_container v
 
+-- a list to whose elements a value is alike, and a place that is at most its size
+abbrev pub takes_at : Value → ℕ → Value → Bool
+takes_at v i x = elim (out-Value v) [ Value-F.ListOf items ↦ list_all (alike x) items && nat_le i (length items) | _ ↦ false ]
+
 abbrev pub may_insert_at : Value → ℕ → Value → Bool
-may_insert_at v i x = tidy v && tidy x && elim (out-Value v) [
-  Value-F.ListOf items ↦ list_all (alike x) items && nat_le i (length items)
-  | _ ↦ false
-]
+may_insert_at v i x = tidy v && tidy x && takes_at v i x
 
 abbrev pub may_del : Value → ℤ → Bool
 may_del v i = tidy v && is_list v
@@ -77,14 +87,18 @@ may_meet a b = are_peers a b && is_set a
 abbrev pub may_minus : Value → Value → Bool
 may_minus a b = are_peers a b && is_set a
 
-abbrev pub may_minus_keys : Value → Value → Bool
-may_minus_keys d removed = tidy d && tidy removed && elim (out-Value d) [
-  Value-F.DictOf items ↦ elim (out-Value removed) [
-    Value-F.SetOf others ↦ list_all (λ key. list_all (alike key) others) (keys items)
+-- a dictionary, and a set to whose elements its keys are alike
+abbrev pub are_keys_alike : Value → Value → Bool
+are_keys_alike d removed = elim (out-Value d) [
+  | Value-F.DictOf items ↦ elim (out-Value removed) [
+    | Value-F.SetOf others ↦ list_all (λ key. list_all (alike key) others) (keys items)
     | _ ↦ false
   ]
   | _ ↦ false
 ]
+
+abbrev pub may_minus_keys : Value → Value → Bool
+may_minus_keys d removed = tidy d && tidy removed && are_keys_alike d removed
 
 abbrev pub may_keys : Value → Bool
 may_keys d = tidy d && is_dictionary d
@@ -102,6 +116,6 @@ may_build kind.TupleOf parts = all_tidy parts
 may_build kind.ListOf parts = may_contain parts
 may_build kind.SetOf parts = may_contain parts && list_all is_plain parts
 may_build kind.DictOf parts = elim (entries_of parts) [
-  None ↦ false
+  | None ↦ false
   | Some entries ↦ may_contain entries && list_all is_plain (keys entries)
 ]

@@ -2,6 +2,7 @@ pub mod Conditions
 pub mod Kinds
 pub mod Operations
 pub mod Outcome
+pub mod Paths
 pub mod Places
 pub mod Progression
 pub mod Refusal

@@ -22,12 +22,12 @@ pub data Step : Type 0 where
 abbrev pub fits_along : List Step → Value → Value → Bool
 fits_along [] x v = alike x v
 fits_along (by i ∷ path) x v = elim (out-Value v) [
-  Value-F.ListOf items ↦ is_int i && list_all (fits_along path x) items
+  | Value-F.ListOf items ↦ is_int i && list_all (fits_along path x) items
   | Value-F.DictOf items ↦ is_key i && list_all (alike i) (keys items) && list_all (fits_along path x) (values items)
   | _ ↦ false
 ]
 fits_along (part k ∷ path) x v = elim (out-Value v) [
-  Value-F.TupleOf parts ↦ elim (slice_get parts k) [ None ↦ false | Some p ↦ fits_along path x p ]
+  | Value-F.TupleOf parts ↦ elim (slice_get parts k) [ None ↦ false | Some p ↦ fits_along path x p ]
   | _ ↦ false
 ]
 
@@ -54,22 +54,24 @@ abbrev pub change_key : List Value → Value → (Value → Outcome) → Option 
 change_key items key change None = faults key_fault
 change_key items key change (Some has) = outcome_map (λ x. value.DictOf (with_entry items (entry key x))) (change has)
 
+-- a step to a key, which is the last one or has more after it
+abbrev pub store_key : List Step → List Value → Value → Value → (Value → Outcome) → Outcome
+store_key [] items key x change = put_key items key x
+store_key (step ∷ path) items key x change = change_key items key change (value_at items key)
+
 -- the value with x in the place of the part that the path leads to; the first fault along the path decides
 abbrev pub stored : List Step → Value → Value → Outcome
 stored [] x v = gives x
 stored (by i ∷ path) x v = elim (out-Value v) [
-  Value-F.ListOf items ↦ elim (out-Value i) [
-    Value-F.Int number ↦ change_place items (stored path x) (place_of (length items) number)
+  | Value-F.ListOf items ↦ elim (out-Value i) [
+    | Value-F.Int number ↦ change_place items (stored path x) (place_of (length items) number)
     | _ ↦ wrong
   ]
-  | Value-F.DictOf items ↦ elim path [
-    [] ↦ put_key items i x
-    | step ∷ steps ↦ change_key items i (stored path x) (value_at items i)
-  ]
+  | Value-F.DictOf items ↦ store_key path items i x (stored path x)
   | _ ↦ wrong
 ]
 stored (part k ∷ path) x v = elim (out-Value v) [
-  Value-F.TupleOf parts ↦ changed_at value.TupleOf parts (stored path x) k (slice_get parts k)
+  | Value-F.TupleOf parts ↦ changed_at value.TupleOf parts (stored path x) k (slice_get parts k)
   | _ ↦ wrong
 ]
 

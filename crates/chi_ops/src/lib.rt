@@ -1,9 +1,11 @@
 //! The operations on strings, lists, sets and dictionaries, and stores into parts of values.
 #![tactic(auto)]
 
+mod building;
 mod copies;
 mod fault;
 mod made;
+mod path;
 mod place;
 mod popping;
 mod progression;
@@ -13,13 +15,17 @@ mod room;
 mod sequences;
 mod slices;
 mod sorted;
+mod storing;
 mod walk;
 
+pub use building::build;
 pub use chi_value::Kind;
 pub use fault::OpFault;
+pub use path::Path;
 pub use popping::pop;
 pub use ranges::range;
-pub use reading::index;
+pub use reading::{has, index, lookup, size};
 pub use sequences::{del, enumerate, insert_at, join};
 pub use slices::slice;
-pub use sorted::{keys, meet, minus, sub, union, values};
+pub use sorted::{keys, meet, minus, minus_keys, sub, union, values};
+pub use storing::put;

@@ -1,9 +1,10 @@
-ghost use Rattle.std.specs.Prelude.{◌≡◌, None, Some, MatchOption};
+ghost use Rattle.std.specs.Prelude.{◌≡◌, ◌<◌, None, Some, IfSome, MatchOption};
 ghost use Rattle.chi_ops.specs.Places.{place_of, at_place};
 
 /// The place that an index names among so many elements.
 pub(crate) fn place_of(size: usize, i: i64) -> Option<usize>
     ensures place { result ≡ place_of size i }
+    ensures inside { IfSome result (λ place. place < size) }
 {
     let distance = i.unsigned_abs() as usize;
     if i < 0 {

@@ -1,6 +1,7 @@
 ghost use Rattle.std.specs.Prelude.{◌≡◌, IfOk, IfErr, IsTrue};
+ghost use Rattle.chi_sets.specs.Dictionaries.{are_entries};
 ghost use Rattle.chi_ops.specs.Conditions.{may_pop};
-ghost use Rattle.chi_ops.specs.Operations.{pop};
+ghost use Rattle.chi_ops.specs.Operations.{pop, entry_and_rest};
 ghost use Rattle.chi_ops.specs.Outcome.{gives};
 ghost use Rattle.chi_ops.specs.Refusal.{Refuses};
 
@@ -31,14 +32,23 @@ pub fn pop(alloc: Global, v: &Value) -> Result<Value, OpFault>
             }
             None => Err(OpFault::Empty),
         },
-        Value::DictOf(entries) => match entries.as_slice().split_first() {
-            Some((first, rest)) => {
-                let rest = Value::DictOf(items_of(alloc, rest)?);
-                let (key, has) = parts_of(first);
-                Ok(triple(alloc, key.copy(alloc)?, has.copy(alloc)?, rest)?)
-            }
-            None => Err(OpFault::Empty),
-        },
+        Value::DictOf(entries) => Ok(pop_entry(alloc, entries.as_slice())?),
         _ => unreachable!(),
+    }
+}
+
+/// The least key, what it has, and the rest.
+fn pop_entry(alloc: Global, entries: &[Value]) -> Result<Value, OpFault>
+    requires { IsTrue (are_entries entries.now) }
+    ensures value { IfOk result (λ value. entry_and_rest entries.now ≡ gives value) }
+    ensures refused { IfErr result (λ fault. Refuses fault (entry_and_rest entries.now)) }
+{
+    match entries.split_first() {
+        Some((first, rest)) => {
+            let rest = Value::DictOf(items_of(alloc, rest)?);
+            let (key, has) = parts_of(first);
+            Ok(triple(alloc, key.copy(alloc)?, has.copy(alloc)?, rest)?)
+        }
+        None => Err(OpFault::Empty),
     }
 }

@@ -119,7 +119,11 @@ fn walk_of(size: usize, from: Option<i64>, upto: Option<i64>, by: i64) -> Walk
     ensures fit { IsWalk result }
     ensures places { rest_of result ≡ slice_places size from upto by }
 {
-    Walk::new(first_place(size, from, by), last_place(size, upto, by), by as i128)
+    Walk::new(
+        first_place(size, from, by),
+        last_place(size, upto, by),
+        by as i128,
+    )
 }
 
 /// Where a slice begins.

@@ -1,16 +1,14 @@
 ghost use Rattle.std.specs.Prelude.{◌≡◌, Some, IfOk, IfErr, IsTrue};
 ghost use Rattle.chi_sets.specs.Dictionaries.{keys, values};
-ghost use Rattle.chi_ops.specs.Conditions.{may_union, may_meet, may_minus, may_sub, may_keys, may_values};
-ghost use Rattle.chi_ops.specs.Operations.{union, meet, minus, sub, keys_of, values_of};
+ghost use Rattle.chi_ops.specs.Conditions.{may_union, may_meet, may_minus, may_minus_keys, may_sub, may_keys, may_values};
+ghost use Rattle.chi_ops.specs.Operations.{union, meet, minus, minus_keys, sub, keys_of, values_of};
 ghost use Rattle.chi_ops.specs.Outcome.{gives};
 ghost use Rattle.chi_ops.specs.Refusal.{Refuses};
 
 use crate::OpFault;
 use crate::room::test_room;
 use chi_base::NoMemory;
-use chi_sets::{
-    dictionary_union, is_subset, key_of, set_meet, set_minus, set_union, value_of,
-};
+use chi_sets::{dictionary_union, is_subset, key_of, set_meet, set_minus, set_union, value_of};
 use chi_value::{Items, Value};
 use std::alloc::Global;
 
@@ -59,6 +57,22 @@ pub fn minus(alloc: Global, a: &Value, b: &Value) -> Result<Value, OpFault>
         (Value::SetOf(a), Value::SetOf(b)) => {
             Ok(Value::SetOf(set_minus(alloc, a.as_slice(), b.as_slice())?))
         }
+        (_, _) => unreachable!(),
+    }
+}
+
+/// A dictionary without the keys in a set.
+pub fn minus_keys(alloc: Global, d: &Value, keys: &Value) -> Result<Value, OpFault>
+    requires fits { IsTrue (may_minus_keys d.now keys.now) }
+    ensures value { IfOk result (λ value. minus_keys d.now keys.now ≡ gives value) }
+    ensures refused { IfErr result (λ fault. Refuses fault (minus_keys d.now keys.now)) }
+{
+    match (d, keys) {
+        (Value::DictOf(entries), Value::SetOf(removed)) => Ok(Value::DictOf(chi_sets::minus_keys(
+            alloc,
+            entries.as_slice(),
+            removed.as_slice(),
+        )?)),
         (_, _) => unreachable!(),
     }
 }

@@ -1,0 +1,134 @@
+ghost use Rattle.std.specs.Prelude.{◌≡◌, ◌<◌, false, length, slice_get, slice_set, Some, List, IfOk, IfErr, IsTrue};
+ghost use Rattle.std.specs.List.{list_all};
+ghost use Rattle.chi_value.specs.declared.value.Value.{Value};
+ghost use Rattle.chi_value.specs.declared.value.Value.TheVariants.{Bool, DictOf};
+ghost use Rattle.chi_sets.specs.Dictionaries.{ascending_by_key, values};
+ghost use Rattle.chi_ops.specs.Outcome.{gives};
+ghost use Rattle.chi_ops.specs.Paths.{steps_of};
+ghost use Rattle.chi_ops.specs.Refusal.{Refuses};
+ghost use Rattle.chi_ops.specs.Store.{changed_at, fits_along, may_put, put, put_key, store_key, stored};
+ghost use Rattle.chi_ops.specs.Tidy.{tidy, all_tidy};
+
+use crate::OpFault;
+use crate::made::pair;
+use crate::path::{Path, index_of, key_of};
+use crate::place::place_of;
+use crate::room::test_room;
+use chi_sets::{value_at, with_entry};
+use chi_value::{Items, Value};
+use std::alloc::Global;
+use std::mem;
+
+/// A value with another stored where a path leads. The first fault along the path decides. A last step to a key that
+/// isn't there adds it.
+pub fn put(alloc: Global, v: Value, path: &[Path], x: Value) -> Result<Value, OpFault>
+    requires fits { IsTrue (may_put (steps_of path.now) x v) }
+    ensures value { IfOk result (λ value. put (steps_of path.now) x v ≡ gives value) }
+    ensures refused { IfErr result (λ fault. Refuses fault (put (steps_of path.now) x v)) }
+{
+    Ok(stored(path, alloc, v, x)?)
+}
+
+#[cycle(stored)]
+fn stored(path: &[Path], alloc: Global, v: Value, x: Value) -> Result<Value, OpFault>
+    requires tidy { IsTrue (tidy v) }
+    requires fits { IsTrue (fits_along (steps_of path.now) x v) }
+    ensures value { IfOk result (λ value. stored (steps_of path.now) x v ≡ gives value) }
+    ensures refused { IfErr result (λ fault. Refuses fault (stored (steps_of path.now) x v)) }
+{
+    let Some((step, rest)) = path.split_first() else {
+        return Ok(x);
+    };
+    match v {
+        Value::ListOf(items) => match place_of(items.as_slice().len(), index_of(step)) {
+            Some(place) => Ok(Value::ListOf(stored_at(rest, alloc, items, place, x)?)),
+            None => Err(OpFault::Index),
+        },
+        Value::DictOf(entries) => {
+            let key = key_of(alloc, step)?;
+            Ok(Value::DictOf(stored_key(rest, alloc, entries, key, x)?))
+        }
+        Value::TupleOf(parts) => match step {
+            Path::Part(k) => Ok(Value::TupleOf(stored_at(rest, alloc, parts, *k as usize, x)?)),
+            _ => unreachable!(),
+        },
+        _ => unreachable!(),
+    }
+}
+
+/// Elements or parts with the one at a place changed by a store into it.
+#[cycle(stored)]
+fn stored_at(
+    path: &[Path],
+    alloc: Global,
+    items: Items,
+    place: usize,
+    x: Value,
+) -> Result<Items, OpFault>
+    requires inside { place < length items }
+    requires tidy { (item : Value) → slice_get items place ≡ Some item → IsTrue (tidy item) }
+    requires fits { (item : Value) → slice_get items place ≡ Some item → IsTrue (fits_along (steps_of path.now) x item) }
+    ensures value { IfOk result (λ changed. (made : List Value → Value) →
+        changed_at made items (stored (steps_of path.now) x) place (slice_get items place) ≡ gives (made changed)) }
+    ensures refused { IfErr result (λ fault. (made : List Value → Value) →
+        Refuses fault (changed_at made items (stored (steps_of path.now) x) place (slice_get items place))) }
+{
+    let mut items = items.into_vec(alloc)?;
+    let old = taken_out(&mut items, place);
+    let new = stored(path, alloc, old, x)?;
+    set_at(&mut items, place, new);
+    Ok(Items::of(alloc, items)?)
+}
+
+/// A dictionary with what a key has changed by a store into it, or with a key that is stored itself.
+#[cycle(stored)]
+fn stored_key(
+    path: &[Path],
+    alloc: Global,
+    entries: Items,
+    key: Value,
+    x: Value,
+) -> Result<Items, OpFault>
+    requires ascending { IsTrue (ascending_by_key entries) }
+    requires tidy { IsTrue (all_tidy (values entries)) }
+    requires fits { IsTrue (list_all (fits_along (steps_of path.now) x) (values entries)) }
+    ensures value { IfOk result (λ changed. store_key (steps_of path.now) entries key x (stored (steps_of path.now) x) ≡ gives (DictOf changed)) }
+    ensures refused { IfErr result (λ fault. Refuses fault (store_key (steps_of path.now) entries key x (stored (steps_of path.now) x))) }
+{
+    if path.is_empty() {
+        return Ok(put_key(alloc, entries, key, x)?);
+    }
+    let Some(has) = value_at(entries.as_slice(), &key) else {
+        return Err(OpFault::Key);
+    };
+    let old = has.copy(alloc)?;
+    let new = stored(path, alloc, old, x)?;
+    Ok(with_entry(alloc, entries, pair(alloc, key, new)?)?)
+}
+
+/// A dictionary with a key that has a value.
+fn put_key(alloc: Global, entries: Items, key: Value, x: Value) -> Result<Items, OpFault>
+    requires ascending { IsTrue (ascending_by_key entries) }
+    ensures value { IfOk result (λ changed. put_key entries key x ≡ gives (DictOf changed)) }
+    ensures refused { IfErr result (λ fault. Refuses fault (put_key entries key x)) }
+{
+    if value_at(entries.as_slice(), &key).is_none() {
+        test_room(entries.as_slice().len(), 1)?;
+    }
+    Ok(with_entry(alloc, entries, pair(alloc, key, x)?)?)
+}
+
+fn taken_out(items: &mut Vec<Value>, place: usize) -> Value
+    requires { place < length items.old.items }
+    ensures taken { slice_get items.old.items place ≡ Some result }
+    ensures rest { items.new.items ≡ slice_set items.old.items place (Bool false) }
+{
+    mem::replace(&mut items[place], Value::Bool(false))
+}
+
+fn set_at(items: &mut Vec<Value>, place: usize, value: Value)
+    requires { place < length items.old.items }
+    ensures { items.new.items ≡ slice_set items.old.items place value }
+{
+    items[place] = value;
+}
