@@ -1,5 +1,5 @@
 -- What the tokens of a source are as a program; and what those from an index on are as an expression or a type.
-use Rattle.std.specs.Prelude.{ℕ, ◌+◌, ◌≡◌, List, map, drop, Result, Ok, Err}
+use Rattle.std.specs.Prelude.{ℕ, ◌+◌, ◌≡◌, List, map, take, drop, Result, Ok, Err}
 use Rattle.chi_token.specs.declared.place.Spanned.{Spanned}
 use Rattle.chi_tree.specs.declared.definition.Program.{Program}
 use Rattle.chi_tree.specs.declared.expr.Expr.{Expr}
@@ -8,7 +8,8 @@ use Rattle.chi_grammar.specs.declared.fault.ParseFault.{ParseFault}
 use Rattle.chi_grammar.specs.declared.fault.ParseFault.TheVariants.{Syntax, TooDeep, NoMemory}
 use Rattle.chi_grammar.specs.declared.room.Room.{Room}
 use Rattle.chi_tree.specs.Limits.{whole_room}
-use Rattle.chi_spell.specs.Expressions.{spelled_expr, spelled_type}
+use Rattle.chi_spell.specs.Expressions.{spelled_expr, spelled_type, marked_expr, marked_type}
+use Rattle.chi_spell.specs.Marks.{Agree}
 use Rattle.chi_spell.specs.Statements.{spelled, AgreesWith}
 use Rattle.chi_spell.specs.Words.{token_of}
 use Rattle.chi_grammar_laws.specs.Beginnings.{NamesDepth, NamesFault, StandsLongest, NamesStop}
@@ -52,11 +53,12 @@ IsAnswer tokens (Err NoMemory) = ⊥
 
 -- the tokens from an index on, within limits on nesting; an index is counted among all the tokens
 module _ (tokens : List Spanned) (at : ℕ) (room : Room) where
-  -- the longest expression that stands there is this one, and ends before the index
+  -- the longest expression that stands there is this one, with its places, and ends before the index
   abbrev pub IsLongestExpr : Expr → ℕ → Type 0
   IsLongestExpr e end =
       (n : ℕ) × (end ≡ at + n)
       × StandsLongest ExprWithin spelled_expr expr_nestings room.blocks room.expressions (map token_of (drop at tokens)) n e
+      × Agree (marked_expr e) (take n (drop at tokens))
 
   -- no expression goes on with the token, and none ends before it
   abbrev pub IsExprStop : ℕ → Type 0
@@ -74,6 +76,7 @@ module _ (tokens : List Spanned) (at : ℕ) (room : Room) where
   IsLongestType ty end =
       (n : ℕ) × (end ≡ at + n)
       × StandsLongest TypeWithin spelled_type type_nestings room.blocks room.expressions (map token_of (drop at tokens)) n ty
+      × Agree (marked_type ty) (take n (drop at tokens))
 
   abbrev pub IsTypeStop : ℕ → Type 0
   IsTypeStop k =

@@ -117,19 +117,13 @@ pub fn one_program_law()
 /// there; or the token with which none goes on, where none ends before it; or the first that is too deep.
 pub fn parsed_part_law()
     ensures expr { (tokens : List Spanned) (at : ℕ) (room : Room) (e : Expr) (end : ℕ) → at ≤ length tokens
-        → Parses grammar tokens expr_of room (part s.Expr) at (Ok (e, end)) → IsLongestExpr tokens at room e end }
-    ensures every_expr { (tokens : List Spanned) (at : ℕ) (room : Room) (e : Expr) (end : ℕ) → at ≤ length tokens
-        → IsLongestExpr tokens at room e end
-        → (parsed : Expr) × Parses grammar tokens expr_of room (part s.Expr) at (Ok (parsed, end)) × (unplaced_expr parsed ≡ unplaced_expr e) }
+        → Parses grammar tokens expr_of room (part s.Expr) at (Ok (e, end)) ↔ IsLongestExpr tokens at room e end }
     ensures expr_syntax { (tokens : List Spanned) (at : ℕ) (room : Room) (k : ℕ) → at ≤ length tokens
         → Parses grammar tokens expr_of room (part s.Expr) at (Err (Syntax k)) ↔ IsExprStop tokens at room k }
     ensures expr_too_deep { (tokens : List Spanned) (at : ℕ) (room : Room) (k : ℕ) → at ≤ length tokens
         → Parses grammar tokens expr_of room (part s.Expr) at (Err (TooDeep k)) ↔ IsExprDepth tokens at room k }
     ensures any_type { (tokens : List Spanned) (at : ℕ) (room : Room) (ty : TypeTree) (end : ℕ) → at ≤ length tokens
-        → Parses grammar tokens type_of room (part s.AnyType) at (Ok (ty, end)) → IsLongestType tokens at room ty end }
-    ensures every_type { (tokens : List Spanned) (at : ℕ) (room : Room) (ty : TypeTree) (end : ℕ) → at ≤ length tokens
-        → IsLongestType tokens at room ty end
-        → (parsed : TypeTree) × Parses grammar tokens type_of room (part s.AnyType) at (Ok (parsed, end)) × (unplaced_type parsed ≡ unplaced_type ty) }
+        → Parses grammar tokens type_of room (part s.AnyType) at (Ok (ty, end)) ↔ IsLongestType tokens at room ty end }
     ensures type_syntax { (tokens : List Spanned) (at : ℕ) (room : Room) (k : ℕ) → at ≤ length tokens
         → Parses grammar tokens type_of room (part s.AnyType) at (Err (Syntax k)) ↔ IsTypeStop tokens at room k }
     ensures type_too_deep { (tokens : List Spanned) (at : ℕ) (room : Room) (k : ℕ) → at ≤ length tokens

@@ -1,4 +1,4 @@
--- The ways in which the delivery of a report ends, and in which a file is served.
+-- Private to proofs: the ways in which the delivery of a report ends, and in which a file is served.
 use Rattle.std.specs.Prelude.{◌≡◌, ℕ, ◌≤◌, ◌<◌, ◌⊎◌, true, false, List, [], length, Some, None, IfSome, IsSomeAnd}
 use Rattle.chi_io.specs.Sink.{GrewByProperFront}
 use Rattle.chi_lex.specs.declared.lexer.TheConstants.{MOST_BYTES}

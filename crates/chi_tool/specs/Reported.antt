@@ -1,4 +1,4 @@
--- A report as the program holds it.
+-- Private to proofs: a report as the program holds it.
 use Rattle.chi_tool.specs.Report.{Report}
 use Rattle.chi_tool.specs.declared.report.Reported.{Reported}
 

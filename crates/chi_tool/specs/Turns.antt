@@ -1,4 +1,4 @@
--- A run under the policy that takes the first choice, turn by turn.
+-- Private to proofs: a run under the policy that takes the first choice, turn by turn.
 use Rattle.std.specs.Prelude.{◌≡◌, ℕ, List, None}
 use Rattle.chi_form_core.specs.declared.program.Core.{Core}
 use Rattle.chi_form_core.specs.declared.label.Label.{Label}
