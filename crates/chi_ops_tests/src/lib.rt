@@ -2,12 +2,10 @@
 #![tactic(auto)]
 
 mod alike;
-mod conditions;
-mod kinds;
-mod tidy;
-
 #[cfg(test)]
 mod building;
+mod conditions;
+mod kinds;
 #[cfg(test)]
 mod large;
 #[cfg(test)]
@@ -20,6 +18,7 @@ mod ranges;
 mod sorted;
 #[cfg(test)]
 mod stores;
+mod tidy;
 
 pub use alike::{alike, uniform};
 pub use conditions::{
