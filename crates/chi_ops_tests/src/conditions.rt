@@ -4,9 +4,11 @@ ghost use Rattle.chi_value.specs.Alike.{alike};
 ghost use Rattle.chi_sets.specs.Dictionaries.{keys};
 ghost use Rattle.chi_ops.specs.Conditions.{are_keys_alike, are_peers, has_size, is_key, may_del, may_enumerate, may_has, may_hold, may_index, may_insert_at, may_join, may_keys, may_lookup, may_meet, may_minus_keys, may_pop, may_size, may_slice, may_union, takes_at, takes_key};
 
-use crate::alike::{alike, alike_to_all};
-use crate::kinds::{is_container, is_dictionary, is_list, is_sequence, is_set, is_sorted};
-use crate::tidy::{all_plain, tidy};
+use crate::likeness::{alike, alike_to_all};
+use crate::kinds::{
+    is_container, is_dictionary, is_list, is_sequence, is_set, is_sorted,
+};
+use crate::tidiness::{all_plain, tidy};
 use chi_sets::key_of;
 use chi_value::Value;
 use chi_value_tests::plain;

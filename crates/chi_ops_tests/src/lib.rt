@@ -1,28 +1,14 @@
 //! Tests of the operations on containers, in tables, and the conditions of the operations as tests of values.
 #![tactic(auto)]
 
-mod alike;
-#[cfg(test)]
-mod building;
+mod likeness;
 mod conditions;
 mod kinds;
-#[cfg(test)]
-mod large;
-#[cfg(test)]
-mod lists;
-#[cfg(test)]
-mod made;
-#[cfg(test)]
-mod ranges;
-#[cfg(test)]
-mod sorted;
-#[cfg(test)]
-mod stores;
-mod tidy;
+mod tidiness;
 
-pub use alike::{alike, uniform};
+pub use likeness::{alike, uniform};
 pub use conditions::{
-    may_build, may_del, may_enumerate, may_has, may_index, may_insert_at, may_join, may_keys,
-    may_lookup, may_meet, may_minus_keys, may_pop, may_put, may_size, may_slice, may_union,
+    may_del, may_enumerate, may_has, may_index, may_insert_at, may_join, may_keys, may_lookup,
+    may_meet, may_minus_keys, may_pop, may_size, may_slice, may_union,
 };
-pub use tidy::tidy;
+pub use tidiness::tidy;

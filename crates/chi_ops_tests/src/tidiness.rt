@@ -5,7 +5,7 @@ ghost use Rattle.chi_sets.specs.Dictionaries.{are_entries, ascending_by_key, by_
 ghost use Rattle.chi_sets.specs.Sets.{is_ascending, below};
 ghost use Rattle.chi_ops.specs.Tidy.{all_tidy, is_dictionary_list, is_set_list, sorted, tidy};
 
-use crate::alike::uniform;
+use crate::likeness::uniform;
 use chi_sets::key_of;
 use chi_value::{Value, compare_any};
 use chi_value_tests::plain;

@@ -1,7 +1,7 @@
 use Rattle.std.proofs.Common.{◌≡◌, map, drop}
 use Rattle.std.specs.List.{list_all}
 use Rattle.chi_value.specs.Alike.{alike, elements_alike, parts_alike}
-use Rattle.chi_ops_tests.proofs.alike.+alike.Given as goal
+use Rattle.chi_ops_tests.proofs.likeness.+alike.Given as goal
 
 abbrev pub invariant-parts_alike-loop-x : goal.invariant-parts_alike-loop-x
 invariant-parts_alike-loop-x l = parts_alike (map alike l.fn.xs) l.fn.ys ≡ parts_alike (map alike (drop l.x-index l.xs)) l.others
