@@ -8,3 +8,4 @@ pub mod Sinks
 pub mod Promises
 pub mod ReportCases
 pub mod Causes
+pub mod SourceReports

@@ -2,7 +2,7 @@ ghost use Rattle.std.specs.Prelude.{◌≤◌, ◌<◌, ◌^◌, codes, IfOk, le
 ghost use Rattle.chi_form.specs.Form.{built};
 ghost use Rattle.chi_tool.specs.Syntax.{placed, syntax_text};
 ghost use Rattle.chi_tool.specs.Reported.{report_in};
-ghost use Rattle.chi_tool.specs.Report.{IsReportOfBuilt, IsReportOfTokens, IsReportOfReading, IsReportOfSource, refused};
+ghost use Rattle.chi_tool.specs.Report.{IsReportOfBuilt, IsReportOfTokens, IsReportOfSource, refused};
 
 use crate::refusal::{refused, refused_at};
 use crate::run::run;
@@ -32,7 +32,6 @@ pub struct Reported {
 }
 
 /// The report of a source.
-#[tactic(auto, unfolding(crate::specs::Report::IsReportOfSource))]
 pub fn report_of(alloc: Global, source: &[u8]) -> Result<Reported, NoMemory>
     requires { length source.now ≤ MOST_BYTES }
     ensures { IfOk result (λ r. IsReportOfSource source.now (report_in r)) }
