@@ -9,3 +9,4 @@ pub mod Promises
 pub mod ReportCases
 pub mod Causes
 pub mod SourceReports
+pub mod TokenLaw

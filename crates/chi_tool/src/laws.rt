@@ -1,6 +1,12 @@
-ghost use Rattle.std.specs.Prelude.{◌≡◌, ℕ, List};
+ghost use Rattle.std.specs.Prelude.{◌≡◌, ℕ, All, List};
 ghost use Rattle.chi_io.specs.Shelf.{Files};
+ghost use Rattle.chi_grammar_laws.specs.Answers.{IsProgram};
+ghost use Rattle.chi_lex.specs.Reading.{Reads};
+ghost use Rattle.chi_spell.specs.Statements.{spelled};
+ghost use Rattle.chi_token.specs.declared.place.Spanned.{Spanned};
+ghost use Rattle.chi_token.specs.Tokens.{IsToken};
 ghost use Rattle.chi_tool.specs.Report.{Report, IsReport};
+ghost use Rattle.chi_tree.specs.declared.definition.Program.{Program};
 
 use chi_grammar_laws::answer_law;
 
@@ -12,3 +18,10 @@ pub fn report_law()
 {
     answer_law();
 }
+
+/// What a source is as a program has only tokens that some bytes spell: its names have the letters of names, and
+/// its numbers have digits.
+pub fn tokens_law()
+    ensures { (source : List ℕ) (tokens : List Spanned) (program : Program) → Reads source tokens → IsProgram tokens program
+        → All IsToken (spelled program) }
+{}

@@ -11,5 +11,5 @@ mod syntax;
 mod top;
 mod words;
 
-pub use laws::report_law;
+pub use laws::{report_law, tokens_law};
 pub use top::chi;
