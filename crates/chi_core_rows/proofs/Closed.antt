@@ -12,7 +12,7 @@ use Rattle.chi_value.specs.Order.{order, order_step}
 use Rattle.chi_value.specs.Plain.{is_plain, plain_step, within, within_step, itself}
 use Rattle.chi_value.specs.Alike.{alike, alike_step, uniform, uniform_step, uniform_elements}
 use Rattle.chi_value.specs.Text.{Written, written, written_step, text, quoted_text}
-use Rattle.chi_ops.specs.Conditions.{may_size, may_has}
+use Rattle.chi_ops.specs.Conditions.{may_size, has_size, may_has, may_hold}
 use Rattle.chi_ops.specs.Kinds.{is_int, is_list, is_sequence, is_container}
 use Rattle.chi_ops.specs.Operations.{size, has, lookup, pop}
 use Rattle.chi_ops.specs.Sequences.{index, slice, join, del, enumerate}
@@ -119,4 +119,4 @@ pub ruleset closed = (layers, default_int, default_chan, default_tuple, order_in
 pub ruleset containers = (closed, fits_along, stored, index, is_int, is_sequence)
 
 -- and operators
-pub ruleset operations = (containers, text, quoted_text, may_size, may_has, size, has, lookup, pop, slice, join, del, enumerate, is_list, is_container)
+pub ruleset operations = (containers, text, quoted_text, may_size, has_size, may_has, may_hold, size, has, lookup, pop, slice, join, del, enumerate, is_list, is_container)

@@ -5,6 +5,7 @@ use Rattle.chi_value.specs.declared.value.Value.{Value, Value-F, out-Value}
 use Rattle.chi_value.specs.declared.value.Value.TheVariants as value
 use Rattle.chi_value.specs.declared.shape.Shape.TheVariants as shape
 use Rattle.chi_value.specs.declared.format.Kind.TheVariants as kind
+use Rattle.chi_ops.specs.Conditions.{takes_at}
 use Rattle.chi_ops.specs.Sequences.{insert_at}
 use Rattle.chi_core.specs.declared.expression.CExpr.{CExpr}
 use Rattle.chi_core.specs.declared.expression.CExpr.TheVariants as e
@@ -114,11 +115,11 @@ list ns = value.ListOf (map int ns)
 -- 5 comes before the first that it is below
 inserts : value_of (Some (list (2 ∷ 9 ∷ 7 ∷ [])) ∷ []) (e.InsertBy (e.Var 0) (number 5) 0) ≡ gives (list (2 ∷ 5 ∷ 9 ∷ 7 ∷ []))
 unfolding denote.Hole.Carrier.out
-inserts = simp (eval_insert, eval_lit, eval_var, insert_at, closed)
+inserts = simp (eval_insert, eval_lit, eval_var, insert_at, takes_at, closed)
 
 inserts_last : value_of (Some (list (2 ∷ [])) ∷ []) (e.InsertBy (e.Var 0) (number 5) 0) ≡ gives (list (2 ∷ 5 ∷ []))
 unfolding denote.Hole.Carrier.out
-inserts_last = simp (eval_insert, eval_lit, eval_var, insert_at, closed)
+inserts_last = simp (eval_insert, eval_lit, eval_var, insert_at, takes_at, closed)
 
 calls : value_of [] (e.Call 0 (number 5 ∷ number 9 ∷ [])) ≡ gives (value.Bool true)
 unfolding denote.Hole.Carrier.out

@@ -1,10 +1,9 @@
 //! Tests of values: their texts, their order, and the defaults of shapes; and the conditions of texts as tests of values.
 #![tactic(auto)]
 
-mod conditions;
-
 #[cfg(test)]
 mod build;
+mod conditions;
 #[cfg(test)]
 mod defaults;
 #[cfg(test)]

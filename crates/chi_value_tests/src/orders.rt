@@ -1,7 +1,7 @@
 use crate::build::{entries, ints, pair, string};
 use chi_base::NoMemory;
 use chi_num::Real;
-use chi_value::{Value, compare, compare_any};
+use chi_value::{Value, compare_any};
 use std::alloc::Global;
 use std::cmp::Ordering;
 use std::test::Fail;
@@ -44,6 +44,5 @@ fn alike_values_have_an_order(rt: HostRuntime) -> Result<(), Fail> {
         assert_eq!(rt; compare_any(&high, &low), Ordering::Greater);
         assert_eq!(rt; compare_any(&low, &low), Ordering::Equal);
     }
-    assert_eq!(rt; compare(&Value::Int(3), &Value::Int(2)), Ordering::Greater);
     Ok(())
 }

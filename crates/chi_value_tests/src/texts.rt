@@ -60,7 +60,11 @@ fn values_have_texts(rt: HostRuntime) -> Result<(), Fail> {
     for (value, wanted) in shown(rt.alloc())? {
         assert_eq!(rt; quoted(rt.alloc(), &value, &names)?.as_slice(), wanted);
         let copy = value.copy(rt.alloc())?;
-        assert_eq!(rt; quoted(rt.alloc(), &copy, &names)?.as_slice(), wanted, "its copy");
+        assert_eq!(rt;
+            quoted(rt.alloc(), &copy, &names)?.as_slice(),
+            wanted,
+            "its copy"
+        );
     }
     Ok(())
 }
