@@ -1,3 +1,4 @@
 pub mod Lists
 pub mod Held
 pub mod Standings
+pub mod Expressions

@@ -6,7 +6,7 @@ use Rattle.chi_core.specs.declared.expression.CExpr.{CExpr}
 use Rattle.chi_core.specs.declared.statement.CStat.{CStat, CStat-F, out-CStat}
 use Rattle.chi_core.specs.Kinded.{WalksFit}
 use Rattle.chi_core.specs.Of.{World}
-use Rattle.chi_core.specs.Scopes.{Scope, Home}
+use Rattle.chi_core.specs.Scopes.{Home}
 use Rattle.chi_core.specs.SetSlots.{StatLayer, Known, also_all, wholes, sets}
 use Rattle.chi_core.specs.Standing.{Frame, Inner, Looping, Walking, term_of, is_within_loop, Standing, next, in_branch, in_else, in_loop, at_turn, in_walk, at_walk_turn, in_body}
 use Rattle.chi_core.specs.Terms.{Do, Loop, Walk, Term, after_loop, from_loop}
