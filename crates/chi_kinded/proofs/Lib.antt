@@ -2,3 +2,4 @@ pub mod Lists
 pub mod Held
 pub mod Standings
 pub mod Expressions
+pub mod Targets
