@@ -9,11 +9,11 @@ use Rattle.chi_types.specs.declared.ty.Ty.{Ty, Ty-F, out-Ty}
 use Rattle.chi_value.specs.declared.value.Value.{Value, Value-F, out-Value}
 use Rattle.chi_core.specs.Kinded.{HoldsOf, Held, WalksFit, Binds, no_binding, one_binding}
 use Rattle.chi_core.specs.Kinds.{Kind, Every}
-use Rattle.chi_core.specs.Of.{World, Wider, IsOf, Of, of_tuple, PartsOf, no_part, one_part}
-use Rattle.chi_core.specs.Reading.{parts_in}
+use Rattle.chi_core.specs.Of.{World, Wider, IsOf, Of, of_tuple, of_list, of_set, of_dictionary, PartsOf, no_part, one_part}
+use Rattle.chi_core.specs.Reading.{parts_in, elements_in}
 use Rattle.chi_core.specs.Scopes.{Scope}
 use Rattle.chi_core.specs.SetSlots.{Known, also, also_all}
-use Rattle.chi_core.specs.SoundParts.{SlotsTakeParts, no_slot, one_slot, SlotsTake, element_itself, its_parts}
+use Rattle.chi_core.specs.SoundParts.{SlotsTakeParts, no_slot, one_slot, SlotsTake, element_itself, its_parts, WalkedOver, a_list, a_set, a_dictionary}
 use Rattle.chi_core.specs.Standing.{Frame, Inner, Looping, Walking}
 use Rattle.chi_core.specs.Variables.{Variables, Bindings, set_value, value_at, with_slot, side_by_side, bindings_of, bind, bound, bindings_at}
 use Rattle.chi_core.proofs.Lists.{every_nil, every_cons}
@@ -162,3 +162,9 @@ module _ (w : World) (scope : Scope) where
   pub held_value : (known : Known) (variables : Variables) (slot : ℕ) (T : Kind) → Held w scope known variables → IsTrue (known slot) → slice_get scope.slots slot ≡ Some T
       → IsSomeAnd (value_at variables slot) (IsOf w T)
   held_value known variables slot T h k e = value_holds T (slice_get scope.slots slot) (slice_get variables slot) e (h.each slot k)
+
+  -- the elements of a container
+  pub elements_fit : (T element : Kind) (x : Value-F Value) → WalkedOver T element → Of w x T → IsSomeAnd (elements_in x) (Every (IsOf w element))
+  elements_fit _ _ _ (a_list t) (of_list xs _ short each) = each
+  elements_fit _ _ _ (a_set t) (of_set xs _ short plain ascending each) = each
+  elements_fit _ _ _ (a_dictionary key has) (of_dictionary xs _ _ short plain ascending each) = each

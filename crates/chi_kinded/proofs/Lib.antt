@@ -3,3 +3,4 @@ pub mod Held
 pub mod Standings
 pub mod Expressions
 pub mod Targets
+pub mod Statements
