@@ -4,3 +4,5 @@ pub mod Standings
 pub mod Expressions
 pub mod Targets
 pub mod Statements
+pub mod Instances
+pub mod Functions

@@ -77,6 +77,10 @@ module _ (d : Home) where
       first : SoundBlock d.scope (is_within_loop frames) known (x ∷ rest) → SoundStat d.scope (is_within_loop frames) known (out-CStat x)
       first (one_statement _ _ _ _ h more) = h
 
+  pub loop_test : (loop : Bool) (known : Known) (line : ℕ) (test : CExpr) (block : List CStat) → SoundStat d.scope loop known (CStat-F.While line test block)
+      → HasKind d.scope known (out-CExpr test) Ty-F.Bool
+  loop_test _ _ _ _ _ (sound.loops _ _ _ _ _ h block) = h
+
   -- the place after a statement
   pub place_after : (known : Known) (x : CStat) (rest : List CStat) (frames : List Frame) → Standing d known (x ∷ rest) frames → (s : StatLayer) → out-CStat x ≡ s → Standing d (sets s known) rest frames
   place_after known x rest frames p s e = subst (λ z. Standing d (sets z known) rest frames) e (next known x rest frames p)
