@@ -24,7 +24,7 @@ use Rattle.chi_core.proofs.Beginnings.{new_kinded}
 use Rattle.chi_core.proofs.Worlds.{grows}
 use Rattle.chi_kinded.proofs.Held.{held_grows, binds_grow, walks_grow}
 
-act_grows : (w v : World) → Wider w v → (scope : Scope) (c : CComm) (a : Act) → ActFits w scope c a → ActFits v scope c a
+pub act_grows : (w v : World) → Wider w v → (scope : Scope) (c : CComm) (a : Act) → ActFits w scope c a → ActFits v scope c a
 act_grows w v wider scope _ _ (sends t e channel x element at full is) = sends t e channel x element (wider.carried channel element at) full (grows w v wider (out-Value x) (out-Ty element) is)
 act_grows w v wider scope _ _ (sends_void t channel element at void) = sends_void t channel element (wider.carried channel element at) void
 act_grows w v wider scope _ _ (receives t slot channel element at full there) = receives t slot channel element (wider.carried channel element at) full there

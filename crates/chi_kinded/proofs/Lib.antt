@@ -6,3 +6,4 @@ pub mod Targets
 pub mod Statements
 pub mod Instances
 pub mod Functions
+pub mod Openings
