@@ -7,3 +7,6 @@ pub mod Statements
 pub mod Instances
 pub mod Functions
 pub mod Openings
+pub mod Starts
+pub mod Configs
+pub mod Performing
