@@ -10,3 +10,6 @@ pub mod Openings
 pub mod Starts
 pub mod Configs
 pub mod Performing
+pub mod Enabled
+pub mod Meetings
+pub mod Steps
