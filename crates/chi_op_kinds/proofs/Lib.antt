@@ -1,2 +1,9 @@
+pub mod Arithmetic
+pub mod Comparisons
 pub mod Composing
+pub mod Conditions
+pub mod Dictionaries
+pub mod Elements
 pub mod Literals
+pub mod Sets
+pub mod Shapes
