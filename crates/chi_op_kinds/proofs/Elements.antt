@@ -107,3 +107,13 @@ pub length_changed : {A : Type 0} (k : ℕ) (y : A) (xs : List A) → length (sl
 length_changed k y [] = refl
 length_changed zero y (x ∷ xs) = refl
 length_changed (suc k) y (x ∷ xs) = ap suc (length_changed k y xs)
+
+-- within the length there is an element
+pub there : {A : Type 0} (xs : List A) (k : ℕ) → k < length xs → (x : A) × (slice_get xs k ≡ Some x)
+there [] k h = absurd (omega (arith, h))
+there (x ∷ xs) zero h = (x, refl)
+there (x ∷ xs) (suc k) h = there xs k (omega (arith, h))
+
+pub there_last : {A : Type 0} (xs : List A) (x : A) → slice_get (xs ++ x ∷ []) (length xs) ≡ Some x
+there_last [] x = refl
+there_last (y ∷ xs) x = there_last xs x

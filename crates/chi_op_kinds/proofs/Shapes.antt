@@ -52,6 +52,18 @@ pub dictionary_is : (w : World) (key has : Ty) (x : Value-F Value) → Of w x (T
 dictionary_is w _ _ _ (of_dictionary xs key has short plain ascending each) =
     record { items = xs; is = refl; short = short; plain = plain; ascending = ascending; each = each }
 
+pub record TextIs (x : Value-F Value) : Type 0 where
+  pub bytes : List ℕ
+  pub is : x ≡ Value-F.Text bytes
+  pub short : IsShort bytes
+
+pub text_is : (w : World) (x : Value-F Value) → Of w x Ty-F.Text → TextIs x
+text_is w _ (of_text bytes short) = record { bytes = bytes; is = refl; short = short }
+
+-- the elements of a list of a kind
+pub elements_are : (w : World) (items : List Value) (t : Ty) → Of w (Value-F.ListOf items) (Ty-F.ListOf t) → IsShort items × Every (IsOf w (out-Ty t)) items
+elements_are w _ _ (of_list xs t short each) = (short, each)
+
 -- values of kinds
 
 pub a_bool : (w : World) (b : Bool) → IsOf w Ty-F.Bool (value.Bool b)
@@ -98,6 +110,11 @@ few xs h = omega (arith, h)
 
 pub well_fault : (w : World) (T : Kind) (fault : outcome.Fault) → WellOf w T (done (outcome.faults fault))
 well_fault w T fault view fits = tt
+
+-- unless there is a fault
+pub well_unless : (w : World) (T : Kind) (b : Bool) (fault : outcome.Fault) (o : Outcome) → (b ≡ false → WellOf w T (done o)) → WellOf w T (done (cond b (outcome.faults fault) o))
+well_unless w T true fault o h = well_fault w T fault
+well_unless w T false fault o h = h refl
 
 -- so many elements, where a value may have that many
 pub well_within : (w : World) (T : Kind) (count : ℕ) (v : Value) → (count ≤ MOST_ELEMENTS → IsOf w T v) → WellOf w T (done (gives_within count v))
