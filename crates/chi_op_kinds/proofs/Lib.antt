@@ -1,2 +1,16 @@
+pub mod Arithmetic
+pub mod Casts
+pub mod Comparisons
 pub mod Composing
+pub mod Conditions
+pub mod Dictionaries
+pub mod Distributions
+pub mod Elements
+pub mod Lists
 pub mod Literals
+pub mod Ranges
+pub mod Sequences
+pub mod Sets
+pub mod Shapes
+pub mod Slices
+pub mod Texts
