@@ -13,3 +13,7 @@ pub mod Performing
 pub mod Enabled
 pub mod Meetings
 pub mod Steps
+pub mod Still
+pub mod StillOperators
+pub mod StillConstants
+pub mod Beginnings

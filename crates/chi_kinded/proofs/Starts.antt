@@ -49,6 +49,12 @@ may_start_on _ _ c (its_own a) h = h
 may_start_on _ _ _ (none a) (its_own _) = none a
 may_start_on _ _ _ (none a) (none _) = none a
 
+-- the process is found where it takes so many arguments
+pub process_found : (core : Core) (process : ℕ) (d : ProcDef) → slice_get core.procs process ≡ Some d → (w : World) (xs : List Value) → AreOf w xs (kinds_of d.params)
+    → started_by core.procs process (length xs) ≡ Some d
+process_found core process d e w xs are =
+    ap (option_and_then (taking (length xs))) e ∙ ap (λ b. cond b (Some d) None) (eq-eqb (length xs) (length d.params) (are_many w xs (kinds_of d.params) are ∙ length-map d.params kind_of))
+
 -- one more instance
 abbrev with_instance_more : World → World
 with_instance_more w = record w { instances = w.instances + 1 }
@@ -161,11 +167,6 @@ module _ (laws : Laws) (scope : Scope) (fine : Sound scope.core) (run : Run) (sc
         }))
         numbered (well_numbered w)
 
-    -- the process is found where it takes so many arguments
-    found : (process : ℕ) (d : ProcDef) → slice_get core.procs process ≡ Some d → (w : World) (xs : List Value) → AreOf w xs (kinds_of d.params) → started_by core.procs process (length xs) ≡ Some d
-    found process d e w xs are =
-        ap (option_and_then (taking (length xs))) e ∙ ap (λ b. cond b (Some d) None) (eq-eqb (length xs) (length d.params) (are_many w xs (kinds_of d.params) are ∙ length-map d.params kind_of))
-
     well_makes : (target : Option CTarget) (process : ℕ) (arguments : List CExpr) (d : ProcDef) → slice_get core.procs process ≡ Some d → MayStart its (exit_of d)
         → HaveKinds scope known arguments (kinds_of d.params) → TakesInstance scope known target → (s : Started) (w : World) → StartFits known w s
         → Grows w (StartFits known) (makes value_in core.procs target process arguments s)
@@ -176,7 +177,7 @@ module _ (laws : Laws) (scope : Scope) (fine : Sound scope.core) (run : Run) (sc
         (λ u wider2 s2 spot tells.
         let are_u : AreOf u xs (kinds_of d.params) = are_grow v u wider2 xs (kinds_of d.params) are in
         let fit_u : StartFits known u s = start_grows known w u (wider_still w v u wider1 wider2) (s2 ∙ s1) s fit in
-        subst (λ o. Grows u (StartFits known) (λ view. then_do (wanted o view) (λ d. made_by process d xs spot s))) (sym (found process d there u xs are_u))
+        subst (λ o. Grows u (StartFits known) (λ view. then_do (wanted o view) (λ d. made_by process d xs spot s))) (sym (process_found core process d there u xs are_u))
         (well_made process d xs spot s u there starts are_u tells fit_u))
         (told_at value_in core.procs s.variables target) (well_told_at s.variables target takes v (reads_grow w v wider1 scope known s.variables (reads known w s fit))))
         (in_turn (map (value_in s.variables) arguments)) (well_values laws scope run scene provides known s.variables arguments (kinds_of d.params) h w (reads known w s fit))
