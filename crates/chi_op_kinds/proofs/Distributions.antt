@@ -23,11 +23,7 @@ use Rattle.chi_op_kinds.specs.Laws.{WellOf}
 use Rattle.chi_op_kinds.specs.Well.{FitsView, Kept, Same}
 use Rattle.chi_op_kinds.proofs.Composing.{well_wanted}
 use Rattle.chi_op_kinds.proofs.Elements.{length_changed, there}
-use Rattle.chi_op_kinds.proofs.Shapes.{a_bool, an_int, a_real}
-
--- a distribution of a type whose layer is known
-a_dist : (w : World) (d : Dist) (t : Ty) (T : Kind) → out-Ty t ≡ T → Yields d T → IsOf w (Ty-F.Dist t) (value.Dist d)
-a_dist w d t T e yields = subst (λ x. Of w x (Ty-F.Dist t)) (sym (value.outs-Dist d)) (of_dist d t (subst (Yields d) (sym e) yields))
+use Rattle.chi_op_kinds.proofs.Shapes.{a_bool, an_int, a_real, a_dist}
 
 well_dist : (w : World) (d : Dist) (t : Ty) (T : Kind) → out-Ty t ≡ T → Yields d T → WellOf w (Ty-F.Dist t) (distribution (Some d))
 well_dist w d t T e yields = well_wanted w (λ v x. IsOf v (Ty-F.Dist t) x) (Some (value.Dist d)) (value.Dist d) refl (a_dist w d t T e yields)

@@ -3,11 +3,14 @@ pub mod Casts
 pub mod Comparisons
 pub mod Composing
 pub mod Conditions
+pub mod Defaults
 pub mod Dictionaries
 pub mod Distributions
 pub mod Elements
+pub mod Entries
 pub mod Lists
 pub mod Literals
+pub mod Operators
 pub mod Ranges
 pub mod Sequences
 pub mod Sets

@@ -92,7 +92,7 @@ module _ (w : World) where
       let s = list_is w t (out-Value v) h in
       member_known v x s.items s.is
       (and_from _ _ (and_from _ _ (tidy_of w v (Ty-F.ListOf t) h) (key_is w (out-Ty t) (plain_kind t plain) x l))
-          (rw (s.is, may_hold) (and_from _ _ (all_plain w (out-Ty t) (plain_kind t plain) s.items s.each) (alike_to_all w (out-Ty t) s.items s.each x l))))
+      (rw (s.is, may_hold) (and_from _ _ (all_plain w (out-Ty t) (plain_kind t plain) s.items s.each) (alike_to_all w (out-Ty t) s.items s.each x l))))
 
   -- the first and the rest
 
@@ -101,7 +101,7 @@ module _ (w : World) where
   popped t (x ∷ xs) short each =
       well_done w (tuple_of (t ∷ ty.ListOf t ∷ [])) (value.TupleOf (x ∷ value.ListOf xs ∷ []))
       (a_pair w x (value.ListOf xs) t (ty.ListOf t) (each 0 x refl)
-          (of_type w (ty.ListOf t) (Ty-F.ListOf t) (value.ListOf xs) (ty.outs-ListOf t) (a_list w xs t (omega (arith, short)) (every_tail (IsOf w (out-Ty t)) x xs each))))
+      (of_type w (ty.ListOf t) (Ty-F.ListOf t) (value.ListOf xs) (ty.outs-ListOf t) (a_list w xs t (omega (arith, short)) (every_tail (IsOf w (out-Ty t)) x xs each))))
 
   pub well_pop_list : (t : Ty) (a : Value) → IsOf w (Ty-F.ListOf t) a → WellOf w (tuple_of (t ∷ ty.ListOf t ∷ [])) (done (pop a))
   well_pop_list t a h =

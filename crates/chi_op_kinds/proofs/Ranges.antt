@@ -52,9 +52,9 @@ well_slice_list w t a first last by h =
     let part = slice_of x.items first last (step_of by) in
     well_where w (Ty-F.ListOf t) _ _ (and_from _ _ (tidy_of w a (Ty-F.ListOf t) h) (rw (x.is, is_sequence) refl))
     (well_unless w (Ty-F.ListOf t) (int_eq (step_of by) (pos 0)) step_fault _ (λ e. rw x.is
-        (let less = length_slice x.items first last (step_of by) (moves (step_of by) e) in
-        well_done w (Ty-F.ListOf t) (value.ListOf part)
-        (a_list w part t (omega (arith, x.short, less)) (every_slice x.items first last (step_of by) (IsOf w (out-Ty t)) x.each)))))
+    (let less = length_slice x.items first last (step_of by) (moves (step_of by) e) in
+    well_done w (Ty-F.ListOf t) (value.ListOf part)
+    (a_list w part t (omega (arith, x.short, less)) (every_slice x.items first last (step_of by) (IsOf w (out-Ty t)) x.each)))))
 
 well_slice_text : (w : World) (a : Value) (first last by : Option ℤ) → IsOf w Ty-F.Text a → WellOf w Ty-F.Text (done (slice a first last by))
 well_slice_text w a first last by h =
@@ -62,8 +62,8 @@ well_slice_text w a first last by h =
     let part = slice_of x.bytes first last (step_of by) in
     well_where w Ty-F.Text _ _ (and_from _ _ (tidy_of w a Ty-F.Text h) (rw (x.is, is_sequence) refl))
     (well_unless w Ty-F.Text (int_eq (step_of by) (pos 0)) step_fault _ (λ e. rw x.is
-        (let less = length_slice x.bytes first last (step_of by) (moves (step_of by) e) in
-        well_done w Ty-F.Text (value.Text part) (a_text w part (omega (arith, x.short, less))))))
+    (let less = length_slice x.bytes first last (step_of by) (moves (step_of by) e) in
+    well_done w Ty-F.Text (value.Text part) (a_text w part (omega (arith, x.short, less))))))
 
 -- an int that is given for a bound
 int_in : (x : Value-F Value) → (w : World) → Of w x Ty-F.Int → (n : ℤ) × (x ≡ Value-F.Int n)
@@ -153,7 +153,7 @@ well_enumerate w t a h =
     let same = length-map (enumerate_from 0 x.items) numbered in
     well_where w (Ty-F.ListOf pair) _ _ (and_from _ _ (tidy_of w a (Ty-F.ListOf t) h) (rw (x.is, is_list) refl))
     (rw x.is (well_done w (Ty-F.ListOf pair) (value.ListOf all)
-        (a_list w all pair (omega (arith, x.short, long, same))
-            (every_numbered (IsOf w (out-Ty t)) (IsOf w (out-Ty pair)) numbered
-                (λ k e is. of_type w pair (tuple_of (ty.Int ∷ t ∷ [])) (numbered (k, e)) (out-roll-Ty (tuple_of (ty.Int ∷ t ∷ []))) (a_pair w (value.Int (pos k)) e ty.Int t (int_typed w (pos k)) is))
-                x.items 0 x.each))))
+    (a_list w all pair (omega (arith, x.short, long, same))
+    (every_numbered (IsOf w (out-Ty t)) (IsOf w (out-Ty pair)) numbered
+    (λ k e is. of_type w pair (tuple_of (ty.Int ∷ t ∷ [])) (numbered (k, e)) (out-roll-Ty (tuple_of (ty.Int ∷ t ∷ []))) (a_pair w (value.Int (pos k)) e ty.Int t (int_typed w (pos k)) is))
+    x.items 0 x.each))))

@@ -50,7 +50,7 @@ well_join_texts w a b h l =
     let long = length-append x.bytes y.bytes in
     well_where w Ty-F.Text _ _ (and_from _ _ (peers w Ty-F.Text a b h l) (rw (x.is, is_sequence) refl))
     (rw (x.is, y.is) (well_within w Ty-F.Text (length x.bytes + length y.bytes) (value.Text (x.bytes ++ y.bytes)) (λ small.
-        a_text w (x.bytes ++ y.bytes) (few (x.bytes ++ y.bytes) (omega (arith, small, long))))))
+    a_text w (x.bytes ++ y.bytes) (few (x.bytes ++ y.bytes) (omega (arith, small, long))))))
 
 pub well_join_lists : (w : World) (t : Ty) (a b : Value) → IsOf w (Ty-F.ListOf t) a → IsOf w (Ty-F.ListOf t) b → WellOf w (Ty-F.ListOf t) (done (join a b))
 well_join_lists w t a b h l =
@@ -59,7 +59,7 @@ well_join_lists w t a b h l =
     let long = length-append x.items y.items in
     well_where w (Ty-F.ListOf t) _ _ (and_from _ _ (peers w (Ty-F.ListOf t) a b h l) (rw (x.is, is_sequence) refl))
     (rw (x.is, y.is) (well_within w (Ty-F.ListOf t) (length x.items + length y.items) (value.ListOf (x.items ++ y.items)) (λ small.
-        a_list w (x.items ++ y.items) t (few (x.items ++ y.items) (omega (arith, small, long))) (every_append (IsOf w (out-Ty t)) x.items y.items x.each y.each))))
+    a_list w (x.items ++ y.items) t (few (x.items ++ y.items) (omega (arith, small, long))) (every_append (IsOf w (out-Ty t)) x.items y.items x.each y.each))))
 
 -- the element at an index
 
@@ -107,7 +107,7 @@ well_del w t a i h =
     let x = list_is w t (out-Value a) h in
     well_where w (Ty-F.ListOf t) _ _ (and_from _ _ (tidy_of w a (Ty-F.ListOf t) h) (rw (x.is, is_list) refl))
     (rw x.is (well_or w (Ty-F.ListOf t) index_fault (option_map (λ place. value.ListOf (remove x.items place)) (place_of (length x.items) i))
-        (removed w t x.items x.short x.each (place_of (length x.items) i))))
+    (removed w t x.items x.short x.each (place_of (length x.items) i))))
 
 pub well_without : (w : World) (t : Ty) (a i : Value) → IsOf w (Ty-F.ListOf t) a → IsOf w Ty-F.Int i → WellOf w (Ty-F.ListOf t) (without a i)
 well_without w t a i h l = well_on_int w (Ty-F.ListOf t) (λ n. done (del a n)) (λ n. done (del a n)) (λ n. well_del w t a n h) (out-Value i) l
@@ -121,6 +121,6 @@ well_insert w xs x items t place is inside h l =
     let long = length-insert items place x inside in
     well_where w (Ty-F.ListOf t) _ _
     (and_from _ _ (and_from _ _ (tidy_of w xs (Ty-F.ListOf t) h) (tidy_of w x (out-Ty t) l))
-        (rw (is, takes_at) (and_from _ _ (alike_to_all w (out-Ty t) items facts.1 x l) (le-leb place (length items) inside))))
+    (rw (is, takes_at) (and_from _ _ (alike_to_all w (out-Ty t) items facts.1 x l) (le-leb place (length items) inside))))
     (rw is (well_within w (Ty-F.ListOf t) (length items + 1) (value.ListOf (insert items place x)) (λ small.
-        a_list w (insert items place x) t (few (insert items place x) (omega (arith, small, long))) (every_insert (IsOf w (out-Ty t)) place x items l facts.1))))
+    a_list w (insert items place x) t (few (insert items place x) (omega (arith, small, long))) (every_insert (IsOf w (out-Ty t)) place x items l facts.1))))

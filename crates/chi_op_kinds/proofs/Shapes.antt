@@ -2,6 +2,7 @@
 use Rattle.std.proofs.Common.{◌≡◌, ℕ, ◌<◌, ◌≤◌, ℤ, Bool, true, false, cond, nat_le, List, [], ◌∷◌, length, Option, None, Some, IsTrue, refl, sym, subst, ◌∙◌, arith}
 use Rattle.std.proofs.lemmas.Bool.{leb-true}
 use Rattle.std.specs.Prelude.{slice_get}
+use Rattle.chi_num.specs.declared.dist.Dist.{Dist}
 use Rattle.chi_types.specs.declared.ty.Ty.{Ty, Ty-F, out-Ty}
 use Rattle.chi_types.specs.Plain.{is_plain}
 use Rattle.chi_value.specs.declared.value.TheConstants.{MOST_ELEMENTS}
@@ -14,7 +15,7 @@ use Rattle.chi_ops.specs.Outcome.{Outcome, where_may, gives_or, gives_within}
 use Rattle.chi_core.specs.Answer.{Does}
 use Rattle.chi_core.specs.Containers.{done}
 use Rattle.chi_core.specs.Kinds.{Kind, Every, entry_of, tuple_of, nameless_parts}
-use Rattle.chi_core.specs.Of.{World, IsShort, Of, of_bool, of_int, of_real, of_text, of_choice, of_tuple, of_list, of_set, of_dictionary, of_channel, of_dist, of_timer, of_no_instance, PartsOf, no_part, one_part, IsOf}
+use Rattle.chi_core.specs.Of.{World, IsShort, Of, of_bool, of_int, of_real, of_text, of_choice, of_tuple, of_list, of_set, of_dictionary, of_channel, of_dist, of_timer, of_no_instance, PartsOf, no_part, one_part, IsOf, Yields}
 use Rattle.chi_op_kinds.specs.Laws.{WellOf}
 use Rattle.chi_op_kinds.proofs.Composing.{well_gives}
 
@@ -94,6 +95,10 @@ pub a_dictionary : (w : World) (xs : List Value) (key has : Ty) → IsShort xs �
     → IsOf w (Ty-F.DictOf key has) (value.DictOf xs)
 a_dictionary w xs key has short plain ascending each =
     subst (λ x. Of w x (Ty-F.DictOf key has)) (sym (value.outs-DictOf xs)) (of_dictionary xs key has short plain ascending each)
+
+-- a distribution of a type whose layer is known
+pub a_dist : (w : World) (d : Dist) (t : Ty) (T : Kind) → out-Ty t ≡ T → Yields d T → IsOf w (Ty-F.Dist t) (value.Dist d)
+a_dist w d t T e yields = subst (λ x. Of w x (Ty-F.Dist t)) (sym (value.outs-Dist d)) (of_dist d t (subst (Yields d) (sym e) yields))
 
 -- what operations come to
 

@@ -3,4 +3,6 @@
 
 mod laws;
 
-pub use laws::literal_values;
+pub use laws::{
+    defaults_keep_kinds, literal_values, literals_keep_kinds, operators_keep_kinds, texts_are_there,
+};
