@@ -1,7 +1,7 @@
 -- Arithmetic on ints and reals.
-use Rattle.std.proofs.Common.{◌≡◌, ℕ, zero, suc, ℤ, pos, negsuc, Bool, true, false, List, [], ◌∷◌, refl}
-use Rattle.std.specs.Prelude.{neg_ℤ, nat_abs, ◌+ℤ◌, ◌-ℤ◌, ◌*ℤ◌, replicate}
-use Rattle.std.specs.Int.{int_min, int_max, int_signum}
+use Rattle.std.proofs.Common.{ℕ, zero, suc, ℤ, pos, negsuc, List, ◌∷◌}
+use Rattle.std.specs.Prelude.{neg_ℤ, nat_abs, ◌*ℤ◌, replicate}
+use Rattle.std.specs.Int.{int_signum}
 use Rattle.std.specs.Ordering.{int_eq}
 use Rattle.chi_num.specs.Power.{power}
 use Rattle.chi_num.specs.Results.{fits, rounded, floor_of, ceiling_of, remainder_of}
@@ -13,7 +13,7 @@ use Rattle.chi_core.specs.declared.fault.FaultKind.TheVariants.{IntRange, RealRa
 use Rattle.chi_core.specs.Answer.{Does, gives, fails}
 use Rattle.chi_core.specs.Arithmetic.{whole, real, timer, on_int, on_real, on_number, on_ints, on_reals, over, raised, best_int, best_real, best_of, widened, negated, absolute, sign_of, floored, ceiled, nearest_to, quotient, divided, remainder, powered}
 use Rattle.chi_core.specs.Kinds.{Kind}
-use Rattle.chi_core.specs.Of.{World, Of, of_int, of_real, of_timer, IsOf, AreOf, none_of, one_of}
+use Rattle.chi_core.specs.Of.{World, Of, of_int, of_real, IsOf, AreOf, none_of, one_of}
 use Rattle.chi_op_kinds.specs.Laws.{WellOf}
 use Rattle.chi_op_kinds.proofs.Composing.{well_gives, well_if}
 use Rattle.chi_op_kinds.proofs.Shapes.{an_int, a_real, a_timer}

@@ -1,5 +1,5 @@
 -- Casts, and what depends on the time and on instances.
-use Rattle.std.proofs.Common.{◌≡◌, ℕ, ◌<◌, ◌≤◌, ℤ, pos, Bool, true, false, cond, Option, None, Some, List, length, refl, sym, ap, subst, ◌∙◌, arith}
+use Rattle.std.proofs.Common.{◌≡◌, ℕ, ◌<◌, ℤ, pos, Bool, true, false, cond, Option, None, Some, List, length, refl, sym, ap, subst}
 use Rattle.std.proofs.lemmas.Bool.{and_from, leb-true, lt-ltb}
 use Rattle.std.specs.Int.{int_max}
 use Rattle.std.specs.Prelude.{slice_get, int_le, nat_le, ◌+ℤ◌, ◌-ℤ◌, ◌*ℤ◌, option_map}
@@ -9,15 +9,15 @@ use Rattle.chi_types.specs.declared.ty.Ty.{Ty-F}
 use Rattle.chi_value.specs.declared.value.TheConstants.{MOST_ELEMENTS}
 use Rattle.chi_value.specs.declared.value.Value.{Value, Value-F, out-Value}
 use Rattle.chi_value.specs.declared.value.Value.TheVariants as value
-use Rattle.chi_value.specs.Plain.{is_plain, within}
+use Rattle.chi_value.specs.Plain.{within}
 use Rattle.chi_value.specs.Text.{text}
 use Rattle.chi_format.specs.Format.{any_text}
 use Rattle.chi_core.specs.declared.fault.FaultKind.{FaultKind}
 use Rattle.chi_core.specs.declared.fault.FaultKind.TheVariants.{IntRange, RealRange, BadText, TooLarge}
 use Rattle.chi_core.specs.declared.scene.Scene.{Scene}
-use Rattle.chi_core.specs.Answer.{Does, gives, fails, wanted, then_do}
+use Rattle.chi_core.specs.Answer.{gives, fails, wanted, then_do}
 use Rattle.chi_core.specs.Arithmetic.{timer}
-use Rattle.chi_core.specs.Casts.{as_meant, int_from, to_int, real_from, to_real, truth_meant, truth_from, to_truth, string_of, to_text, to_timer, is_ready, has_finished, is_finished}
+use Rattle.chi_core.specs.Casts.{as_meant, int_from, to_int, real_from, to_real, truth_from, to_truth, string_of, to_text, to_timer, is_ready, has_finished, is_finished}
 use Rattle.chi_core.specs.Comparisons.{truth, tells}
 use Rattle.chi_core.specs.Kinds.{Kind, is_plain_kind}
 use Rattle.chi_core.specs.Of.{World, Of, of_bool, of_int, of_real, of_text, of_timer, of_no_instance, of_instance, IsOf}
@@ -28,7 +28,7 @@ use Rattle.chi_op_kinds.specs.Laws.{WellOf}
 use Rattle.chi_op_kinds.proofs.Arithmetic.{well_whole, well_real, well_timer, well_on_real}
 use Rattle.chi_op_kinds.proofs.Comparisons.{well_truth, well_tells}
 use Rattle.chi_op_kinds.proofs.Composing.{well_gives, well_if, well_then, well_wanted}
-use Rattle.chi_op_kinds.proofs.Shapes.{a_bool, an_int, a_real, a_text, few}
+use Rattle.chi_op_kinds.proofs.Shapes.{an_int, a_real, a_text, few}
 
 -- the number that a text means
 well_meant : (w : World) (T : Kind) (past : FaultKind) (made : ℤ → Value) → ((z : ℤ) → IsOf w T (made z)) → (meant : Meant) → WellOf w T (as_meant past made meant)

@@ -1,13 +1,12 @@
 -- Truth values, and comparisons.
-use Rattle.std.proofs.Common.{◌≡◌, ℕ, Bool, true, false, cond, List, Option, Some, None, refl, sym, ap, ◌∙◌, IsTrue}
+use Rattle.std.proofs.Common.{◌≡◌, Bool, true, false, cond, Option, Some, None, refl, ap}
 use Rattle.std.specs.Prelude.{not, option_map}
 use Rattle.std.specs.declared.cmp.Ordering.{Ordering}
 use Rattle.std.proofs.lemmas.Bool.{and_from}
-use Rattle.chi_types.specs.declared.ty.Ty.{Ty, Ty-F}
+use Rattle.chi_types.specs.declared.ty.Ty.{Ty-F}
 use Rattle.chi_value.specs.declared.value.Value.{Value, Value-F, out-Value}
 use Rattle.chi_value.specs.declared.value.Value.TheVariants as value
 use Rattle.chi_value.specs.Order.{order}
-use Rattle.chi_core.specs.Answer.{Does}
 use Rattle.chi_core.specs.Comparisons.{tells, truth, opposite, are_comparable, compares}
 use Rattle.chi_core.specs.Kinds.{Kind, is_plain_kind}
 use Rattle.chi_core.specs.Of.{World, Of, of_bool, IsOf}

@@ -1,14 +1,14 @@
 -- What is composed of what is done well is done well.
-use Rattle.std.proofs.Common.{◌≡◌, ℕ, zero, suc, ◌+◌, ◌<◌, Bool, true, false, cond, Option, Some, None, List, [], ◌∷◌, ◌++◌, length, length-append, append_assoc, append-nil, refl, sym, ap, subst, ◌∙◌, arith}
+use Rattle.std.proofs.Common.{◌≡◌, ℕ, zero, suc, ◌+◌, Bool, true, false, cond, Option, Some, None, List, [], ◌∷◌, ◌++◌, length, length-append, append_assoc, append-nil, refl, sym, ap, subst, ◌∙◌, arith}
 use Rattle.std.specs.Prelude.{slice_get}
 use Rattle.chi_value.specs.declared.value.Value.{Value}
 use Rattle.chi_core.specs.declared.view.View.{View}
 use Rattle.chi_core.specs.Answer.{Answer, Gives, Fails, Spent, Amiss, Does, then_do, gives, wanted, giving, gathered, in_turn, through, gathered_times, times, ticked, tick}
 use Rattle.chi_core.specs.Kinds.{Kind, Every}
-use Rattle.chi_core.specs.Of.{World, Wider, AreOf, none_of, one_of, IsOf}
+use Rattle.chi_core.specs.Of.{World, Wider, AreOf, one_of, IsOf}
 use Rattle.chi_core.proofs.Lists.{every_nil, every_cons}
-use Rattle.chi_core.proofs.Worlds.{same_world, wider_still, are_grow, value_grows}
-use Rattle.chi_op_kinds.specs.Well.{FitsView, Went, Kept, Grows, Same, Well}
+use Rattle.chi_core.proofs.Worlds.{same_world, wider_still, value_grows}
+use Rattle.chi_op_kinds.specs.Well.{Kept, Grows, Same, Well}
 
 -- one answer
 

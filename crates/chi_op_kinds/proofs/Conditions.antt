@@ -1,17 +1,17 @@
 -- Conditions of operations that hold of values of kinds.
-use Rattle.std.proofs.Common.{◌≡◌, ℕ, zero, suc, ◌≤◌, Bool, true, false, Option, None, Some, List, [], ◌∷◌, length, IsTrue, refl, sym, ap, subst, ◌∙◌}
+use Rattle.std.proofs.Common.{◌≡◌, true, Some, List, [], ◌∷◌, refl, sym, ap, subst, ◌∙◌}
 use Rattle.std.proofs.lemmas.Bool.{and_from}
-use Rattle.std.specs.List.{list_all, filter_map}
-use Rattle.chi_types.specs.declared.ty.Ty.{Ty, Ty-F, out-Ty}
+use Rattle.std.specs.List.{list_all}
+use Rattle.chi_types.specs.declared.ty.Ty.{Ty, out-Ty}
 use Rattle.chi_types.specs.Plain.{is_plain as is_plain_type}
 use Rattle.chi_value.specs.declared.value.Value.{Value, Value-F, out-Value}
-use Rattle.chi_value.specs.Alike.{alike, all_alike}
+use Rattle.chi_value.specs.Alike.{alike}
 use Rattle.chi_value.specs.Plain.{is_plain}
-use Rattle.chi_sets.specs.Dictionaries.{are_entries, is_entry, key_in, value_in, key_of, value_of, keys, values}
+use Rattle.chi_sets.specs.Dictionaries.{key_in, value_in, key_of, value_of, keys, values}
 use Rattle.chi_ops.specs.Conditions.{is_key, are_peers, may_contain}
-use Rattle.chi_ops.specs.Tidy.{tidy, all_tidy}
+use Rattle.chi_ops.specs.Tidy.{tidy}
 use Rattle.chi_core.specs.Kinds.{Kind, Every, entry_of, is_plain_kind}
-use Rattle.chi_core.specs.Of.{World, Of, of_tuple, PartsOf, no_part, one_part, IsOf}
+use Rattle.chi_core.specs.Of.{World, Of, of_tuple, no_part, one_part, IsOf}
 use Rattle.chi_core.proofs.Alikes.{alike_of, each_passes}
 use Rattle.chi_core.proofs.Erased.{plain_at}
 use Rattle.chi_core.proofs.Tidied.{plain_of, tidy_of}

@@ -1,5 +1,5 @@
 -- Defaults are of the kinds of their shapes; each channel in one is new.
-use Rattle.std.proofs.Common.{◌≡◌, ℕ, ◌+◌, ◌<◌, ◌≤◌, Bool, true, false, cond, None, Some, List, [], ◌∷◌, ◌++◌, map, length, length-append, refl, sym, ap, subst, ◌∙◌, arith}
+use Rattle.std.proofs.Common.{◌≡◌, ℕ, ◌+◌, ◌<◌, Bool, true, false, cond, None, Some, List, [], ◌∷◌, ◌++◌, map, length, length-append, refl, sym, ap, subst, ◌∙◌, arith}
 use Rattle.std.specs.Prelude.{slice_get, nat_le, option_and_then, pos}
 use Rattle.chi_num.specs.declared.dist.Dist.TheVariants as dist
 use Rattle.chi_types.specs.declared.ty.Ty.{Ty, Ty-F, out-Ty}
@@ -7,7 +7,7 @@ use Rattle.chi_types.specs.declared.ty.Ty.TheVariants as ty
 use Rattle.chi_types.specs.declared.ty.Way.TheVariants as way
 use Rattle.chi_value.specs.declared.defaults.TheConstants.{MOST_CHANNELS}
 use Rattle.chi_value.specs.declared.shape.Shape.{Shape, Shape-F, out-Shape, map-Shape, fold_out-Shape}
-use Rattle.chi_value.specs.declared.value.Value.{Value, out-Value}
+use Rattle.chi_value.specs.declared.value.Value.{Value}
 use Rattle.chi_value.specs.declared.value.Value.TheVariants as value
 use Rattle.chi_value.specs.Default.{default, default_step, in_turn}
 use Rattle.chi_value.specs.Names.{name_at}
@@ -16,7 +16,7 @@ use Rattle.chi_core.specs.declared.fault.FaultKind.TheVariants.{TooManyChannels}
 use Rattle.chi_core.specs.Answer.{Gives, Fails}
 use Rattle.chi_core.specs.Evaluation.{within_channels, fresh}
 use Rattle.chi_core.specs.Kinds.{Kind, Every}
-use Rattle.chi_core.specs.Of.{World, Wider, Of, of_bool, of_choice, of_channel, of_dist, of_no_instance, IsOf, PartsOf, no_part, one_part, always_bool, always_int, always_real}
+use Rattle.chi_core.specs.Of.{World, Wider, Of, of_choice, of_channel, of_no_instance, IsOf, PartsOf, no_part, one_part, always_bool, always_int, always_real}
 use Rattle.chi_core.specs.OperatorKinds.{ShapeKind, shape_bool, shape_int, shape_real, shape_text, shape_choice, shape_tuple, shape_list, shape_set, shape_dictionary, shape_channel, shape_dist_bool, shape_dist_int, shape_dist_real, shape_timer, shape_instance, ShapesOf, no_shape, one_shape}
 use Rattle.chi_core.proofs.Lists.{every_nil}
 use Rattle.chi_core.proofs.Worlds.{same_world, wider_still, with_channel, value_grows}

@@ -1,7 +1,7 @@
 -- Operations on dictionaries.
-use Rattle.std.proofs.Common.{◌≡◌, ℕ, ◌<◌, ◌≤◌, Bool, true, Option, None, List, [], ◌∷◌, ◌++◌, length, IsTrue, Some, refl, sym, ap, subst, ◌∙◌, arith}
+use Rattle.std.proofs.Common.{◌≡◌, true, Option, None, List, [], ◌∷◌, ◌++◌, length, IsTrue, Some, refl, sym, ap, subst, arith}
 use Rattle.std.proofs.lemmas.Bool.{and_from}
-use Rattle.std.specs.Prelude.{not, filter, find, option_and_then}
+use Rattle.std.specs.Prelude.{not, find, option_and_then}
 use Rattle.std.specs.List.{list_all}
 use Rattle.chi_types.specs.declared.ty.Ty.{Ty, Ty-F, out-Ty}
 use Rattle.chi_types.specs.declared.ty.Ty.TheVariants as ty
@@ -22,7 +22,7 @@ use Rattle.chi_core.specs.Comparisons.{tells}
 use Rattle.chi_core.specs.Containers.{done}
 use Rattle.chi_core.specs.Kinds.{Every, entry_of, tuple_of}
 use Rattle.chi_core.specs.Of.{World, IsShort, IsOf}
-use Rattle.chi_core.proofs.Alikes.{alike_of, each_passes}
+use Rattle.chi_core.proofs.Alikes.{each_passes}
 use Rattle.chi_core.proofs.Tidied.{tidy_of}
 use Rattle.chi_op_kinds.specs.Laws.{WellOf}
 use Rattle.chi_op_kinds.proofs.Comparisons.{well_tells_if}

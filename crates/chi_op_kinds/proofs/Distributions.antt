@@ -1,7 +1,7 @@
 -- Distributions, and draws from them.
-use Rattle.std.proofs.Common.{◌≡◌, ℕ, zero, suc, ◌<◌, ℤ, pos, Bool, true, false, cond, Option, None, Some, List, [], ◌∷◌, length, refl, sym, ap, subst, ◌∙◌, arith}
+use Rattle.std.proofs.Common.{◌≡◌, ℕ, ◌<◌, pos, cond, Option, None, Some, List, length, refl, sym, ap, subst, ◌∙◌}
 use Rattle.std.proofs.lemmas.Bool.{lt-ltb}
-use Rattle.std.specs.Prelude.{slice_get, slice_set, option_map}
+use Rattle.std.specs.Prelude.{slice_get, slice_set}
 use Rattle.chi_num.specs.declared.dist.Dist.{Dist}
 use Rattle.chi_num.specs.declared.dist.Dist.TheVariants as dist
 use Rattle.chi_types.specs.declared.ty.Ty.{Ty, Ty-F, out-Ty}
@@ -11,10 +11,10 @@ use Rattle.chi_value.specs.declared.value.Value.TheVariants as value
 use Rattle.chi_dist.specs.declared.drawn.Drawn.{Drawn}
 use Rattle.chi_dist.specs.declared.drawn.Drawn.TheVariants as drawn
 use Rattle.chi_dist.specs.declared.fault.DistFault.{DistFault}
-use Rattle.chi_dist.specs.Draws.{stream_count, taken_after, draws, refuses, unless_faulty, taking, sampled}
+use Rattle.chi_dist.specs.Draws.{stream_count, taken_after, draws, unless_faulty, taking, sampled}
 use Rattle.chi_core.specs.declared.scene.Scene.{Scene}
 use Rattle.chi_core.specs.declared.view.View.{View}
-use Rattle.chi_core.specs.Answer.{Does, wanted, then_do}
+use Rattle.chi_core.specs.Answer.{wanted, then_do}
 use Rattle.chi_core.specs.Distributions.{constant_in, stream_in, uniform_in, bernoulli_in, binomial_in, distribution, by_stream, constant_of, uniform_of, bernoulli_of, binomial_of, value_drawn, after_drawing, draw_from, sample_of}
 use Rattle.chi_core.specs.Kinds.{Kind}
 use Rattle.chi_core.specs.Of.{World, Of, of_bool, of_int, of_real, of_dist, IsOf, Yields, always_bool, always_int, always_real, some_int, some_real, some_bool, some_count}

@@ -1,6 +1,6 @@
 -- What holds of each element of a list holds of each element of those that are made of it.
-use Rattle.std.proofs.Common.{◌≡◌, ℕ, zero, suc, ◌+◌, ◌<◌, ◌≤◌, Bool, true, false, cond, Option, None, Some, List, [], ◌∷◌, ◌++◌, map, length, take, drop, refl, sym, ap, subst, ◌∙◌, arith, le_refl}
-use Rattle.std.specs.Prelude.{slice_get, slice_set, insert, remove, filter, filter_map, find, fold, option_and_then}
+use Rattle.std.proofs.Common.{◌≡◌, ℕ, zero, suc, ◌+◌, ◌<◌, ◌≤◌, Bool, true, false, cond, Option, None, Some, List, [], ◌∷◌, ◌++◌, map, length, take, drop, refl, ap, subst, arith, le_refl}
+use Rattle.std.specs.Prelude.{slice_get, slice_set, insert, remove, filter, filter_map, find, fold}
 use Rattle.std.specs.List.{cons_option, enumerate_from}
 use Rattle.std.specs.declared.cmp.Ordering.{Ordering}
 use Rattle.chi_sets.specs.Ascending.{placed, in_order, below_by}

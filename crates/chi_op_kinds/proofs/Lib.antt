@@ -11,9 +11,11 @@ pub mod Entries
 pub mod Lists
 pub mod Literals
 pub mod Operators
+pub mod Parts
 pub mod Ranges
 pub mod Sequences
 pub mod Sets
 pub mod Shapes
 pub mod Slices
+pub mod Stores
 pub mod Texts

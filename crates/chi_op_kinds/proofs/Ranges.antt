@@ -1,44 +1,31 @@
 -- Slices, ranges and numbered lists.
-use Rattle.std.proofs.Common.{◌≡◌, ◌≢◌, ℕ, zero, suc, ◌+◌, ◌<◌, ◌≤◌, ◌^◌, ℤ, pos, Bool, true, false, cond, Option, None, Some, List, [], ◌∷◌, ◌++◌, length, map, IsTrue, refl, sym, ap, subst, ◌∙◌, append-nil, append_assoc, length-append, arith}
-use Rattle.std.proofs.lemmas.Bool.{and_from, le-leb, lt-ltb}
+use Rattle.std.proofs.Common.{◌≡◌, ◌≢◌, suc, ℤ, pos, Bool, true, false, Option, None, Some, List, [], ◌∷◌, ◌++◌, length, map, refl, sym, ap, subst, ◌∙◌, append-nil, append_assoc, arith}
+use Rattle.std.proofs.lemmas.Bool.{and_from}
 use Rattle.std.proofs.lemmas.Bool.Decides.{Decides-int_eq}
-use Rattle.std.proofs.lemmas.List.Edits.{length-insert}
 use Rattle.std.proofs.lemmas.List.FromFn.{length-enumerate_from}
 use Rattle.std.proofs.lemmas.List.{length-map}
-use Rattle.std.specs.List.{list_all, enumerate_from}
+use Rattle.std.specs.List.{enumerate_from}
 use Rattle.std.specs.Ordering.{int_eq}
-use Rattle.std.specs.Prelude.{slice_get, insert, remove, option_map, option_and_then}
+use Rattle.std.specs.Prelude.{option_map}
 use Rattle.chi_types.specs.declared.ty.Ty.{Ty, Ty-F, out-Ty, roll-Ty, out-roll-Ty}
 use Rattle.chi_types.specs.declared.ty.Ty.TheVariants as ty
-use Rattle.chi_types.specs.Plain.{is_plain}
 use Rattle.chi_value.specs.declared.value.Value.{Value, Value-F, out-Value}
 use Rattle.chi_value.specs.declared.value.Value.TheVariants as value
-use Rattle.chi_sets.specs.Sets.{among}
-use Rattle.chi_ops.specs.Conditions.{has_size, may_has, may_hold, takes_at}
-use Rattle.chi_ops.specs.Kinds.{is_list, is_sequence, is_container}
-use Rattle.chi_ops.specs.Operations.{size, has, pop, first_and_rest}
-use Rattle.chi_ops.specs.Outcome.{Outcome, gives, index_fault, step_fault, gives_or}
-use Rattle.chi_ops.specs.Places.{place_of, at_place}
+use Rattle.chi_ops.specs.Kinds.{is_list, is_sequence}
+use Rattle.chi_ops.specs.Outcome.{step_fault}
 use Rattle.chi_ops.specs.Progression.{count_from, progression}
-use Rattle.chi_ops.specs.Sequences.{byte_text, index, step_of, slice, join, insert_at, del, range, numbered, enumerate}
+use Rattle.chi_ops.specs.Sequences.{step_of, slice, range, numbered, enumerate}
 use Rattle.chi_ops.specs.Slices.{slice_of}
-use Rattle.chi_core.specs.Answer.{wanted}
-use Rattle.chi_core.specs.Comparisons.{tells}
 use Rattle.chi_core.specs.Containers as containers
 use Rattle.chi_core.specs.Containers.{done, element_at, without, size_of, is_empty, range_of, slice_by, sliced}
 use Rattle.chi_core.specs.Kinds.{Kind, Every, tuple_of}
-use Rattle.chi_core.specs.Of.{World, IsShort, Of, of_int, IsOf, AreOf, none_of, one_of}
+use Rattle.chi_core.specs.Of.{World, Of, of_int, IsOf, AreOf, none_of, one_of}
 use Rattle.chi_core.specs.OperatorKinds as table
 use Rattle.chi_core.specs.OperatorKinds.{bound}
-use Rattle.chi_core.specs.Reading.{int_of}
 use Rattle.chi_core.proofs.Tidied.{tidy_of}
 use Rattle.chi_op_kinds.specs.Laws.{WellOf}
-use Rattle.chi_op_kinds.proofs.Arithmetic.{well_on_int}
-use Rattle.chi_op_kinds.proofs.Comparisons.{well_tells_if}
-use Rattle.chi_op_kinds.proofs.Composing.{every_append, well_wanted}
-use Rattle.chi_op_kinds.proofs.Conditions.{peers, key_is, all_plain, alike_to_all, plain_kind}
-use Rattle.chi_op_kinds.proofs.Elements.{every_tail, every_remove, every_insert, every_map, every_numbered, length_remove}
-use Rattle.chi_op_kinds.proofs.Shapes.{list_is, set_is, dictionary_is, text_is, elements_are, a_bool, an_int, a_text, a_list, a_pair, of_type, few, well_where, well_within, well_done, well_or, well_unless}
+use Rattle.chi_op_kinds.proofs.Elements.{every_map, every_numbered}
+use Rattle.chi_op_kinds.proofs.Shapes.{list_is, text_is, an_int, a_text, a_list, a_pair, of_type, few, well_where, well_within, well_done, well_unless}
 use Rattle.chi_op_kinds.proofs.Slices.{length_numbers, length_slice, every_slice}
 
 -- slices

@@ -1,5 +1,5 @@
 -- Operations on sets.
-use Rattle.std.proofs.Common.{◌≡◌, ℕ, ◌<◌, Bool, true, List, [], ◌∷◌, ◌++◌, length, IsTrue, Some, refl, arith}
+use Rattle.std.proofs.Common.{◌≡◌, Bool, true, List, [], ◌∷◌, ◌++◌, length, IsTrue, refl, arith}
 use Rattle.std.proofs.lemmas.Bool.{and_from}
 use Rattle.std.specs.Prelude.{not, filter}
 use Rattle.chi_types.specs.declared.ty.Ty.{Ty, Ty-F, out-Ty}
@@ -26,7 +26,7 @@ use Rattle.chi_op_kinds.proofs.Comparisons.{well_tells_if}
 use Rattle.chi_op_kinds.proofs.Composing.{every_append}
 use Rattle.chi_op_kinds.proofs.Conditions.{peers, key_is, alike_to_all, plain_kind}
 use Rattle.chi_op_kinds.proofs.Elements.{every_filter, every_in_order, every_tail, length_filter}
-use Rattle.chi_op_kinds.proofs.Shapes.{set_is, a_set, a_pair, of_type, few, well_where, well_within, well_done, well_fault}
+use Rattle.chi_op_kinds.proofs.Shapes.{set_is, a_set, a_pair, of_type, few, well_where, well_within, well_done}
 
 module _ (w : World) where
   subset_known : (a b : Value) (xs ys : List Value) → out-Value a ≡ Value-F.SetOf xs → out-Value b ≡ Value-F.SetOf ys → may_sub a b ≡ true → WellOf w Ty-F.Bool (tells (sub a b))

@@ -1,21 +1,19 @@
 -- What a value of a kind is, and what is of a kind.
-use Rattle.std.proofs.Common.{◌≡◌, ℕ, ◌<◌, ◌≤◌, ℤ, Bool, true, false, cond, nat_le, List, [], ◌∷◌, length, Option, None, Some, IsTrue, refl, sym, subst, ◌∙◌, arith}
+use Rattle.std.proofs.Common.{◌≡◌, ℕ, ◌≤◌, ℤ, Bool, true, false, cond, nat_le, List, [], ◌∷◌, length, Option, None, Some, IsTrue, refl, sym, subst, arith}
 use Rattle.std.proofs.lemmas.Bool.{leb-true}
-use Rattle.std.specs.Prelude.{slice_get}
 use Rattle.chi_num.specs.declared.dist.Dist.{Dist}
 use Rattle.chi_types.specs.declared.ty.Ty.{Ty, Ty-F, out-Ty}
 use Rattle.chi_types.specs.Plain.{is_plain}
 use Rattle.chi_value.specs.declared.value.TheConstants.{MOST_ELEMENTS}
-use Rattle.chi_value.specs.declared.value.Value.{Value, Value-F, out-Value}
+use Rattle.chi_value.specs.declared.value.Value.{Value, Value-F}
 use Rattle.chi_value.specs.declared.value.Value.TheVariants as value
 use Rattle.chi_sets.specs.Sets.{is_ascending}
 use Rattle.chi_sets.specs.Dictionaries.{ascending_by_key}
 use Rattle.chi_ops.specs.Outcome as outcome
 use Rattle.chi_ops.specs.Outcome.{Outcome, where_may, gives_or, gives_within}
-use Rattle.chi_core.specs.Answer.{Does}
 use Rattle.chi_core.specs.Containers.{done}
 use Rattle.chi_core.specs.Kinds.{Kind, Every, entry_of, tuple_of, nameless_parts}
-use Rattle.chi_core.specs.Of.{World, IsShort, Of, of_bool, of_int, of_real, of_text, of_choice, of_tuple, of_list, of_set, of_dictionary, of_channel, of_dist, of_timer, of_no_instance, PartsOf, no_part, one_part, IsOf, Yields}
+use Rattle.chi_core.specs.Of.{World, IsShort, Of, of_bool, of_int, of_real, of_text, of_tuple, of_list, of_set, of_dictionary, of_dist, of_timer, PartsOf, no_part, one_part, IsOf, Yields}
 use Rattle.chi_op_kinds.specs.Laws.{WellOf}
 use Rattle.chi_op_kinds.proofs.Composing.{well_gives}
 

@@ -1,11 +1,11 @@
 -- What a slice or a range has: no more elements than the whole, each of which is one of those, or so many ints.
-use Rattle.std.proofs.Common.{◌≡◌, ◌≢◌, ℕ, zero, suc, ◌+◌, ◌-◌, ◌*◌, ◌/◌, ◌<◌, ◌≤◌, Bool, true, false, cond, Option, None, Some, List, [], ◌∷◌, map, length, ℤ, pos, negsuc, ◌+ℤ◌, ◌-ℤ◌, ◌<ℤ◌, ◌≤ℤ◌, refl, sym, ap, ◌∙◌, subst, le_refl, le_trans, arith}
+use Rattle.std.proofs.Common.{◌≡◌, ◌≢◌, ℕ, zero, suc, ◌+◌, ◌-◌, ◌*◌, ◌/◌, ◌<◌, ◌≤◌, Bool, true, false, cond, Option, None, Some, List, length, ℤ, pos, negsuc, ◌+ℤ◌, ◌-ℤ◌, ◌<ℤ◌, ◌≤ℤ◌, refl, sym, ap, subst, arith}
 use Rattle.std.proofs.lemmas.Int.{ints}
 use Rattle.std.proofs.Math.Nat.{div-lt_iff_lt-mul, le-mul_of_pos_right, suc-mul}
 use Rattle.std.specs.Int.Signed.{lt_z_yes, lt_z_no}
 use Rattle.std.specs.Prelude.{T, not, int_lt, unsigned_abs, slice_get}
-use Rattle.chi_ops.specs.Progression.{numbers, comes_before, steps_over, count_from, progression}
-use Rattle.chi_ops.specs.Slices.{clamped, from_end, bound_or, first_place, last_place, slice_places, elements_at, slice_of}
+use Rattle.chi_ops.specs.Progression.{numbers, comes_before, steps_over, count_from}
+use Rattle.chi_ops.specs.Slices.{clamped, from_end, bound_or, first_place, last_place, slice_places, slice_of}
 use Rattle.chi_core.specs.Kinds.{Every}
 use Rattle.chi_op_kinds.proofs.Elements.{every_chosen, length_chosen}
 

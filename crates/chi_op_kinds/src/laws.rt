@@ -1,6 +1,6 @@
 //! What holds of all operations. The functions compute nothing: their contracts are the laws.
 
-ghost use Rattle.chi_op_kinds.specs.Laws.{DefaultsKeepKinds, DictionariesKeepKinds, DistributionsKeepKinds, FormatsRender, InsertionsKeepKinds, ListsKeepKinds, LiteralsAreOfKinds, OperatorsKeepKinds, PlainValuesQuote, SetsKeepKinds, TuplesKeepKinds};
+ghost use Rattle.chi_op_kinds.specs.Laws.{DefaultsKeepKinds, DictionariesKeepKinds, DistributionsKeepKinds, ElementsKeepKinds, EntriesKeepKinds, FormatsRender, InsertionsKeepKinds, ListsKeepKinds, LiteralsAreOfKinds, OperatorsKeepKinds, PartsKeepKinds, PlainValuesQuote, SetsKeepKinds, StoresKeepKinds, TuplesKeepKinds};
 
 /// Operators, predefined names and casts give values of the kinds of their rows where their
 /// operands are of the kinds of the rows: they are never amiss.
@@ -30,6 +30,16 @@ pub fn literal_values()
 #[tactic(auto, using(crate::proofs::Defaults::well_default))]
 pub fn defaults_keep_kinds()
     ensures kept { DefaultsKeepKinds }
+{}
+
+/// A value that is stored along a path of steps of fitting kinds leaves the kind of the whole as it
+/// is, and what is read by a step is of the kind that the step leads to.
+#[tactic(auto, using(crate::proofs::Stores::well_put, crate::proofs::Parts::well_element, crate::proofs::Parts::well_entry))]
+pub fn stores_keep_kinds()
+    ensures stores { StoresKeepKinds }
+    ensures elements { ElementsKeepKinds }
+    ensures entries { EntriesKeepKinds }
+    ensures parts { PartsKeepKinds }
 {}
 
 /// Formats with values of the kinds that their pieces take have a text, and so has each plain
