@@ -21,7 +21,8 @@ use Rattle.chi_core.proofs.Beginnings.{start_kinded}
 use Rattle.chi_core.proofs.Worlds.{get_before, value_grows}
 use Rattle.chi_op_kinds.specs.Well.{FitsView, Kept, Same}
 use Rattle.chi_kinded.specs.Keeps.{BeginsKinded, BeginsAlways}
-use Rattle.chi_kinded.proofs.Expressions.{Laws, Provides, Reads, well_value}
+use Rattle.chi_kinded.proofs.Expressions.{Provides, Reads, well_value}
+use Rattle.chi_kinded.proofs.Operations.{Laws}
 use Rattle.chi_kinded.proofs.Meetings.{the_one}
 use Rattle.chi_kinded.proofs.Starts.{process_found}
 use Rattle.chi_kinded.proofs.Still.{Stays}

@@ -28,28 +28,11 @@ use Rattle.chi_core.specs.Variables.{Variables, value_at}
 use Rattle.chi_core.proofs.Equations.{eval_out, eval_lit}
 use Rattle.chi_core.proofs.Lists.{every_nil, every_cons}
 use Rattle.chi_core.proofs.Worlds.{same_world, wider_still, from_nowhere, value_grows}
-use Rattle.chi_op_kinds.specs.Laws.{WellOf, OperatorsKeepKinds, DistributionsKeepKinds, LiteralsAreOfKinds, TuplesKeepKinds, ListsKeepKinds, SetsKeepKinds, DictionariesKeepKinds, InsertionsKeepKinds, DefaultsKeepKinds, PartsKeepKinds, StoresKeepKinds, ElementsKeepKinds, EntriesKeepKinds, FormatsRender, PlainValuesQuote}
+use Rattle.chi_op_kinds.specs.Laws.{WellOf}
 use Rattle.chi_op_kinds.specs.Well.{Kept, Grows, Same, Well}
 use Rattle.chi_op_kinds.proofs.Composing.{well_gives, well_if, well_then, well_giving, well_weaker, kept_wider, well_in_turn, values_in_turn, well_times}
 use Rattle.chi_kinded.proofs.Held.{held_grows, held_value}
-
--- what is known of the operations
-pub record Laws : Type 0 where
-  pub operators : OperatorsKeepKinds
-  pub distributions : DistributionsKeepKinds
-  pub literals : LiteralsAreOfKinds
-  pub tuples : TuplesKeepKinds
-  pub lists : ListsKeepKinds
-  pub sets : SetsKeepKinds
-  pub dictionaries : DictionariesKeepKinds
-  pub insertions : InsertionsKeepKinds
-  pub defaults : DefaultsKeepKinds
-  pub stores : StoresKeepKinds
-  pub elements : ElementsKeepKinds
-  pub entries : EntriesKeepKinds
-  pub parts : PartsKeepKinds
-  pub formats : FormatsRender
-  pub quotes : PlainValuesQuote
+use Rattle.chi_kinded.proofs.Operations.{Laws}
 
 -- What evaluations within a scope rest on: each enumeration has a value, each constant that may be read has a value of its
 -- kind, and each call of a function does well.

@@ -29,7 +29,8 @@ use Rattle.chi_core.proofs.Bodies.{exec_empty, exec_over, exec_on}
 use Rattle.chi_op_kinds.specs.Laws.{WellOf}
 use Rattle.chi_op_kinds.specs.Well.{Kept, Same, Well}
 use Rattle.chi_op_kinds.proofs.Composing.{well_gives, well_then, well_tick}
-use Rattle.chi_kinded.proofs.Expressions.{Laws, Provides}
+use Rattle.chi_kinded.proofs.Expressions.{Provides}
+use Rattle.chi_kinded.proofs.Operations.{Laws}
 use Rattle.chi_kinded.proofs.Held.{held_less}
 use Rattle.chi_kinded.proofs.Instances.{at_grows}
 use Rattle.chi_kinded.proofs.Standings.{Ready, nothing_left, a_statement, a_loop, a_walk, ready}

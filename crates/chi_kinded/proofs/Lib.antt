@@ -1,3 +1,4 @@
+pub mod Operations
 pub mod Lists
 pub mod Held
 pub mod Standings

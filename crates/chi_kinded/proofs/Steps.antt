@@ -28,7 +28,7 @@ use Rattle.chi_op_kinds.specs.Well.{FitsView, Kept}
 use Rattle.chi_kinded.specs.Keeps.{GoesKinded, KeepsKinded}
 use Rattle.chi_kinded.proofs.Configs.{ConfigFits, ChangeFits, kinded_with, fits_with}
 use Rattle.chi_kinded.proofs.Enabled.{Offers, IsEnabled, runs, meets, wakes, joins, goes_on, enabled_is}
-use Rattle.chi_kinded.proofs.Expressions.{Laws}
+use Rattle.chi_kinded.proofs.Operations.{Laws}
 use Rattle.chi_kinded.proofs.Meetings.{Receives, nothing, met_receives, Resumes, act_fits, resumes, goes_on_from, all_over}
 use Rattle.chi_kinded.proofs.Performing.{FirstWell, well_performed}
 

@@ -31,7 +31,8 @@ use Rattle.chi_op_kinds.specs.Laws as path
 use Rattle.chi_op_kinds.specs.Laws.{WellOf, PathLeads}
 use Rattle.chi_op_kinds.specs.Well.{Same, Well}
 use Rattle.chi_op_kinds.proofs.Composing.{well_gives, well_then, well_giving, well_weaker, kept_wider, well_in_turn}
-use Rattle.chi_kinded.proofs.Expressions.{Laws, Provides, Reads, reads_grow, well_some, well_value}
+use Rattle.chi_kinded.proofs.Expressions.{Provides, Reads, reads_grow, well_some, well_value}
+use Rattle.chi_kinded.proofs.Operations.{Laws}
 use Rattle.chi_kinded.proofs.Held.{Within, within_also, within_all, some_map, held_grows, held_less, held_with, held_value}
 
 path_grows : (w v : World) → Wider w v → (steps : List Step) (T U : Kind) → PathLeads w steps T U → PathLeads v steps T U
