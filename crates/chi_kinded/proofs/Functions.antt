@@ -87,22 +87,13 @@ module _ (core : Core) (f : FuncDef) (fine : SoundFunction core f) where
 
   -- a function has no other statements
   all_shared : (T : Kind) → home.scope.role ≡ function T → (loop : Bool) (known : Known) (s : StatLayer) → SoundStat home.scope loop known s → Shared s
-  all_shared T is _ _ _ (sound.declares _ _ line slot e U there may h) = tt
-  all_shared T is _ _ _ (sound.assigns _ _ line ts es Ts h take) = tt
-  all_shared T is _ _ _ (sound.spreads _ _ line t u more e parts h take) = tt
-  all_shared T is _ _ _ (sound.chooses _ _ line bs otherwise h block) = tt
-  all_shared T is _ _ _ (sound.loops _ _ line test block h _) = tt
-  all_shared T is _ _ _ (sound.walks _ _ line slots container block over _) = tt
-  all_shared T is _ _ _ (sound.breaks _ line) = tt
-  all_shared T is _ _ _ (sound.continues _ line) = tt
-  all_shared T is _ _ _ (sound.passes _ _ line) = tt
-  all_shared T is _ _ _ (sound.returns _ _ line e U role h) = tt
   all_shared T is _ _ _ (sound.exits _ _ line e exit role h) = absurd (cc)
   all_shared T is _ _ _ (sound.writes _ _ line pieces es exit Ts role h show) = absurd (cc)
   all_shared T is _ _ _ (sound.selects _ _ line alternatives exit role h) = absurd (cc)
   all_shared T is _ _ _ (sound.runs _ _ line elements exit role h) = absurd (cc)
   all_shared T is _ _ _ (sound.starts _ _ line elements exit role h) = absurd (cc)
   all_shared T is _ _ _ (sound.finishes _ _ line es exit role h) = absurd (cc)
+  all_shared T is _ _ _ _ = tt
 
   module _ (laws : Laws) (run : Run) (scene : Scene) (provides : Provides home.scope run scene) where
     abbrev Result : World → Value → Type 0

@@ -285,24 +285,13 @@ module _ (laws : Laws) (core : Core) (fine : Sound core) (config : Config) (h : 
     exit_role exit e = cc (sym e)
 
     well_stat : (loop : Bool) (s : StatLayer) → SoundStat home.scope loop known s → loop ≡ is_within_loop frames → out-CStat x ≡ s → Grows w0 Fits (performed_stat core config p its s)
-    well_stat _ _ (sound.declares _ _ line slot e T there may has) l is = well_common _ (subst (λ z. SoundStat home.scope z known (CStat-F.Declare line slot e)) l (sound.declares _ _ line slot e T there may has)) is tt
-    well_stat _ _ (sound.assigns _ _ line ts es Ts has take) l is = well_common _ (subst (λ z. SoundStat home.scope z known (CStat-F.Assign line ts es)) l (sound.assigns _ _ line ts es Ts has take)) is tt
-    well_stat _ _ (sound.spreads _ _ line t u more e parts has take) l is =
-        well_common _ (subst (λ z. SoundStat home.scope z known (CStat-F.Assign line (t ∷ u ∷ more) (e ∷ []))) l (sound.spreads _ _ line t u more e parts has take)) is tt
-    well_stat _ _ (sound.chooses _ _ line bs otherwise has block) l is = well_common _ (subst (λ z. SoundStat home.scope z known (CStat-F.If line bs otherwise)) l (sound.chooses _ _ line bs otherwise has block)) is tt
-    well_stat _ _ (sound.loops _ _ line test block has b) l is = well_common _ (subst (λ z. SoundStat home.scope z known (CStat-F.While line test block)) l (sound.loops _ _ line test block has b)) is tt
-    well_stat _ _ (sound.walks _ _ line slots container block over b) l is =
-        well_common _ (subst (λ z. SoundStat home.scope z known (CStat-F.For line slots container block)) l (sound.walks _ _ line slots container block over b)) is tt
-    well_stat _ _ (sound.breaks _ line) l is = well_common _ (subst (λ z. SoundStat home.scope z known (CStat-F.Break line)) l (sound.breaks known line)) is tt
-    well_stat _ _ (sound.continues _ line) l is = well_common _ (subst (λ z. SoundStat home.scope z known (CStat-F.Continue line)) l (sound.continues known line)) is tt
-    well_stat _ _ (sound.passes _ _ line) l is = well_common _ (subst (λ z. SoundStat home.scope z known (CStat-F.Pass line)) l (sound.passes _ known line)) is tt
-    well_stat _ _ (sound.returns _ _ line e T role has) l is = absurd (let other : process (exit_of k.d) ≡ function T = role in cc)
     well_stat _ _ (sound.exits _ _ line e exit role has) l is = well_exit e exit has
     well_stat _ _ (sound.writes _ _ line pieces es exit Ts role has show) l is = well_write line pieces es Ts is has show
     well_stat _ _ (sound.selects _ _ line alternatives exit role has) l is = well_select line alternatives is (subst (λ z. SoundAlternatives home.scope z known alternatives) l has)
     well_stat _ _ (sound.runs _ _ line elements exit role has) l is = well_run line elements is (subst (λ z. SoundElements home.scope z known elements) (exit_role exit role) has)
     well_stat _ _ (sound.starts _ _ line elements exit role has) l is = well_start line elements is (subst (λ z. SoundElements home.scope z known elements) (exit_role exit role) has)
     well_stat _ _ (sound.finishes _ _ line es exit role has) l is = well_finish line es is has
+    well_stat _ s stat l is = well_common s (subst (λ z. SoundStat home.scope z known s) l stat) is tt
 
   -- the first item of what is left, if there is one, does well
   abbrev pub FirstWell : Term → Type 0

@@ -15,19 +15,7 @@ use Rattle.chi_kinded.proofs.Held.{Within, within_also, within_all}
 within_sets : (s : StatLayer) (known : Known) → Within known (sets s known)
 within_sets (CStat-F.Declare line slot e) known = within_also slot known
 within_sets (CStat-F.Assign line targets values) known = within_all (wholes targets) known
-within_sets (CStat-F.If line branches otherwise) known = λ k h. h
-within_sets (CStat-F.While line test block) known = λ k h. h
-within_sets (CStat-F.For line slots container block) known = λ k h. h
-within_sets (CStat-F.Break line) known = λ k h. h
-within_sets (CStat-F.Continue line) known = λ k h. h
-within_sets (CStat-F.Pass line) known = λ k h. h
-within_sets (CStat-F.Return line e) known = λ k h. h
-within_sets (CStat-F.Exit line e) known = λ k h. h
-within_sets (CStat-F.Write line pieces es) known = λ k h. h
-within_sets (CStat-F.Select line alternatives) known = λ k h. h
-within_sets (CStat-F.Run line elements) known = λ k h. h
-within_sets (CStat-F.Start line elements) known = λ k h. h
-within_sets (CStat-F.Finish line elements) known = λ k h. h
+within_sets _ known = λ k h. h
 
 -- after a statement of a form that sets nothing no more counts as set than before it
 same_sets : (s t : StatLayer) (known : Known) → s ≡ t → Within (sets t known) known → Within (sets s known) known

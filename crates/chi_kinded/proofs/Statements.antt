@@ -225,9 +225,4 @@ module _ (laws : Laws) (d : Home) (run : Run) (scene : Scene) (provides : Provid
         well_gives w Fits (On variables (term_of rest frames)) (at_place d w variables known rest frames (place_after d known x rest frames p (CStat-F.Pass line) is) walks r.held)
     well_shared _ _ (sound.returns _ _ line e T role h) f is shared w r walks =
         well_giving w (λ v. IsOf v T) Fits Returns (λ v wider y of_it. (T, role, of_it)) (value_of e) (well_expression e T h w r)
-    well_shared _ _ (sound.exits _ _ line e exit role h) f is shared w r walks = absurd shared
-    well_shared _ _ (sound.writes _ _ line pieces es exit Ts role h show) f is shared w r walks = absurd shared
-    well_shared _ _ (sound.selects _ _ line alternatives exit role h) f is shared w r walks = absurd shared
-    well_shared _ _ (sound.runs _ _ line elements exit role h) f is shared w r walks = absurd shared
-    well_shared _ _ (sound.starts _ _ line elements exit role h) f is shared w r walks = absurd shared
-    well_shared _ _ (sound.finishes _ _ line es exit role h) f is shared w r walks = absurd shared
+    well_shared _ _ _ f is shared w r walks = absurd shared
