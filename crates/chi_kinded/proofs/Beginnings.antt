@@ -20,6 +20,7 @@ use Rattle.chi_core.specs.Sound.{Sound, SoundConstant, nothing_known}
 use Rattle.chi_core.proofs.Beginnings.{start_kinded}
 use Rattle.chi_core.proofs.Worlds.{get_before, value_grows}
 use Rattle.chi_op_kinds.specs.Well.{FitsView, Kept, Same}
+use Rattle.chi_op_kinds.proofs.Elements.{there_last}
 use Rattle.chi_kinded.specs.Keeps.{BeginsKinded, BeginsAlways}
 use Rattle.chi_kinded.proofs.Expressions.{Provides, Reads, well_value}
 use Rattle.chi_kinded.proofs.Operations.{Laws}
@@ -36,10 +37,6 @@ names_none names u wider none alone v T is =
       carried = λ n t e. let l : n < length u.carried = slice_get_within u.carried n t e in absurd (omega (arith, l, none));
       instances = omega (arith, alone);
     }) v T is
-
-get_last : {A : Type 0} (xs : List A) (x : A) → slice_get (xs ++ x ∷ []) (length xs) ≡ Some x
-get_last [] x = refl
-get_last (z ∷ xs) x = get_last xs x
 
 get_next : {A : Type 0} (xs : List A) (x : A) (ys : List A) → slice_get (xs ++ x ∷ ys) (length xs) ≡ Some x
 get_next [] x ys = refl
@@ -79,12 +76,12 @@ module _ (laws : Laws) (core : Core) (fine : Sound core) (d : ProcDef) (there : 
       by_place (inr last) =
           let same : c ≡ other = cc (sym at ∙ ap (slice_get core.consts) (sym last) ∙ e) in
           subst (λ n. IsSomeAnd (slice_get (values ++ v ∷ []) n) (IsOf (nowhere names) (kind_of other.ty))) (sym last)
-          (subst (λ o. IsSomeAnd o (IsOf (nowhere names) (kind_of other.ty))) (sym (get_last values v)) (subst (λ z. IsOf (nowhere names) (kind_of z.ty) v) same is))
+          (subst (λ o. IsSomeAnd o (IsOf (nowhere names) (kind_of other.ty))) (sym (there_last values v)) (subst (λ z. IsOf (nowhere names) (kind_of z.ty) v) same is))
 
   -- one constant, and then the rest
   goes_on : (values : List Value) (c : ConstDef) (rest : List Value → Beginning) → ((v : Value) → IsOf (nowhere names) (kind_of c.ty) v → BeginsKinded core (rest (values ++ v ∷ [])))
       → (a : Answer Value) → Kept (nowhere names) (Same (nowhere names) (λ v. IsOf v (kind_of c.ty))) a → Stays constant_view a → BeginsKinded core (with_constant core arguments seed until rest values c a)
-  goes_on values c rest later (Gives v view) k none = later v (names_none names k.world k.wider (k.fits.channels ∙ none) k.is.0 v (kind_of c.ty) k.is.1)
+  goes_on values c rest later (Gives v view) k none = later v (names_none names k.world k.wider (k.fits.channels ∙ none.1) k.is.0 v (kind_of c.ty) k.is.1)
   goes_on values c rest later (Fails kind) k none = tt
   goes_on values c rest later answer.Spent k none = none
   goes_on values c rest later answer.Amiss k none = k

@@ -16,13 +16,10 @@ use Rattle.chi_core.specs.Performing.{Change, Goes, Exits}
 use Rattle.chi_core.specs.Scopes.{exit_of}
 use Rattle.chi_core.proofs.Lists.{every_nil, every_cons}
 use Rattle.chi_op_kinds.specs.Well.{FitsView}
+use Rattle.chi_op_kinds.proofs.Composing.{every_append}
+use Rattle.chi_op_kinds.proofs.Elements.{every_set, every_map}
 use Rattle.chi_kinded.specs.Keeps.{SoundVerdict}
 use Rattle.chi_kinded.proofs.Instances.{instance_grows}
-use Rattle.chi_kinded.proofs.Lists.{every_tail, every_append, every_set}
-
-every_map : {A B : Type 0} (P : B → Type 0) (f : A → B) (xs : List A) → Every (λ x. P (f x)) xs → Every P (map f xs)
-every_map P f [] ps = every_nil P
-every_map P f (x ∷ xs) ps = every_cons P (f x) (map f xs) (ps zero x refl) (every_map P f xs (every_tail (λ x. P (f x)) x xs ps))
 
 -- numbers in a row are below what comes after the last
 pub in_row : (first many most : ℕ) → first + many ≤ most → Every (λ n. n < most) (range_with_len first many)
@@ -67,7 +64,7 @@ module _ (core : Core) (model : ProcDef) (w : World) (config : Config) (h : Conf
     names = wider.names ∙ h.names;
     constants = h.constants;
     instances = same ∙ h.instances ∙ sym (length-set config.instances p (settled i));
-    each = every_set (IsKinded v) config.instances p (settled i) (λ n j e. instance_grows core (exit_of model) w v wider j (h.each n j e)) k;
+    each = every_set (IsKinded v) p (settled i) config.instances k (λ n j e. instance_grows core (exit_of model) w v wider j (h.each n j e));
     few = subst (λ n. n ≤ MOST_INSTANCES) (sym (length-set config.instances p (settled i))) h.few;
   }
 
@@ -80,7 +77,7 @@ module _ (core : Core) (model : ProcDef) (w : World) (config : Config) (h : Conf
     constants = h.constants;
     instances = count ∙ sym many;
     each = every_append (IsKinded v) (slice_set config.instances p (settled i)) (map settled made)
-        (every_set (IsKinded v) config.instances p (settled i) (λ n j e. instance_grows core (exit_of model) w v wider j (h.each n j e)) k) (every_map (IsKinded v) settled made kinded);
+        (every_set (IsKinded v) p (settled i) config.instances k (λ n j e. instance_grows core (exit_of model) w v wider j (h.each n j e))) (every_map (λ j. IsKinded v (settled j)) (IsKinded v) settled (λ j is. is) made kinded);
     few = subst (λ n. n ≤ MOST_INSTANCES) (count ∙ sym many) few;
   }
     where

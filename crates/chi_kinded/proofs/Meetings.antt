@@ -20,9 +20,9 @@ use Rattle.chi_core.specs.SetSlots.{Known, also, also_all}
 use Rattle.chi_core.specs.Standing.{Inner, in_body}
 use Rattle.chi_core.specs.Terms.{Term, first_the}
 use Rattle.chi_core.specs.Variables.{Variables, bind, with_slot}
+use Rattle.chi_op_kinds.proofs.Elements.{every_tail, there}
 use Rattle.chi_kinded.proofs.Held.{within_also, held_less, held_with, held_bind}
 use Rattle.chi_kinded.proofs.Instances.{in_state, kinded_settled}
-use Rattle.chi_kinded.proofs.Lists.{every_tail}
 
 -- there is one, of which P holds
 pub the_one : {A : Type 0} (o : Option A) (P : A → Type 0) → IsSomeAnd o P → (x : A) × (o ≡ Some x) × P x
@@ -119,11 +119,11 @@ module _ (core : Core) (exit : Option Kind) (w : World) where
 
 -- instances that are there and aren't under way are over
 pub all_over : (config : Config) (waited : List ℕ) → Every (λ q. q < length config.instances) waited → IsTrue (none_under_way config waited) → IsTrue (are_over config waited)
-all_over config [] there none = refl
-all_over config (q ∷ waited) there none =
+all_over config [] all none = refl
+all_over config (q ∷ waited) all none =
     let parts = both (not (is_under_way (slice_get config.instances q))) (none_under_way config waited) none in
-    let rest : IsTrue (are_over config waited) = all_over config waited (every_tail (λ q. q < length config.instances) q waited there) parts.1 in
-    let here : IsTrue (is_over (slice_get config.instances q)) = over (slice_get config.instances q) (some_below config.instances q (there zero q refl)) parts.0 in
+    let rest : IsTrue (are_over config waited) = all_over config waited (every_tail (λ q. q < length config.instances) q waited all) parts.1 in
+    let here : IsTrue (is_over (slice_get config.instances q)) = over (slice_get config.instances q) (there config.instances q (all zero q refl)) parts.0 in
     ap (λ b. b && are_over config waited) here ∙ rest
   where
     both : (a b : Bool) → IsTrue (a && b) → IsTrue a × IsTrue b
@@ -133,11 +133,6 @@ all_over config (q ∷ waited) there none =
     twice : (b : Bool) → not (not b) ≡ true → b ≡ true
     twice true e = refl
     twice false e = e
-
-    some_below : {A : Type 0} (xs : List A) (k : ℕ) → k < length xs → (x : A) × (slice_get xs k ≡ Some x)
-    some_below [] k h = absurd (omega (arith, h))
-    some_below (x ∷ xs) zero h = (x, refl)
-    some_below (x ∷ xs) (suc k) h = some_below xs k (omega (arith, h))
 
     over : (o : Option Instance) → (i : Instance) × (o ≡ Some i) → IsTrue (not (is_under_way o)) → IsTrue (is_over o)
     over None found e = absurd (let no : None ≡ Some found.0 = found.1 in cc)

@@ -40,12 +40,11 @@ use Rattle.chi_core.proofs.Lists.{every_nil, every_cons}
 use Rattle.chi_core.proofs.Opened.{opens_guarded, opens_unwind}
 use Rattle.chi_core.proofs.Worlds.{same_world, wider_still, value_grows}
 use Rattle.chi_op_kinds.specs.Well.{Kept, Same, Well}
-use Rattle.chi_op_kinds.proofs.Composing.{well_gives, well_if, well_then, well_giving, well_weaker, well_through}
+use Rattle.chi_op_kinds.proofs.Composing.{well_gives, well_if, well_then, well_giving, well_weaker, well_through, every_append}
 use Rattle.chi_kinded.proofs.Expressions.{Provides, Reads, reads_grow, well_some, grows_truth, well_value}
 use Rattle.chi_kinded.proofs.Operations.{Laws}
 use Rattle.chi_kinded.proofs.Held.{some_map, within_all, all_there, held_grows, held_less, held_bound, held_bindings, elements_fit}
 use Rattle.chi_kinded.proofs.Instances.{act_grows, offer_grows}
-use Rattle.chi_kinded.proofs.Lists.{every_append}
 use Rattle.chi_kinded.proofs.Targets.{well_channel}
 
 channel_fits : (w : World) (t : Ty) (x : Value-F Value) → Of w x (Ty-F.Chan way.Both t) → IsSomeAnd (channel_in x) (λ number. slice_get w.carried number ≡ Some t)

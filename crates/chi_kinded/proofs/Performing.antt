@@ -39,14 +39,13 @@ use Rattle.chi_core.specs.Variables.{Variables}
 use Rattle.chi_core.proofs.Lists.{every_nil, every_cons}
 use Rattle.chi_core.proofs.Worlds.{wider_still, value_grows}
 use Rattle.chi_op_kinds.specs.Well.{Kept, Grows, Same, Well}
-use Rattle.chi_op_kinds.proofs.Composing.{grows_gives, grows_then, grows_giving, well_gives, well_if, well_then, well_weaker, well_wanted}
+use Rattle.chi_op_kinds.proofs.Composing.{grows_gives, grows_then, grows_giving, well_gives, well_if, well_then, well_weaker, well_wanted, every_append}
 use Rattle.chi_kinded.proofs.Configs.{in_row, ConfigFits, ChangeFits, fits_with, fits_more}
 use Rattle.chi_kinded.proofs.Expressions.{Provides, Reads, every_of, well_some, well_value, well_values}
 use Rattle.chi_kinded.proofs.Operations.{Laws}
 use Rattle.chi_kinded.proofs.Functions.{SceneFits, provided, calls_well}
 use Rattle.chi_kinded.proofs.Held.{walks_grow, held_grows, held_less}
 use Rattle.chi_kinded.proofs.Instances.{kinded_settled}
-use Rattle.chi_kinded.proofs.Lists.{every_append}
 use Rattle.chi_kinded.proofs.Openings.{well_opened}
 use Rattle.chi_kinded.proofs.Standings.{Ready, nothing_left, a_statement, a_loop, a_walk, ready}
 use Rattle.chi_kinded.proofs.Starts.{StartFits, well_started}

@@ -35,13 +35,12 @@ use Rattle.chi_core.proofs.Lists.{every_nil, every_cons}
 use Rattle.chi_core.proofs.Started.{starts_make, starts_unwind}
 use Rattle.chi_core.proofs.Worlds.{wider_still, value_grows, are_grow}
 use Rattle.chi_op_kinds.specs.Well.{Kept, Grows, Same, Well}
-use Rattle.chi_op_kinds.proofs.Composing.{grows_gives, grows_giving, grows_weaker, grows_then, makes_then, well_gives, well_giving, grows_through}
+use Rattle.chi_op_kinds.proofs.Composing.{grows_gives, grows_giving, grows_weaker, grows_then, makes_then, well_gives, well_giving, grows_through, every_append}
 use Rattle.chi_kinded.proofs.Expressions.{Provides, Reads, reads_grow, well_some, well_value, well_values}
 use Rattle.chi_kinded.proofs.Operations.{Laws}
 use Rattle.chi_kinded.proofs.Functions.{are_many}
 use Rattle.chi_kinded.proofs.Held.{within_all, held_grows, held_less, held_bound, elements_fit}
 use Rattle.chi_kinded.proofs.Instances.{instance_grows, kinded_new}
-use Rattle.chi_kinded.proofs.Lists.{every_append}
 use Rattle.chi_kinded.proofs.Targets.{IsSpot, is_spot_grows, well_store, well_spot}
 
 -- what is started by what may be started may be

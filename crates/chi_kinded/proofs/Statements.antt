@@ -33,10 +33,10 @@ use Rattle.chi_core.proofs.Worlds.{wider_still, are_grow}
 use Rattle.chi_op_kinds.specs.Laws.{WellOf}
 use Rattle.chi_op_kinds.specs.Well.{Same, Well}
 use Rattle.chi_op_kinds.proofs.Composing.{well_gives, well_then, well_giving}
+use Rattle.chi_op_kinds.proofs.Elements.{every_tail}
 use Rattle.chi_kinded.proofs.Expressions.{Provides, Reads, reads_grow, well_some, grows_truth, well_value, well_values}
 use Rattle.chi_kinded.proofs.Operations.{Laws}
 use Rattle.chi_kinded.proofs.Held.{walks_grow, held_less, held_with, held_bound, elements_fit}
-use Rattle.chi_kinded.proofs.Lists.{every_tail}
 use Rattle.chi_kinded.proofs.Standings.{Before, past, GoesTo, broken, continued}
 use Rattle.chi_kinded.proofs.Targets.{AreSpots, StoresFit, stores_of_values, stores_of_parts, well_stores, well_spots}
 

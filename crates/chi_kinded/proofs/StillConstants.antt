@@ -76,7 +76,7 @@ module _ (names : ℕ) where
   still_fresh : (shape : Shape) (T : Kind) → ShapeKind names (out-Shape shape) T → makes_channel shape ≡ false → Still (fresh shape)
   still_fresh shape T is none view =
       stays_if (nat_le (default shape view.channels).1 MOST_CHANNELS) view (Gives (default shape view.channels).0 (record view { channels = (default shape view.channels).1 })) (Fails TooManyChannels)
-      (ap (λ made. made.1) (default_out shape view.channels) ∙ no_more (out-Shape shape) T is (sym (fold_out-Shape Bool makes_channel_step shape) ∙ none) view.channels) tt
+      (refl, ap (λ made. made.1) (default_out shape view.channels) ∙ no_more (out-Shape shape) T is (sym (fold_out-Shape Bool makes_channel_step shape) ∙ none) view.channels) tt
 
 still_repeated : (each : Does Value) → Still each → (n : Value-F Value) → Still (repeated each n)
 still_repeated each h (Value-F.Int (pos count)) = λ view.
@@ -108,7 +108,7 @@ module _ (core : Core) (number : ℕ) (known : Known) (run : Run) (scene : Scene
   whole e h view = subst (Stays view) (sym (eval_out run scene variables e (out-CExpr e) refl view)) (h view)
 
   still_stream : (stream : ℕ) → Still (value_of (stream_operand stream))
-  still_stream stream view = subst (Stays view) (sym (eval_lit run scene variables view (value.Int (pos stream)))) refl
+  still_stream stream view = subst (Stays view) (sym (eval_lit run scene variables view (value.Int (pos stream)))) (refl, refl)
 
   mutual
     still_layer : (e : CExpr-F CExpr) (T : Kind) → HasKind scope known e T → Still (by_layer e)

@@ -36,18 +36,18 @@ use Rattle.chi_core.specs.Operators.{sum, difference, product, applied}
 use Rattle.chi_kinded.proofs.Still.{Stays, Still, stays_then, stays_if, still_gives, still_wanted}
 
 pub still_done : (o : outcome.Outcome) → Still (done o)
-still_done (outcome.gives v) view = refl
+still_done (outcome.gives v) view = (refl, refl)
 still_done (outcome.faults fault) view = tt
 still_done outcome.wrong view = tt
 
 still_whole : (z : ℤ) → Still (whole z)
-still_whole z view = stays_if (fits z) view (Gives (value.Int z) view) (Fails IntRange) refl tt
+still_whole z view = stays_if (fits z) view (Gives (value.Int z) view) (Fails IntRange) (refl, refl) tt
 
 still_real : (units : ℤ) → Still (real units)
-still_real units view = stays_if (fits units) view (Gives (value.Real units) view) (Fails RealRange) refl tt
+still_real units view = stays_if (fits units) view (Gives (value.Real units) view) (Fails RealRange) (refl, refl) tt
 
 still_timer : (due : ℤ) → Still (timer due)
-still_timer due view = stays_if (fits due) view (Gives (value.Timer due) view) (Fails RealRange) refl tt
+still_timer due view = stays_if (fits due) view (Gives (value.Timer due) view) (Fails RealRange) (refl, refl) tt
 
 still_on_int : (f : ℤ → Does Value) → ((z : ℤ) → Still (f z)) → (x : Value-F Value) → Still (on_int f x)
 still_on_int f h (Value-F.Int x) = h x
@@ -78,11 +78,11 @@ still_raised x (pos n) = still_whole (power x n)
 still_raised x (negsuc n) = λ view. tt
 
 still_best_int : (better : ℤ → ℤ → ℤ) (x : ℤ) (rest : List Value) → Still (best_int better x rest)
-still_best_int better x [] = λ view. refl
+still_best_int better x [] = λ view. (refl, refl)
 still_best_int better x (b ∷ rest) = still_on_int (λ y. best_int better (better x y) rest) (λ y. still_best_int better (better x y) rest) (out-Value b)
 
 still_best_real : (better : ℤ → ℤ → ℤ) (x : ℤ) (rest : List Value) → Still (best_real better x rest)
-still_best_real better x [] = λ view. refl
+still_best_real better x [] = λ view. (refl, refl)
 still_best_real better x (b ∷ rest) = still_on_real (λ y. best_real better (better x y) rest) (λ y. still_best_real better (better x y) rest) (out-Value b)
 
 still_best : (better : ℤ → ℤ → ℤ) (a b : Value) (rest : List Value) → Still (best_of better a b rest)
@@ -91,7 +91,7 @@ still_best better a b rest =
     (λ x. still_best_int better x (b ∷ rest)) (λ x. still_best_real better x (b ∷ rest)) (out-Value a)
 
 still_as_meant : (past : FaultKind) (made : ℤ → Value) (m : Meant) → Still (as_meant past made m)
-still_as_meant past made (means z) view = refl
+still_as_meant past made (means z) view = (refl, refl)
 still_as_meant past made no_form view = tt
 still_as_meant past made out_of_range view = tt
 
@@ -111,8 +111,8 @@ still_truth_meant : (text : List ℕ) → Still (truth_meant text)
 still_truth_meant text view = by_true (bytes_eq text (codes "true")) (bytes_eq text (codes "false"))
   where
     by_true : (b c : Bool) → Stays view (cond b (truth true) (cond c (truth false) (fails BadText)) view)
-    by_true true c = refl
-    by_true false true = refl
+    by_true true c = (refl, refl)
+    by_true false true = (refl, refl)
     by_true false false = tt
 
 still_truth_from : (x : Value-F Value) → Still (truth_from x)
@@ -122,10 +122,10 @@ still_truth_from _ = λ view. tt
 
 still_string_of : (text : List ℕ) → Still (string_of text)
 still_string_of text view =
-    stays_if (nat_le (length text) MOST_ELEMENTS) view (Gives (value.Text text) view) (Fails TooLarge) refl tt
+    stays_if (nat_le (length text) MOST_ELEMENTS) view (Gives (value.Text text) view) (Fails TooLarge) (refl, refl) tt
 
 still_has_finished : (scene : Scene) (o : Option ℕ) → Still (has_finished scene o)
-still_has_finished scene None view = refl
+still_has_finished scene None view = (refl, refl)
 still_has_finished scene (Some p) view = still_wanted (option_map value.Bool (finished_at scene view.instances p)) view
 
 still_by_stream : (made : ℕ → Option Dist) (stream : Value) → Still (by_stream made stream)
@@ -134,7 +134,7 @@ still_by_stream made stream view =
     (still_wanted (stream_in (out-Value stream)) view) (λ number. still_wanted (option_map value.Dist (made number)))
 
 still_after_drawing : (s : Sampling) → Still (after_drawing s)
-still_after_drawing (draws x taken) view = refl
+still_after_drawing (draws x taken) view = (refl, refl)
 still_after_drawing (refuses fault) view = tt
 still_after_drawing wrong view = tt
 
