@@ -1,5 +1,5 @@
 -- Instances whose offers are taken, or whose waiting is over, go on at a place.
-use Rattle.std.proofs.Common.{◌≡◌, ◌<◌, ℕ, zero, suc, Bool, true, false, not, List, [], ◌∷◌, length, Option, Some, None, refl, sym, ap, subst, ◌∙◌, arith}
+use Rattle.std.proofs.Common.{◌≡◌, ◌<◌, ℕ, zero, Bool, true, false, not, List, [], ◌∷◌, length, Option, Some, None, refl, sym, ap, subst, ◌∙◌}
 use Rattle.std.specs.Prelude.{slice_get, IsTrue, ◌&&◌}
 use Rattle.std.specs.Option.{IsSomeAnd}
 use Rattle.chi_types.specs.declared.ty.Ty.{out-Ty}

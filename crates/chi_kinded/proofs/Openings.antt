@@ -60,6 +60,46 @@ also_append : (slots more : List ℕ) (known : Known) → also_all (slots ++ mor
 also_append [] more known = refl
 also_append (slot ∷ slots) more known = also_append slots more (also slot known)
 
+module _ (scope : Scope) (outer : Known) (all : List CAlt) where
+  -- the variables hold what counts as set within unwinds that bind these names, and the offers fit
+  record OpenFits (names : List ℕ) (w : World) (o : Opening) : Type 0 where
+    of_program : w.names ≡ scope.core.names.kinds
+    held : Held w scope (also_all names outer) o.variables
+    each : Every (OfferFits w scope all) o.offers
+    few : length o.offers ≤ MOST_OFFERS
+
+  open_grows : (names : List ℕ) (w v : World) → Wider w v → (o : Opening) → OpenFits names w o → OpenFits names v o
+  open_grows names w v wider o h = record {
+    of_program = wider.names ∙ h.of_program;
+    held = held_grows w v wider scope (also_all names outer) o.variables h.held;
+    each = λ k offer e. offer_grows w v wider scope all offer (h.each k offer e);
+    few = h.few;
+  }
+
+  reads : (names : List ℕ) (w : World) (o : Opening) → OpenFits names w o → Reads w scope (also_all names outer) o.variables
+  reads names w o h = record { names = h.of_program; held = h.held }
+
+module _ (all : List CAlt) where
+  -- where alternatives within unwinds that bind these names stand among all
+
+  abbrev AllLead : List ℕ → List CAlt → Type 0
+  AllLead names alternatives = (bound : List ℕ) (c : CComm) (body : List CStat) → Among alternatives bound c body → Among all (names ++ bound) c body
+
+  abbrev Leads : List ℕ → CAlt-F CAlt CStat Branch → Type 0
+  Leads names (CAlt-F.Guarded guard c body) = Among all names c body
+  Leads names (CAlt-F.Unwind slots container alternatives) = AllLead (names ++ slots) alternatives
+
+  leads : (names : List ℕ) (a : CAlt) (more : List CAlt) → AllLead names (a ∷ more) → (layer : CAlt-F CAlt CStat Branch) → out-CAlt a ≡ layer → Leads names layer
+  leads names a more under (CAlt-F.Guarded guard c body) e = subst (λ z. Among all z c body) (append-nil names) (under [] c body (here a more guard c body e))
+  leads names a more under (CAlt-F.Unwind slots container alternatives) e =
+      λ bound c body m. subst (λ z. Among all z c body) (sym (append_assoc names slots bound)) (under (slots ++ bound) c body (inside a more slots container alternatives bound c body e m))
+
+guarded_by : (a : CAlt) (guard : Option CExpr) (c : CComm) (body : List CStat) → out-CAlt a ≡ CAlt-F.Guarded guard c body → a ≡ alternative.Guarded guard c body
+guarded_by a guard c body e = sym (roll-out-CAlt a) ∙ ap roll-CAlt e ∙ alternative.rolls-Guarded guard c body
+
+unwinds_by : (a : CAlt) (slots : List ℕ) (container : CExpr) (alternatives : List CAlt) → out-CAlt a ≡ CAlt-F.Unwind slots container alternatives → a ≡ alternative.Unwind slots container alternatives
+unwinds_by a slots container alternatives e = sym (roll-out-CAlt a) ∙ ap roll-CAlt e ∙ alternative.rolls-Unwind slots container alternatives
+
 module _ (laws : Laws) (scope : Scope) (run : Run) (scene : Scene) (provides : Provides scope run scene) (clock : ℤ) where
   abbrev value_in : Variables → Evaluates
   value_in variables = eval run scene variables
@@ -122,30 +162,15 @@ module _ (laws : Laws) (scope : Scope) (run : Run) (scene : Scene) (provides : P
 
   -- among all alternatives of a select, before which these slots count as set
   module _ (outer : Known) (all : List CAlt) where
-    -- the variables hold what counts as set within unwinds that bind these names, and the offers fit
-    record OpenFits (names : List ℕ) (w : World) (o : Opening) : Type 0 where
-      of_program : w.names ≡ scope.core.names.kinds
-      held : Held w scope (also_all names outer) o.variables
-      each : Every (OfferFits w scope all) o.offers
-      few : length o.offers ≤ MOST_OFFERS
+    abbrev Fits : List ℕ → World → Opening → Type 0
+    Fits = OpenFits scope outer all
 
-    open_grows : (names : List ℕ) (w v : World) → Wider w v → (o : Opening) → OpenFits names w o → OpenFits names v o
-    open_grows names w v wider o h = record {
-      of_program = wider.names ∙ h.of_program;
-      held = held_grows w v wider scope (also_all names outer) o.variables h.held;
-      each = λ k offer e. offer_grows w v wider scope all offer (h.each k offer e);
-      few = h.few;
-    }
-
-    reads : (names : List ℕ) (w : World) (o : Opening) → OpenFits names w o → Reads w scope (also_all names outer) o.variables
-    reads names w o h = record { names = h.of_program; held = h.held }
-
-    well_kept : (names : List ℕ) (c : CComm) (body : List CStat) (o : Opening) (a : Act) (w : World) → Among all names c body → OpenFits names w o → ActFits w scope c a
-        → Well w (OpenFits names) (kept names body o a)
+    well_kept : (names : List ℕ) (c : CComm) (body : List CStat) (o : Opening) (a : Act) (w : World) → Among all names c body → Fits names w o → ActFits w scope c a
+        → Well w (Fits names) (kept names body o a)
     well_kept names c body o a w among h fit =
-        well_if w (OpenFits names) (nat_lt (length o.offers) MOST_OFFERS) _ _
-        (λ e. well_giving w (λ v. Binds v scope names) (OpenFits names) _
-        (λ v wider bindings binds. let grown : OpenFits names v o = open_grows names w v wider o h in record {
+        well_if w (Fits names) (nat_lt (length o.offers) MOST_OFFERS) _ _
+        (λ e. well_giving w (λ v. Binds v scope names) (Fits names) _
+        (λ v wider bindings binds. let grown : Fits names v o = open_grows scope outer all names w v wider o h in record {
           of_program = grown.of_program;
           held = grown.held;
           each = every_append (OfferFits v scope all) o.offers _ grown.each
@@ -165,50 +190,36 @@ module _ (laws : Laws) (scope : Scope) (run : Run) (scene : Scene) (provides : P
         one_more : (offers : List Offer) (offer : Offer) → length offers < MOST_OFFERS → length (offers ++ offer ∷ []) ≤ MOST_OFFERS
         one_more offers offer l = let more : length (offers ++ offer ∷ []) ≡ length offers + 1 = length-append offers (offer ∷ []) in omega (arith, more, l)
 
-    well_offered : (names : List ℕ) (c : CComm) (body : List CStat) (o : Opening) (w : World) → SoundComm scope (also_all names outer) c → Among all names c body → OpenFits names w o
-        → Well w (OpenFits names) (offered value_in clock names c body o)
+    well_offered : (names : List ℕ) (c : CComm) (body : List CStat) (o : Opening) (w : World) → SoundComm scope (also_all names outer) c → Among all names c body → Fits names w o
+        → Well w (Fits names) (offered value_in clock names c body o)
     well_offered names c body o w h among fit =
-        well_then w (λ v. ActFits v scope c) (OpenFits names) (kept names body o) (λ v wider same a is. well_kept names c body o a v among (open_grows names w v wider o fit) is)
-        (act_of value_in clock o.variables c) (well_act (also_all names outer) o.variables c h w (reads names w o fit))
+        well_then w (λ v. ActFits v scope c) (Fits names) (kept names body o) (λ v wider same a is. well_kept names c body o a v among (open_grows scope outer all names w v wider o fit) is)
+        (act_of value_in clock o.variables c) (well_act (also_all names outer) o.variables c h w (reads scope outer all names w o fit))
 
     well_guarded : (names : List ℕ) (guard : Option CExpr) (c : CComm) (body : List CStat) (o : Opening) (w : World) → SoundGuard scope (also_all names outer) guard
-        → SoundComm scope (also_all names outer) c → Among all names c body → OpenFits names w o → Well w (OpenFits names) (guarded value_in clock guard names c body o)
+        → SoundComm scope (also_all names outer) c → Among all names c body → Fits names w o → Well w (Fits names) (guarded value_in clock guard names c body o)
     well_guarded names _ c body o w no_guard h among fit = well_offered names c body o w h among fit
     well_guarded names _ c body o w (a_guard e g) h among fit =
-        well_then w (λ v. IsOf v Ty-F.Bool) (OpenFits names) _
-        (λ v wider same x is. let grown : OpenFits names v o = open_grows names w v wider o fit in
-        grows_truth v (Same v (OpenFits names)) (out-Value x) (offered value_in clock names c body o) (gives o) is
-        (well_offered names c body o v h among grown) (well_gives v (OpenFits names) o grown))
-        (value_in o.variables e) (well_value laws scope run scene provides (also_all names outer) o.variables e Ty-F.Bool g w (reads names w o fit))
-
-    -- where alternatives within unwinds that bind these names stand among all
-
-    abbrev AllLead : List ℕ → List CAlt → Type 0
-    AllLead names alternatives = (bound : List ℕ) (c : CComm) (body : List CStat) → Among alternatives bound c body → Among all (names ++ bound) c body
-
-    abbrev Leads : List ℕ → CAlt-F CAlt CStat Branch → Type 0
-    Leads names (CAlt-F.Guarded guard c body) = Among all names c body
-    Leads names (CAlt-F.Unwind slots container alternatives) = AllLead (names ++ slots) alternatives
-
-    leads : (names : List ℕ) (a : CAlt) (more : List CAlt) → AllLead names (a ∷ more) → (layer : CAlt-F CAlt CStat Branch) → out-CAlt a ≡ layer → Leads names layer
-    leads names a more under (CAlt-F.Guarded guard c body) e = subst (λ z. Among all z c body) (append-nil names) (under [] c body (here a more guard c body e))
-    leads names a more under (CAlt-F.Unwind slots container alternatives) e =
-        λ bound c body m. subst (λ z. Among all z c body) (sym (append_assoc names slots bound)) (under (slots ++ bound) c body (inside a more slots container alternatives bound c body e m))
+        well_then w (λ v. IsOf v Ty-F.Bool) (Fits names) _
+        (λ v wider same x is. let grown : Fits names v o = open_grows scope outer all names w v wider o fit in
+        grows_truth v (Same v (Fits names)) (out-Value x) (offered value_in clock names c body o) (gives o) is
+        (well_offered names c body o v h among grown) (well_gives v (Fits names) o grown))
+        (value_in o.variables e) (well_value laws scope run scene provides (also_all names outer) o.variables e Ty-F.Bool g w (reads scope outer all names w o fit))
 
     -- what opens alternatives does well in each wider world
     abbrev OpensWell : World → List ℕ → (List ℕ → Opening → Does Opening) → Type 0
-    OpensWell w names f = (v : World) → Wider w v → (o : Opening) → OpenFits names v o → Well v (OpenFits names) (f names o)
+    OpensWell w names f = (v : World) → Wider w v → (o : Opening) → Fits names v o → Well v (Fits names) (f names o)
 
     abbrev alternatives_open : List CAlt → List ℕ → Opening → Does Opening
     alternatives_open alternatives names = each_opens value_in clock names (map (opens value_in clock) alternatives)
 
     well_unwound : (names slots : List ℕ) (T : Kind) (alternatives : List CAlt) → SlotsTake scope slots T → (w : World) → OpensWell w (names ++ slots) (alternatives_open alternatives) → (x : Value)
-        → IsOf w T x → (o : Opening) → OpenFits names w o → Well w (OpenFits names) (unwound value_in clock names slots (map (opens value_in clock) alternatives) x o)
+        → IsOf w T x → (o : Opening) → Fits names w o → Well w (Fits names) (unwound value_in clock names slots (map (opens value_in clock) alternatives) x o)
     well_unwound names slots T alternatives take w well x is o fit =
-        well_then w (λ v. Held v scope (also_all slots (also_all names outer))) (OpenFits names) _
+        well_then w (λ v. Held v scope (also_all slots (also_all names outer))) (Fits names) _
         (λ v wider same variables held.
-        let grown : OpenFits names v o = open_grows names w v wider o fit in
-        well_weaker v (OpenFits (names ++ slots)) (OpenFits names)
+        let grown : Fits names v o = open_grows scope outer all names w v wider o fit in
+        well_weaker v (Fits (names ++ slots)) (Fits names)
         (λ u after h. record {
           of_program = h.of_program;
           held = held_less u scope (also_all names outer) (also_all (names ++ slots) outer) after.variables
@@ -227,12 +238,6 @@ module _ (laws : Laws) (scope : Scope) (run : Run) (scene : Scene) (provides : P
         (well_some w (λ v. Held v scope (also_all slots (also_all names outer))) (bound slots x o.variables)
         (held_bound w scope slots T x take is (also_all names outer) o.variables fit.held))
 
-    guarded_by : (a : CAlt) (guard : Option CExpr) (c : CComm) (body : List CStat) → out-CAlt a ≡ CAlt-F.Guarded guard c body → a ≡ alternative.Guarded guard c body
-    guarded_by a guard c body e = sym (roll-out-CAlt a) ∙ ap roll-CAlt e ∙ alternative.rolls-Guarded guard c body
-
-    unwinds_by : (a : CAlt) (slots : List ℕ) (container : CExpr) (alternatives : List CAlt) → out-CAlt a ≡ CAlt-F.Unwind slots container alternatives → a ≡ alternative.Unwind slots container alternatives
-    unwinds_by a slots container alternatives e = sym (roll-out-CAlt a) ∙ ap roll-CAlt e ∙ alternative.rolls-Unwind slots container alternatives
-
     -- an alternative by its outermost layer
     abbrev Layer : World → List ℕ → CAlt-F CAlt CStat Branch → Type 0
     Layer w names (CAlt-F.Guarded guard c body) = OpensWell w names (λ names. guarded value_in clock guard names c body)
@@ -240,42 +245,42 @@ module _ (laws : Laws) (scope : Scope) (run : Run) (scene : Scene) (provides : P
 
     by_layer : (w : World) (names : List ℕ) (a : CAlt) (layer : CAlt-F CAlt CStat Branch) → out-CAlt a ≡ layer → Layer w names layer → OpensWell w names (opens value_in clock a)
     by_layer w names a (CAlt-F.Guarded guard c body) e well v wider o fit view fits =
-        subst (Kept v (Same v (OpenFits names))) (sym (opens_guarded value_in clock names o view a guard c body (guarded_by a guard c body e))) (well v wider o fit view fits)
+        subst (Kept v (Same v (Fits names))) (sym (opens_guarded value_in clock names o view a guard c body (guarded_by a guard c body e))) (well v wider o fit view fits)
     by_layer w names a (CAlt-F.Unwind slots container alternatives) e well v wider o fit view fits =
-        subst (Kept v (Same v (OpenFits names))) (sym (opens_unwind value_in clock names o view a slots container alternatives (unwinds_by a slots container alternatives e))) (well v wider o fit view fits)
+        subst (Kept v (Same v (Fits names))) (sym (opens_unwind value_in clock names o view a slots container alternatives (unwinds_by a slots container alternatives e))) (well v wider o fit view fits)
 
     mutual
       well_alternatives : (loop : Bool) (known : Known) (alternatives : List CAlt) → SoundAlternatives scope loop known alternatives → (names : List ℕ) → known ≡ also_all names outer
-          → AllLead names alternatives → (w : World) → OpensWell w names (alternatives_open alternatives)
-      well_alternatives _ _ _ (no_alternative loop known) names same lead w = λ v wider o fit. well_gives v (OpenFits names) o fit
+          → AllLead all names alternatives → (w : World) → OpensWell w names (alternatives_open alternatives)
+      well_alternatives _ _ _ (no_alternative loop known) names same lead w = λ v wider o fit. well_gives v (Fits names) o fit
       well_alternatives _ _ _ (one_alternative loop known a more h rest) names same lead w = λ v wider o fit.
-          well_then v (OpenFits names) (OpenFits names) (alternatives_open more names)
+          well_then v (Fits names) (Fits names) (alternatives_open more names)
           (λ u wider' s after fit'. well_alternatives loop known more rest names same (λ bound c body m. lead bound c body (later a more bound c body m)) w u (wider_still w v u wider wider') after fit')
           (opens value_in clock a names o)
-          (by_layer w names a (out-CAlt a) refl (well_alternative loop known (out-CAlt a) h names same (leads names a more lead (out-CAlt a) refl) w) v wider o fit)
+          (by_layer w names a (out-CAlt a) refl (well_alternative loop known (out-CAlt a) h names same (leads all names a more lead (out-CAlt a) refl) w) v wider o fit)
 
-      well_alternative : (loop : Bool) (known : Known) (layer : CAlt-F CAlt CStat Branch) → SoundAlternative scope loop known layer → (names : List ℕ) → known ≡ also_all names outer → Leads names layer
+      well_alternative : (loop : Bool) (known : Known) (layer : CAlt-F CAlt CStat Branch) → SoundAlternative scope loop known layer → (names : List ℕ) → known ≡ also_all names outer → Leads all names layer
           → (w : World) → Layer w names layer
       well_alternative _ _ _ (statement.guarded loop known guard c body g h block) names same lead w = λ v wider o fit.
           well_guarded names guard c body o v (subst (λ z. SoundGuard scope z guard) same g) (subst (λ z. SoundComm scope z c) same h) lead fit
       well_alternative _ _ _ (statement.unwinds loop known slots container alternatives over more) names same lead w = λ v wider o fit.
-          well_then v (λ u. IsOf u over.kind) (OpenFits names) _
-          (λ u wider1 s1 x is. well_then u (λ z. Every (IsOf z over.element)) (OpenFits names) _
+          well_then v (λ u. IsOf u over.kind) (Fits names) _
+          (λ u wider1 s1 x is. well_then u (λ z. Every (IsOf z over.element)) (Fits names) _
           (λ z wider2 s2 xs each.
-          well_through (OpenFits names) (unwound value_in clock names slots (map (opens value_in clock) alternatives)) z xs
+          well_through (Fits names) (unwound value_in clock names slots (map (opens value_in clock) alternatives)) z xs
           (λ y wider3 s3 k element e after fit'. well_unwound names slots over.element alternatives over.take y
           (well_alternatives loop (also_all slots known) alternatives more (names ++ slots) (ap (also_all slots) same ∙ sym (also_append names slots outer)) lead y) element
           (value_grows z y wider3 element over.element (each k element e)) after fit')
-          o (open_grows names v z (wider_still v u z wider1 wider2) o fit))
+          o (open_grows scope outer all names v z (wider_still v u z wider1 wider2) o fit))
           (wanted (elements_of x)) (well_some u (λ z. Every (IsOf z over.element)) (elements_of x) (elements_fit u scope over.kind over.element (out-Value x) over.over is)))
           (value_in o.variables container)
           (well_value laws scope run scene provides known o.variables container over.kind over.has_kind v
-          (subst (λ z. Reads v scope z o.variables) (sym same) (reads names v o fit)))
+          (subst (λ z. Reads v scope z o.variables) (sym same) (reads scope outer all names v o fit)))
 
   pub well_opened : (known : Known) (loop : Bool) (variables : Variables) (alternatives : List CAlt) → SoundAlternatives scope loop known alternatives → (w : World) → Reads w scope known variables
       → Well w (λ v o. Held v scope known o.variables × Every (OfferFits v scope alternatives) o.offers × (length o.offers ≤ MOST_OFFERS)) (opened value_in clock variables alternatives)
   well_opened known loop variables alternatives h w r =
-      well_weaker w (OpenFits known alternatives []) (λ v o. Held v scope known o.variables × Every (OfferFits v scope alternatives) o.offers × (length o.offers ≤ MOST_OFFERS))
+      well_weaker w (OpenFits scope known alternatives []) (λ v o. Held v scope known o.variables × Every (OfferFits v scope alternatives) o.offers × (length o.offers ≤ MOST_OFFERS))
       (λ v o fit. (fit.held, fit.each, fit.few)) (opened value_in clock variables alternatives)
       (well_alternatives known alternatives loop known alternatives h [] refl (λ bound c body m. m) w w (same_world w) (record { variables = variables; offers = [] })
       (record { of_program = r.names; held = r.held; each = every_nil (OfferFits w scope alternatives); few = omega arith }))

@@ -232,7 +232,7 @@ module _ (laws : Laws) (core : Core) (fine : Sound core) (config : Config) (h : 
         (well_opened laws home.scope (run_of core config) (scene_of core config) provides config.clock known (is_within_loop frames) i.variables alternatives fine_alternatives w0 reads)
 
     abbrev Starts : World → Started → Type 0
-    Starts = StartFits laws home.scope fine (run_of core config) (scene_of core config) provides (length config.instances) (exit_of h.model) (exit_of k.d) k.exits known
+    Starts = StartFits home.scope (length config.instances) (exit_of h.model) known
 
     well_starts : (elements : List CElem) → SoundElements home.scope (exit_of k.d) known elements → Grows w0 Starts (all_started (value_in core config) core.procs i.variables elements)
     well_starts elements fine_elements =

@@ -81,6 +81,31 @@ well_numbered w view fits = by_room (nat_lt view.instances MOST_INSTANCES) refl
           record { last = omega (arith, same); count = refl; few = omega (arith, same, l) };
     })
 
+-- a new instance is kinded once it is settled
+abbrev IsKinded : Core → Option Kind → World → Instance → Type 0
+IsKinded core model w i = KindedInstance core model w (settled i)
+
+module _ (scope : Scope) (base : ℕ) (model : Option Kind) (known : Known) where
+  -- the variables hold what counts as set, and the new instances are kinded
+  pub record StartFits (w : World) (s : Started) : Type 0 where
+    pub of_program : w.names ≡ scope.core.names.kinds
+    pub held : Held w scope known s.variables
+    pub each : Every (IsKinded scope.core model w) s.made
+    pub count : w.instances ≡ base + length s.made
+    pub few : w.instances ≤ MOST_INSTANCES
+
+  start_grows : (w v : World) → Wider w v → v.instances ≡ w.instances → (s : Started) → StartFits w s → StartFits v s
+  start_grows w v wider same s h = record {
+    of_program = wider.names ∙ h.of_program;
+    held = held_grows w v wider scope known s.variables h.held;
+    each = λ k i e. instance_grows scope.core model w v wider (settled i) (h.each k i e);
+    count = same ∙ h.count;
+    few = subst (λ n. n ≤ MOST_INSTANCES) (sym same) h.few;
+  }
+
+  reads : (w : World) (s : Started) → StartFits w s → Reads w scope known s.variables
+  reads w s h = record { names = h.of_program; held = h.held }
+
 module _ (laws : Laws) (scope : Scope) (fine : Sound scope.core) (run : Run) (scene : Scene) (provides : Provides scope run scene) (base : ℕ)
     (model its : Option Kind) (may : MayStart model its) where
   abbrev value_in : Variables → Evaluates
@@ -89,28 +114,8 @@ module _ (laws : Laws) (scope : Scope) (fine : Sound scope.core) (run : Run) (sc
   abbrev core : Core
   core = scope.core
 
-  abbrev IsKinded : World → Instance → Type 0
-  IsKinded w i = KindedInstance core model w (settled i)
-
-  -- the variables hold what counts as set, and the new instances are kinded
-  pub record StartFits (known : Known) (w : World) (s : Started) : Type 0 where
-    pub of_program : w.names ≡ core.names.kinds
-    pub held : Held w scope known s.variables
-    pub each : Every (IsKinded w) s.made
-    pub count : w.instances ≡ base + length s.made
-    pub few : w.instances ≤ MOST_INSTANCES
-
-  start_grows : (known : Known) (w v : World) → Wider w v → v.instances ≡ w.instances → (s : Started) → StartFits known w s → StartFits known v s
-  start_grows known w v wider same s h = record {
-    of_program = wider.names ∙ h.of_program;
-    held = held_grows w v wider scope known s.variables h.held;
-    each = λ k i e. instance_grows core model w v wider (settled i) (h.each k i e);
-    count = same ∙ h.count;
-    few = subst (λ n. n ≤ MOST_INSTANCES) (sym same) h.few;
-  }
-
-  reads : (known : Known) (w : World) (s : Started) → StartFits known w s → Reads w scope known s.variables
-  reads known w s h = record { names = h.of_program; held = h.held }
+  abbrev Fits : Known → World → Started → Type 0
+  Fits = StartFits scope base model
 
   module _ (known : Known) where
     -- where the number of a new instance goes, if it goes anywhere
@@ -132,13 +137,13 @@ module _ (laws : Laws) (scope : Scope) (fine : Sound scope.core) (run : Run) (sc
     is_instance : (w : World) (number : ℕ) → number < w.instances → IsOf w Ty-F.Inst (value.Inst (Some number))
     is_instance w number l = subst (λ x. Of w x Ty-F.Inst) (sym (value.outs-Inst (Some number))) (of_instance number l)
 
-    well_told : (spot : Option Spot) (number : ℕ) (s : Started) (w : World) → TellsAt w spot → number < w.instances → StartFits known w s → Grows w (StartFits known) (told spot number s)
-    well_told _ number s w to_none l h = grows_gives w (StartFits known) s h
+    well_told : (spot : Option Spot) (number : ℕ) (s : Started) (w : World) → TellsAt w spot → number < w.instances → Fits known w s → Grows w (Fits known) (told spot number s)
+    well_told _ number s w to_none l h = grows_gives w (Fits known) s h
     well_told _ number s w (to_spot t spot is) l h =
         let now : Known = also_all (whole_or t.steps t.slot []) known in
-        grows_giving w (Same w (λ v. Held v scope now)) (StartFits known) _
+        grows_giving w (Same w (λ v. Held v scope now)) (Fits known) _
         (λ v wider variables both.
-        let grown : StartFits known v s = start_grows known w v wider both.0 s h in
+        let grown : Fits known v s = start_grows scope base model known w v wider both.0 s h in
         record {
           of_program = grown.of_program;
           held = held_less v scope known now variables (within_all (whole_or t.steps t.slot []) known) both.1;
@@ -150,52 +155,52 @@ module _ (laws : Laws) (scope : Scope) (fine : Sound scope.core) (run : Run) (sc
         (well_store laws scope known w known s.variables t Ty-F.Inst spot (value.Inst (Some number)) (λ k j. j) is (is_instance w number l) h.held)
 
     well_made : (process : ℕ) (d : ProcDef) (values : List Value) (spot : Option Spot) (s : Started) (w : World) → slice_get core.procs process ≡ Some d → MayStart its (exit_of d)
-        → AreOf w values (kinds_of d.params) → TellsAt w spot → StartFits known w s → Grows w (StartFits known) (made_by process d values spot s)
+        → AreOf w values (kinds_of d.params) → TellsAt w spot → Fits known w s → Grows w (Fits known) (made_by process d values spot s)
     unfolding made_by
     well_made process d values spot s w there starts are tells h =
         let more : Started = record s { made = s.made ++ new_instance process d values ∷ [] } in
-        makes_then w (IsNew w.instances) (StartFits known) (λ number. told spot number more)
+        makes_then w (IsNew w.instances) (Fits known) (λ number. told spot number more)
         (λ v wider number is. well_told spot number more v (tells_grow w v wider spot tells) is.last (record {
           of_program = wider.names ∙ h.of_program;
           held = held_grows w v wider scope known s.variables h.held;
-          each = every_append (IsKinded v) s.made (new_instance process d values ∷ []) (λ k i e. instance_grows core model w v wider (settled i) (h.each k i e))
-              (every_cons (IsKinded v) (new_instance process d values) []
+          each = every_append (IsKinded core model v) s.made (new_instance process d values ∷ []) (λ k i e. instance_grows core model w v wider (settled i) (h.each k i e))
+              (every_cons (IsKinded core model v) (new_instance process d values) []
               (kinded_new core model v process d values there (fine.processes process d there) (may_start_on model its (exit_of d) may starts) (are_grow w v wider values (kinds_of d.params) are))
-              (every_nil (IsKinded v)));
+              (every_nil (IsKinded core model v)));
           count = let l = length-append s.made (new_instance process d values ∷ []) in let c = is.count in let b = h.count in omega (arith, l, c, b);
           few = is.few;
         }))
         numbered (well_numbered w)
 
     well_makes : (target : Option CTarget) (process : ℕ) (arguments : List CExpr) (d : ProcDef) → slice_get core.procs process ≡ Some d → MayStart its (exit_of d)
-        → HaveKinds scope known arguments (kinds_of d.params) → TakesInstance scope known target → (s : Started) (w : World) → StartFits known w s
-        → Grows w (StartFits known) (makes value_in core.procs target process arguments s)
+        → HaveKinds scope known arguments (kinds_of d.params) → TakesInstance scope known target → (s : Started) (w : World) → Fits known w s
+        → Grows w (Fits known) (makes value_in core.procs target process arguments s)
     unfolding makes
     well_makes target process arguments d there starts h takes s w fit =
-        grows_then w (λ v xs. AreOf v xs (kinds_of d.params)) (StartFits known) _
-        (λ v wider1 s1 xs are. grows_then v TellsAt (StartFits known) _
+        grows_then w (λ v xs. AreOf v xs (kinds_of d.params)) (Fits known) _
+        (λ v wider1 s1 xs are. grows_then v TellsAt (Fits known) _
         (λ u wider2 s2 spot tells.
         let are_u : AreOf u xs (kinds_of d.params) = are_grow v u wider2 xs (kinds_of d.params) are in
-        let fit_u : StartFits known u s = start_grows known w u (wider_still w v u wider1 wider2) (s2 ∙ s1) s fit in
-        subst (λ o. Grows u (StartFits known) (λ view. then_do (wanted o view) (λ d. made_by process d xs spot s))) (sym (process_found core process d there u xs are_u))
+        let fit_u : Fits known u s = start_grows scope base model known w u (wider_still w v u wider1 wider2) (s2 ∙ s1) s fit in
+        subst (λ o. Grows u (Fits known) (λ view. then_do (wanted o view) (λ d. made_by process d xs spot s))) (sym (process_found core process d there u xs are_u))
         (well_made process d xs spot s u there starts are_u tells fit_u))
-        (told_at value_in core.procs s.variables target) (well_told_at s.variables target takes v (reads_grow w v wider1 scope known s.variables (reads known w s fit))))
-        (in_turn (map (value_in s.variables) arguments)) (well_values laws scope run scene provides known s.variables arguments (kinds_of d.params) h w (reads known w s fit))
+        (told_at value_in core.procs s.variables target) (well_told_at s.variables target takes v (reads_grow w v wider1 scope known s.variables (reads scope base model known w s fit))))
+        (in_turn (map (value_in s.variables) arguments)) (well_values laws scope run scene provides known s.variables arguments (kinds_of d.params) h w (reads scope base model known w s fit))
 
   -- what starts elements does well in each wider world
   abbrev StartsWell : Known → (Started → Does Started) → Type 0
-  StartsWell known f = (w : World) (s : Started) → StartFits known w s → Grows w (StartFits known) (f s)
+  StartsWell known f = (w : World) (s : Started) → Fits known w s → Grows w (Fits known) (f s)
 
   abbrev elements_start : List CElem → Started → Does Started
   elements_start elements = through (λ f. f) (map (starts value_in core.procs) elements)
 
   well_unwound : (known : Known) (slots : List ℕ) (T : Kind) (elements : List CElem) → SlotsTake scope slots T → StartsWell (also_all slots known) (elements_start elements) → (x : Value) (w : World)
-      → IsOf w T x → (s : Started) → StartFits known w s → Grows w (StartFits known) (unwound value_in core.procs slots (map (starts value_in core.procs) elements) x s)
+      → IsOf w T x → (s : Started) → Fits known w s → Grows w (Fits known) (unwound value_in core.procs slots (map (starts value_in core.procs) elements) x s)
   well_unwound known slots T elements take well x w is s fit =
-      grows_then w (λ v. Held v scope (also_all slots known)) (StartFits known) _
+      grows_then w (λ v. Held v scope (also_all slots known)) (Fits known) _
       (λ v wider same variables held.
-      let grown : StartFits known v s = start_grows known w v wider same s fit in
-      grows_weaker v (StartFits (also_all slots known)) (StartFits known)
+      let grown : Fits known v s = start_grows scope base model known w v wider same s fit in
+      grows_weaker v (Fits (also_all slots known)) (Fits known)
       (λ u after h. record {
         of_program = h.of_program;
         held = held_less u scope known (also_all slots known) after.variables (within_all slots known) h.held;
@@ -232,43 +237,43 @@ module _ (laws : Laws) (scope : Scope) (fine : Sound scope.core) (run : Run) (sc
 
   by_layer : (known : Known) (e : CElem) (layer : CElem-F CElem) → out-CElem e ≡ layer → Layer known layer → StartsWell known (starts value_in core.procs e)
   by_layer known e (CElem-F.Make target process arguments) h well w s fit view fits =
-      subst (Kept w (StartFits known)) (sym (starts_make value_in core.procs s view e target process arguments (makes_by e target process arguments h))) (well w s fit view fits)
+      subst (Kept w (Fits known)) (sym (starts_make value_in core.procs s view e target process arguments (makes_by e target process arguments h))) (well w s fit view fits)
   by_layer known e (CElem-F.Unwind slots container elements) h well w s fit view fits =
-      subst (Kept w (StartFits known)) (sym (starts_unwind value_in core.procs s view e slots container elements (unwinds_by e slots container elements h))) (well w s fit view fits)
+      subst (Kept w (Fits known)) (sym (starts_unwind value_in core.procs s view e slots container elements (unwinds_by e slots container elements h))) (well w s fit view fits)
 
   mutual
     well_elements : (known : Known) (elements : List CElem) → SoundElements scope its known elements → StartsWell known (elements_start elements)
-    well_elements _ _ (no_element known) = λ w s fit. grows_gives w (StartFits known) s fit
+    well_elements _ _ (no_element known) = λ w s fit. grows_gives w (Fits known) s fit
     well_elements _ _ (one_element known e es h more) = λ w s fit.
-        makes_then w (StartFits known) (StartFits known) (elements_start es) (λ v wider after fit'. well_elements known es more v after fit') (starts value_in core.procs e s)
+        makes_then w (Fits known) (Fits known) (elements_start es) (λ v wider after fit'. well_elements known es more v after fit') (starts value_in core.procs e s)
         (by_layer known e (out-CElem e) refl (well_element known (out-CElem e) h) w s fit)
 
     well_element : (known : Known) (layer : CElem-F CElem) → SoundElement scope its known layer → Layer known layer
     well_element _ _ (sound.makes known target process arguments d there starts h takes) = λ w s fit. well_makes known target process arguments d there starts h takes s w fit
     well_element _ _ (sound.unwinds known slots container elements over more) = λ w s fit.
-        grows_then w (λ v. IsOf v over.kind) (StartFits known) _
-        (λ v wider1 s1 x is. grows_then v (λ u. Every (IsOf u over.element)) (StartFits known) _
+        grows_then w (λ v. IsOf v over.kind) (Fits known) _
+        (λ v wider1 s1 x is. grows_then v (λ u. Every (IsOf u over.element)) (Fits known) _
         (λ u wider2 s2 xs each.
-        grows_through (StartFits known) (unwound value_in core.procs slots (map (starts value_in core.procs) elements)) u xs
+        grows_through (Fits known) (unwound value_in core.procs slots (map (starts value_in core.procs) elements)) u xs
         (λ z wider3 k y e after fit'. well_unwound known slots over.element elements over.take (well_elements (also_all slots known) elements more) y z
         (value_grows u z wider3 y over.element (each k y e)) after fit')
-        s (start_grows known w u (wider_still w v u wider1 wider2) (s2 ∙ s1) s fit))
+        s (start_grows scope base model known w u (wider_still w v u wider1 wider2) (s2 ∙ s1) s fit))
         (wanted (elements_of x)) (well_some v (λ u. Every (IsOf u over.element)) (elements_of x) (elements_fit v scope over.kind over.element (out-Value x) over.over is)))
-        (value_in s.variables container) (well_value laws scope run scene provides known s.variables container over.kind over.has_kind w (reads known w s fit))
+        (value_in s.variables container) (well_value laws scope run scene provides known s.variables container over.kind over.has_kind w (reads scope base model known w s fit))
 
   through_map : {X : Type 0} (f : X → Started → Does Started) (xs : List X) → through (λ g. g) (map f xs) ≡ through f xs
   through_map f [] = refl
   through_map f (x ∷ xs) = λ i s view. then_do (f x s view) (through_map f xs i)
 
   pub well_started : (known : Known) (variables : Variables) (elements : List CElem) → SoundElements scope its known elements → (w : World) → Reads w scope known variables → w.instances ≡ base
-      → base ≤ MOST_INSTANCES → Grows w (StartFits known) (all_started value_in core.procs variables elements)
+      → base ≤ MOST_INSTANCES → Grows w (Fits known) (all_started value_in core.procs variables elements)
   well_started known variables elements h w r count few =
       let s : Started = record { variables = variables; made = [] } in
-      subst (λ f. Grows w (StartFits known) (f s)) (through_map (starts value_in core.procs) elements)
+      subst (λ f. Grows w (Fits known) (f s)) (through_map (starts value_in core.procs) elements)
       (well_elements known elements h w s (record {
         of_program = r.names;
         held = r.held;
-        each = every_nil (IsKinded w);
+        each = every_nil (IsKinded core model w);
         count = omega (arith, count);
         few = omega (arith, count, few);
       }))
