@@ -1,0 +1,7 @@
+//! Laws of derivations and of what policies pick. The functions compute nothing: their contracts
+//! are the laws.
+#![tactic(auto)]
+
+pub use laws::options_law;
+
+mod laws;
