@@ -5,7 +5,6 @@ use Rattle.std.specs.List.{slice_get, Contains, flat_map}
 use Rattle.std.specs.Option.{option_map}
 use Rattle.std.proofs.lemmas.Option.{slice_get_within, get_or_from_slice_get, slice_get-get_or, slice_get-map}
 use Rattle.std.proofs.lemmas.List.Elements.{Contains-append_left, Contains-append_right}
-use Rattle.chi_core.specs.Kinds.{Every}
 use Rattle.chi_core.specs.Options.{numbers}
 use Rattle.chi_runs.specs.Once.{StandsOnce}
 

@@ -1,6 +1,6 @@
 -- The options of an instance: each is its own, and stands there once.
-use Rattle.std.proofs.Common.{◌≡◌, ℕ, zero, suc, ◌<◌, ℤ, List, [], ◌∷◌, Option, Some, None, Bool, true, false, cond, length, sym, ◌∙◌, ap, subst, refl, arith}
-use Rattle.std.specs.Prelude.{int_lt, nat_eq, nat_lt, map, filter}
+use Rattle.std.proofs.Common.{◌≡◌, ℕ, zero, suc, ◌<◌, List, [], ◌∷◌, Option, Some, None, Bool, true, false, cond, length, sym, ◌∙◌, subst, refl, arith}
+use Rattle.std.specs.Prelude.{int_lt, nat_eq, nat_lt, map}
 use Rattle.std.specs.List.{slice_get, Contains, flat_map}
 use Rattle.std.proofs.lemmas.Option.{slice_get_within}
 use Rattle.chi_core.specs.declared.label.Label.{Label}
@@ -9,8 +9,8 @@ use Rattle.chi_core.specs.Kinds.{Every}
 use Rattle.chi_core.specs.declared.act.Act.{Act}
 use Rattle.chi_core.specs.declared.act.Act.TheVariants.{Send, Receive, Delay}
 use Rattle.chi_core.specs.Config.{Config, Instance, Offer, State, Running, Waiting, Joining, Finished, offers_in}
-use Rattle.chi_core.specs.Options.{numbers, is_receiver, receivers, pairs_with, pairs, options_by, options_for, none_under_way, options_in, options_of, options, actors}
-use Rattle.chi_runs.proofs.Lists.{contains-at, Joined, joined-at, keeps, mapped-at, Distinct, distinct-none, distinct-one, distinct-joined, distinct-filter, distinct-map, number-at, distinct-numbers}
+use Rattle.chi_core.specs.Options.{numbers, is_receiver, receivers, pairs_with, options_by, options_for, none_under_way, options_in, options_of, options, actors}
+use Rattle.chi_runs.proofs.Lists.{Joined, joined-at, keeps, mapped-at, Distinct, distinct-none, distinct-one, distinct-joined, distinct-filter, distinct-map, number-at, distinct-numbers}
 
 -- the instance that takes a label as its option, the alternative by which it does, and the other instance
 abbrev pub actor_of : Label → Option ℕ

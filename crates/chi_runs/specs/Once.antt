@@ -1,5 +1,5 @@
 -- What may come next is an option of one instance, or the time goes on.
-use Rattle.std.specs.Prelude.{◌≡◌, ◌≢◌, ℕ, List, [], Some, Contains, slice_get}
+use Rattle.std.specs.Prelude.{◌≡◌, ◌≢◌, ℕ, List, Some, Contains, slice_get}
 use Rattle.chi_core.specs.declared.label.Label.{Label}
 use Rattle.chi_core.specs.declared.label.Label.TheVariants.{Advance}
 use Rattle.chi_core.specs.Config.{Config}
@@ -25,7 +25,3 @@ EachOfOne = (config : Config) (label : Label) → Contains (enabled config) labe
 -- every option of every instance may come next, and none is Advance
 abbrev pub EachMayCome : Type 0
 EachMayCome = (config : Config) (p : ℕ) (label : Label) → Contains (options config p) label → Contains (enabled config) label × (label ≢ Advance)
-
--- the time goes on only where no instance has an option
-abbrev pub AdvanceIsLast : Type 0
-AdvanceIsLast = (config : Config) → Contains (enabled config) Advance → (p : ℕ) → options config p ≡ []

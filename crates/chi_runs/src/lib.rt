@@ -2,6 +2,6 @@
 //! are the laws.
 #![tactic(auto)]
 
-pub use laws::options_law;
+pub use laws::{options_law, time_law};
 
 mod laws;
