@@ -1,0 +1,2 @@
+//! What every step of a sound program keeps: configurations stay kinded, so nothing in a run is amiss.
+#![tactic(auto)]
