@@ -8,3 +8,6 @@ pub mod UsedByTerms
 pub mod UsedByOpenings
 pub mod Steps
 pub mod Time
+pub mod Turns
+pub mod Bounds
+pub mod Picks
