@@ -1,19 +1,18 @@
 -- In a kinded configuration few instances have an option, and each of them has few.
-use Rattle.std.proofs.Common.{◌≡◌, ℕ, zero, suc, ◌+◌, ◌*◌, ◌^◌, ◌<◌, ◌≤◌, le_trans, List, [], ◌∷◌, Option, Some, None, Bool, true, false, cond, length, subst, refl, arith}
+use Rattle.std.proofs.Common.{◌≡◌, ℕ, ◌^◌, ◌<◌, ◌≤◌, List, [], ◌∷◌, Option, Some, None, Bool, true, false, cond, length, subst, refl, arith}
 use Rattle.std.specs.Prelude.{int_lt, nat_eq, nat_lt, map}
 use Rattle.std.specs.List.{slice_get}
 use Rattle.std.proofs.lemmas.List.{length-map}
 use Rattle.chi_core.specs.declared.act.Act.{Act}
 use Rattle.chi_core.specs.declared.act.Act.TheVariants.{Send, Receive, Delay}
-use Rattle.chi_core.specs.declared.label.Label.{Label}
-use Rattle.chi_core.specs.declared.label.Label.TheVariants.{Local, Pair, Wake, Join}
+use Rattle.chi_core.specs.declared.label.Label.TheVariants.{Pair, Wake, Join}
 use Rattle.chi_core.specs.declared.limits.TheConstants.{MOST_INSTANCES, MOST_OFFERS}
 use Rattle.chi_core.specs.declared.program.Core.{Core}
 use Rattle.chi_core.specs.declared.statement.CStat.{CStat}
 use Rattle.chi_core.specs.Config.{Config, Instance, Offer, State, Running, Waiting, Joining, Finished, offers_in}
-use Rattle.chi_core.specs.Kinded.{Kinded, KindedInstance, StateFits}
+use Rattle.chi_core.specs.Kinded.{Kinded, StateFits}
 use Rattle.chi_core.specs.Of.{World}
-use Rattle.chi_core.specs.Options.{numbers, is_receiver, receivers, pairs_with, pairs, options_by, options_for, none_under_way, options_in, options_of, options, actors}
+use Rattle.chi_core.specs.Options.{numbers, is_receiver, receivers, pairs_with, options_by, options_for, none_under_way, options_in, options_of, options, actors}
 use Rattle.chi_core.specs.Scopes.{Home}
 use Rattle.chi_core.specs.SetSlots.{Known}
 use Rattle.chi_core.specs.Standing.{Frame}

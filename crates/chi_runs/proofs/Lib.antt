@@ -11,3 +11,4 @@ pub mod Time
 pub mod Turns
 pub mod Bounds
 pub mod Picks
+pub mod OwnNumbers

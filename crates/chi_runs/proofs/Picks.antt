@@ -11,7 +11,7 @@ use Rattle.chi_core.specs.Beginning.{Beginning, Begins, Breaks}
 use Rattle.chi_core.specs.Beginning as beginning
 use Rattle.chi_core.specs.Config.{Config}
 use Rattle.chi_core.specs.Kinded.{Kinded}
-use Rattle.chi_core.specs.Options.{Ending, ending_at, numbers, options, actors, advance, enabled_of, enabled, at_rest, ending_of, ending}
+use Rattle.chi_core.specs.Options.{Ending, ending_at, numbers, options, actors, advance, enabled_of, enabled, at_rest, ending_of}
 use Rattle.chi_core.specs.Picks.{Pick, IsLawful, picked_from, picked_option, picked_among, MayPick, PicksFrom, Picked}
 use Rattle.chi_core.specs.Runs.{nothing, along, text_told, After, IsAtRest, Runs, MayDerive, Told, Derivation}
 use Rattle.chi_core.specs.Sound.{Sound}

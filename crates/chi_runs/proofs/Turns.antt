@@ -1,16 +1,14 @@
 -- Runs turn by turn: what is told along them, and each way to go on.
-use Rattle.std.proofs.Common.{◌≡◌, ℕ, zero, suc, ◌+◌, ◌≤◌, ◌<◌, List, [], ◌∷◌, ◌++◌, Option, Some, length, length-append, append_assoc, append-nil, ◌⊎◌, inl, inr, sym, ◌∙◌, ap, subst, refl, arith}
-use Rattle.std.specs.List.{Contains}
+use Rattle.std.proofs.Common.{◌≡◌, ℕ, suc, ◌+◌, ◌≤◌, ◌<◌, List, [], ◌∷◌, ◌++◌, Some, length, length-append, append_assoc, append-nil, inl, inr, sym, ◌∙◌, ap, subst, refl, arith}
 use Rattle.chi_core.specs.declared.label.Label.{Label}
 use Rattle.chi_core.specs.declared.program.Core.{Core}
 use Rattle.chi_core.specs.declared.verdict.Verdict.{Verdict}
 use Rattle.chi_core.specs.declared.verdict.Verdict.TheVariants.{OutOfSteps}
-use Rattle.chi_core.specs.Beginning.{Beginning, Begins, Breaks}
-use Rattle.chi_core.specs.Beginning as beginning
+use Rattle.chi_core.specs.Beginning.{Beginning, Begins}
 use Rattle.chi_core.specs.Config.{Config}
 use Rattle.chi_core.specs.Options.{Ending, ending_at, ending}
 use Rattle.chi_core.specs.Picks.{Pick, MayPick, PicksFrom, Picked}
-use Rattle.chi_core.specs.Runs.{Tells, TellsLast, nothing, told_after, along, text_in, text_told, IsAtRest, IsCutOff, After, Runs, Told, RunsFrom, RunsFromStart, MayDerive}
+use Rattle.chi_core.specs.Runs.{Tells, TellsLast, nothing, told_after, along, text_told, IsAtRest, IsCutOff, After, Runs, Told, RunsFrom}
 use Rattle.chi_core.specs.Step as outcome
 use Rattle.chi_core.specs.Step.{Outcome, Next, Over, step}
 use Rattle.chi_runs.specs.Turns.{told_first, told_last, UnderWay}

@@ -1,4 +1,5 @@
 ghost use Rattle.chi_runs.specs.Once.{EachOfOne, EachMayCome};
+ghost use Rattle.chi_runs.specs.OwnNumbers.{ListedIsLawful, OwnNumbersPickIt};
 ghost use Rattle.chi_runs.specs.Picked.{PickedIsDerived, PickedOnce, PickedAlways};
 ghost use Rattle.chi_runs.specs.Time.{EachCosts, OthersStandStill, AdvanceGoesOn, AdvanceIsLast, StaysInTime, RunsEndWithin, DerivationsEndWithin};
 ghost use Rattle.chi_runs.specs.Turns.{PicksOn, PicksOver, PicksCutOff, PicksAtRest, WayBegins, WayGoesOn, WayIsOver, WayIsCutOff, WayRests};
@@ -47,4 +48,11 @@ pub fn picked_law()
     ensures derived { PickedIsDerived }
     ensures once { PickedOnce }
     ensures always { PickedAlways }
+{}
+
+/// The policy that answers a list of numbers is lawful; and where these are a derivation's own, it
+/// picks that very derivation.
+pub fn own_numbers_law()
+    ensures lawful { ListedIsLawful }
+    ensures picks { OwnNumbersPickIt }
 {}

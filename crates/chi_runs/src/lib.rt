@@ -2,6 +2,6 @@
 //! are the laws.
 #![tactic(auto)]
 
-pub use laws::{options_law, picked_law, run_law, time_law, turn_law};
+pub use laws::{options_law, own_numbers_law, picked_law, run_law, time_law, turn_law};
 
 mod laws;
