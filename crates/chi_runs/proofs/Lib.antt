@@ -9,6 +9,8 @@ pub mod UsedByOpenings
 pub mod Steps
 pub mod Time
 pub mod Turns
+pub mod Tellings
 pub mod Bounds
 pub mod Picks
+pub mod Choices
 pub mod OwnNumbers

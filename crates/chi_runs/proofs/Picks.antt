@@ -74,7 +74,7 @@ record PicksOne (pick : Pick) (turn : ℕ) (config : Config) : Type 0 where
   label : Label
   picked : MayPick pick turn config label
 
-is_some_of : (n : ℕ) → nat_lt 0 n ≡ true → 0 < n
+pub is_some_of : (n : ℕ) → nat_lt 0 n ≡ true → 0 < n
 is_some_of zero e = absurd (cc)
 is_some_of (suc n) e = omega arith
 

@@ -1,6 +1,10 @@
+//! What holds of every run. The functions compute nothing: their contracts are the laws.
+
+ghost use Rattle.chi_runs.specs.Choices.{OptionIsPicked, AdvanceIsPicked, PickedMayCome, ActorsHaveOptions, ChoicesAreFew};
 ghost use Rattle.chi_runs.specs.Once.{EachOfOne, EachMayCome};
 ghost use Rattle.chi_runs.specs.OwnNumbers.{ListedIsLawful, OwnNumbersPickIt};
 ghost use Rattle.chi_runs.specs.Picked.{PickedIsDerived, PickedOnce, PickedAlways};
+ghost use Rattle.chi_runs.specs.Tellings.{NothingTold, MoreIsTold, AllIsTold, LastIsTold};
 ghost use Rattle.chi_runs.specs.Time.{EachCosts, OthersStandStill, AdvanceGoesOn, AdvanceIsLast, StaysInTime, RunsEndWithin, DerivationsEndWithin};
 ghost use Rattle.chi_runs.specs.Turns.{PicksOn, PicksOver, PicksCutOff, PicksAtRest, WayBegins, WayGoesOn, WayIsOver, WayIsCutOff, WayRests};
 
@@ -40,6 +44,24 @@ pub fn turn_law()
     ensures over { WayIsOver }
     ensures cut_off { WayIsCutOff }
     ensures at_rest { WayRests }
+{}
+
+/// What is told along a run, turn by turn: each turn tells more, and at the end all is told.
+pub fn telling_law()
+    ensures begins { NothingTold }
+    ensures on { MoreIsTold }
+    ensures over { AllIsTold }
+    ensures ends { LastIsTold }
+{}
+
+/// At each turn a policy picks an instance among those with an option, and then one of its options, or
+/// Advance where there is none. There are few choices in a kinded configuration.
+pub fn choice_law()
+    ensures option { OptionIsPicked }
+    ensures advance { AdvanceIsPicked }
+    ensures may_come { PickedMayCome }
+    ensures some { ActorsHaveOptions }
+    ensures few { ChoicesAreFew }
 {}
 
 /// What a policy picks is a derivation, and it picks at most one. Of a sound program a lawful policy

@@ -2,6 +2,8 @@
 //! are the laws.
 #![tactic(auto)]
 
-pub use laws::{options_law, own_numbers_law, picked_law, run_law, time_law, turn_law};
+pub use laws::{
+    choice_law, options_law, own_numbers_law, picked_law, run_law, telling_law, time_law, turn_law,
+};
 
 mod laws;
