@@ -18,6 +18,8 @@ use Rattle.chi_core.specs.Step.{Outcome, Next, Over, step}
 use Rattle.chi_runs.proofs.Lists.{contains-at, at-contains}
 use Rattle.chi_runs.proofs.Options.{actor_of, actor-option, is_actor}
 use Rattle.chi_runs.proofs.Enabled.{IsEnabled, an_option, goes_on, enabled-is}
+use Rattle.chi_runs.specs.Picked.{PicksOnly}
+use Rattle.chi_runs.proofs.Picks.{picks_only}
 use Rattle.chi_runs.proofs.Turns.{along-none, along-step}
 
 pub listed-lawful : (numbers : List ℕ) → IsLawful (listed numbers)
@@ -229,19 +231,19 @@ module _ (core : Core) (config : Config) (left : ℕ) where
 -- a run of enabled labels is picked by numbers that end with its own
 
 -- what its labels and its end have, from a configuration on
-abbrev own_numbers : Core → Ending → ℕ → Config → ℕ → List Label → List ℕ
-own_numbers core end turn config left labels = along numbers_told (last_numbers core end.verdict) core turn config left labels
+abbrev numbers_from : Core → Ending → ℕ → Config → ℕ → List Label → List ℕ
+numbers_from core end turn config left labels = along numbers_told (last_numbers core end.verdict) core turn config left labels
 
 -- and after a step
 abbrev numbers_after : Core → Ending → ℕ → List Label → Outcome → List ℕ
-numbers_after core end turn labels s = told_after (λ new rest. own_numbers core end (suc turn) new rest labels) s
+numbers_after core end turn labels s = told_after (λ new rest. numbers_from core end (suc turn) new rest labels) s
 
 abbrev PicksAfter : Core → ℕ → Config → List Label → Ending → List ℕ → Outcome → Type 0
 PicksAfter core turn config labels end numbers s = After (λ new rest. Runs (MayPick (listed numbers)) core (suc turn) new rest labels end) s config labels end
 
 at_end : (core : Core) (turn : ℕ) (config : Config) (left : ℕ) (end : Ending) (before : List ℕ) → length before ≡ 2 * turn
     → IsCutOff (MayDerive turn config) core config left end
-    → IsCutOff (MayPick (listed (before ++ own_numbers core end turn config left [])) turn config) core config left end
+    → IsCutOff (MayPick (listed (before ++ numbers_from core end turn config left [])) turn config) core config left end
 at_end core turn config left end before so_many cut = record {
   label = f.label;
   may_come = subst (λ (xs : List ℕ). MayPick (listed (before ++ xs)) turn config f.label) (sym own) (picked_next config f.label n turn before [] so_many);
@@ -255,14 +257,14 @@ at_end core turn config left end before so_many cut = record {
     n : Numbered config f.label
     n = numbered config f.label f.among
 
-    own : own_numbers core end turn config left [] ≡ n.m ∷ n.n ∷ []
+    own : numbers_from core end turn config left [] ≡ n.m ∷ n.n ∷ []
     own =
         along-none numbers_told (last_numbers core end.verdict) core turn config left
         ∙ ap (λ (e : Ending). last_numbers core e.verdict config left) cut.out_of_steps ∙ ap (numbers_of_some config) f.found ∙ n.are
 
 own_from : (core : Core) (turn : ℕ) (config : Config) (left : ℕ) (labels : List Label) (end : Ending) → Runs MayDerive core turn config left labels end
     → (before : List ℕ) → length before ≡ 2 * turn
-    → Runs (MayPick (listed (before ++ own_numbers core end turn config left labels))) core turn config left labels end
+    → Runs (MayPick (listed (before ++ numbers_from core end turn config left labels))) core turn config left labels end
 unfolding Runs
 own_from core turn config left [] end (inl rests) before so_many = inl rests
 own_from core turn config left [] end (inr cut) before so_many = inr (at_end core turn config left end before so_many cut)
@@ -272,33 +274,38 @@ own_from core turn config left (label ∷ labels) end r before so_many =
     n : Numbered config label
     n = numbered config label r.0
 
-    own : (s : Outcome) → step core config label left ≡ s → own_numbers core end turn config left (label ∷ labels) ≡ n.m ∷ n.n ∷ numbers_after core end turn labels s
+    own : (s : Outcome) → step core config label left ≡ s → numbers_from core end turn config left (label ∷ labels) ≡ n.m ∷ n.n ∷ numbers_after core end turn labels s
     own s is =
         along-step numbers_told (last_numbers core end.verdict) core turn config left label labels s is
-        ∙ ap (λ xs. xs ++ told_after (λ new rest. own_numbers core end (suc turn) new rest labels) s) n.are
+        ∙ ap (λ xs. xs ++ told_after (λ new rest. numbers_from core end (suc turn) new rest labels) s) n.are
 
     picks : (s : Outcome) → step core config label left ≡ s
-        → MayPick (listed (before ++ own_numbers core end turn config left (label ∷ labels))) turn config label
+        → MayPick (listed (before ++ numbers_from core end turn config left (label ∷ labels))) turn config label
     picks s is =
         subst (λ (xs : List ℕ). MayPick (listed (before ++ xs)) turn config label) (sym (own s is)) (picked_next config label n turn before (numbers_after core end turn labels s) so_many)
 
     by_outcome : (s : Outcome) → step core config label left ≡ s → After (λ new rest. Runs MayDerive core (suc turn) new rest labels end) s config labels end
         → ((new : Config) (rest : ℕ) → Runs MayDerive core (suc turn) new rest labels end → (front : List ℕ) → length front ≡ 2 * suc turn
-        → Runs (MayPick (listed (front ++ own_numbers core end (suc turn) new rest labels))) core (suc turn) new rest labels end)
-        → Runs (MayPick (listed (before ++ own_numbers core end turn config left (label ∷ labels)))) core turn config left (label ∷ labels) end
+        → Runs (MayPick (listed (front ++ numbers_from core end (suc turn) new rest labels))) core (suc turn) new rest labels end)
+        → Runs (MayPick (listed (before ++ numbers_from core end turn config left (label ∷ labels)))) core turn config left (label ∷ labels) end
     by_outcome (Next new text rest) is a later =
         let longer : length (before ++ n.m ∷ n.n ∷ []) ≡ 2 * suc turn = simp length-append (omega arith) in
-        let whole : (before ++ n.m ∷ n.n ∷ []) ++ own_numbers core end (suc turn) new rest labels ≡ before ++ own_numbers core end turn config left (label ∷ labels)
-        = append_assoc before (n.m ∷ n.n ∷ []) (own_numbers core end (suc turn) new rest labels) ∙ ap (λ xs. before ++ xs) (sym (own (Next new text rest) is)) in
+        let whole : (before ++ n.m ∷ n.n ∷ []) ++ numbers_from core end (suc turn) new rest labels ≡ before ++ numbers_from core end turn config left (label ∷ labels)
+        = append_assoc before (n.m ∷ n.n ∷ []) (numbers_from core end (suc turn) new rest labels) ∙ ap (λ xs. before ++ xs) (sym (own (Next new text rest) is)) in
         let rest_runs = subst (λ (xs : List ℕ). Runs (MayPick (listed xs)) core (suc turn) new rest labels end) whole
         (later new rest a (before ++ n.m ∷ n.n ∷ []) longer) in
-        (picks (Next new text rest) is, subst (λ (s : Outcome). PicksAfter core turn config labels end (before ++ own_numbers core end turn config left (label ∷ labels)) s) (sym is) rest_runs)
-    by_outcome (Over verdict) is a later = (picks (Over verdict) is, subst (λ (s : Outcome). PicksAfter core turn config labels end (before ++ own_numbers core end turn config left (label ∷ labels)) s) (sym is) a)
+        (picks (Next new text rest) is, subst (λ (s : Outcome). PicksAfter core turn config labels end (before ++ numbers_from core end turn config left (label ∷ labels)) s) (sym is) rest_runs)
+    by_outcome (Over verdict) is a later = (picks (Over verdict) is, subst (λ (s : Outcome). PicksAfter core turn config labels end (before ++ numbers_from core end turn config left (label ∷ labels)) s) (sym is) a)
     by_outcome outcome.Spent is a later = absurd a
     by_outcome outcome.Amiss is a later = absurd a
 
-pub own_numbers_pick : (core : Core) (start : Beginning) (bound : ℕ) (told : Told) → Derivation core start bound told
+own_numbers : (core : Core) (start : Beginning) (bound : ℕ) (told : Told) → Derivation core start bound told
     → Picked core start (listed (picks_of core start bound told)) bound told
-own_numbers_pick core (Begins config) bound told r = (own_from core 0 config bound told.labels told.ending r.0 [] refl, r.1)
-own_numbers_pick core (Breaks end) bound told r = r
-own_numbers_pick core beginning.Amiss bound told r = r
+own_numbers core (Begins config) bound told r = (own_from core 0 config bound told.labels told.ending r.0 [] refl, r.1)
+own_numbers core (Breaks end) bound told r = r
+own_numbers core beginning.Amiss bound told r = r
+
+pub own_numbers_pick : (core : Core) (start : Beginning) (bound : ℕ) (told : Told) → Derivation core start bound told
+    → PicksOnly core start (listed (picks_of core start bound told)) bound told
+own_numbers_pick core start bound told r =
+    picks_only core start (listed (picks_of core start bound told)) bound told (own_numbers core start bound told r)

@@ -18,7 +18,7 @@ use Rattle.chi_core.specs.Sound.{Sound}
 use Rattle.chi_core.specs.Step as outcome
 use Rattle.chi_core.specs.Step.{Outcome, Next, Over, step}
 use Rattle.chi_kinded.specs.Keeps.{BeginsKinded, BeginsAlways, GoesKinded, KeepsKinded}
-use Rattle.chi_runs.specs.Picked.{IsBeginning}
+use Rattle.chi_runs.specs.Picked.{IsBeginning, PicksOnly}
 use Rattle.chi_runs.specs.Turns.{told_first, told_last}
 use Rattle.chi_runs.proofs.Bounds.{few_actors, few_options}
 use Rattle.chi_runs.proofs.Lists.{contains-at, contains-joined, kept, some_below}
@@ -150,12 +150,6 @@ module _ (core : Core) (keeps : KeepsKinded core) (pick : Pick) (lawful : IsLawf
   picks_from (Breaks end) kinded bound small = (record { labels = []; ending = end; output = [] }, refl)
   picks_from beginning.Amiss kinded bound small = absurd kinded
 
-pub picked-always : (core : Core) → Sound core → BeginsAlways core → KeepsKinded core → (start : Beginning) → IsBeginning core start
-    → (pick : Pick) → IsLawful pick → (bound : ℕ) → bound < 2 ^ 63 → (told : Told) × Picked core start pick bound told
-picked-always core sound begins keeps start is pick lawful bound small =
-    picks_from core keeps pick lawful start
-    (subst (λ (b : Beginning). BeginsKinded core b) (sym is.begins) (begins is.model is.is is.arguments is.fit is.seed is.until)) bound small
-
 -- where a run is at rest no label is picked
 rests_unpicked : (pick : Pick) (turn : ℕ) (config : Config) (end : Ending) (label : Label) → IsAtRest config end → MayPick pick turn config label → ⊥
 rests_unpicked pick turn config end label r m = by_enabled (enabled config) refl r
@@ -228,3 +222,16 @@ pub picked-once : (core : Core) (start : Beginning) (pick : Pick) (bound : ℕ) 
 picked-once core (Begins config) pick bound told other r s = from_one core pick 0 config bound told other r s
 picked-once core (Breaks end) pick bound told other r s = r ∙ sym s
 picked-once core beginning.Amiss pick bound told other r s = absurd r
+
+-- and it picks no other
+pub picks_only : (core : Core) (start : Beginning) (pick : Pick) (bound : ℕ) (told : Told) → Picked core start pick bound told
+    → PicksOnly core start pick bound told
+picks_only core start pick bound told r = (r, λ other s. picked-once core start pick bound other told s r)
+
+pub picked-always : (core : Core) → Sound core → BeginsAlways core → KeepsKinded core → (start : Beginning) → IsBeginning core start
+    → (pick : Pick) → IsLawful pick → (bound : ℕ) → bound < 2 ^ 63 → (told : Told) × PicksOnly core start pick bound told
+picked-always core sound begins keeps start is pick lawful bound small =
+    let kinded : BeginsKinded core start
+    = subst (λ (b : Beginning). BeginsKinded core b) (sym is.begins) (begins is.model is.is is.arguments is.fit is.seed is.until) in
+    let r = picks_from core keeps pick lawful start kinded bound small in
+    (r.0, picks_only core start pick bound r.0 r.1)

@@ -33,8 +33,13 @@ PickedOnce =
     (core : Core) (beginning : Beginning) (pick : Pick) (bound : ℕ) (told other : Told)
     → Picked core beginning pick bound told → Picked core beginning pick bound other → told ≡ other
 
--- a lawful policy picks a run of a sound program, within any bound below 2 ^ 63
+-- this run and no other
+abbrev pub PicksOnly : Core → Beginning → Pick → ℕ → Told → Type 0
+PicksOnly core beginning pick bound told =
+    Picked core beginning pick bound told × ((other : Told) → Picked core beginning pick bound other → other ≡ told)
+
+-- of a sound program a lawful policy picks exactly one run, within any bound below 2 ^ 63
 abbrev pub PickedAlways : Type 0
 PickedAlways =
     (core : Core) → Sound core → BeginsAlways core → KeepsKinded core → (beginning : Beginning) → IsBeginning core beginning
-    → (pick : Pick) → IsLawful pick → (bound : ℕ) → bound < 2 ^ 63 → (told : Told) × Picked core beginning pick bound told
+    → (pick : Pick) → IsLawful pick → (bound : ℕ) → bound < 2 ^ 63 → (told : Told) × PicksOnly core beginning pick bound told
