@@ -73,6 +73,32 @@ module _ (core : Core) (config : Config) (label : Label) (new : Config) (text : 
   stays_in_time zero e within = absurd (not_spent e)
   stays_in_time (suc left) e within = reaches label left (went left e) within
 
+-- a step that ends the run costs something too
+ends_cost : (core : Core) (config : Config) (label : Label) (left : ℕ) (verdict : Verdict) → step core config label left ≡ Over verdict → 0 < left
+ends_cost core config label zero verdict e = absurd (let h : outcome.Spent ≡ Over verdict = sym (nothing_left core config label) ∙ e in cc)
+ends_cost core config label (suc left) verdict e = omega arith
+
+pub runs_bounded : (core : Core) (turn : ℕ) (config : Config) (left : ℕ) (labels : List Label) (end : Ending)
+    → Runs MayDerive core turn config left labels end → length labels ≤ left
+unfolding Runs
+runs_bounded core turn config left [] end r = omega arith
+runs_bounded core turn config left (label ∷ labels) end r =
+    by_outcome (λ new rest h. runs_bounded core (suc turn) new rest labels end h) (step core config label left) refl r.1
+  where
+    by_outcome : ((new : Config) (rest : ℕ) → Runs MayDerive core (suc turn) new rest labels end → length labels ≤ rest)
+        → (s : Outcome) → step core config label left ≡ s → After (λ new rest. Runs MayDerive core (suc turn) new rest labels end) s config labels end
+        → length (label ∷ labels) ≤ left
+    by_outcome on (Next new text rest) is a =
+        let cost : rest < left = each_costs core config label new text rest left is in
+        let more : length labels ≤ rest = on new rest a in
+        omega arith
+    by_outcome on (Over verdict) is a =
+        let some : 0 < left = ends_cost core config label left verdict is in
+        let none : length labels ≡ 0 = ap length a.0 in
+        omega arith
+    by_outcome on outcome.Spent is a = absurd a
+    by_outcome on outcome.Amiss is a = absurd a
+
 -- where no instance has an option, none of them offers a delay that is due
 
 not_due : (config : Config) → actors config ≡ [] → (p : ℕ) (i : Instance) → slice_get config.instances p ≡ Some i

@@ -1,6 +1,6 @@
 -- Time along runs, and the bound: the time never falls, goes on only where nothing else may come, and not past the
 -- stopping time; and each label costs at least 1.
-use Rattle.std.specs.Prelude.{◌≡◌, ◌≢◌, ℕ, ◌<◌, ℤ, pos, ◌<ℤ◌, ◌≤ℤ◌, List, [], Option, IsTrue, Contains}
+use Rattle.std.specs.Prelude.{◌≡◌, ◌≢◌, ℕ, ◌<◌, ◌≤◌, ℤ, pos, ◌<ℤ◌, ◌≤ℤ◌, List, [], Option, length, IsTrue, Contains}
 use Rattle.chi_value.specs.declared.value.Value.{Value}
 use Rattle.chi_core.specs.declared.label.Label.{Label}
 use Rattle.chi_core.specs.declared.label.Label.TheVariants.{Advance}
@@ -17,6 +17,12 @@ abbrev pub EachCosts : Type 0
 EachCosts =
     (core : Core) (config : Config) (label : Label) (left : ℕ) (new : Config) (text : List ℕ) (rest : ℕ)
     → step core config label left ≡ Next new text rest → rest < left
+
+-- so a run has no more labels than the bound
+abbrev pub RunsAreBounded : Type 0
+RunsAreBounded =
+    (core : Core) (turn : ℕ) (config : Config) (left : ℕ) (labels : List Label) (end : Ending)
+    → Runs MayDerive core turn config left labels end → length labels ≤ left
 
 -- the time stands still but where the label is Advance
 abbrev pub OthersStandStill : Type 0

@@ -5,7 +5,7 @@ ghost use Rattle.chi_runs.specs.Once.{EachOfOne, EachMayCome};
 ghost use Rattle.chi_runs.specs.OwnNumbers.{ListedIsLawful, OwnNumbersPickIt};
 ghost use Rattle.chi_runs.specs.Picked.{PickedIsDerived, PickedOnce, PickedAlways};
 ghost use Rattle.chi_runs.specs.Tellings.{NothingTold, MoreIsTold, AllIsTold, LastIsTold};
-ghost use Rattle.chi_runs.specs.Time.{EachCosts, OthersStandStill, AdvanceGoesOn, AdvanceIsLast, StaysInTime, RunsEndWithin, DerivationsEndWithin};
+ghost use Rattle.chi_runs.specs.Time.{EachCosts, RunsAreBounded, OthersStandStill, AdvanceGoesOn, AdvanceIsLast, StaysInTime, RunsEndWithin, DerivationsEndWithin};
 ghost use Rattle.chi_runs.specs.Turns.{PicksOn, PicksOver, PicksCutOff, PicksAtRest, WayBegins, WayGoesOn, WayIsOver, WayIsCutOff, WayRests};
 
 /// Each label that may come next but Advance is an option of exactly one instance, and stands once
@@ -15,11 +15,12 @@ pub fn options_law()
     ensures may_come { EachMayCome }
 {}
 
-/// Each label costs at least 1. The time never falls: Advance alone changes it, to a later time, and
+/// Each label costs at least 1, so that a run has no more labels than the bound. The time never falls: Advance alone changes it, to a later time, and
 /// may come only where no instance has an option. It doesn't go past the stopping time, and no run
 /// ends earlier than it began or past the stopping time.
 pub fn time_law()
     ensures costs { EachCosts }
+    ensures bounded { RunsAreBounded }
     ensures others { OthersStandStill }
     ensures advance { AdvanceGoesOn }
     ensures last { AdvanceIsLast }
