@@ -1,5 +1,5 @@
 -- A sound program begins in a kinded configuration, and each step of an enabled label leads from one to another.
-use Rattle.std.specs.Prelude.{◌≡◌, ℕ, ◌≤◌, ℤ, Option, Some, None, List, length, slice_get, IsTrue, Contains}
+use Rattle.std.specs.Prelude.{◌≡◌, ℕ, ◌≤◌, ℤ, Option, Some, List, length, slice_get, IsTrue, Contains}
 use Rattle.chi_value.specs.declared.text.limit.TheConstants.{MOST_TEXT}
 use Rattle.chi_value.specs.declared.value.Value.{Value}
 use Rattle.chi_value.specs.Plain.{is_plain, within}
