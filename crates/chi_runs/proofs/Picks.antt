@@ -14,7 +14,6 @@ use Rattle.chi_core.specs.Kinded.{Kinded}
 use Rattle.chi_core.specs.Options.{Ending, ending_at, numbers, options, actors, advance, enabled_of, enabled, at_rest, ending_of}
 use Rattle.chi_core.specs.Picks.{Pick, IsLawful, picked_from, picked_option, picked_among, MayPick, PicksFrom, Picked}
 use Rattle.chi_core.specs.Runs.{nothing, along, text_told, After, IsAtRest, Runs, MayDerive, Told, Derivation}
-use Rattle.chi_core.specs.Sound.{Sound}
 use Rattle.chi_core.specs.Step as outcome
 use Rattle.chi_core.specs.Step.{Outcome, Next, Over, step}
 use Rattle.chi_kinded.specs.Keeps.{BeginsKinded, BeginsAlways, GoesKinded, KeepsKinded}
@@ -228,9 +227,9 @@ pub picks_only : (core : Core) (start : Beginning) (pick : Pick) (bound : ℕ) (
     → PicksOnly core start pick bound told
 picks_only core start pick bound told r = (r, λ other s. picked-once core start pick bound other told s r)
 
-pub picked-always : (core : Core) → Sound core → BeginsAlways core → KeepsKinded core → (start : Beginning) → IsBeginning core start
+pub picked-always : (core : Core) → BeginsAlways core → KeepsKinded core → (start : Beginning) → IsBeginning core start
     → (pick : Pick) → IsLawful pick → (bound : ℕ) → bound < 2 ^ 63 → (told : Told) × PicksOnly core start pick bound told
-picked-always core sound begins keeps start is pick lawful bound small =
+picked-always core begins keeps start is pick lawful bound small =
     let kinded : BeginsKinded core start
     = subst (λ (b : Beginning). BeginsKinded core b) (sym is.begins) (begins is.model is.is is.arguments is.fit is.seed is.until) in
     let r = picks_from core keeps pick lawful start kinded bound small in

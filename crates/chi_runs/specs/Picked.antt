@@ -9,7 +9,6 @@ use Rattle.chi_core.specs.Of.{at_start, AreOf}
 use Rattle.chi_core.specs.Picks.{Pick, IsLawful, Picked}
 use Rattle.chi_core.specs.Runs.{Told, Derivation}
 use Rattle.chi_core.specs.Sound.{Sound}
-use Rattle.chi_kinded.specs.Keeps.{BeginsAlways, KeepsKinded}
 
 -- so a run of the program begins, with arguments of the kinds of its model's parameters
 pub record IsBeginning (core : Core) (beginning : Beginning) : Type 0 where
@@ -41,5 +40,5 @@ PicksOnly core beginning pick bound told =
 -- of a sound program a lawful policy picks exactly one run, within any bound below 2 ^ 63
 abbrev pub PickedAlways : Type 0
 PickedAlways =
-    (core : Core) → Sound core → BeginsAlways core → KeepsKinded core → (beginning : Beginning) → IsBeginning core beginning
+    (core : Core) → Sound core → (beginning : Beginning) → IsBeginning core beginning
     → (pick : Pick) → IsLawful pick → (bound : ℕ) → bound < 2 ^ 63 → (told : Told) × PicksOnly core beginning pick bound told

@@ -8,6 +8,8 @@ ghost use Rattle.chi_runs.specs.Tellings.{NothingTold, MoreIsTold, AllIsTold, La
 ghost use Rattle.chi_runs.specs.Time.{EachCosts, RunsAreBounded, OthersStandStill, AdvanceGoesOn, AdvanceIsLast, StaysInTime, RunsEndWithin, DerivationsEndWithin};
 ghost use Rattle.chi_runs.specs.Turns.{PicksOn, PicksOver, PicksCutOff, PicksAtRest, WayBegins, WayGoesOn, WayIsOver, WayIsCutOff, WayRests};
 
+use chi_kinded::kinded_law;
+
 /// Each label that may come next but Advance is an option of exactly one instance, and stands once
 /// among its options; and every option of an instance may come next.
 pub fn options_law()
@@ -15,9 +17,10 @@ pub fn options_law()
     ensures may_come { EachMayCome }
 {}
 
-/// Each label costs at least 1, so that a run has no more labels than the bound. The time never falls: Advance alone changes it, to a later time, and
-/// may come only where no instance has an option. It doesn't go past the stopping time, and no run
-/// ends earlier than it began or past the stopping time.
+/// Each label costs at least 1, so that a run has no more labels than the bound. The time never
+/// falls: Advance alone changes it, to a later time, and may come only where no instance has an
+/// option. It doesn't go past the stopping time, and no run ends earlier than it began or past the
+/// stopping time.
 pub fn time_law()
     ensures costs { EachCosts }
     ensures bounded { RunsAreBounded }
@@ -66,15 +69,18 @@ pub fn choice_law()
 {}
 
 /// What a policy picks is a derivation, and it picks at most one. Of a sound program a lawful policy
-/// picks one, within any bound below 2^63: then it is asked only questions, and of counts, below 2^64.
+/// picks exactly one, within any bound below 2^63: the numbers of its questions and the counts of
+/// choices stay below 2^64.
 pub fn picked_law()
     ensures derived { PickedIsDerived }
     ensures once { PickedOnce }
     ensures always { PickedAlways }
-{}
+{
+    kinded_law();
+}
 
 /// The policy that answers a list of numbers is lawful; and where these are a derivation's own, it
-/// picks that very derivation.
+/// picks that very derivation and no other.
 pub fn own_numbers_law()
     ensures lawful { ListedIsLawful }
     ensures picks { OwnNumbersPickIt }
