@@ -10,7 +10,7 @@ pub fn operators_keep_kinds()
     ensures distributions { DistributionsKeepKinds }
 {}
 
-/// What is built of parts of kinds is of its kind, or has more elements than a value may.
+/// Building a value of parts of fitting kinds is never amiss, and what it gives is of its kind.
 #[tactic(auto, using(crate::proofs::Stated::tuples, crate::proofs::Stated::insertions))]
 pub fn literals_keep_kinds()
     ensures tuples { TuplesKeepKinds }
@@ -26,7 +26,7 @@ pub fn literal_values()
     ensures kept { LiteralsAreOfKinds }
 {}
 
-/// A fresh default is of the kind of its shape, and each channel in it is new.
+/// A fresh default is of the kind of its shape, where the channels that were made for it are there.
 #[tactic(auto, using(crate::proofs::Stated::defaults))]
 pub fn defaults_keep_kinds()
     ensures kept { DefaultsKeepKinds }
