@@ -47,9 +47,6 @@ kept_wider w P Q f (Fails kind) k = tt
 kept_wider w P Q f Spent k = tt
 kept_wider w P Q f Amiss k = k
 
-pub grows_of_well : {A : Type 0} (w : World) (P : World → A → Type 0) (m : Does A) → Well w P m → Grows w P m
-grows_of_well w P = grows_weaker w (Same w P) P (λ v x both. both.1)
-
 -- one and then another
 
 -- the first makes no instance

@@ -8,6 +8,10 @@ use Rattle.chi_core.specs.Kinds.{Every}
 use Rattle.chi_core.proofs.Lists.{every_nil, every_cons}
 use Rattle.chi_op_kinds.proofs.Composing.{every_append}
 
+-- nothing is said
+pub anything : {A : Type 0} (xs : List A) → Every (λ x. Unit {0}) xs
+anything xs k x e = tt
+
 module _ {A : Type 0} (P : A → Type 0) where
   pub every_tail : (x : A) (xs : List A) → Every P (x ∷ xs) → Every P xs
   every_tail x xs ps k y e = ps (suc k) y e

@@ -17,5 +17,6 @@ pub mod Sequences
 pub mod Sets
 pub mod Shapes
 pub mod Slices
+pub mod Stated
 pub mod Stores
 pub mod Texts

@@ -95,8 +95,3 @@ module _ (w : World) (key has : Ty) where
   pub well_dictionary : (values : List Value) (entries : ℕ) → IsTrue (is_plain key) → AreOf w values (entry_kinds entries (out-Ty key) (out-Ty has))
       → WellOf w (Ty-F.DictOf key has) (done (build kind.DictOf values))
   well_dictionary values entries plain are = let es = entries_there entries values are in built_of values es.found es.is plain es.each
-
--- as many values of one kind as there are other things
-pub every_of : {A : Type 0} (w : World) (T : Kind) (others : List A) (values : List Value) → AreOf w values (map (λ x. T) others) → Every (IsOf w T) values
-every_of w T [] _ none_of = every_nil (IsOf w T)
-every_of w T (other ∷ others) _ (one_of x xs _ _ is are) = every_cons (IsOf w T) x xs is (every_of w T others xs are)

@@ -18,14 +18,14 @@ use Rattle.chi_ops.specs.Sequences.{step_of, slice, range, numbered, enumerate}
 use Rattle.chi_ops.specs.Slices.{slice_of}
 use Rattle.chi_core.specs.Containers as containers
 use Rattle.chi_core.specs.Containers.{done, element_at, without, size_of, is_empty, range_of, slice_by, sliced}
-use Rattle.chi_core.specs.Kinds.{Kind, Every, tuple_of}
+use Rattle.chi_core.specs.Kinds.{Kind, tuple_of}
 use Rattle.chi_core.specs.Of.{World, Of, of_int, IsOf, AreOf, none_of, one_of}
 use Rattle.chi_core.specs.OperatorKinds as table
 use Rattle.chi_core.specs.OperatorKinds.{bound}
 use Rattle.chi_core.proofs.Tidied.{tidy_of}
 use Rattle.chi_op_kinds.specs.Laws.{WellOf}
-use Rattle.chi_op_kinds.proofs.Elements.{every_map, every_numbered}
-use Rattle.chi_op_kinds.proofs.Shapes.{list_is, text_is, an_int, a_text, a_list, a_pair, of_type, few, well_where, well_within, well_done, well_unless}
+use Rattle.chi_op_kinds.proofs.Elements.{anything, every_map, every_numbered}
+use Rattle.chi_op_kinds.proofs.Shapes.{int_is, list_is, text_is, an_int, a_text, a_list, a_pair, of_type, few, well_where, well_within, well_done, well_unless}
 use Rattle.chi_op_kinds.proofs.Slices.{length_numbers, length_slice, every_slice}
 
 -- slices
@@ -52,10 +52,7 @@ well_slice_text w a first last by h =
     (let less = length_slice x.bytes first last (step_of by) (moves (step_of by) e) in
     well_done w Ty-F.Text (value.Text part) (a_text w part (omega (arith, x.short, less))))))
 
--- an int that is given for a bound
-int_in : (x : Value-F Value) → (w : World) → Of w x Ty-F.Int → (n : ℤ) × (x ≡ Value-F.Int n)
-int_in _ w (of_int n) = (n, refl)
-
+-- the kinds of the bounds that are given
 bound_kinds : List Bool → List Kind
 bound_kinds [] = []
 bound_kinds (given ∷ more) = bound given ++ bound_kinds more
@@ -77,7 +74,7 @@ bounds_found w (false ∷ given) operands are =
     record { found = None ∷ rest.found; is = ap (option_map (λ others. None ∷ others)) rest.is; each = ap suc rest.each }
 bounds_found w (true ∷ given) _ (one_of x operands _ _ is are) =
     let rest = bounds_found w given operands are in
-    let number = int_in (out-Value x) w is in
+    let number = int_is w (out-Value x) is in
     record { found = Some number.0 ∷ rest.found; is = one_more given x operands number.0 rest.found number.1 rest.is; each = ap suc rest.each }
 
 three_bounds : (w : World) (first last by : Bool) (operands : List Value) → AreOf w operands (table.bounds first last by) → Bounds (first ∷ last ∷ by ∷ []) operands
@@ -112,9 +109,6 @@ well_sliced_text w a first last by operands h are = sliced_well w Ty-F.Text a (�
 int_typed : (w : World) (n : ℤ) → IsOf w (out-Ty ty.Int) (value.Int n)
 int_typed w n = of_type w ty.Int Ty-F.Int (value.Int n) ty.outs-Int (an_int w n)
 
-every_number : (numbers : List ℤ) → Every (λ n. Unit {0}) numbers
-every_number numbers k n e = tt
-
 well_ints : (w : World) (first last by : ℤ) → WellOf w (Ty-F.ListOf ty.Int) (done (range first last by))
 well_ints w first last by =
     let numbers = progression first last by in
@@ -124,7 +118,7 @@ well_ints w first last by =
     well_unless w (Ty-F.ListOf ty.Int) (int_eq by (pos 0)) step_fault _ (λ e.
     well_within w (Ty-F.ListOf ty.Int) count (value.ListOf (map value.Int numbers)) (λ small.
     a_list w (map value.Int numbers) ty.Int (few (map value.Int numbers) (omega (arith, small, long, same)))
-    (every_map (λ (n : ℤ). Unit {0}) (IsOf w (out-Ty ty.Int)) value.Int (λ n u. int_typed w n) numbers (every_number numbers))))
+    (every_map (λ (n : ℤ). Unit {0}) (IsOf w (out-Ty ty.Int)) value.Int (λ n u. int_typed w n) numbers (anything numbers))))
 
 pub well_range : (w : World) (x y z : Value-F Value) → Of w x Ty-F.Int → Of w y Ty-F.Int → Of w z Ty-F.Int → WellOf w (Ty-F.ListOf ty.Int) (range_of x y z)
 well_range w _ _ _ (of_int first) (of_int last) (of_int by) = well_ints w first last by

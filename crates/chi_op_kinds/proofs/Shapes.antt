@@ -19,6 +19,9 @@ use Rattle.chi_op_kinds.proofs.Composing.{well_gives}
 
 -- the outermost layer of a value of a kind
 
+pub int_is : (w : World) (x : Value-F Value) → Of w x Ty-F.Int → (n : ℤ) × (x ≡ Value-F.Int n)
+int_is w _ (of_int n) = (n, refl)
+
 pub record ListIs (w : World) (t : Ty) (x : Value-F Value) : Type 0 where
   pub items : List Value
   pub is : x ≡ Value-F.ListOf items

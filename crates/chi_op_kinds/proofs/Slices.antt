@@ -7,7 +7,7 @@ use Rattle.std.specs.Prelude.{T, not, int_lt, unsigned_abs, slice_get}
 use Rattle.chi_ops.specs.Progression.{numbers, comes_before, steps_over, count_from}
 use Rattle.chi_ops.specs.Slices.{clamped, from_end, bound_or, first_place, last_place, slice_places, slice_of}
 use Rattle.chi_core.specs.Kinds.{Every}
-use Rattle.chi_op_kinds.proofs.Elements.{every_chosen, length_chosen}
+use Rattle.chi_op_kinds.proofs.Elements.{anything, every_chosen, length_chosen}
 
 -- so many numbers
 
@@ -77,9 +77,6 @@ few_places size first last by = decided (int_lt by (pos 0))
 
 -- the elements of a slice
 
-every_place : {A : Type 0} (places : List A) → Every (λ p. Unit {0}) places
-every_place places k x e = tt
-
 module _ {A : Type 0} (xs : List A) (first last : Option ℤ) (by : ℤ) where
   pub length_slice : by ≢ pos 0 → length (slice_of xs first last by) ≤ length xs
   length_slice moves =
@@ -95,4 +92,4 @@ module _ {A : Type 0} (xs : List A) (first last : Option ℤ) (by : ℤ) where
   pub every_slice : (P : A → Type 0) → Every P xs → Every P (slice_of xs first last by)
   every_slice P each =
       every_chosen (λ (p : ℤ). Unit {0}) P (λ place. slice_get xs (unsigned_abs place)) (λ place x u e. each (unsigned_abs place) x e)
-      (slice_places (length xs) first last by) (every_place (slice_places (length xs) first last by))
+      (slice_places (length xs) first last by) (anything (slice_places (length xs) first last by))

@@ -18,7 +18,7 @@ use Rattle.chi_ops.specs.Places.{place_of}
 use Rattle.chi_ops.specs.Store.{Step, by, part, fits_along, changed_at, change_place, put_key, change_key, store_key, stored, put}
 use Rattle.chi_core.specs.Containers.{done}
 use Rattle.chi_core.specs.Kinds.{Kind, Every, entry_of}
-use Rattle.chi_core.specs.Of.{World, IsShort, Of, of_int, IsOf}
+use Rattle.chi_core.specs.Of.{World, IsShort, IsOf}
 use Rattle.chi_core.proofs.Alikes.{alike_of, each_passes}
 use Rattle.chi_core.proofs.Tidied.{tidy_of}
 use Rattle.chi_op_kinds.specs.Laws.{WellOf, PathLeads, no_step, into_list, into_dictionary, into_tuple}
@@ -26,7 +26,7 @@ use Rattle.chi_op_kinds.proofs.Conditions.{alike_to_all, key_is, keys_are, value
 use Rattle.chi_op_kinds.proofs.Dictionaries.{value_found}
 use Rattle.chi_op_kinds.proofs.Elements.{every_set, every_placed, length_changed, there}
 use Rattle.chi_op_kinds.proofs.Entries.{length_with, length_replaced}
-use Rattle.chi_op_kinds.proofs.Shapes.{list_is, dictionary_is, a_tuple, a_list, a_dictionary, a_pair, well_where, well_done, well_fault}
+use Rattle.chi_op_kinds.proofs.Shapes.{int_is, list_is, dictionary_is, a_tuple, a_list, a_dictionary, a_pair, well_where, well_done, well_fault}
 use Rattle.chi_op_kinds.proofs.Parts.{tuple_is, part_there, parts_set}
 
 -- what a store comes to: a value of the kind, or a fault
@@ -133,15 +133,12 @@ module _ (path : List Step) (x v : Value) (items : List Value) where
   tuple_fits : (k : ℕ) (p : Value) → out-Value v ≡ Value-F.TupleOf items → slice_get items k ≡ Some p → fits_along path x p ≡ true → fits_along (part k ∷ path) x v ≡ true
   tuple_fits k p is e h = rw (is, e, fits_along) h
 
-int_in : (w : World) (x : Value-F Value) → Of w x Ty-F.Int → (n : ℤ) × (x ≡ Value-F.Int n)
-int_in w _ (of_int n) = (n, refl)
-
 module _ (w : World) where
   fits : (path : List Step) (T U : Kind) → PathLeads w path T U → (x v : Value) → IsOf w U x → IsOf w T v → fits_along path x v ≡ true
   fits _ _ _ (no_step T) x v h l = alike_of w x v T h l
   fits _ _ _ (into_list i path t U is leads) x v h l =
       let s = list_is w t (out-Value v) l in
-      let n = int_in w (out-Value i) is in
+      let n = int_is w (out-Value i) is in
       list_fits path x v s.items i n.0 s.is n.1 (each_passes (fits_along path x) s.items (λ k y e. fits path (out-Ty t) U leads x y h (s.each k y e)))
   fits _ _ _ (into_dictionary i path key has U is leads) x v h l =
       let s = dictionary_is w key has (out-Value v) l in
@@ -156,7 +153,7 @@ module _ (w : World) where
   comes _ _ _ (no_step T) x h v l = h
   comes _ _ _ (into_list i path t U is leads) x h v l =
       let s = list_is w t (out-Value v) l in
-      let n = int_in w (out-Value i) is in
+      let n = int_is w (out-Value i) is in
       subst (Comes w (Ty-F.ListOf t)) (sym (list_stored path x v s.items i n.0 s.is n.1))
       (comes_place w t s.items s.short s.each (stored path x) (comes path (out-Ty t) U leads x h) (place_of (length s.items) n.0) (place_inside (length s.items) n.0))
   comes _ _ _ (into_dictionary i path key has U is leads) x h v l =

@@ -69,7 +69,7 @@ InsertionsKeepKinds =
     (w : World) (xs x : Value) (items : List Value) (t : Ty) (place : ℕ) → out-Value xs ≡ Value-F.ListOf items → place ≤ length items → IsOf w (Ty-F.ListOf t) xs → IsOf w (out-Ty t) x
     → WellOf w (Ty-F.ListOf t) (done (insert_at xs place x))
 
--- a fresh default, where each enumeration has a value; each channel in it is new
+-- a fresh default, where each enumeration has a value; the channels that were made for it are there then
 abbrev pub DefaultsKeepKinds : Type 0
 DefaultsKeepKinds =
     (w : World) → Every (λ names. 0 < length names) w.names → (shape : Shape) (T : Kind) → ShapeKind (length w.names) (out-Shape shape) T → WellOf w T (fresh shape)

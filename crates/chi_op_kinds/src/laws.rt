@@ -4,14 +4,14 @@ ghost use Rattle.chi_op_kinds.specs.Laws.{DefaultsKeepKinds, DictionariesKeepKin
 
 /// Operators, predefined names and casts give values of the kinds of their rows where their
 /// operands are of the kinds of the rows: they are never amiss.
-#[tactic(auto, using(crate::proofs::Operators::well_applied, crate::proofs::Operators::well_streamed))]
+#[tactic(auto, using(crate::proofs::Stated::operators, crate::proofs::Stated::distributions))]
 pub fn operators_keep_kinds()
     ensures operators { OperatorsKeepKinds }
     ensures distributions { DistributionsKeepKinds }
 {}
 
-/// What is built of parts of kinds is of its kind, or has more elements than a value may.
-#[tactic(auto, using(crate::proofs::Literals::well_tuple, crate::proofs::Sequences::well_insert))]
+/// Building a value of parts of fitting kinds is never amiss, and what it gives is of its kind.
+#[tactic(auto, using(crate::proofs::Stated::tuples, crate::proofs::Stated::insertions))]
 pub fn literals_keep_kinds()
     ensures tuples { TuplesKeepKinds }
     ensures lists { ListsKeepKinds }
@@ -21,20 +21,20 @@ pub fn literals_keep_kinds()
 {}
 
 /// The value of a literal is of its kind, and names no channel and no instance.
-#[tactic(auto, using(crate::proofs::Literals::literal_of))]
+#[tactic(auto, using(crate::proofs::Stated::literals))]
 pub fn literal_values()
     ensures kept { LiteralsAreOfKinds }
 {}
 
-/// A fresh default is of the kind of its shape, and each channel in it is new.
-#[tactic(auto, using(crate::proofs::Defaults::well_default))]
+/// A fresh default is of the kind of its shape, where the channels that were made for it are there.
+#[tactic(auto, using(crate::proofs::Stated::defaults))]
 pub fn defaults_keep_kinds()
     ensures kept { DefaultsKeepKinds }
 {}
 
 /// A value that is stored along a path of steps of fitting kinds leaves the kind of the whole as it
 /// is, and what is read by a step is of the kind that the step leads to.
-#[tactic(auto, using(crate::proofs::Stores::well_put, crate::proofs::Parts::well_element, crate::proofs::Parts::well_entry))]
+#[tactic(auto, using(crate::proofs::Stated::stores, crate::proofs::Stated::elements, crate::proofs::Stated::entries))]
 pub fn stores_keep_kinds()
     ensures stores { StoresKeepKinds }
     ensures elements { ElementsKeepKinds }
@@ -44,7 +44,7 @@ pub fn stores_keep_kinds()
 
 /// Formats with values of the kinds that their pieces take have a text, and so has each plain
 /// value between quotation marks.
-#[tactic(auto, using(crate::proofs::Texts::format_renders, crate::proofs::Texts::quoted_there))]
+#[tactic(auto, using(crate::proofs::Stated::formats, crate::proofs::Stated::quotes))]
 pub fn texts_are_there()
     ensures formats { FormatsRender }
     ensures quoted { PlainValuesQuote }

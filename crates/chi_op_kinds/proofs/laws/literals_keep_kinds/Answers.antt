@@ -1,11 +1,11 @@
-use Rattle.chi_op_kinds.proofs.Literals.{well_list, well_set, well_dictionary}
+use Rattle.chi_op_kinds.proofs.Stated.{lists, sets, dictionaries}
 use Rattle.chi_op_kinds.proofs.laws.literals_keep_kinds.Goals as goal
 
 pub returns-clause-lists : goal.returns-clause-lists
-returns-clause-lists c = well_list
+returns-clause-lists c = lists
 
 pub returns-clause-sets : goal.returns-clause-sets
-returns-clause-sets c = well_set
+returns-clause-sets c = sets
 
 pub returns-clause-dictionaries : goal.returns-clause-dictionaries
-returns-clause-dictionaries c w values key has entries = well_dictionary w key has values entries
+returns-clause-dictionaries c = dictionaries
