@@ -1,7 +1,4 @@
 mod LiteralLemmas
 mod Arguments
 mod Turns
-mod SoundValues
-mod SoundStatements
-mod SoundBodies
-pub mod SoundPrograms
+pub mod NameLemmas

@@ -9,7 +9,7 @@ use crate::header::parameters_of;
 use crate::scope::{Header, Local, Parameter, with_local};
 use crate::statement::with_step;
 use chi_base::{Items, NoMemory};
-use chi_form_core::ProcDef;
+use chi_core::ProcDef;
 use chi_token::Bytes;
 use chi_tree::{Definition, Item, Step};
 use chi_types::Ty;
@@ -122,6 +122,7 @@ fn process_of(
     Ok(Some(ProcDef {
         name: Bytes::copy_of(alloc, name)?,
         params: parameter_types(alloc, parameters)?,
+        exit: None,
         slots: local_types(alloc, locals.as_slice())?,
         body: statements,
     }))

@@ -2,6 +2,7 @@ ghost use Rattle.std.specs.Prelude.{◌≡◌, IfOk, option_map};
 ghost use Rattle.chi_form.specs.Form.{formal_kind, with_formal, parameters_of, header_in, is_model, model_of, with_header, headers_of};
 
 use crate::kind::Kind;
+use crate::name::is_name;
 use crate::scope::{Header, Parameter, Role, is_new, number};
 use chi_base::{Boxed, Items, NoMemory};
 use chi_token::Bytes;
@@ -123,7 +124,8 @@ fn with_header(
     let Some(header) = header_in(alloc, number, &item.definition)? else {
         return Ok(None);
     };
-    if !is_new(headers.as_slice(), &[], header.name.as_slice()) {
+    let name = header.name.as_slice();
+    if !is_name(name) || !is_new(headers.as_slice(), &[], name) {
         return Ok(None);
     }
     let mut grown = headers.into_vec(alloc)?;

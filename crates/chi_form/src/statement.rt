@@ -8,7 +8,7 @@ use crate::scope::{Header, Local, Role, header_of};
 use crate::value::{arguments_of, communication_of};
 use crate::write::write_of;
 use chi_base::{Items, NoMemory};
-use chi_form_core::{CAlt, CComm, CElem, CStat};
+use chi_core::{CAlt, CComm, CElem, CStat};
 use chi_tree::{Communication, Element, Expr, Statement, Step};
 use std::alloc::Global;
 
@@ -29,7 +29,7 @@ fn alone(alloc: Global, line: u32, communication: CComm) -> Result<CStat, NoMemo
 {
     let body = Items::of(alloc, Vec::new(alloc))?;
     let mut alternatives = Vec::new(alloc);
-    alternatives.push(CAlt::Guarded(communication, body))?;
+    alternatives.push(CAlt::Guarded(None, communication, body))?;
     Ok(CStat::Select(line, Items::of(alloc, alternatives)?))
 }
 
@@ -49,7 +49,7 @@ fn make_of(
             let Some(arguments) = arguments_of(alloc, locals, parameters, values)? else {
                 return Ok(None);
             };
-            Ok(Some(CElem::Make(header.number, arguments)))
+            Ok(Some(CElem::Make(None, header.number, arguments)))
         }
     }
 }
@@ -107,10 +107,12 @@ fn statement_of(
 {
     match statement {
         Statement::Pass(place) => Ok(Some(CStat::Pass(place.line))),
-        Statement::Communicate(communication) => match communication_of(locals, communication) {
-            None => Ok(None),
-            Some(made) => Ok(Some(alone(alloc, line_of(communication), made)?)),
-        },
+        Statement::Communicate(communication) => {
+            match communication_of(alloc, locals, communication)? {
+                None => Ok(None),
+                Some(made) => Ok(Some(alone(alloc, line_of(communication), made)?)),
+            }
+        }
         Statement::Start { place, elements } => {
             match elements_of(alloc, headers, locals, elements.as_slice())? {
                 None => Ok(None),

@@ -1,12 +1,12 @@
 ghost use Rattle.std.specs.Prelude.{◌≡◌, ◌++◌, [], IfOk};
 ghost use Rattle.chi_form.specs.Statements.{has_format, ending, plain, write_whole, write_of};
-ghost use Rattle.chi_form_core.specs.declared.program.CStat.TheVariants as stat;
+ghost use Rattle.chi_core.specs.declared.statement.CStat.TheVariants as stat;
 
 use crate::kind::Kind;
 use crate::scope::Local;
 use crate::value::value_as;
 use chi_base::{Items, NoMemory};
-use chi_form_core::{CExpr, CStat};
+use chi_core::{CExpr, CStat};
 use chi_token::Bytes;
 use chi_tree::Expr;
 use chi_value::{Field, Piece};

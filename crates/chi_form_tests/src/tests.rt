@@ -1,5 +1,5 @@
+use chi_core::{CStat, Core};
 use chi_form::program_of;
-use chi_form_core::{CStat, Core};
 use chi_lex::{MOST_BYTES, lex};
 use chi_parse::parse;
 use std::alloc::Global;
