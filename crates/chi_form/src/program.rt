@@ -58,5 +58,9 @@ pub fn program_of(alloc: Global, tree: &Program) -> Result<Option<Core>, NoMemor
     ensures sound { IfOk result (λ program. IfSome program Sound) }
     ensures plain_model { IfOk result (λ program. IfSome program HasPlainModel) }
 {
-    Err(NoMemory)
+    let items = tree.items.as_slice();
+    let Some(headers) = headers_of(alloc, items)? else {
+        return Ok(None);
+    };
+    Ok(program_with(alloc, items, headers.as_slice())?)
 }
