@@ -31,7 +31,7 @@ use Rattle.chi_form.specs.Scope.{is_new, with_local}
 use Rattle.chi_form.specs.Turns.{in_turn}
 use Rattle.chi_form.specs.Statements.{statement_of, with_statement, type_line, with_locals, variable_as, with_variable, declaration_as, with_declaration, step_in, with_step}
 use Rattle.chi_form.specs.Form.{with_parameter, body_with, body_of}
-use Rattle.chi_form.proofs.Turns.{Each, Each-append, Each-map, some_same, turns_keep}
+use Rattle.chi_form.proofs.Turns.{Each, Each-append, Each-map, length-push, some_same, turns_keep}
 use Rattle.chi_form.proofs.SoundValues.{kind_for, scope_at, IsSlot, Ready}
 use Rattle.chi_form.proofs.SoundStatements.{IsOwn, Matched, parameter_types, statement-sound, declaration-sound}
 
@@ -116,10 +116,6 @@ last-below n = by_test (nat_lt n (suc n)) refl
 
 ready-next : (types : List Ty) (n : ℕ) (l : Local) → Ready (kinds_of types) (first_slots n) l → Ready (kinds_of types) (first_slots (suc n)) l
 ready-next types n l h = record { set = below-suc l.slot n h.set; is = h.is }
-
-length-push : (locals : List Local) (l : Local) → length (locals ++ l ∷ []) ≡ suc (length locals)
-length-push [] l = refl
-length-push (x ∷ locals) l = ap suc (length-push locals l)
 
 filled-push : (locals : List Local) (l : Local) → l.slot ≡ length locals → Filled locals → Filled (locals ++ l ∷ [])
 filled-push locals l at filled types more e =

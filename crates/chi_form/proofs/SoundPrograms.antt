@@ -32,7 +32,7 @@ use Rattle.chi_form.specs.Scope.{is_name, is_new}
 use Rattle.chi_form.specs.Turns.{in_turn, each}
 use Rattle.chi_form.specs.Form.{parameters_of, process_header, header_in, is_model, model_of, added, header_after, with_header, headers_of, body_of, proc_def, process_of, definition_in, definition_of, core_of, program_with, HasPlainModel}
 use Rattle.chi_form.proofs.NameLemmas.{name_token}
-use Rattle.chi_form.proofs.Turns.{Each, Each-append, some_same, Comes, each_comes}
+use Rattle.chi_form.proofs.Turns.{Each, Each-append, length-push, some_same, Comes, each_comes}
 use Rattle.chi_form.proofs.SoundStatements.{IsOwn, parameter_types, parameters_in, Matched, find-Each}
 use Rattle.chi_form.proofs.SoundBodies.{local_types, FillsOwn, SoundBody, body-sound}
 
@@ -126,10 +126,6 @@ header-added made item next e = by_model (model_of made) e
     by_model : (o : Option Header) → header_after made item.definition o ≡ Some next → Added made item next
     by_model (Some model) e = absurd (cc)
     by_model None e = by_header (header_in (length made) item.definition) refl e
-
-length-push : {A : Type 0} (xs : List A) (x : A) → length (xs ++ x ∷ []) ≡ suc (length xs)
-length-push [] x = refl
-length-push (y ∷ xs) x = ap suc (length-push xs x)
 
 abbrev Headed : List Header → List Item → List Header → Type 0
 Headed made items all = (hs : List Header) × (all ≡ made ++ hs) × Numbered (length made) items hs

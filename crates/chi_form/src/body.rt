@@ -7,7 +7,7 @@ use chi_core::CStat;
 use std::alloc::Global;
 
 /// The front of a definition's body: its variables so far, the parameters first, and its statements.
-#[derive(Debug, Drop)]
+#[derive(Drop)]
 pub struct Body {
     pub locals: Items<Local>,
     pub statements: Items<CStat>,

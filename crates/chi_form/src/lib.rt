@@ -7,6 +7,7 @@ mod declaration;
 mod definition;
 mod header;
 mod kind;
+mod list;
 mod literal;
 mod name;
 mod program;

@@ -5,6 +5,7 @@ ghost use Rattle.chi_form.specs.Form.{definition_of, program_with, built, HasPla
 
 use crate::definition::definition_of;
 use crate::header::{headers_of, model_of};
+use crate::list::none;
 use crate::scope::Header;
 use chi_base::{Items, NoMemory};
 use chi_core::{Core, ProcDef};
@@ -41,12 +42,12 @@ fn program_with(alloc: Global, items: &[Item], headers: &[Header]) -> Result<Opt
     };
     let model = model.number;
     Ok(Some(Core {
-        consts: Items::of(alloc, Vec::new(alloc))?,
-        funcs: Items::of(alloc, Vec::new(alloc))?,
+        consts: none(alloc)?,
+        funcs: none(alloc)?,
         procs,
         model,
         names: Names {
-            kinds: Items::of(alloc, Vec::new(alloc))?,
+            kinds: none(alloc)?,
         },
     }))
 }

@@ -4,6 +4,7 @@ ghost use Rattle.chi_form.specs.Statements.{line_of, alone, make_of, element_of,
 
 use crate::body::Body;
 use crate::declaration::with_declaration;
+use crate::list::{none, one};
 use crate::scope::{Header, Local, Role, header_of};
 use crate::value::{arguments_of, communication_of};
 use crate::write::write_of;
@@ -27,10 +28,9 @@ fn line_of(communication: &Communication) -> u32
 fn alone(alloc: Global, line: u32, communication: CComm) -> Result<CStat, NoMemory>
     ensures { IfOk result (λ s. s ≡ alone line communication) }
 {
-    let body = Items::of(alloc, Vec::new(alloc))?;
-    let mut alternatives = Vec::new(alloc);
-    alternatives.push(CAlt::Guarded(None, communication, body))?;
-    Ok(CStat::Select(line, Items::of(alloc, alternatives)?))
+    let body = none(alloc)?;
+    let alternatives = one(alloc, CAlt::Guarded(None, communication, body))?;
+    Ok(CStat::Select(line, alternatives))
 }
 
 #[tactic(auto, unfolding(crate::specs::Statements::make_of))]

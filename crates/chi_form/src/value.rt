@@ -2,6 +2,7 @@ ghost use Rattle.std.specs.Prelude.{◌≡◌, IfOk};
 ghost use Rattle.chi_form.specs.Values.{int_as, value_as, arguments_of, widened, delay_of, channel_as, communication_of};
 
 use crate::kind::Kind;
+use crate::list::{none, one};
 use crate::literal::{int_of, real_of};
 use crate::scope::{Local, Parameter, slot_as};
 use chi_base::{Items, NoMemory};
@@ -67,9 +68,8 @@ pub fn arguments_of(
 fn widened(alloc: Global, int: i64) -> Result<CExpr, NoMemory>
     ensures { IfOk result (λ e. e ≡ widened int) }
 {
-    let mut operands = Vec::new(alloc);
-    operands.push(CExpr::Lit(Value::Int(int)))?;
-    Ok(CExpr::Op(OpName::Widen, Items::of(alloc, operands)?))
+    let operands = one(alloc, CExpr::Lit(Value::Int(int)))?;
+    Ok(CExpr::Op(OpName::Widen, operands))
 }
 
 #[tactic(auto, unfolding(crate::specs::Values::delay_of))]
@@ -104,7 +104,7 @@ fn channel_as(
     match slot_as(locals, Kind::Chan(way), target.name.text.as_slice()) {
         None => Ok(None),
         Some(slot) => {
-            let steps = Items::of(alloc, Vec::new(alloc))?;
+            let steps = none(alloc)?;
             Ok(Some(CTarget { slot, steps }))
         }
     }

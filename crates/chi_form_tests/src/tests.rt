@@ -1,7 +1,8 @@
-use chi_core::{CStat, Core};
+use chi_core::{CAlt, CComm, CElem, CExpr, CStat, Core, OpName};
 use chi_form::program_of;
 use chi_lex::{MOST_BYTES, lex};
 use chi_parse::parse;
+use chi_value::{Field, Piece, Shape, Value};
 use std::alloc::Global;
 use std::process::Abort;
 use std::test::Fail;
@@ -137,34 +138,121 @@ fn what_breaks_a_rule_is_refused(rt: HostRuntime) -> Result<(), Fail> {
     )
 }
 
+/// The program of a source that is built.
+fn core(rt: &impl Abort, alloc: Global, source: &[u8]) -> Result<Core, Fail> {
+    match program(rt, alloc, source)? {
+        Some(core) => Ok(core),
+        None => Err(Fail::new("not built")),
+    }
+}
+
 #[test]
 fn slots_lines_and_numbers_are_those_of_the_text(rt: HostRuntime) -> Result<(), Fail> {
     let source: &[u8] =
         b"proc P(chan int a; int n):\n int x,\n y;\n a?y end\nmodel M():\n chan int c;\n start P(\n c, 1) end";
-    let Some(core) = program(&rt, rt.alloc(), source)? else {
-        return Err(Fail::new("not built"));
-    };
+    let core = core(&rt, rt.alloc(), source)?;
     assert_eq!(rt; core.model, 1);
     let [process, model] = core.procs.as_slice() else {
         return Err(Fail::new("other definitions"));
     };
+    assert_eq!(rt; process.name.as_slice(), b"P".as_slice());
     assert_eq!(rt; process.params.as_slice().len(), 2);
     assert_eq!(rt; process.slots.as_slice().len(), 4);
+    assert!(rt; process.exit.is_none());
+    let [
+        CStat::Declare(2, 2, CExpr::Default(Shape::Int)),
+        CStat::Declare(2, 3, CExpr::Default(Shape::Int)),
+        CStat::Select(4, alternatives),
+    ] = process.body.as_slice()
+    else {
+        return Err(Fail::new("another body of P"));
+    };
+    let [CAlt::Guarded(None, CComm::Receive(channel, Some(3)), rest)] = alternatives.as_slice()
+    else {
+        return Err(Fail::new("another receive"));
+    };
+    assert_eq!(rt; channel.slot, 0);
+    assert!(rt; channel.steps.as_slice().is_empty());
+    assert!(rt; rest.as_slice().is_empty());
+    let [
+        CStat::Declare(6, 0, CExpr::Default(Shape::Chan)),
+        CStat::Start(7, elements),
+    ] = model.body.as_slice()
+    else {
+        return Err(Fail::new("another body of M"));
+    };
+    let [CElem::Make(None, 0, arguments)] = elements.as_slice() else {
+        return Err(Fail::new("another start"));
+    };
     assert!(rt;
         matches!(
-            process.body.as_slice(),
-            [
-                CStat::Declare(2, 2, _),
-                CStat::Declare(2, 3, _),
-                CStat::Select(4, _)
-            ]
+            arguments.as_slice(),
+            [CExpr::Var(0), CExpr::Lit(Value::Int(1))]
         )
     );
-    assert!(rt;
-        matches!(
-            model.body.as_slice(),
-            [CStat::Declare(6, 0, _), CStat::Start(7, _)]
-        )
-    );
+    Ok(())
+}
+
+/// The delay of a select of one alternative.
+fn delay(alternatives: &[CAlt]) -> Result<&CExpr, Fail> {
+    match alternatives {
+        [CAlt::Guarded(None, CComm::Delay(length), _)] => Ok(length),
+        _ => Err(Fail::new("no delay")),
+    }
+}
+
+#[test]
+fn delays_are_reals(rt: HostRuntime) -> Result<(), Fail> {
+    let core = core(&rt, rt.alloc(), b"model M(): delay 2; delay 0.5 end")?;
+    let [model] = core.procs.as_slice() else {
+        return Err(Fail::new("other definitions"));
+    };
+    let [CStat::Select(1, first), CStat::Select(1, second)] = model.body.as_slice() else {
+        return Err(Fail::new("another body"));
+    };
+    let CExpr::Op(OpName::Widen, operands) = delay(first.as_slice())? else {
+        return Err(Fail::new("another delay of an int"));
+    };
+    assert!(rt; matches!(operands.as_slice(), [CExpr::Lit(Value::Int(2))]));
+    let CExpr::Lit(Value::Real(half)) = delay(second.as_slice())? else {
+        return Err(Fail::new("another delay of a real"));
+    };
+    assert_eq!(rt; half.units(), 500_000_000);
+    Ok(())
+}
+
+#[test]
+fn what_is_written_ends_the_line_or_not(rt: HostRuntime) -> Result<(), Fail> {
+    let core = core(
+        &rt,
+        rt.alloc(),
+        b"model M(): writeln(\"%d\", 7); write(\"ab\") end",
+    )?;
+    let [model] = core.procs.as_slice() else {
+        return Err(Fail::new("other definitions"));
+    };
+    let [CStat::Write(1, number, values), CStat::Write(1, text, none)] = model.body.as_slice()
+    else {
+        return Err(Fail::new("another body"));
+    };
+    let [
+        Piece::Whole(
+            Field {
+                left: false,
+                width: 0,
+            },
+        ),
+        Piece::Plain(ending),
+    ] = number.as_slice()
+    else {
+        return Err(Fail::new("another format"));
+    };
+    assert_eq!(rt; ending.as_slice(), b"\n".as_slice());
+    assert!(rt; matches!(values.as_slice(), [CExpr::Lit(Value::Int(7))]));
+    let [Piece::Plain(plain)] = text.as_slice() else {
+        return Err(Fail::new("another text"));
+    };
+    assert_eq!(rt; plain.as_slice(), b"ab".as_slice());
+    assert!(rt; none.as_slice().is_empty());
     Ok(())
 }
