@@ -1,8 +1,9 @@
+use chi_base::Items;
 use chi_core::{CAlt, CComm, CElem, CExpr, CStat, Core, OpName};
 use chi_form::program_of;
 use chi_lex::{MOST_BYTES, lex};
 use chi_parse::parse;
-use chi_value::{Field, Piece, Shape, Value};
+use chi_value::{Piece, Value};
 use std::alloc::Global;
 use std::process::Abort;
 use std::test::Fail;
@@ -138,11 +139,67 @@ fn what_breaks_a_rule_is_refused(rt: HostRuntime) -> Result<(), Fail> {
     )
 }
 
-/// The program of a source that is built.
-fn core(rt: &impl Abort, alloc: Global, source: &[u8]) -> Result<Core, Fail> {
-    match program(rt, alloc, source)? {
-        Some(core) => Ok(core),
-        None => Err(Fail::new("not built")),
+/// What the last statement offers, where it is a communication that stands alone.
+fn last_offer(body: &[CStat]) -> Option<&CComm> {
+    let [.., CStat::Select(_, alternatives)] = body else {
+        return None;
+    };
+    match alternatives.as_slice() {
+        [CAlt::Guarded(None, offer, _)] => Some(offer),
+        _ => None,
+    }
+}
+
+/// Whether an int is received last, from the channel in one slot into the other.
+fn receives(body: &[CStat], from: u32, into: u32) -> bool {
+    match last_offer(body) {
+        Some(CComm::Receive(channel, Some(slot))) => channel.slot == from && *slot == into,
+        _ => false,
+    }
+}
+
+/// Whether the last delay is that of an int, converted to a real.
+fn delays(body: &[CStat], int: i64) -> bool {
+    match last_offer(body) {
+        Some(CComm::Delay(CExpr::Op(OpName::Widen, operands))) => is_int(operands.as_slice(), int),
+        _ => false,
+    }
+}
+
+/// Whether the int is the one value.
+fn is_int(values: &[CExpr], int: i64) -> bool {
+    match values {
+        [CExpr::Lit(Value::Int(n))] => *n == int,
+        _ => false,
+    }
+}
+
+/// Whether one process is started last, with a variable and an int for its arguments.
+fn starts(body: &[CStat], process: u32, variable: u32, int: i64) -> bool {
+    let [.., CStat::Start(_, elements)] = body else {
+        return false;
+    };
+    let [CElem::Make(None, number, arguments)] = elements.as_slice() else {
+        return false;
+    };
+    match arguments.as_slice() {
+        [CExpr::Var(slot), rest @ ..] => {
+            *number == process && *slot == variable && is_int(rest, int)
+        }
+        _ => false,
+    }
+}
+
+/// Whether the int is written last, and then a line feed.
+fn writes(body: &[CStat], int: i64) -> bool {
+    let [.., CStat::Write(_, pieces, values)] = body else {
+        return false;
+    };
+    match pieces.as_slice() {
+        [Piece::Whole(_), Piece::Plain(ending)] => {
+            ending.as_slice() == b"\n".as_slice() && is_int(values.as_slice(), int)
+        }
+        _ => false,
     }
 }
 
@@ -150,109 +207,58 @@ fn core(rt: &impl Abort, alloc: Global, source: &[u8]) -> Result<Core, Fail> {
 fn slots_lines_and_numbers_are_those_of_the_text(rt: HostRuntime) -> Result<(), Fail> {
     let source: &[u8] =
         b"proc P(chan int a; int n):\n int x,\n y;\n a?y end\nmodel M():\n chan int c;\n start P(\n c, 1) end";
-    let core = core(&rt, rt.alloc(), source)?;
+    let Some(core) = program(&rt, rt.alloc(), source)? else {
+        return Err(Fail::new("not built"));
+    };
     assert_eq!(rt; core.model, 1);
     let [process, model] = core.procs.as_slice() else {
         return Err(Fail::new("other definitions"));
     };
-    assert_eq!(rt; process.name.as_slice(), b"P".as_slice());
     assert_eq!(rt; process.params.as_slice().len(), 2);
     assert_eq!(rt; process.slots.as_slice().len(), 4);
-    assert!(rt; process.exit.is_none());
-    let [
-        CStat::Declare(2, 2, CExpr::Default(Shape::Int)),
-        CStat::Declare(2, 3, CExpr::Default(Shape::Int)),
-        CStat::Select(4, alternatives),
-    ] = process.body.as_slice()
-    else {
-        return Err(Fail::new("another body of P"));
-    };
-    let [CAlt::Guarded(None, CComm::Receive(channel, Some(3)), rest)] = alternatives.as_slice()
-    else {
-        return Err(Fail::new("another receive"));
-    };
-    assert_eq!(rt; channel.slot, 0);
-    assert!(rt; channel.steps.as_slice().is_empty());
-    assert!(rt; rest.as_slice().is_empty());
-    let [
-        CStat::Declare(6, 0, CExpr::Default(Shape::Chan)),
-        CStat::Start(7, elements),
-    ] = model.body.as_slice()
-    else {
-        return Err(Fail::new("another body of M"));
-    };
-    let [CElem::Make(None, 0, arguments)] = elements.as_slice() else {
-        return Err(Fail::new("another start"));
-    };
     assert!(rt;
         matches!(
-            arguments.as_slice(),
-            [CExpr::Var(0), CExpr::Lit(Value::Int(1))]
+            process.body.as_slice(),
+            [
+                CStat::Declare(2, 2, _),
+                CStat::Declare(2, 3, _),
+                CStat::Select(4, _)
+            ]
         )
     );
+    assert!(rt; receives(process.body.as_slice(), 0, 3));
+    assert!(rt;
+        matches!(
+            model.body.as_slice(),
+            [CStat::Declare(6, 0, _), CStat::Start(7, _)]
+        )
+    );
+    assert!(rt; starts(model.body.as_slice(), 0, 0, 1));
     Ok(())
 }
 
-/// The delay of a select of one alternative.
-fn delay(alternatives: &[CAlt]) -> Result<&CExpr, Fail> {
-    match alternatives {
-        [CAlt::Guarded(None, CComm::Delay(length), _)] => Ok(length),
-        _ => Err(Fail::new("no delay")),
+/// The statements of a source's first definition.
+fn body(rt: &impl Abort, alloc: Global, source: &[u8]) -> Result<Items<CStat>, Fail> {
+    let Some(core) = program(rt, alloc, source)? else {
+        return Err(Fail::new("not built"));
+    };
+    let mut procs = core.procs.into_vec(alloc)?;
+    match procs.pop() {
+        Some(definition) => Ok(definition.body),
+        None => Err(Fail::new("no definition")),
     }
 }
 
 #[test]
-fn delays_are_reals(rt: HostRuntime) -> Result<(), Fail> {
-    let core = core(&rt, rt.alloc(), b"model M(): delay 2; delay 0.5 end")?;
-    let [model] = core.procs.as_slice() else {
-        return Err(Fail::new("other definitions"));
-    };
-    let [CStat::Select(1, first), CStat::Select(1, second)] = model.body.as_slice() else {
-        return Err(Fail::new("another body"));
-    };
-    let CExpr::Op(OpName::Widen, operands) = delay(first.as_slice())? else {
-        return Err(Fail::new("another delay of an int"));
-    };
-    assert!(rt; matches!(operands.as_slice(), [CExpr::Lit(Value::Int(2))]));
-    let CExpr::Lit(Value::Real(half)) = delay(second.as_slice())? else {
-        return Err(Fail::new("another delay of a real"));
-    };
-    assert_eq!(rt; half.units(), 500_000_000);
+fn a_delay_of_an_int_is_converted(rt: HostRuntime) -> Result<(), Fail> {
+    let statements = body(&rt, rt.alloc(), b"model M(): delay 2 end")?;
+    assert!(rt; delays(statements.as_slice(), 2));
     Ok(())
 }
 
 #[test]
-fn what_is_written_ends_the_line_or_not(rt: HostRuntime) -> Result<(), Fail> {
-    let core = core(
-        &rt,
-        rt.alloc(),
-        b"model M(): writeln(\"%d\", 7); write(\"ab\") end",
-    )?;
-    let [model] = core.procs.as_slice() else {
-        return Err(Fail::new("other definitions"));
-    };
-    let [CStat::Write(1, number, values), CStat::Write(1, text, none)] = model.body.as_slice()
-    else {
-        return Err(Fail::new("another body"));
-    };
-    let [
-        Piece::Whole(
-            Field {
-                left: false,
-                width: 0,
-            },
-        ),
-        Piece::Plain(ending),
-    ] = number.as_slice()
-    else {
-        return Err(Fail::new("another format"));
-    };
-    assert_eq!(rt; ending.as_slice(), b"\n".as_slice());
-    assert!(rt; matches!(values.as_slice(), [CExpr::Lit(Value::Int(7))]));
-    let [Piece::Plain(plain)] = text.as_slice() else {
-        return Err(Fail::new("another text"));
-    };
-    assert_eq!(rt; plain.as_slice(), b"ab".as_slice());
-    assert!(rt; none.as_slice().is_empty());
+fn an_int_is_written_by_its_piece(rt: HostRuntime) -> Result<(), Fail> {
+    let statements = body(&rt, rt.alloc(), b"model M(): writeln(\"%d\", 7) end")?;
+    assert!(rt; writes(statements.as_slice(), 7));
     Ok(())
 }
