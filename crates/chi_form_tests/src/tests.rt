@@ -1,4 +1,3 @@
-use chi_base::Items;
 use chi_core::{CAlt, CComm, CElem, CExpr, CStat, Core, OpName};
 use chi_form::program_of;
 use chi_lex::{MOST_BYTES, lex};
@@ -174,17 +173,22 @@ fn is_int(values: &[CExpr], int: i64) -> bool {
     }
 }
 
+/// Whether the values are a variable and an int.
+fn are_variable_and_int(values: &[CExpr], variable: u32, int: i64) -> bool {
+    match values {
+        [CExpr::Var(slot), rest @ ..] => *slot == variable && is_int(rest, int),
+        _ => false,
+    }
+}
+
 /// Whether one process is started last, with a variable and an int for its arguments.
 fn starts(body: &[CStat], process: u32, variable: u32, int: i64) -> bool {
     let [.., CStat::Start(_, elements)] = body else {
         return false;
     };
-    let [CElem::Make(None, number, arguments)] = elements.as_slice() else {
-        return false;
-    };
-    match arguments.as_slice() {
-        [CExpr::Var(slot), rest @ ..] => {
-            *number == process && *slot == variable && is_int(rest, int)
+    match elements.as_slice() {
+        [CElem::Make(None, number, arguments)] => {
+            *number == process && are_variable_and_int(arguments.as_slice(), variable, int)
         }
         _ => false,
     }
@@ -237,28 +241,29 @@ fn slots_lines_and_numbers_are_those_of_the_text(rt: HostRuntime) -> Result<(), 
     Ok(())
 }
 
-/// The statements of a source's first definition.
-fn body(rt: &impl Abort, alloc: Global, source: &[u8]) -> Result<Items<CStat>, Fail> {
-    let Some(core) = program(rt, alloc, source)? else {
-        return Err(Fail::new("not built"));
-    };
-    let mut procs = core.procs.into_vec(alloc)?;
-    match procs.pop() {
-        Some(definition) => Ok(definition.body),
-        None => Err(Fail::new("no definition")),
+/// The statements of the first definition.
+fn first_body(core: &Core) -> &[CStat] {
+    match core.procs.as_slice() {
+        [definition, ..] => definition.body.as_slice(),
+        [] => &[],
     }
 }
 
 #[test]
 fn a_delay_of_an_int_is_converted(rt: HostRuntime) -> Result<(), Fail> {
-    let statements = body(&rt, rt.alloc(), b"model M(): delay 2 end")?;
-    assert!(rt; delays(statements.as_slice(), 2));
+    let Some(core) = program(&rt, rt.alloc(), b"model M(): delay 2 end")? else {
+        return Err(Fail::new("not built"));
+    };
+    assert!(rt; delays(first_body(&core), 2));
     Ok(())
 }
 
 #[test]
 fn an_int_is_written_by_its_piece(rt: HostRuntime) -> Result<(), Fail> {
-    let statements = body(&rt, rt.alloc(), b"model M(): writeln(\"%d\", 7) end")?;
-    assert!(rt; writes(statements.as_slice(), 7));
+    let source: &[u8] = b"model M(): writeln(\"%d\", 7) end";
+    let Some(core) = program(&rt, rt.alloc(), source)? else {
+        return Err(Fail::new("not built"));
+    };
+    assert!(rt; writes(first_body(&core), 7));
     Ok(())
 }
