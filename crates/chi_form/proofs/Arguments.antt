@@ -7,7 +7,7 @@ use Rattle.std.proofs.Math.ListN.{drop_of_length-le}
 use Rattle.std.specs.Prelude.{◌==◌, true, false, option_map}
 use Rattle.std.specs.Option.{option_and_then}
 use Rattle.chi_tree.specs.declared.expr.Expr.{Expr}
-use Rattle.chi_form_core.specs.declared.program.CExpr.{CExpr}
+use Rattle.chi_core.specs.declared.expression.CExpr.{CExpr}
 use Rattle.chi_form.specs.declared.scope.Local.{Local}
 use Rattle.chi_form.specs.declared.scope.Parameter.{Parameter}
 use Rattle.chi_form.specs.Values.{value_as, arguments_of}

@@ -1,7 +1,8 @@
 mod LiteralLemmas
 mod Arguments
 mod Turns
+pub mod NameLemmas
 mod SoundValues
 mod SoundStatements
 mod SoundBodies
-pub mod SoundPrograms
+mod SoundPrograms

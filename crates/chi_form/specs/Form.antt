@@ -1,5 +1,5 @@
 -- The programs that are built so far: processes, and then one model. Each is a list of statements.
-use Rattle.std.specs.Prelude.{ℕ, ◌-◌, Bool, true, false, List, [], ◌∷◌, ◌++◌, length, map, slice_get, Option, Some, None, option_map, if◌then◌else◌}
+use Rattle.std.specs.Prelude.{ℕ, ◌-◌, ◌&&◌, ◌≡◌, Bool, true, false, List, [], ◌∷◌, ◌++◌, length, map, slice_get, Option, Some, None, option_map, if◌then◌else◌}
 use Rattle.std.specs.List.{find}
 use Rattle.std.specs.Option.{option_and_then}
 use Rattle.chi_tree.specs.declared.type_tree.Formal.{Formal}
@@ -9,8 +9,8 @@ use Rattle.chi_tree.specs.declared.definition.Definition.{Definition}
 use Rattle.chi_tree.specs.declared.definition.Definition.TheVariants as definition
 use Rattle.chi_tree.specs.declared.definition.Item.{Item}
 use Rattle.chi_tree.specs.declared.definition.Program.{Program}
-use Rattle.chi_form_core.specs.declared.program.Core.{Core}
-use Rattle.chi_form_core.specs.declared.program.ProcDef.{ProcDef}
+use Rattle.chi_core.specs.declared.program.Core.{Core}
+use Rattle.chi_core.specs.declared.program.ProcDef.{ProcDef}
 use Rattle.chi_form.specs.declared.kind.Kind.{Kind}
 use Rattle.chi_form.specs.declared.scope.Local.{Local}
 use Rattle.chi_form.specs.declared.scope.Parameter.{Parameter}
@@ -19,7 +19,7 @@ use Rattle.chi_form.specs.declared.scope.Role.{Role}
 use Rattle.chi_form.specs.declared.scope.Role.TheVariants.{Process, Model}
 use Rattle.chi_form.specs.declared.body.Body.{Body}
 use Rattle.chi_form.specs.Kinds.{kind_of, type_of}
-use Rattle.chi_form.specs.Scope.{is_new, with_local}
+use Rattle.chi_form.specs.Scope.{is_name, is_new, with_local}
 use Rattle.chi_form.specs.Statements.{with_step}
 use Rattle.chi_form.specs.Turns.{in_turn, each, both}
 
@@ -63,7 +63,7 @@ model_of headers = find (λ h. is_model h.role) headers
 
 abbrev pub added : List Header → Option Header → Option (List Header)
 added headers None = None
-added headers (Some h) = if is_new headers [] h.name then Some (headers ++ h ∷ []) else None
+added headers (Some h) = if is_name h.name && is_new headers [] h.name then Some (headers ++ h ∷ []) else None
 
 -- one definition more; nothing stands after the model
 abbrev pub header_after : List Header → Definition → Option Header → Option (List Header)
@@ -94,6 +94,7 @@ abbrev pub proc_def : List ℕ → List Parameter → Body → ProcDef
 proc_def name parameters body = record {
   name = name;
   params = map (λ p. type_of p.kind) parameters;
+  exit = None;
   slots = map (λ l. type_of l.kind) body.locals;
   body = body.statements;
 }
@@ -114,7 +115,7 @@ definition_of headers item = definition_in headers item.definition
 -- programs
 
 abbrev pub core_of : List ProcDef → Header → Core
-core_of procs model = record { procs = procs; model = model.number }
+core_of procs model = record { consts = []; funcs = []; procs = procs; model = model.number; names = record { kinds = [] } }
 
 unfoldable pub program_with : List Item → List Header → Option Core
 program_with items headers = both core_of (each (definition_of headers) items) (model_of headers)
@@ -122,3 +123,7 @@ program_with items headers = both core_of (each (definition_of headers) items) (
 -- the program that a tree is, if it is of the form that is built
 unfoldable pub built : Program → Option Core
 built tree = option_and_then (program_with tree.items) (headers_of tree.items)
+
+-- the model that is run has no parameters
+abbrev pub HasPlainModel : Core → Type 0
+HasPlainModel core = (d : ProcDef) → slice_get core.procs core.model ≡ Some d → d.params ≡ []

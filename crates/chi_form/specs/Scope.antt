@@ -1,11 +1,28 @@
--- The names that are visible.
-use Rattle.std.specs.Prelude.{ℕ, not, ◌&&◌, Bool, bytes_eq, List, [], ◌∷◌, ◌++◌, length, Option, Some, None, if◌then◌else◌}
-use Rattle.std.specs.List.{find, list_any}
+-- Names, and those that are visible.
+use Rattle.std.specs.Prelude.{ℕ, not, ◌&&◌, Bool, true, false, bytes_eq, List, [], ◌∷◌, ◌++◌, length, Option, Some, None, if◌then◌else◌}
+use Rattle.std.specs.List.{find, list_all, list_any}
+use Rattle.chi_token.specs.Characters.{is_name_start, is_name_byte}
+use Rattle.chi_token.specs.declared.token.Token.{Token}
+use Rattle.chi_token.specs.declared.token.Token.TheVariants.{Name}
+use Rattle.chi_token.specs.Tokens.{token_of}
 use Rattle.chi_form.specs.declared.kind.Kind.{Kind}
 use Rattle.chi_form.specs.declared.scope.Local.{Local}
 use Rattle.chi_form.specs.declared.scope.Header.{Header}
 use Rattle.chi_form.specs.declared.scope.TheConstants.{PREDEFINED}
 use Rattle.chi_form.specs.Kinds.{fits}
+
+-- a letter or an underscore, and then letters, digits and underscores
+abbrev pub is_word : List ℕ → Bool
+is_word [] = false
+is_word (c ∷ cs) = is_name_start c && list_all is_name_byte cs
+
+abbrev pub is_name_token : Option Token → Bool
+is_name_token (Some (Name bytes)) = true
+is_name_token _ = false
+
+-- the bytes are a name of the language, and no keyword
+unfoldable pub is_name : List ℕ → Bool
+is_name bytes = is_name_token (token_of bytes)
 
 -- a name to which the language gives a meaning of its own
 unfoldable pub is_predefined : List ℕ → Bool

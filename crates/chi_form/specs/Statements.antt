@@ -14,14 +14,14 @@ use Rattle.chi_tree.specs.declared.statement.Statement.{Statement, Statement-F, 
 use Rattle.chi_value.specs.declared.format.Field.{Field}
 use Rattle.chi_value.specs.declared.format.Piece.{Piece}
 use Rattle.chi_value.specs.declared.format.Piece.TheVariants as piece
-use Rattle.chi_form_core.specs.declared.program.CExpr.{CExpr}
-use Rattle.chi_form_core.specs.declared.program.CExpr.TheVariants.{Default}
-use Rattle.chi_form_core.specs.declared.program.CStat.{CStat}
-use Rattle.chi_form_core.specs.declared.program.CStat.TheVariants as stat
-use Rattle.chi_form_core.specs.declared.program.CAlt.TheVariants as alternative
-use Rattle.chi_form_core.specs.declared.program.CComm.{CComm}
-use Rattle.chi_form_core.specs.declared.program.CElem.{CElem}
-use Rattle.chi_form_core.specs.declared.program.CElem.TheVariants as element
+use Rattle.chi_core.specs.declared.communication.CComm.{CComm}
+use Rattle.chi_core.specs.declared.element.CElem.{CElem}
+use Rattle.chi_core.specs.declared.element.CElem.TheVariants as element
+use Rattle.chi_core.specs.declared.expression.CExpr.{CExpr}
+use Rattle.chi_core.specs.declared.expression.CExpr.TheVariants.{Default}
+use Rattle.chi_core.specs.declared.statement.CAlt.TheVariants as alternative
+use Rattle.chi_core.specs.declared.statement.CStat.{CStat}
+use Rattle.chi_core.specs.declared.statement.CStat.TheVariants as stat
 use Rattle.chi_form.specs.declared.kind.Kind.{Kind}
 use Rattle.chi_form.specs.declared.kind.Kind.TheVariants.{Int}
 use Rattle.chi_form.specs.declared.scope.Local.{Local}
@@ -70,14 +70,14 @@ line_of (communication.Send target place e) = target.name.place.line
 line_of (communication.Receive target place name) = target.name.place.line
 line_of (communication.Delay place e) = place.line
 
--- a select of one alternative, with nothing after it
+-- a select of one alternative without a guard, with nothing after it
 abbrev pub alone : ℕ → CComm → CStat
-alone line c = stat.Select line (alternative.Guarded c [] ∷ [])
+alone line c = stat.Select line (alternative.Guarded None c [] ∷ [])
 
 -- starts
 
 abbrev pub make_as : ℕ → List Local → List Expr → Role → Option CElem
-make_as number locals values (Process parameters) = option_map (element.Make number) (arguments_of locals parameters values)
+make_as number locals values (Process parameters) = option_map (element.Make None number) (arguments_of locals parameters values)
 make_as number locals values Model = None
 
 -- the process of a header, with its arguments

@@ -7,11 +7,12 @@ use Rattle.chi_tree.specs.declared.statement.Communication.TheVariants as commun
 use Rattle.chi_types.specs.declared.ty.Way.{Way}
 use Rattle.chi_types.specs.declared.ty.Way.TheVariants as way
 use Rattle.chi_value.specs.declared.value.Value.TheVariants as value
-use Rattle.chi_form_core.specs.declared.program.CExpr.{CExpr}
-use Rattle.chi_form_core.specs.declared.program.CExpr.TheVariants.{Lit, Var, Widen}
-use Rattle.chi_form_core.specs.declared.program.CTarget.{CTarget}
-use Rattle.chi_form_core.specs.declared.program.CComm.{CComm}
-use Rattle.chi_form_core.specs.declared.program.CComm.TheVariants as comm
+use Rattle.chi_core.specs.declared.communication.CComm.{CComm}
+use Rattle.chi_core.specs.declared.communication.CComm.TheVariants as comm
+use Rattle.chi_core.specs.declared.expression.CExpr.{CExpr}
+use Rattle.chi_core.specs.declared.expression.CExpr.TheVariants.{Lit, Var, Op}
+use Rattle.chi_core.specs.declared.op_name.OpName.TheVariants.{Widen}
+use Rattle.chi_core.specs.declared.target.CTarget.{CTarget}
 use Rattle.chi_form.specs.declared.kind.Kind.{Kind}
 use Rattle.chi_form.specs.declared.kind.Kind.TheVariants.{Int, Chan}
 use Rattle.chi_form.specs.declared.scope.Local.{Local}
@@ -26,6 +27,10 @@ int_value n = Lit (value.Int n)
 
 abbrev pub real_value : ℤ → CExpr
 real_value units = Lit (value.Real units)
+
+-- an int, converted to a real
+abbrev pub widened : ℤ → CExpr
+widened n = Op Widen (int_value n ∷ [])
 
 -- an int literal where a kind is wanted
 unfoldable pub int_as : Kind → List ℕ → Option CExpr
@@ -48,7 +53,7 @@ arguments_of locals (parameter ∷ parameters) (value ∷ values) =
 arguments_of locals _ _ = None
 
 abbrev pub delay_in : {A B C D E F : Type 0} → Expr-F A B C D E F → Option CExpr
-delay_in (Expr-F.Int digits place) = option_map Widen (int_of digits)
+delay_in (Expr-F.Int digits place) = option_map widened (int_of digits)
 delay_in (Expr-F.Real digits place) = option_map real_value (real_of digits)
 delay_in _ = None
 
@@ -57,18 +62,24 @@ unfoldable pub delay_of : Expr → Option CExpr
 delay_of e = delay_in (out-Expr e)
 
 abbrev pub target_at : ℕ → CTarget
-target_at slot = record { slot = slot }
+target_at slot = record { slot = slot; steps = [] }
 
 -- a variable that is a channel for a way
 unfoldable pub channel_as : List Local → Way → Target → Option CTarget
 channel_as locals way target =
     if length target.steps == 0 then option_map target_at (slot_as locals (Chan way) target.name.text) else None
 
+abbrev pub send : CTarget → CExpr → CComm
+send target e = comm.Send target (Some e)
+
+abbrev pub receive : CTarget → ℕ → CComm
+receive target slot = comm.Receive target (Some slot)
+
 -- an int that is sent, a variable for the int that is received, or a delay
 unfoldable pub communication_of : List Local → Communication → Option CComm
 communication_of locals (communication.Send target place (Some e)) =
-    both comm.Send (channel_as locals way.Send target) (value_as locals Int e)
+    both send (channel_as locals way.Send target) (value_as locals Int e)
 communication_of locals (communication.Receive target place (Some name)) =
-    both comm.Receive (channel_as locals way.Receive target) (slot_as locals Int name.text)
+    both receive (channel_as locals way.Receive target) (slot_as locals Int name.text)
 communication_of locals (communication.Delay place e) = option_map comm.Delay (delay_of e)
 communication_of locals _ = None

@@ -3,11 +3,11 @@ ghost use Rattle.chi_form.specs.Statements.{with_statement};
 
 use crate::scope::Local;
 use chi_base::{Items, NoMemory};
-use chi_form_core::CStat;
+use chi_core::CStat;
 use std::alloc::Global;
 
 /// The front of a definition's body: its variables so far, the parameters first, and its statements.
-#[derive(Debug, Drop)]
+#[derive(Drop)]
 pub struct Body {
     pub locals: Items<Local>,
     pub statements: Items<CStat>,

@@ -7,7 +7,7 @@ use crate::body::Body;
 use crate::kind::Kind;
 use crate::scope::{Header, number, with_local};
 use chi_base::NoMemory;
-use chi_form_core::{CExpr, CStat};
+use chi_core::{CExpr, CStat};
 use chi_tree::{TypeTree, Variable};
 use std::alloc::Global;
 

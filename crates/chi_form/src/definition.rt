@@ -6,10 +6,11 @@ ghost use Rattle.chi_form.specs.Form.{with_parameter, body_of, process_of, defin
 
 use crate::body::Body;
 use crate::header::parameters_of;
+use crate::list::none;
 use crate::scope::{Header, Local, Parameter, with_local};
 use crate::statement::with_step;
 use chi_base::{Items, NoMemory};
-use chi_form_core::ProcDef;
+use chi_core::ProcDef;
 use chi_token::Bytes;
 use chi_tree::{Definition, Item, Step};
 use chi_types::Ty;
@@ -40,7 +41,7 @@ fn with_parameters(
 ) -> Result<Option<Items<Local>>, NoMemory>
     ensures { IfOk result (λ locals. locals ≡ in_turn (with_parameter headers.now) [] parameters.now) }
 {
-    let mut locals = Items::of(alloc, Vec::new(alloc))?;
+    let mut locals = none(alloc)?;
     for parameter in parameters {
         let Some(next) = with_parameter(alloc, headers, locals, parameter)? else {
             return Ok(None);
@@ -80,7 +81,7 @@ fn body_of(
     let Some(locals) = with_parameters(alloc, headers, parameters)? else {
         return Ok(None);
     };
-    let statements = Items::of(alloc, Vec::new(alloc))?;
+    let statements = none(alloc)?;
     let body = Body { locals, statements };
     Ok(with_steps(alloc, headers, body, steps)?)
 }
@@ -122,6 +123,7 @@ fn process_of(
     Ok(Some(ProcDef {
         name: Bytes::copy_of(alloc, name)?,
         params: parameter_types(alloc, parameters)?,
+        exit: None,
         slots: local_types(alloc, locals.as_slice())?,
         body: statements,
     }))

@@ -2,6 +2,8 @@ ghost use Rattle.std.specs.Prelude.{◌≡◌, IfOk, option_map};
 ghost use Rattle.chi_form.specs.Form.{formal_kind, with_formal, parameters_of, header_in, is_model, model_of, with_header, headers_of};
 
 use crate::kind::Kind;
+use crate::list::none;
+use crate::name::is_name;
 use crate::scope::{Header, Parameter, Role, is_new, number};
 use chi_base::{Boxed, Items, NoMemory};
 use chi_token::Bytes;
@@ -13,7 +15,7 @@ fn formal_kind(made: &[Parameter], ty: &Option<Boxed<TypeTree>>) -> Option<Kind>
 {
     match ty {
         Some(ty) => Kind::of(ty.get()),
-        None => made.last().map(|parameter| parameter.kind),
+        None => Some(made.last()?.kind),
     }
 }
 
@@ -42,7 +44,7 @@ pub fn parameters_of(
 ) -> Result<Option<Items<Parameter>>, NoMemory>
     ensures { IfOk result (λ parameters. parameters ≡ parameters_of formals.now) }
 {
-    let mut made = Items::of(alloc, Vec::new(alloc))?;
+    let mut made = none(alloc)?;
     for formal in formals {
         let Some(next) = with_formal(alloc, made, formal)? else {
             return Ok(None);
@@ -123,7 +125,8 @@ fn with_header(
     let Some(header) = header_in(alloc, number, &item.definition)? else {
         return Ok(None);
     };
-    if !is_new(headers.as_slice(), &[], header.name.as_slice()) {
+    let name = header.name.as_slice();
+    if !is_name(name) || !is_new(headers.as_slice(), &[], name) {
         return Ok(None);
     }
     let mut grown = headers.into_vec(alloc)?;
@@ -136,7 +139,7 @@ fn with_header(
 pub fn headers_of(alloc: Global, items: &[Item]) -> Result<Option<Items<Header>>, NoMemory>
     ensures { IfOk result (λ headers. headers ≡ headers_of items.now) }
 {
-    let mut made = Items::of(alloc, Vec::new(alloc))?;
+    let mut made = none(alloc)?;
     for item in items {
         let Some(next) = with_header(alloc, made, item)? else {
             return Ok(None);

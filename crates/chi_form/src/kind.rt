@@ -10,7 +10,7 @@ use chi_value::Shape;
 use std::alloc::Global;
 
 /// What a variable is.
-#[derive(Clone, Copy, Debug, PartialEq, Eq)]
+#[derive(Clone, Copy)]
 pub enum Kind {
     Int,
     /// A channel of ints.

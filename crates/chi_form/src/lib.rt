@@ -1,4 +1,4 @@
-//! The programs that are built so far: what a source's tree comes to, if it is of a form that runs. It goes away when
+//! The programs that are built so far: the core of a source's tree, if it is of a form that runs. It goes away when
 //! the checker takes its place.
 #![tactic(auto)]
 
@@ -7,7 +7,9 @@ mod declaration;
 mod definition;
 mod header;
 mod kind;
+mod list;
 mod literal;
+mod name;
 mod program;
 mod scope;
 mod statement;

@@ -1,14 +1,16 @@
 ghost use Rattle.std.specs.Prelude.{◌≡◌, IfOk, IfSome};
-ghost use Rattle.chi_form_core.specs.Sound.{Sound};
+ghost use Rattle.chi_core.specs.Sound.{Sound};
 ghost use Rattle.chi_form.specs.Turns.{each};
-ghost use Rattle.chi_form.specs.Form.{definition_of, program_with, built};
+ghost use Rattle.chi_form.specs.Form.{definition_of, program_with, built, HasPlainModel};
 
 use crate::definition::definition_of;
 use crate::header::{headers_of, model_of};
+use crate::list::none;
 use crate::scope::Header;
 use chi_base::{Items, NoMemory};
-use chi_form_core::{Core, ProcDef};
+use chi_core::{Core, ProcDef};
 use chi_tree::{Item, Program};
+use chi_value::Names;
 use std::alloc::Global;
 
 fn definitions_of(
@@ -39,7 +41,15 @@ fn program_with(alloc: Global, items: &[Item], headers: &[Header]) -> Result<Opt
         return Ok(None);
     };
     let model = model.number;
-    Ok(Some(Core { procs, model }))
+    Ok(Some(Core {
+        consts: none(alloc)?,
+        funcs: none(alloc)?,
+        procs,
+        model,
+        names: Names {
+            kinds: none(alloc)?,
+        },
+    }))
 }
 
 /// The program that a tree is, if it is of the form that is built.
@@ -47,6 +57,7 @@ fn program_with(alloc: Global, items: &[Item], headers: &[Header]) -> Result<Opt
 pub fn program_of(alloc: Global, tree: &Program) -> Result<Option<Core>, NoMemory>
     ensures built { IfOk result (λ program. program ≡ built tree.now) }
     ensures sound { IfOk result (λ program. IfSome program Sound) }
+    ensures plain_model { IfOk result (λ program. IfSome program HasPlainModel) }
 {
     let items = tree.items.as_slice();
     let Some(headers) = headers_of(alloc, items)? else {

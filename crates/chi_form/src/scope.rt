@@ -35,14 +35,14 @@ pub static PREDEFINED: [&str; 23] = [
 ];
 
 /// A formal with its kind.
-#[derive(Debug, Drop)]
+#[derive(Drop)]
 pub struct Parameter {
     pub name: Bytes,
     pub kind: Kind,
 }
 
 /// A variable that is visible, with its slot.
-#[derive(Debug, Drop)]
+#[derive(Drop)]
 pub struct Local {
     pub name: Bytes,
     pub kind: Kind,
@@ -50,14 +50,14 @@ pub struct Local {
 }
 
 /// What is defined: a process with its parameters, or the model.
-#[derive(Debug, Drop)]
+#[derive(Drop)]
 pub enum Role {
     Process(Items<Parameter>),
     Model,
 }
 
 /// A definition that is visible, with its number in file order.
-#[derive(Debug, Drop)]
+#[derive(Drop)]
 pub struct Header {
     pub name: Bytes,
     pub number: u32,

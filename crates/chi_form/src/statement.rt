@@ -4,11 +4,12 @@ ghost use Rattle.chi_form.specs.Statements.{line_of, alone, make_of, element_of,
 
 use crate::body::Body;
 use crate::declaration::with_declaration;
+use crate::list::{none, one};
 use crate::scope::{Header, Local, Role, header_of};
 use crate::value::{arguments_of, communication_of};
 use crate::write::write_of;
 use chi_base::{Items, NoMemory};
-use chi_form_core::{CAlt, CComm, CElem, CStat};
+use chi_core::{CAlt, CComm, CElem, CStat};
 use chi_tree::{Communication, Element, Expr, Statement, Step};
 use std::alloc::Global;
 
@@ -27,10 +28,9 @@ fn line_of(communication: &Communication) -> u32
 fn alone(alloc: Global, line: u32, communication: CComm) -> Result<CStat, NoMemory>
     ensures { IfOk result (λ s. s ≡ alone line communication) }
 {
-    let body = Items::of(alloc, Vec::new(alloc))?;
-    let mut alternatives = Vec::new(alloc);
-    alternatives.push(CAlt::Guarded(communication, body))?;
-    Ok(CStat::Select(line, Items::of(alloc, alternatives)?))
+    let body = none(alloc)?;
+    let alternatives = one(alloc, CAlt::Guarded(None, communication, body))?;
+    Ok(CStat::Select(line, alternatives))
 }
 
 #[tactic(auto, unfolding(crate::specs::Statements::make_of))]
@@ -49,7 +49,7 @@ fn make_of(
             let Some(arguments) = arguments_of(alloc, locals, parameters, values)? else {
                 return Ok(None);
             };
-            Ok(Some(CElem::Make(header.number, arguments)))
+            Ok(Some(CElem::Make(None, header.number, arguments)))
         }
     }
 }
@@ -107,10 +107,12 @@ fn statement_of(
 {
     match statement {
         Statement::Pass(place) => Ok(Some(CStat::Pass(place.line))),
-        Statement::Communicate(communication) => match communication_of(locals, communication) {
-            None => Ok(None),
-            Some(made) => Ok(Some(alone(alloc, line_of(communication), made)?)),
-        },
+        Statement::Communicate(communication) => {
+            match communication_of(alloc, locals, communication)? {
+                None => Ok(None),
+                Some(made) => Ok(Some(alone(alloc, line_of(communication), made)?)),
+            }
+        }
         Statement::Start { place, elements } => {
             match elements_of(alloc, headers, locals, elements.as_slice())? {
                 None => Ok(None),

@@ -1,11 +1,12 @@
 ghost use Rattle.std.specs.Prelude.{◌≡◌, IfOk};
-ghost use Rattle.chi_form.specs.Values.{int_as, value_as, arguments_of, delay_of, channel_as, communication_of};
+ghost use Rattle.chi_form.specs.Values.{int_as, value_as, arguments_of, widened, delay_of, channel_as, communication_of};
 
 use crate::kind::Kind;
+use crate::list::{none, one};
 use crate::literal::{int_of, real_of};
 use crate::scope::{Local, Parameter, slot_as};
 use chi_base::{Items, NoMemory};
-use chi_form_core::{CComm, CExpr, CTarget};
+use chi_core::{CComm, CExpr, CTarget, OpName};
 use chi_tree::{Communication, Expr, Target};
 use chi_types::Way;
 use chi_value::Value;
@@ -64,38 +65,59 @@ pub fn arguments_of(
     Ok(Some(Items::of(alloc, made)?))
 }
 
+fn widened(alloc: Global, int: i64) -> Result<CExpr, NoMemory>
+    ensures { IfOk result (λ e. e ≡ widened int) }
+{
+    let operands = one(alloc, CExpr::Lit(Value::Int(int)))?;
+    Ok(CExpr::Op(OpName::Widen, operands))
+}
+
 #[tactic(auto, unfolding(crate::specs::Values::delay_of))]
-fn delay_of(length: &Expr) -> Option<CExpr>
-    ensures { result ≡ delay_of length.now }
+fn delay_of(alloc: Global, length: &Expr) -> Result<Option<CExpr>, NoMemory>
+    ensures { IfOk result (λ e. e ≡ delay_of length.now) }
 {
     match length {
-        Expr::Int { digits, .. } => {
-            let int = int_of(digits.as_slice())?;
-            Some(CExpr::Widen(int))
-        }
-        Expr::Real { digits, .. } => {
-            let real = real_of(digits.as_slice())?;
-            Some(CExpr::Lit(Value::Real(real)))
-        }
-        _ => None,
+        Expr::Int { digits, .. } => match int_of(digits.as_slice()) {
+            Some(int) => Ok(Some(widened(alloc, int)?)),
+            None => Ok(None),
+        },
+        Expr::Real { digits, .. } => match real_of(digits.as_slice()) {
+            Some(real) => Ok(Some(CExpr::Lit(Value::Real(real)))),
+            None => Ok(None),
+        },
+        _ => Ok(None),
     }
 }
 
 #[tactic(auto, unfolding(crate::specs::Values::channel_as))]
-fn channel_as(locals: &[Local], way: Way, target: &Target) -> Option<CTarget>
-    ensures { result ≡ channel_as locals.now way target.now }
+fn channel_as(
+    alloc: Global,
+    locals: &[Local],
+    way: Way,
+    target: &Target,
+) -> Result<Option<CTarget>, NoMemory>
+    ensures { IfOk result (λ channel. channel ≡ channel_as locals.now way target.now) }
 {
     if !target.steps.as_slice().is_empty() {
-        return None;
+        return Ok(None);
     }
-    let slot = slot_as(locals, Kind::Chan(way), target.name.text.as_slice())?;
-    Some(CTarget { slot })
+    match slot_as(locals, Kind::Chan(way), target.name.text.as_slice()) {
+        None => Ok(None),
+        Some(slot) => {
+            let steps = none(alloc)?;
+            Ok(Some(CTarget { slot, steps }))
+        }
+    }
 }
 
 /// A send, a receive, or a delay by a number literal.
 #[tactic(auto, unfolding(crate::specs::Values::communication_of))]
-pub fn communication_of(locals: &[Local], communication: &Communication) -> Option<CComm>
-    ensures { result ≡ communication_of locals.now communication.now }
+pub fn communication_of(
+    alloc: Global,
+    locals: &[Local],
+    communication: &Communication,
+) -> Result<Option<CComm>, NoMemory>
+    ensures { IfOk result (λ c. c ≡ communication_of locals.now communication.now) }
 {
     match communication {
         Communication::Send {
@@ -103,23 +125,33 @@ pub fn communication_of(locals: &[Local], communication: &Communication) -> Opti
             value: Some(value),
             ..
         } => {
-            let channel = channel_as(locals, Way::Send, target)?;
-            let value = value_as(locals, Kind::Int, value)?;
-            Some(CComm::Send(channel, value))
+            let Some(channel) = channel_as(alloc, locals, Way::Send, target)? else {
+                return Ok(None);
+            };
+            let Some(value) = value_as(locals, Kind::Int, value) else {
+                return Ok(None);
+            };
+            Ok(Some(CComm::Send(channel, Some(value))))
         }
         Communication::Receive {
             target,
             name: Some(name),
             ..
         } => {
-            let channel = channel_as(locals, Way::Receive, target)?;
-            let slot = slot_as(locals, Kind::Int, name.text.as_slice())?;
-            Some(CComm::Receive(channel, slot))
+            let Some(channel) = channel_as(alloc, locals, Way::Receive, target)? else {
+                return Ok(None);
+            };
+            let Some(slot) = slot_as(locals, Kind::Int, name.text.as_slice()) else {
+                return Ok(None);
+            };
+            Ok(Some(CComm::Receive(channel, Some(slot))))
         }
         Communication::Delay { length, .. } => {
-            let length = delay_of(length)?;
-            Some(CComm::Delay(length))
+            let Some(length) = delay_of(alloc, length)? else {
+                return Ok(None);
+            };
+            Ok(Some(CComm::Delay(length)))
         }
-        _ => None,
+        _ => Ok(None),
     }
 }

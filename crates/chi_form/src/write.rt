@@ -1,12 +1,13 @@
 ghost use Rattle.std.specs.Prelude.{◌≡◌, ◌++◌, [], IfOk};
 ghost use Rattle.chi_form.specs.Statements.{has_format, ending, plain, write_whole, write_of};
-ghost use Rattle.chi_form_core.specs.declared.program.CStat.TheVariants as stat;
+ghost use Rattle.chi_core.specs.declared.statement.CStat.TheVariants as stat;
 
 use crate::kind::Kind;
+use crate::list::{none, one};
 use crate::scope::Local;
 use crate::value::value_as;
 use chi_base::{Items, NoMemory};
-use chi_form_core::{CExpr, CStat};
+use chi_core::{CExpr, CStat};
 use chi_token::Bytes;
 use chi_tree::Expr;
 use chi_value::{Field, Piece};
@@ -41,7 +42,7 @@ fn write_text(alloc: Global, line: u32, ends: bool, text: &[u8]) -> Result<CStat
     let mut bytes = Vec::from_slice(alloc, text)?;
     bytes.extend_from_slice(ending(ends))?;
     let pieces = with_plain(alloc, Vec::new(alloc), bytes.as_slice())?;
-    Ok(CStat::Write(line, pieces, Items::of(alloc, Vec::new(alloc))?))
+    Ok(CStat::Write(line, pieces, none(alloc)?))
 }
 
 fn write_whole(alloc: Global, line: u32, ends: bool, value: CExpr) -> Result<CStat, NoMemory>
@@ -54,9 +55,7 @@ fn write_whole(alloc: Global, line: u32, ends: bool, value: CExpr) -> Result<CSt
     let mut pieces = Vec::new(alloc);
     pieces.push(Piece::Whole(bare))?;
     let pieces = with_plain(alloc, pieces, ending(ends))?;
-    let mut values = Vec::new(alloc);
-    values.push(value)?;
-    Ok(CStat::Write(line, pieces, Items::of(alloc, values)?))
+    Ok(CStat::Write(line, pieces, one(alloc, value)?))
 }
 
 /// The statement that writes a text without a format, or `%d` alone with an int; and then a line feed, where it ends the

@@ -1,7 +1,8 @@
+use chi_core::{CAlt, CComm, CElem, CExpr, CStat, Core, OpName};
 use chi_form::program_of;
-use chi_form_core::{CStat, Core};
 use chi_lex::{MOST_BYTES, lex};
 use chi_parse::parse;
+use chi_value::{Piece, Value};
 use std::alloc::Global;
 use std::process::Abort;
 use std::test::Fail;
@@ -137,6 +138,75 @@ fn what_breaks_a_rule_is_refused(rt: HostRuntime) -> Result<(), Fail> {
     )
 }
 
+/// What the last statement offers, where it is a communication that stands alone.
+fn last_offer(body: &[CStat]) -> Option<&CComm> {
+    let [.., CStat::Select(_, alternatives)] = body else {
+        return None;
+    };
+    match alternatives.as_slice() {
+        [CAlt::Guarded(None, offer, _)] => Some(offer),
+        _ => None,
+    }
+}
+
+/// Whether an int is received last, from the channel in one slot into the other.
+fn receives(body: &[CStat], from: u32, into: u32) -> bool {
+    match last_offer(body) {
+        Some(CComm::Receive(channel, Some(slot))) => channel.slot == from && *slot == into,
+        _ => false,
+    }
+}
+
+/// Whether the last delay is that of an int, converted to a real.
+fn delays(body: &[CStat], int: i64) -> bool {
+    match last_offer(body) {
+        Some(CComm::Delay(CExpr::Op(OpName::Widen, operands))) => is_int(operands.as_slice(), int),
+        _ => false,
+    }
+}
+
+/// Whether the int is the one value.
+fn is_int(values: &[CExpr], int: i64) -> bool {
+    match values {
+        [CExpr::Lit(Value::Int(n))] => *n == int,
+        _ => false,
+    }
+}
+
+/// Whether the values are a variable and an int.
+fn are_variable_and_int(values: &[CExpr], variable: u32, int: i64) -> bool {
+    match values {
+        [CExpr::Var(slot), rest @ ..] => *slot == variable && is_int(rest, int),
+        _ => false,
+    }
+}
+
+/// Whether one process is started last, with a variable and an int for its arguments.
+fn starts(body: &[CStat], process: u32, variable: u32, int: i64) -> bool {
+    let [.., CStat::Start(_, elements)] = body else {
+        return false;
+    };
+    match elements.as_slice() {
+        [CElem::Make(None, number, arguments)] => {
+            *number == process && are_variable_and_int(arguments.as_slice(), variable, int)
+        }
+        _ => false,
+    }
+}
+
+/// Whether the int is written last, and then a line feed.
+fn writes(body: &[CStat], int: i64) -> bool {
+    let [.., CStat::Write(_, pieces, values)] = body else {
+        return false;
+    };
+    match pieces.as_slice() {
+        [Piece::Whole(_), Piece::Plain(ending)] => {
+            ending.as_slice() == b"\n".as_slice() && is_int(values.as_slice(), int)
+        }
+        _ => false,
+    }
+}
+
 #[test]
 fn slots_lines_and_numbers_are_those_of_the_text(rt: HostRuntime) -> Result<(), Fail> {
     let source: &[u8] =
@@ -160,11 +230,40 @@ fn slots_lines_and_numbers_are_those_of_the_text(rt: HostRuntime) -> Result<(), 
             ]
         )
     );
+    assert!(rt; receives(process.body.as_slice(), 0, 3));
     assert!(rt;
         matches!(
             model.body.as_slice(),
             [CStat::Declare(6, 0, _), CStat::Start(7, _)]
         )
     );
+    assert!(rt; starts(model.body.as_slice(), 0, 0, 1));
+    Ok(())
+}
+
+/// The statements of the first definition.
+fn first_body(core: &Core) -> &[CStat] {
+    match core.procs.as_slice() {
+        [definition, ..] => definition.body.as_slice(),
+        [] => &[],
+    }
+}
+
+#[test]
+fn a_delay_of_an_int_is_converted(rt: HostRuntime) -> Result<(), Fail> {
+    let Some(core) = program(&rt, rt.alloc(), b"model M(): delay 2 end")? else {
+        return Err(Fail::new("not built"));
+    };
+    assert!(rt; delays(first_body(&core), 2));
+    Ok(())
+}
+
+#[test]
+fn an_int_is_written_by_its_piece(rt: HostRuntime) -> Result<(), Fail> {
+    let source: &[u8] = b"model M(): writeln(\"%d\", 7) end";
+    let Some(core) = program(&rt, rt.alloc(), source)? else {
+        return Err(Fail::new("not built"));
+    };
+    assert!(rt; writes(first_body(&core), 7));
     Ok(())
 }
