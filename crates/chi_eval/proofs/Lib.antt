@@ -1,1 +1,4 @@
+pub mod Operations
+pub mod Standing
+pub mod Stopping
 pub mod Tasks

@@ -1,3 +1,5 @@
+pub mod Calls
+pub mod Spans
 pub mod Spots
 pub mod Stops
 pub mod Surroundings

@@ -2,7 +2,11 @@
 //! items of terms that functions and processes share.
 #![tactic(auto)]
 
+mod calling;
+mod calls;
 mod evaluating;
+mod making;
+mod operating;
 mod reading;
 mod spots;
 mod stop;

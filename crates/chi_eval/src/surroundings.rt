@@ -1,3 +1,6 @@
+ghost use Rattle.std.specs.Prelude.{◌≡◌, ◌≢◌, None, Some, slice_get};
+ghost use Rattle.chi_core.specs.Functions.{callee};
+
 use chi_core::FuncDef;
 use chi_value::{Names, Value};
 
@@ -14,4 +17,22 @@ pub struct Surroundings<'a> {
     pub constants: &'a [Value],
     /// Whether it is finished, for each instance that there was before the step.
     pub finished: &'a [bool],
+}
+
+/// The value of a constant.
+#[tactic(auto, using(crate::proofs::Standing::at_place))]
+pub fn constant<'a>(s: &Surroundings<'a>, number: u32) -> &'a Value
+    requires { slice_get s.now.constants.now number ≢ None }
+    ensures { slice_get s.now.constants.now number ≡ Some result.now }
+{
+    &s.constants[number as usize]
+}
+
+/// The function of a number, which takes so many arguments.
+#[tactic(auto, using(crate::proofs::Standing::places))]
+pub fn function<'a>(s: &Surroundings<'a>, number: u32, count: usize) -> &'a FuncDef
+    requires { callee s.now.functions.now number count ≢ None }
+    ensures { callee s.now.functions.now number count ≡ Some result.now }
+{
+    &s.functions[number as usize]
 }
