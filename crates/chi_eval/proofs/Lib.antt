@@ -1,4 +1,8 @@
+pub mod Acting
 pub mod Operations
+pub mod Slots
+pub mod Spans
 pub mod Standing
 pub mod Stopping
 pub mod Tasks
+pub mod Turns

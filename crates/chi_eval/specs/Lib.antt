@@ -1,4 +1,5 @@
 pub mod Calls
+pub mod Heads
 pub mod Spans
 pub mod Spots
 pub mod Stops

@@ -28,10 +28,18 @@ impl Model for Variables {
 
 impl Variables {
     /// The variables at the start: the arguments in the first slots, and no other set.
+    #[tactic(auto, using(crate::proofs::Slots::slots))]
     pub fn new(alloc: Global, slots: usize, arguments: Vec<Value>) -> Result<Variables, NoMemory>
         ensures { IfOk result (λ variables. variables ≡ variables_of slots arguments.items) }
     {
-        Err(NoMemory)
+        let mut variables = Vec::new(alloc);
+        for argument in arguments {
+            variables.push(Some(argument))?;
+        }
+        while variables.len() < slots {
+            variables.push(None)?;
+        }
+        Ok(Variables { slots: variables })
     }
 
     pub fn copy(&self, alloc: Global) -> Result<Variables, NoMemory>
