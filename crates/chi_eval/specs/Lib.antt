@@ -1,5 +1,6 @@
 pub mod Calls
 pub mod Heads
+pub mod Operands
 pub mod Spans
 pub mod Spots
 pub mod Stops

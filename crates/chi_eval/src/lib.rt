@@ -2,10 +2,15 @@
 //! items of terms that functions and processes share.
 #![tactic(auto)]
 
+mod arithmetic;
 mod calling;
 mod calls;
+mod comparing;
+mod containers;
 mod evaluating;
+mod exact;
 mod making;
+mod operands;
 mod operating;
 mod reading;
 mod spots;
