@@ -1,0 +1,139 @@
+-- What an item does: where it isn't amiss, nor is what it evaluates, and each value is of its kind.
+use Rattle.std.proofs.Common.{◌≡◌, ◌≢◌, ℕ, zero, suc, ◌<◌, Bool, true, false, nat_lt, List, [], ◌∷◌, Option, Some, None, length, map, drop, ap, sym, refl, ◌∙◌, arith, rules, slice_set}
+use Rattle.std.specs.Prelude.{if◌then◌else◌, option_map}
+use Rattle.chi_value.specs.declared.value.Value.{Value}
+use Rattle.chi_value.specs.declared.format.Piece.{Piece}
+use Rattle.chi_core.specs.declared.expression.CExpr.{CExpr}
+use Rattle.chi_core.specs.declared.statement.CStat.{CStat, CStat-F, out-CStat}
+use Rattle.chi_core.specs.declared.statement.CStat.TheVariants as s
+use Rattle.chi_core.specs.declared.statement.CAlt.{CAlt}
+use Rattle.chi_core.specs.declared.statement.Branch.{Branch}
+use Rattle.chi_core.specs.declared.target.CTarget.{CTarget}
+use Rattle.chi_core.specs.declared.element.CElem.{CElem}
+use Rattle.chi_core.specs.declared.view.View.{View}
+use Rattle.chi_core.specs.Answer.{Answer, Does, Gives, Amiss, then_do, gives, wanted, giving}
+use Rattle.chi_core.specs.Reading.{truth_of, elements_of}
+use Rattle.chi_core.specs.Variables.{Variables, with_slot, bound}
+use Rattle.chi_core.specs.Evaluation.{Evaluates, on_truth}
+use Rattle.chi_core.specs.Terms.{Item, Term, Did, On, Do, Loop, Walk, act_stat, tested, chosen, assigned, on_with, after_loop, from_loop, first_the}
+use Rattle.chi_eval.specs.Heads.{IsWalk, walk_done}
+use Rattle.chi_eval.specs.Terms.{act_first, first_of}
+use Rattle.chi_eval.proofs.Stopping.{then_there, next_there}
+
+giving_there : {A B : Type 0} (f : A → B) (it : Answer A) → giving f it ≢ Amiss → it ≢ Amiss
+giving_there f it h e = h (ap (giving f) e)
+
+wanted_there : {A : Type 0} (o : Option A) (view : View) → wanted o view ≢ Amiss → o ≢ None
+wanted_there o view h e = h (ap (λ o. wanted o view) e)
+
+slot_there : (slot : ℕ) (x : Value) (variables : Variables) → with_slot slot x variables ≢ None → slot < length variables
+slot_there slot x variables h = by_test (nat_lt slot (length variables)) refl h
+  where
+    by_test : (b : Bool) → nat_lt slot (length variables) ≡ b → (if b then Some (slice_set variables slot (Some x)) else None) ≢ None → slot < length variables
+    by_test true e h = search (rules, e)
+    by_test false e h = absurd (h refl)
+
+module _ (m : Evaluates) (variables : Variables) (x : CStat) (rest : Term) (view : View) where
+  at : (o : CStat-F CAlt CStat Branch) → out-CStat x ≡ o → act_stat m variables (out-CStat x) rest view ≢ Amiss → act_stat m variables o rest view ≢ Amiss
+  at o e h a = h (ap (λ o. act_stat m variables o rest view) e ∙ a)
+
+  pub declare_first : (l slot : ℕ) (e : CExpr) → x ≡ s.Declare l slot e → act_stat m variables (out-CStat x) rest view ≢ Amiss → m e view ≢ Amiss
+  declare_first l slot e is h =
+      then_there (m e view) (λ x now. giving (on_with rest) (wanted (with_slot slot x variables) now)) (at _ (ap out-CStat is ∙ s.outs-Declare l slot e) h)
+
+  pub declare_there : (l slot : ℕ) (e : CExpr) (v : Value) (now : View) → x ≡ s.Declare l slot e → m e view ≡ Gives v now → act_stat m variables (out-CStat x) rest view ≢ Amiss
+      → slot < length variables
+  declare_there l slot e v now is got h =
+      slot_there slot v variables (wanted_there (with_slot slot v variables) now (giving_there (on_with rest) (wanted (with_slot slot v variables) now)
+      (next_there (m e view) (λ x now. giving (on_with rest) (wanted (with_slot slot x variables) now)) v now (at _ (ap out-CStat is ∙ s.outs-Declare l slot e) h) got)))
+
+  pub while_tested : (l : ℕ) (test : CExpr) (block : List CStat) → x ≡ s.While l test block → act_stat m variables (out-CStat x) rest view ≢ Amiss → tested m variables l test block rest view ≢ Amiss
+  while_tested l test block is h = at _ (ap out-CStat is ∙ s.outs-While l test block) h
+
+  pub if_chosen : (l : ℕ) (branches : List Branch) (otherwise : List CStat) → x ≡ s.If l branches otherwise → act_stat m variables (out-CStat x) rest view ≢ Amiss
+      → chosen m variables branches otherwise rest view ≢ Amiss
+  if_chosen l branches otherwise is h = at _ (ap out-CStat is ∙ s.outs-If l branches otherwise) h
+
+  pub assign_assigned : (l : ℕ) (targets : List CTarget) (values : List CExpr) → x ≡ s.Assign l targets values → act_stat m variables (out-CStat x) rest view ≢ Amiss
+      → assigned m variables targets values rest view ≢ Amiss
+  assign_assigned l targets values is h = at _ (ap out-CStat is ∙ s.outs-Assign l targets values) h
+
+  pub for_first : (l : ℕ) (slots : List ℕ) (e : CExpr) (block : List CStat) → x ≡ s.For l slots e block → act_stat m variables (out-CStat x) rest view ≢ Amiss → m e view ≢ Amiss
+  for_first l slots e block is h =
+      then_there (m e view) (λ x now. giving (λ elements. On variables (Walk l slots elements block ∷ rest)) (wanted (elements_of x) now)) (at _ (ap out-CStat is ∙ s.outs-For l slots e block) h)
+
+  pub for_there : (l : ℕ) (slots : List ℕ) (e : CExpr) (block : List CStat) (v : Value) (now : View) → x ≡ s.For l slots e block → m e view ≡ Gives v now
+      → act_stat m variables (out-CStat x) rest view ≢ Amiss → elements_of v ≢ None
+  for_there l slots e block v now is got h =
+      wanted_there (elements_of v) now (giving_there (λ elements. On variables (Walk l slots elements block ∷ rest)) (wanted (elements_of v) now)
+      (next_there (m e view) (λ x now. giving (λ elements. On variables (Walk l slots elements block ∷ rest)) (wanted (elements_of x) now)) v now (at _ (ap out-CStat is ∙ s.outs-For l slots e block) h) got))
+
+  pub return_first : (l : ℕ) (e : CExpr) → x ≡ s.Return l e → act_stat m variables (out-CStat x) rest view ≢ Amiss → m e view ≢ Amiss
+  return_first l e is h = giving_there _ (m e view) (at _ (ap out-CStat is ∙ s.outs-Return l e) h)
+
+  pub break_there : (l : ℕ) → x ≡ s.Break l → act_stat m variables (out-CStat x) rest view ≢ Amiss → after_loop rest ≢ None
+  break_there l is h = wanted_there (after_loop rest) view (giving_there (On variables) (wanted (after_loop rest) view) (at _ (ap out-CStat is ∙ s.outs-Break l) h))
+
+  pub continue_there : (l : ℕ) → x ≡ s.Continue l → act_stat m variables (out-CStat x) rest view ≢ Amiss → from_loop rest ≢ None
+  continue_there l is h = wanted_there (from_loop rest) view (giving_there (On variables) (wanted (from_loop rest) view) (at _ (ap out-CStat is ∙ s.outs-Continue l) h))
+
+  -- statements of processes alone
+  pub exit_amiss : (l : ℕ) (e : Option CExpr) → x ≡ s.Exit l e → act_stat m variables (out-CStat x) rest view ≢ Amiss → ⊥
+  exit_amiss l e is h = at _ (ap out-CStat is ∙ s.outs-Exit l e) h refl
+
+  pub write_amiss : (l : ℕ) (pieces : List Piece) (es : List CExpr) → x ≡ s.Write l pieces es → act_stat m variables (out-CStat x) rest view ≢ Amiss → ⊥
+  write_amiss l pieces es is h = at _ (ap out-CStat is ∙ s.outs-Write l pieces es) h refl
+
+  pub select_amiss : (l : ℕ) (alternatives : List CAlt) → x ≡ s.Select l alternatives → act_stat m variables (out-CStat x) rest view ≢ Amiss → ⊥
+  select_amiss l alternatives is h = at _ (ap out-CStat is ∙ s.outs-Select l alternatives) h refl
+
+  pub run_amiss : (l : ℕ) (elements : List CElem) → x ≡ s.Run l elements → act_stat m variables (out-CStat x) rest view ≢ Amiss → ⊥
+  run_amiss l elements is h = at _ (ap out-CStat is ∙ s.outs-Run l elements) h refl
+
+  pub start_amiss : (l : ℕ) (elements : List CElem) → x ≡ s.Start l elements → act_stat m variables (out-CStat x) rest view ≢ Amiss → ⊥
+  start_amiss l elements is h = at _ (ap out-CStat is ∙ s.outs-Start l elements) h refl
+
+  pub finish_amiss : (l : ℕ) (es : List CExpr) → x ≡ s.Finish l es → act_stat m variables (out-CStat x) rest view ≢ Amiss → ⊥
+  finish_amiss l es is h = at _ (ap out-CStat is ∙ s.outs-Finish l es) h refl
+
+-- the test of a loop
+module _ (m : Evaluates) (variables : Variables) (line : ℕ) (test : CExpr) (block : List CStat) (rest : Term) (view : View) where
+  pub test_first : tested m variables line test block rest view ≢ Amiss → m test view ≢ Amiss
+  test_first h = then_there (m test view) (λ x. on_truth (truth_of x) (gives (On variables (first_the block (Loop line test block ∷ rest)))) (gives (On variables rest))) h
+
+  pub test_truth : (v : Value) (now : View) → m test view ≡ Gives v now → tested m variables line test block rest view ≢ Amiss → truth_of v ≢ None
+  test_truth v now got h none =
+      next_there (m test view) (λ x. on_truth (truth_of x) (gives (On variables (first_the block (Loop line test block ∷ rest)))) (gives (On variables rest))) v now h got
+      (ap (λ o. on_truth o (gives (On variables (first_the block (Loop line test block ∷ rest)))) (gives (On variables rest)) now) none)
+
+-- a walk, as the first item
+
+abbrev on_pair : Variables × Term → Did
+on_pair p = On p.0 p.1
+
+pub walk_is : (m : Evaluates) (variables : Variables) (term : Term) (view : View) → IsWalk (first_of term)
+    → act_first m variables term view ≡ giving on_pair (wanted (walk_done variables term) view)
+walk_is m variables [] view e = absurd e
+walk_is m variables (Do s ∷ rest) view e = absurd e
+walk_is m variables (Loop line test block ∷ rest) view e = absurd e
+walk_is m variables (Walk line slots [] block ∷ rest) view e = refl
+walk_is m variables (Walk line slots (x ∷ xs) block ∷ rest) view e = by_bound (bound slots x variables)
+  where
+    by_bound : (o : Option Variables)
+        → giving (on_with (first_the block (Walk line slots xs block ∷ rest))) (wanted o view)
+        ≡ giving on_pair (wanted (option_map (λ new. (new, first_the block (Walk line slots xs block ∷ rest))) o) view)
+    by_bound None = refl
+    by_bound (Some new) = refl
+
+pub walk_there : (m : Evaluates) (variables : Variables) (term : Term) (view : View) → IsWalk (first_of term) → act_first m variables term view ≢ Amiss → walk_done variables term ≢ None
+walk_there m variables term view is h none = h (walk_is m variables term view is ∙ ap (λ o. giving on_pair (wanted o view)) none)
+
+pub walk_goes : (m : Evaluates) (variables variables2 : Variables) (term term2 : Term) (view : View) → IsWalk (first_of term) → walk_done variables term ≡ Some (variables2, term2)
+    → act_first m variables term view ≡ Gives (On variables2 term2) view
+walk_goes m variables variables2 term term2 view is e = walk_is m variables term view is ∙ ap (λ o. giving on_pair (wanted o view)) e
+
+pub ruleset acting = (declare_first, declare_there, while_tested, if_chosen, assign_assigned, for_first, for_there, return_first, break_there, continue_there, exit_amiss, write_amiss, select_amiss, run_amiss, start_amiss, finish_amiss)
+
+pub ruleset testing = (test_first, test_truth)
+
+pub ruleset walking = (walk_there, walk_goes)

@@ -1,0 +1,12 @@
+pub mod Acting
+pub mod Lists
+pub mod Numbers
+pub mod Operations
+pub mod Sizes
+pub mod Slots
+pub mod Spans
+pub mod Standing
+pub mod Stopping
+pub mod Tasks
+pub mod Truths
+pub mod Turns

@@ -1,0 +1,100 @@
+use Rattle.std.proofs.Common.{rules, List, drop, subst, ◌≢◌, ◌≡◌, ◌-◌, ◌+◌, ◌*◌, ◌≤◌, ◌<◌, sym, refl, ◌∙◌, ap, arith, length, vec_len}
+use Rattle.std.proofs.lemmas.Grind.{common_steps}
+use denote.Param.Weighed.{most}
+use Rattle.std.specs.Prelude.{IfErr}
+use Rattle.chi_value.specs.declared.value.Value.{Value}
+use Rattle.chi_core.specs.declared.statement.CStat.{CStat}
+use Rattle.chi_core.specs.Answer.{Answer, Gives, Amiss}
+use Rattle.chi_core.specs.Terms.{tested, Do, On}
+use Rattle.chi_core.specs.Functions.{exec}
+use Rattle.std.specs.Prelude.{map}
+use Rattle.chi_core.specs.Variables.{variables_of}
+use Rattle.chi_eval.specs.Stops.{Stops}
+use Rattle.chi_eval.specs.Terms.{came_to, act_first}
+use Rattle.chi_eval.specs.Calls.{more_of, run_by, meaning}
+use Rattle.chi_eval.specs.Spans.{item_span, span, reach}
+use Rattle.chi_eval.specs.Surroundings.{scene_in}
+use Rattle.chi_eval.proofs.Acting.{declare_first, while_tested, for_first, return_first}
+use Rattle.chi_eval.proofs.Spans.{is_declare, is_while, is_for, is_return, body_falls, act_sized, most_do}
+use Rattle.chi_eval.proofs.Stopping.{then_stops}
+use Rattle.chi_eval.proofs.Turns.{body_is, turns_start, turn_goes, turn_gives}
+use Rattle.chi_eval.proofs.calling.+eval.Goals as goal
+
+pub act_on-eval-requires : goal.act_on-eval-requires
+act_on-eval-requires t c = (omega (arith, is_declare _ _ _ _ c.in-Declare.is), declare_first _ _ _ _ _ _ _ _ c.in-Declare.is c.requires)
+
+pub act_on-test_loop-requires : goal.act_on-test_loop-requires
+act_on-test_loop-requires t c =
+    let P : List CStat → Type 0 = λ block.
+    tested (meaning c.args.calls c.args.s.now c.args.variables.now) c.args.variables.now c.in-While.line c.in-While.test block (drop 1 c.args.term.now) c.args.view.now ≢ Amiss
+    in (
+      omega (arith, is_while _ _ _ _ c.in-While.is),
+      subst P (sym c.as_slice.ensures.same) (while_tested (meaning c.args.calls c.args.s.now c.args.variables.now) c.args.variables.now c.args.statement.now (drop 1 c.args.term.now) c.args.view.now
+          c.in-While.line c.in-While.test c.in-While.block c.in-While.is c.requires),
+    )
+
+pub act_on-eval-requires-in-For : goal.act_on-eval-requires-in-For
+act_on-eval-requires-in-For t c = (omega (arith, is_for _ _ _ _ _ c.in-For.is), for_first _ _ _ _ _ _ _ _ _ c.in-For.is c.requires)
+
+pub act_on-eval-requires-in-Return : goal.act_on-eval-requires-in-Return
+act_on-eval-requires-in-Return t c = (omega (arith, is_return _ _ _ c.in-Return.is), return_first _ _ _ _ _ _ _ c.in-Return.is c.requires)
+
+pub call-run_body-requires : goal.call-run_body-requires
+call-run_body-requires t c = (
+  omega (
+    arith,
+    ap (λ calls. more_of calls * reach c.args.s.now.functions.now) c.in-Within.is,
+    body_falls c.args.s.now.functions.now c.args.number c.len.result c.in-Within.more c.function-f.result.now c.as_slice-in-Within.result.now (omega arith)
+        c.function-f.ensures c.as_slice-in-Within.ensures.same,
+  ),
+  λ a. let n : c.len.result ≡ length c.args.arguments.items = grind (arith, common_steps) in
+      c.requires (body_is c.args.calls c.args.s.now c.args.number c.args.arguments.items c.args.view.now c.in-Within.more (c.in-Within.more - 1) c.len.result c.function-f.result.now
+      c.in_ok-variables-in-Within.variables c.as_slice-in-Within.result.now c.in-Within.is (omega arith) refl n c.function-f.ensures
+      (c.in_ok-variables-in-Within.ensures ∙ ap (λ k. variables_of k c.args.arguments.items) (ap length c.as_slice.ensures.same)) c.as_slice-in-Within.ensures.same ∙ a),
+)
+
+pub call-returns-clause-value : goal.call-returns-clause-value
+call-returns-clause-value t c =
+    let n : c.len.result ≡ length c.args.arguments.items = grind (arith, common_steps) in
+    body_is c.args.calls c.args.s.now c.args.number c.args.arguments.items c.args.view.now c.in-Within.more (c.in-Within.more - 1) c.len.result c.function-f.result.now
+    c.in_ok-variables-in-Within.variables c.as_slice-in-Within.result.now c.in-Within.is (omega arith) refl n c.function-f.ensures
+    (c.in_ok-variables-in-Within.ensures ∙ ap (λ k. variables_of k c.args.arguments.items) (ap length c.as_slice.ensures.same)) c.as_slice-in-Within.ensures.same
+    ∙ c.in_ok-run_body-in-Within.ensures.value
+
+pub call-returns-in_err-run_body-in-Within-clause-stops : goal.call-returns-in_err-run_body-in-Within-clause-stops
+call-returns-in_err-run_body-in-Within-clause-stops t c =
+    let n : c.len.result ≡ length c.args.arguments.items = grind (arith, common_steps) in
+    let is = body_is c.args.calls c.args.s.now c.args.number c.args.arguments.items c.args.view.now c.in-Within.more (c.in-Within.more - 1) c.len.result c.function-f.result.now
+    c.in_ok-variables-in-Within.variables c.as_slice-in-Within.result.now c.in-Within.is (omega arith) refl n c.function-f.ensures
+    (c.in_ok-variables-in-Within.ensures ∙ ap (λ k. variables_of k c.args.arguments.items) (ap length c.as_slice.ensures.same)) c.as_slice-in-Within.ensures.same in
+    let P : Answer Value → Type 0 = λ a. IfErr c.from_residual-in_err-run_body-in-Within.result (λ stop. Stops stop a) in
+    subst P (sym is) (search rules)
+
+pub run_body-loop-turn-init : goal.run_body-loop-turn-init
+run_body-loop-turn-init t c = (
+  omega (arith, ap (most item_span) c.in_ok-term.ensures, most_do c.args.body.now),
+  turns_start _ _ _ _ _ _ _ c.in_ok-term.ensures,
+)
+
+pub run_body-returns-in-Some-clause-value : goal.run_body-returns-in-Some-clause-value
+run_body-returns-in-Some-clause-value t c =
+    turn_gives (run_by c.args.calls c.args.s.now) (scene_in c.args.s.now) c.loop-turn.variables c.loop-turn.term c.loop-turn.view _ c.args.view.now.left c.loop-turn.turn c.is_empty.result
+    _ c.in-Some.value c.act.new.variables c.act.new.term c.act.new.view c.is_empty.ensures c.if-is_empty.false (omega arith) (omega arith) c.loop-turn.invariant.1 c.in_ok-value.ensures.value c.in-Some.is
+
+pub run_body-loop-turn-preserved : goal.run_body-loop-turn-preserved
+run_body-loop-turn-preserved t c =
+    let does : act_first (meaning c.args.calls c.args.s.now c.loop-turn.variables) c.loop-turn.variables c.loop-turn.term (record c.loop-turn.view { left = c.loop-turn.view.left - 1 })
+    ≡ Gives (On c.act.new.variables c.act.new.term) c.act.new.view
+    = c.in_ok-value.ensures.value ∙ ap (λ r. Gives (came_to r c.act.new.variables c.act.new.term) c.act.new.view) c.in-None.is
+    in (
+      omega (
+        arith,
+        act_sized (meaning c.args.calls c.args.s.now c.loop-turn.variables) c.loop-turn.variables c.act.new.variables c.loop-turn.term c.act.new.term
+            (record c.loop-turn.view { left = c.loop-turn.view.left - 1 }) c.act.new.view does,
+        c.loop-turn.invariant.0,
+      ),
+      turn_goes (run_by c.args.calls c.args.s.now) (scene_in c.args.s.now) c.loop-turn.variables c.loop-turn.term c.loop-turn.view
+          (exec c.args.view.now.left (run_by c.args.calls c.args.s.now) (scene_in c.args.s.now) c.args.variables.now (map Do c.args.body.now) c.args.view.now)
+          c.args.view.now.left c.loop-turn.turn c.is_empty.result c.in_ok-value.field-0 c.act.new.variables c.act.new.term c.act.new.view
+          c.is_empty.ensures c.if-is_empty.false (omega arith) (omega arith) c.loop-turn.invariant.1 c.in_ok-value.ensures.value c.in-None.is,
+    )

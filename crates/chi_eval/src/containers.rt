@@ -1,0 +1,182 @@
+//! Operations on containers and strings. Nothing of them uses anything up.
+
+ghost use Rattle.std.specs.Prelude.{◌≡◌, ◌≢◌, ℤ, IfOk, IfErr};
+ghost use Rattle.chi_ops.specs.Operations.{has, sub, lookup, pop, union, meet, minus, minus_keys, keys_of, values_of};
+ghost use Rattle.chi_ops.specs.Sequences.{index, del, join, enumerate, range};
+ghost use Rattle.chi_core.specs.Answer.{Gives, Amiss};
+ghost use Rattle.chi_core.specs.Comparisons.{tells};
+ghost use Rattle.chi_core.specs.Containers.{done, element_at, without, size_of, is_empty};
+ghost use Rattle.chi_eval.specs.Stops.{Stops};
+
+use crate::reading::int_in;
+use crate::stop::Stop;
+use chi_core::View;
+use chi_ops::{
+    del, enumerate, has, index, join, keys, lookup, meet, minus, minus_keys, pop, size, sub, union,
+    values,
+};
+use chi_value::Value;
+use std::alloc::Global;
+
+#[tactic(auto, using(crate::proofs::Operations::operations))]
+pub fn joined(alloc: Global, a: &Value, b: &Value, view: &View) -> Result<Value, Stop>
+    requires { done (join a.now b.now) view.now ≢ Amiss }
+    ensures value { IfOk result (λ v. done (join a.now b.now) view.now ≡ Gives v view.now) }
+    ensures stops { IfErr result (λ stop. Stops stop (done (join a.now b.now) view.now)) }
+{
+    Ok(join(alloc, a, b)?)
+}
+
+#[tactic(auto, using(crate::proofs::Operations::operations))]
+pub fn united(alloc: Global, a: &Value, b: &Value, view: &View) -> Result<Value, Stop>
+    requires { done (union a.now b.now) view.now ≢ Amiss }
+    ensures value { IfOk result (λ v. done (union a.now b.now) view.now ≡ Gives v view.now) }
+    ensures stops { IfErr result (λ stop. Stops stop (done (union a.now b.now) view.now)) }
+{
+    Ok(union(alloc, a, b)?)
+}
+
+#[tactic(auto, using(crate::proofs::Operations::operations))]
+pub fn in_both(alloc: Global, a: &Value, b: &Value, view: &View) -> Result<Value, Stop>
+    requires { done (meet a.now b.now) view.now ≢ Amiss }
+    ensures value { IfOk result (λ v. done (meet a.now b.now) view.now ≡ Gives v view.now) }
+    ensures stops { IfErr result (λ stop. Stops stop (done (meet a.now b.now) view.now)) }
+{
+    Ok(meet(alloc, a, b)?)
+}
+
+#[tactic(auto, using(crate::proofs::Operations::operations))]
+pub fn in_first(alloc: Global, a: &Value, b: &Value, view: &View) -> Result<Value, Stop>
+    requires { done (minus a.now b.now) view.now ≢ Amiss }
+    ensures value { IfOk result (λ v. done (minus a.now b.now) view.now ≡ Gives v view.now) }
+    ensures stops { IfErr result (λ stop. Stops stop (done (minus a.now b.now) view.now)) }
+{
+    Ok(minus(alloc, a, b)?)
+}
+
+#[tactic(auto, using(crate::proofs::Operations::operations))]
+pub fn without_keys(alloc: Global, a: &Value, b: &Value, view: &View) -> Result<Value, Stop>
+    requires { done (minus_keys a.now b.now) view.now ≢ Amiss }
+    ensures value { IfOk result (λ v. done (minus_keys a.now b.now) view.now ≡ Gives v view.now) }
+    ensures stops { IfErr result (λ stop. Stops stop (done (minus_keys a.now b.now) view.now)) }
+{
+    Ok(minus_keys(alloc, a, b)?)
+}
+
+#[tactic(auto, using(crate::proofs::Operations::operations))]
+pub fn looked_up(alloc: Global, a: &Value, key: &Value, view: &View) -> Result<Value, Stop>
+    requires { done (lookup a.now key.now) view.now ≢ Amiss }
+    ensures value { IfOk result (λ v. done (lookup a.now key.now) view.now ≡ Gives v view.now) }
+    ensures stops { IfErr result (λ stop. Stops stop (done (lookup a.now key.now) view.now)) }
+{
+    Ok(lookup(alloc, a, key)?)
+}
+
+#[tactic(auto, using(crate::proofs::Operations::operations))]
+pub fn popped(alloc: Global, a: &Value, view: &View) -> Result<Value, Stop>
+    requires { done (pop a.now) view.now ≢ Amiss }
+    ensures value { IfOk result (λ v. done (pop a.now) view.now ≡ Gives v view.now) }
+    ensures stops { IfErr result (λ stop. Stops stop (done (pop a.now) view.now)) }
+{
+    Ok(pop(alloc, a)?)
+}
+
+#[tactic(auto, using(crate::proofs::Operations::operations))]
+pub fn enumerated(alloc: Global, a: &Value, view: &View) -> Result<Value, Stop>
+    requires { done (enumerate a.now) view.now ≢ Amiss }
+    ensures value { IfOk result (λ v. done (enumerate a.now) view.now ≡ Gives v view.now) }
+    ensures stops { IfErr result (λ stop. Stops stop (done (enumerate a.now) view.now)) }
+{
+    Ok(enumerate(alloc, a)?)
+}
+
+#[tactic(auto, using(crate::proofs::Operations::operations))]
+pub fn keys_in(alloc: Global, a: &Value, view: &View) -> Result<Value, Stop>
+    requires { done (keys_of a.now) view.now ≢ Amiss }
+    ensures value { IfOk result (λ v. done (keys_of a.now) view.now ≡ Gives v view.now) }
+    ensures stops { IfErr result (λ stop. Stops stop (done (keys_of a.now) view.now)) }
+{
+    Ok(keys(alloc, a)?)
+}
+
+#[tactic(auto, using(crate::proofs::Operations::operations))]
+pub fn values_in(alloc: Global, a: &Value, view: &View) -> Result<Value, Stop>
+    requires { done (values_of a.now) view.now ≢ Amiss }
+    ensures value { IfOk result (λ v. done (values_of a.now) view.now ≡ Gives v view.now) }
+    ensures stops { IfErr result (λ stop. Stops stop (done (values_of a.now) view.now)) }
+{
+    Ok(values(alloc, a)?)
+}
+
+#[tactic(auto, using(crate::proofs::Operations::operations))]
+fn indexed(alloc: Global, a: &Value, i: i64, view: &View) -> Result<Value, Stop>
+    requires { done (index a.now i) view.now ≢ Amiss }
+    ensures value { IfOk result (λ v. done (index a.now i) view.now ≡ Gives v view.now) }
+    ensures stops { IfErr result (λ stop. Stops stop (done (index a.now i) view.now)) }
+{
+    Ok(index(alloc, a, i)?)
+}
+
+#[tactic(auto, using(crate::proofs::Operations::operations))]
+fn deleted(alloc: Global, a: &Value, i: i64, view: &View) -> Result<Value, Stop>
+    requires { done (del a.now i) view.now ≢ Amiss }
+    ensures value { IfOk result (λ v. done (del a.now i) view.now ≡ Gives v view.now) }
+    ensures stops { IfErr result (λ stop. Stops stop (done (del a.now i) view.now)) }
+{
+    Ok(del(alloc, a, i)?)
+}
+
+/// The element of a list, or the byte of a string, at an index.
+#[tactic(auto, using(crate::proofs::Numbers::kinds))]
+pub fn element_at(alloc: Global, a: &Value, i: &Value, view: &View) -> Result<Value, Stop>
+    requires { element_at a.now i.now view.now ≢ Amiss }
+    ensures value { IfOk result (λ v. element_at a.now i.now view.now ≡ Gives v view.now) }
+    ensures stops { IfErr result (λ stop. Stops stop (element_at a.now i.now view.now)) }
+{
+    Ok(indexed(alloc, a, int_in(i), view)?)
+}
+
+/// A list without the element at an index.
+#[tactic(auto, using(crate::proofs::Numbers::kinds))]
+pub fn without(alloc: Global, a: &Value, i: &Value, view: &View) -> Result<Value, Stop>
+    requires { without a.now i.now view.now ≢ Amiss }
+    ensures value { IfOk result (λ v. without a.now i.now view.now ≡ Gives v view.now) }
+    ensures stops { IfErr result (λ stop. Stops stop (without a.now i.now view.now)) }
+{
+    Ok(deleted(alloc, a, int_in(i), view)?)
+}
+
+/// An element is in a list or set, or a key in a dictionary.
+#[tactic(auto, using(crate::proofs::Truths::truths))]
+pub fn is_in(a: &Value, x: &Value, view: &View) -> Value
+    requires { tells (has a.now x.now) view.now ≢ Amiss }
+    ensures { tells (has a.now x.now) view.now ≡ Gives result view.now }
+{
+    Value::Bool(has(a, x))
+}
+
+/// A set is a subset of another.
+#[tactic(auto, using(crate::proofs::Truths::truths))]
+pub fn is_within(a: &Value, b: &Value, view: &View) -> Value
+    requires { tells (sub a.now b.now) view.now ≢ Amiss }
+    ensures { tells (sub a.now b.now) view.now ≡ Gives result view.now }
+{
+    Value::Bool(sub(a, b))
+}
+
+/// How many elements, entries or bytes there are.
+#[tactic(auto, using(crate::proofs::Sizes::sizes))]
+pub fn size_of(a: &Value, view: &View) -> Value
+    requires { size_of a.now view.now ≢ Amiss }
+    ensures { size_of a.now view.now ≡ Gives result view.now }
+{
+    Value::Int(i64::from(size(a)))
+}
+
+#[tactic(auto, using(crate::proofs::Sizes::sizes))]
+pub fn is_empty(a: &Value, view: &View) -> Value
+    requires { is_empty a.now view.now ≢ Amiss }
+    ensures { is_empty a.now view.now ≡ Gives result view.now }
+{
+    Value::Bool(size(a) == 0)
+}

@@ -1,0 +1,34 @@
+//! Values that are made: defaults and literals of their parts.
+
+ghost use Rattle.std.specs.Prelude.{◌≡◌, ◌≢◌, IfOk, IfErr};
+ghost use Rattle.chi_ops.specs.Operations.{build as built};
+ghost use Rattle.chi_core.specs.Answer.{Gives, Amiss};
+ghost use Rattle.chi_core.specs.Containers.{done};
+ghost use Rattle.chi_core.specs.Evaluation.{fresh};
+ghost use Rattle.chi_eval.specs.Stops.{Stops};
+
+use crate::stop::Stop;
+use chi_core::View;
+use chi_ops::build;
+use chi_value::{Kind, Shape, Value, default_of};
+use std::alloc::Global;
+
+/// A fresh default: each channel in it is new.
+pub fn fresh(alloc: Global, shape: &Shape, view: &mut View) -> Result<Value, Stop>
+    ensures value { IfOk result (λ v. fresh shape.now view.old ≡ Gives v view.new) }
+    ensures stops { IfErr result (λ stop. Stops stop (fresh shape.now view.old)) }
+{
+    let (value, channels) = default_of(alloc, shape, view.channels)?;
+    view.channels = channels;
+    Ok(value)
+}
+
+/// A literal of its parts, which uses nothing up.
+#[tactic(auto, using(crate::proofs::Operations::operations))]
+pub fn made_of(alloc: Global, kind: Kind, parts: Vec<Value>, view: &View) -> Result<Value, Stop>
+    requires { done (built kind parts.items) view.now ≢ Amiss }
+    ensures value { IfOk result (λ v. done (built kind parts.items) view.now ≡ Gives v view.now) }
+    ensures stops { IfErr result (λ stop. Stops stop (done (built kind parts.items) view.now)) }
+{
+    Ok(build(alloc, kind, parts)?)
+}

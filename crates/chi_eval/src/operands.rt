@@ -1,0 +1,29 @@
+ghost use Rattle.chi_eval.specs.Operands.{AreOperands};
+
+use chi_value::Value;
+
+/// The operands of an operator.
+pub enum Operands<'a> {
+    None,
+    One(&'a Value),
+    Two(&'a Value, &'a Value),
+    /// Three or more.
+    More(&'a Value, &'a Value, &'a [Value]),
+}
+
+#[tactic(auto, using(crate::proofs::Lists::lists))]
+pub fn split_operands(values: &[Value]) -> Operands<'_>
+    ensures { AreOperands result values.now }
+{
+    let Some((first, others)) = values.split_first() else {
+        return Operands::None;
+    };
+    let Some((second, rest)) = others.split_first() else {
+        return Operands::One(first);
+    };
+    if rest.is_empty() {
+        Operands::Two(first, second)
+    } else {
+        Operands::More(first, second, rest)
+    }
+}

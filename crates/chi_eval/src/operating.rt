@@ -1,0 +1,239 @@
+//! Operators, predefined names and casts: what each makes of the values of its operands.
+
+ghost use Rattle.std.specs.Prelude.{◌≡◌, ◌≢◌, [], ◌∷◌, IfOk, IfErr};
+ghost use Rattle.chi_core.specs.Answer.{Gives, Amiss};
+ghost use Rattle.chi_core.specs.Operators.{applied};
+ghost use Rattle.chi_eval.specs.Operands.{AreOperands};
+ghost use Rattle.chi_eval.specs.Stops.{Stops};
+ghost use Rattle.chi_eval.specs.Surroundings.{scene_in};
+
+use crate::arithmetic::{
+    absolute, ceiled, divided, floored, nearest_to, negated, powered, quotient, remainder, widened,
+};
+use crate::comparing::{above, at_least, at_most, below, different, equal, opposite};
+use crate::containers::{
+    element_at, enumerated, is_empty, is_in, is_within, keys_in, looked_up, popped, size_of,
+    values_in, without,
+};
+use crate::operands::{Operands, split_operands};
+use crate::stop::Stop;
+use crate::surroundings::Surroundings;
+use chi_core::{OpName, View};
+use chi_num::Real;
+use chi_value::Value;
+use std::alloc::Global;
+
+/// An operator without operands.
+fn of_none(
+    alloc: Global,
+    s: &Surroundings<'_>,
+    name: OpName,
+    view: &mut View,
+) -> Result<Value, Stop>
+    requires { applied (scene_in s.now) name ([]) view.old ≢ Amiss }
+    ensures value { IfOk result (λ v. applied (scene_in s.now) name ([]) view.old ≡ Gives v view.new) }
+    ensures stops { IfErr result (λ stop. Stops stop (applied (scene_in s.now) name ([]) view.old)) }
+{
+    match name {
+        OpName::Time => Ok(Value::Real(Real::from_units(s.clock))),
+        OpName::Not => unreachable!(),
+        OpName::Add => unreachable!(),
+        OpName::Sub => unreachable!(),
+        OpName::Mul => unreachable!(),
+        OpName::Divide => unreachable!(),
+        OpName::Div => unreachable!(),
+        OpName::Mod => unreachable!(),
+        OpName::Power => unreachable!(),
+        OpName::Neg => unreachable!(),
+        OpName::Equal => unreachable!(),
+        OpName::NotEqual => unreachable!(),
+        OpName::Less => unreachable!(),
+        OpName::AtMost => unreachable!(),
+        OpName::Greater => unreachable!(),
+        OpName::AtLeast => unreachable!(),
+        OpName::In => unreachable!(),
+        OpName::Subset => unreachable!(),
+        OpName::Sample => unreachable!(),
+        OpName::Index => unreachable!(),
+        OpName::Lookup => unreachable!(),
+        OpName::Slice(_, _, _) => unreachable!(),
+        OpName::Abs => unreachable!(),
+        OpName::Sign => unreachable!(),
+        OpName::Min => unreachable!(),
+        OpName::Max => unreachable!(),
+        OpName::Floor => unreachable!(),
+        OpName::Ceil => unreachable!(),
+        OpName::Round => unreachable!(),
+        OpName::Size => unreachable!(),
+        OpName::Empty => unreachable!(),
+        OpName::Pop => unreachable!(),
+        OpName::Del => unreachable!(),
+        OpName::Range => unreachable!(),
+        OpName::Enumerate => unreachable!(),
+        OpName::DictKeys => unreachable!(),
+        OpName::DictValues => unreachable!(),
+        OpName::Constant => unreachable!(),
+        OpName::Uniform => unreachable!(),
+        OpName::Bernoulli => unreachable!(),
+        OpName::Binomial => unreachable!(),
+        OpName::Ready => unreachable!(),
+        OpName::Finished => unreachable!(),
+        OpName::Widen => unreachable!(),
+        OpName::ToInt => unreachable!(),
+        OpName::ToReal => unreachable!(),
+        OpName::ToText => unreachable!(),
+        OpName::ToBool => unreachable!(),
+        OpName::ToTimer => unreachable!(),
+    }
+}
+
+/// An operator of one operand.
+fn of_one(
+    alloc: Global,
+    s: &Surroundings<'_>,
+    name: OpName,
+    a: &Value,
+    view: &mut View,
+) -> Result<Value, Stop>
+    requires { applied (scene_in s.now) name (a.now ∷ []) view.old ≢ Amiss }
+    ensures value { IfOk result (λ v. applied (scene_in s.now) name (a.now ∷ []) view.old ≡ Gives v view.new) }
+    ensures stops { IfErr result (λ stop. Stops stop (applied (scene_in s.now) name (a.now ∷ []) view.old)) }
+{
+    match name {
+        OpName::Not => Ok(opposite(a, view)),
+        OpName::Neg => Ok(negated(a, view)?),
+        OpName::Abs => Ok(absolute(a, view)?),
+        OpName::Floor => Ok(floored(a, view)?),
+        OpName::Ceil => Ok(ceiled(a, view)?),
+        OpName::Round => Ok(nearest_to(a, view)?),
+        OpName::Size => Ok(size_of(a, view)),
+        OpName::Empty => Ok(is_empty(a, view)),
+        OpName::Pop => Ok(popped(alloc, a, view)?),
+        OpName::Enumerate => Ok(enumerated(alloc, a, view)?),
+        OpName::DictKeys => Ok(keys_in(alloc, a, view)?),
+        OpName::DictValues => Ok(values_in(alloc, a, view)?),
+        OpName::Widen => Ok(widened(a, view)?),
+        OpName::Sample => Err(Stop::NoMemory),
+        OpName::Slice(_, _, _) => Err(Stop::NoMemory),
+        OpName::Sign => Err(Stop::NoMemory),
+        OpName::Range => Err(Stop::NoMemory),
+        OpName::Constant => Err(Stop::NoMemory),
+        OpName::Ready => Err(Stop::NoMemory),
+        OpName::Finished => Err(Stop::NoMemory),
+        OpName::ToInt => Err(Stop::NoMemory),
+        OpName::ToReal => Err(Stop::NoMemory),
+        OpName::ToText => Err(Stop::NoMemory),
+        OpName::ToBool => Err(Stop::NoMemory),
+        OpName::ToTimer => Err(Stop::NoMemory),
+        OpName::Add => unreachable!(),
+        OpName::Sub => unreachable!(),
+        OpName::Mul => unreachable!(),
+        OpName::Divide => unreachable!(),
+        OpName::Div => unreachable!(),
+        OpName::Mod => unreachable!(),
+        OpName::Power => unreachable!(),
+        OpName::Equal => unreachable!(),
+        OpName::NotEqual => unreachable!(),
+        OpName::Less => unreachable!(),
+        OpName::AtMost => unreachable!(),
+        OpName::Greater => unreachable!(),
+        OpName::AtLeast => unreachable!(),
+        OpName::In => unreachable!(),
+        OpName::Subset => unreachable!(),
+        OpName::Index => unreachable!(),
+        OpName::Lookup => unreachable!(),
+        OpName::Min => unreachable!(),
+        OpName::Max => unreachable!(),
+        OpName::Del => unreachable!(),
+        OpName::Uniform => unreachable!(),
+        OpName::Bernoulli => unreachable!(),
+        OpName::Binomial => unreachable!(),
+        OpName::Time => unreachable!(),
+    }
+}
+
+/// An operator of two operands.
+fn of_two(
+    alloc: Global,
+    s: &Surroundings<'_>,
+    name: OpName,
+    a: &Value,
+    b: &Value,
+    view: &mut View,
+) -> Result<Value, Stop>
+    requires { applied (scene_in s.now) name (a.now ∷ b.now ∷ []) view.old ≢ Amiss }
+    ensures value { IfOk result (λ v. applied (scene_in s.now) name (a.now ∷ b.now ∷ []) view.old ≡ Gives v view.new) }
+    ensures stops { IfErr result (λ stop. Stops stop (applied (scene_in s.now) name (a.now ∷ b.now ∷ []) view.old)) }
+{
+    match name {
+        OpName::Divide => Ok(quotient(a, b, view)?),
+        OpName::Div => Ok(divided(a, b, view)?),
+        OpName::Mod => Ok(remainder(a, b, view)?),
+        OpName::Power => Ok(powered(a, b, view)?),
+        OpName::Equal => Ok(equal(a, b, view)),
+        OpName::NotEqual => Ok(different(a, b, view)),
+        OpName::Less => Ok(below(a, b, view)),
+        OpName::AtMost => Ok(at_most(a, b, view)),
+        OpName::Greater => Ok(above(a, b, view)),
+        OpName::AtLeast => Ok(at_least(a, b, view)),
+        OpName::In => Ok(is_in(b, a, view)),
+        OpName::Subset => Ok(is_within(a, b, view)),
+        OpName::Index => Ok(element_at(alloc, a, b, view)?),
+        OpName::Lookup => Ok(looked_up(alloc, a, b, view)?),
+        OpName::Del => Ok(without(alloc, a, b, view)?),
+        OpName::Add => Err(Stop::NoMemory),
+        OpName::Sub => Err(Stop::NoMemory),
+        OpName::Mul => Err(Stop::NoMemory),
+        OpName::Min => Err(Stop::NoMemory),
+        OpName::Max => Err(Stop::NoMemory),
+        OpName::Range => Err(Stop::NoMemory),
+        OpName::Bernoulli => Err(Stop::NoMemory),
+        OpName::Slice(_, _, _) => Err(Stop::NoMemory),
+        OpName::Not => unreachable!(),
+        OpName::Neg => unreachable!(),
+        OpName::Sample => unreachable!(),
+        OpName::Abs => unreachable!(),
+        OpName::Sign => unreachable!(),
+        OpName::Floor => unreachable!(),
+        OpName::Ceil => unreachable!(),
+        OpName::Round => unreachable!(),
+        OpName::Size => unreachable!(),
+        OpName::Empty => unreachable!(),
+        OpName::Pop => unreachable!(),
+        OpName::Enumerate => unreachable!(),
+        OpName::DictKeys => unreachable!(),
+        OpName::DictValues => unreachable!(),
+        OpName::Constant => unreachable!(),
+        OpName::Uniform => unreachable!(),
+        OpName::Binomial => unreachable!(),
+        OpName::Ready => unreachable!(),
+        OpName::Finished => unreachable!(),
+        OpName::Time => unreachable!(),
+        OpName::Widen => unreachable!(),
+        OpName::ToInt => unreachable!(),
+        OpName::ToReal => unreachable!(),
+        OpName::ToText => unreachable!(),
+        OpName::ToBool => unreachable!(),
+        OpName::ToTimer => unreachable!(),
+    }
+}
+
+/// What an operator makes of the values of its operands.
+pub fn apply(
+    alloc: Global,
+    s: &Surroundings<'_>,
+    name: OpName,
+    values: &[Value],
+    view: &mut View,
+) -> Result<Value, Stop>
+    requires { applied (scene_in s.now) name values.now view.old ≢ Amiss }
+    ensures value { IfOk result (λ v. applied (scene_in s.now) name values.now view.old ≡ Gives v view.new) }
+    ensures stops { IfErr result (λ stop. Stops stop (applied (scene_in s.now) name values.now view.old)) }
+{
+    match split_operands(values) {
+        Operands::None => Ok(of_none(alloc, s, name, view)?),
+        Operands::One(a) => Ok(of_one(alloc, s, name, a, view)?),
+        Operands::Two(a, b) => Ok(of_two(alloc, s, name, a, b, view)?),
+        Operands::More(_, _, _) => Err(Stop::NoMemory),
+    }
+}
