@@ -1,0 +1,123 @@
+ghost use Rattle.std.specs.Prelude.{◌≡◌, ℤ, ◌<◌, ◌↔◌, length, slice_get, Some, IfOk, IfSome, IsTrue, Contains};
+ghost use Rattle.std.specs.Option.{option_copied};
+ghost use Rattle.chi_core.specs.declared.label.Label.TheVariants.{Advance};
+ghost use Rattle.chi_core.specs.declared.program.ProcDef.{ProcDef};
+ghost use Rattle.chi_core.specs.Beginning.{start};
+ghost use Rattle.chi_core.specs.Kinds.{kinds_of};
+ghost use Rattle.chi_core.specs.Of.{at_start, AreOf};
+ghost use Rattle.chi_core.specs.Sound.{Sound};
+ghost use Rattle.chi_plain.specs.Stage.{Begun, actors_at, options_at, enabled_at, verdict_at, clock_at, MayTell, MayStep, Steps, Appends};
+
+use crate::stepped::Stepped;
+use chi_base::NoMemory;
+use chi_core::{Core, Label, Verdict};
+use chi_value::Value;
+use std::alloc::Global;
+use std::marker::Model;
+
+#[derive(Debug, Drop)]
+enum Never {}
+
+/// A run of a core. Contracts see the configuration in which it stands.
+#[derive(Debug, Drop)]
+pub struct Plain<'a> {
+    core: &'a Core,
+    never: Never,
+}
+
+impl<'a> Model for Plain<'a> {
+    ghost use Rattle.std.specs.Coded.{codes};
+    ghost use Rattle.chi_core.specs.contracts.statement.CStat as statements;
+    ghost use Rattle.chi_core.specs.contracts.expression.CExpr as expressions;
+    ghost use Rattle.chi_core.specs.contracts.element.CElem as elements;
+    ghost use Rattle.chi_value.specs.contracts.value.Value as values;
+    ghost use Rattle.chi_types.specs.contracts.ty.Ty as types;
+    ghost use Rattle.chi_plain.specs.Stage.{Runner, Lost};
+
+    ghost Value = { Runner };
+
+    ghost coded = { Prim.hlevel (codes, statements.the_row.coded, expressions.the_row.coded, elements.the_row.coded, values.the_row.coded, types.the_row.coded) };
+
+    ghost view = { λ p. record { core = p.core.now; stage = Lost } };
+}
+
+impl<'a> Plain<'a> {
+    /// The start of a run, with the arguments of the model, a seed for its draws, and the time at
+    /// which it is stopped, in units of a real, where there is one.
+    pub fn new(
+        alloc: Global,
+        core: &'a Core,
+        args: Vec<Value>,
+        seed: u64,
+        until: Option<i64>,
+    ) -> Result<Plain<'a>, NoMemory>
+        requires sound { Sound core.now }
+        requires arguments { (d : ProcDef) → slice_get core.now.procs core.now.model ≡ Some d → AreOf (at_start core.now.names.kinds) args.items (kinds_of d.params) }
+        ensures core { IfOk result (λ plain. plain.core ≡ core.now) }
+        ensures start { IfOk result (λ plain. Begun (start core.now args.items seed until) plain.stage) }
+    {
+        Err(NoMemory)
+    }
+
+    /// How many instances have an option.
+    pub fn actor_count(&self) -> u32
+        ensures count { result ≡ length (actors_at self.now.stage) }
+    {
+        match self.never {}
+    }
+
+    /// Number `i` of the instances that have an option, ascending.
+    pub fn actor_at(&self, i: u32) -> u32
+        requires { i < length (actors_at self.now.stage) }
+        ensures actor { slice_get (actors_at self.now.stage) i ≡ Some result }
+    {
+        match self.never {}
+    }
+
+    /// How many options instance `pid` has.
+    pub fn option_count(&self, pid: u32) -> u64
+        ensures count { result ≡ length (options_at self.now.stage pid) }
+    {
+        match self.never {}
+    }
+
+    /// Option number `i` of instance `pid`.
+    pub fn option_at(&self, pid: u32, i: u64) -> Label
+        requires { i < length (options_at self.now.stage pid) }
+        ensures option { slice_get (options_at self.now.stage pid) i ≡ Some result }
+    {
+        match self.never {}
+    }
+
+    /// Whether the time may go on.
+    pub fn can_advance(&self) -> bool
+        ensures advance { IsTrue result ↔ Contains (enabled_at self.now.stage) Advance }
+    {
+        match self.never {}
+    }
+
+    /// The verdict, where the run is over or nothing can happen.
+    pub fn ending(&self) -> Option<&Verdict>
+        ensures verdict { option_copied result ≡ verdict_at self.now.stage }
+        ensures told { IfSome result (λ verdict. MayTell self.now.core verdict.now) }
+    {
+        match self.never {}
+    }
+
+    /// The time, in units of a real: that of the ending, where there is one.
+    pub fn clock(&self) -> i64
+        ensures time { IfSome (clock_at self.now.stage) (λ time. result ≡ time) }
+    {
+        match self.never {}
+    }
+
+    /// Takes a label, where its cost is within what is left of the bound, and appends what it writes to
+    /// `out`. After an answer of `NoMemory` every later one is `NoMemory`.
+    pub fn plain_step(&mut self, label: &Label, left: u64, out: &mut Vec<u8>) -> Stepped
+        requires { MayStep self.old.stage label.now }
+        ensures same_core { self.new.core ≡ self.old.core }
+        ensures steps { Appends out.old.items out.new.items (λ text. Steps self.old.core self.old.stage self.new.stage label.now left text result) }
+    {
+        match self.never {}
+    }
+}
