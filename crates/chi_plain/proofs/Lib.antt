@@ -1,0 +1,6 @@
+pub mod Numbers
+pub mod Times
+pub mod Pairs
+pub mod Actors
+pub mod Options
+pub mod Enabled

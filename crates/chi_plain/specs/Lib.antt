@@ -1,1 +1,4 @@
 pub mod Stage
+pub mod Scanning
+pub mod Instances
+pub mod Configurations

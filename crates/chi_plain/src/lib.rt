@@ -2,6 +2,11 @@
 //! It is slow and plain, and keeps to the semantics step by step.
 #![tactic(auto)]
 
+mod choices;
+mod configuration;
+mod ending;
+mod instance;
+mod offer;
 mod plain;
 mod stepped;
 
