@@ -1,0 +1,4 @@
+pub mod Spots
+pub mod Stops
+pub mod Surroundings
+pub mod Terms

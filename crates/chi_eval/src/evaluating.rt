@@ -1,0 +1,110 @@
+//! Expressions, targets and items, with these surroundings and variables. What is asked for is never
+//! amiss.
+
+ghost use Rattle.std.specs.Prelude.{◌≡◌, ◌≢◌, map, Err, IfOk, IfErr};
+ghost use Rattle.chi_core.specs.Answer.{Gives, Amiss, in_turn};
+ghost use Rattle.chi_core.specs.Spots.{spot_of, read_at};
+ghost use Rattle.chi_eval.specs.Spots.{spot_in};
+ghost use Rattle.chi_eval.specs.Stops.{Stops};
+ghost use Rattle.chi_eval.specs.Surroundings.{value_in, constant_in};
+ghost use Rattle.chi_eval.specs.Terms.{act_first, came_to};
+
+use crate::spots::Spot;
+use crate::stop::Stop;
+use crate::surroundings::Surroundings;
+use crate::term::Term;
+use crate::variables::Variables;
+use chi_core::{CExpr, CTarget, View};
+use chi_value::Value;
+use std::alloc::Global;
+
+/// The value of an expression.
+pub fn value_of(
+    alloc: Global,
+    surroundings: &Surroundings<'_>,
+    variables: &Variables,
+    e: &CExpr,
+    view: &mut View,
+) -> Result<Value, Stop>
+    requires { value_in surroundings.now variables.now e.now view.old ≢ Amiss }
+    ensures value { IfOk result (λ v. value_in surroundings.now variables.now e.now view.old ≡ Gives v view.new) }
+    ensures stops { IfErr result (λ stop. Stops stop (value_in surroundings.now variables.now e.now view.old)) }
+{
+    Err(Stop::NoMemory)
+}
+
+/// The values of expressions, from left to right.
+pub fn values_of(
+    alloc: Global,
+    surroundings: &Surroundings<'_>,
+    variables: &Variables,
+    es: &[CExpr],
+    view: &mut View,
+) -> Result<Vec<Value>, Stop>
+    requires { in_turn (map (value_in surroundings.now variables.now) es.now) view.old ≢ Amiss }
+    ensures values { IfOk result (λ vs. in_turn (map (value_in surroundings.now variables.now) es.now) view.old ≡ Gives vs.items view.new) }
+    ensures stops { IfErr result (λ stop. Stops stop (in_turn (map (value_in surroundings.now variables.now) es.now) view.old)) }
+{
+    Err(Stop::NoMemory)
+}
+
+/// The value of a constant's expression, which calls no function.
+pub fn constant_value(
+    alloc: Global,
+    surroundings: &Surroundings<'_>,
+    e: &CExpr,
+    view: &mut View,
+) -> Result<Value, Stop>
+    requires { constant_in surroundings.now e.now view.old ≢ Amiss }
+    ensures value { IfOk result (λ v. constant_in surroundings.now e.now view.old ≡ Gives v view.new) }
+    ensures stops { IfErr result (λ stop. Stops stop (constant_in surroundings.now e.now view.old)) }
+{
+    Err(Stop::NoMemory)
+}
+
+/// The spot of a target: its indexes are evaluated from left to right.
+pub fn spot_of(
+    alloc: Global,
+    surroundings: &Surroundings<'_>,
+    variables: &Variables,
+    target: &CTarget,
+    view: &mut View,
+) -> Result<Spot, Stop>
+    requires { spot_of (value_in surroundings.now variables.now) target.now view.old ≢ Amiss }
+    ensures spot { IfOk result (λ spot. spot_of (value_in surroundings.now variables.now) target.now view.old ≡ Gives (spot_in spot) view.new) }
+    ensures stops { IfErr result (λ stop. Stops stop (spot_of (value_in surroundings.now variables.now) target.now view.old)) }
+{
+    Err(Stop::NoMemory)
+}
+
+/// What stands at a target.
+pub fn read_at(
+    alloc: Global,
+    surroundings: &Surroundings<'_>,
+    variables: &Variables,
+    target: &CTarget,
+    view: &mut View,
+) -> Result<Value, Stop>
+    requires { read_at (value_in surroundings.now variables.now) variables.now target.now view.old ≢ Amiss }
+    ensures value { IfOk result (λ v. read_at (value_in surroundings.now variables.now) variables.now target.now view.old ≡ Gives v view.new) }
+    ensures stops { IfErr result (λ stop. Stops stop (read_at (value_in surroundings.now variables.now) variables.now target.now view.old)) }
+{
+    Err(Stop::NoMemory)
+}
+
+/// Does the first item of a term, which is one that functions and processes share. Where a function
+/// returns, its value is the answer. What costs too much leaves the variables and the term as they were.
+pub fn act<'a>(
+    alloc: Global,
+    surroundings: &Surroundings<'_>,
+    variables: &mut Variables,
+    term: &mut Term<'a>,
+    view: &mut View,
+) -> Result<Option<Value>, Stop>
+    requires { act_first (value_in surroundings.now variables.old) variables.old term.old view.old ≢ Amiss }
+    ensures value { IfOk result (λ returned. act_first (value_in surroundings.now variables.old) variables.old term.old view.old ≡ Gives (came_to returned variables.new term.new) view.new) }
+    ensures stops { IfErr result (λ stop. Stops stop (act_first (value_in surroundings.now variables.old) variables.old term.old view.old)) }
+    ensures kept { result ≡ Err Stop.Spent → (variables.new ≡ variables.old) × (term.new ≡ term.old) }
+{
+    Err(Stop::NoMemory)
+}

@@ -1,0 +1,21 @@
+//! Evaluates the expressions of a checked program, runs the bodies of its functions, and does the
+//! items of terms that functions and processes share.
+#![tactic(auto)]
+
+mod evaluating;
+mod reading;
+mod spots;
+mod stop;
+mod surroundings;
+mod term;
+mod variables;
+
+pub use evaluating::{act, constant_value, read_at, spot_of, value_of, values_of};
+pub use reading::{
+    channel_in, due_in, elements_in, instance_in, int_in, part_in, parts_in, real_in, truth_in,
+};
+pub use spots::{Spot, store};
+pub use stop::Stop;
+pub use surroundings::Surroundings;
+pub use term::{Task, Term};
+pub use variables::Variables;

@@ -1,0 +1,80 @@
+use chi_base::NoMemory;
+use chi_core::FaultKind;
+use chi_ops::OpFault;
+use chi_value::DefaultFault;
+use std::alloc::{AllocError, AllocFailed};
+
+/// Why something has no value, or isn't done.
+#[derive(Clone, Copy, Debug, PartialEq, Eq)]
+pub enum Stop {
+    /// It ends the run.
+    Fault(FaultKind),
+    /// It costs more than is left of the bound.
+    Spent,
+    NoMemory,
+}
+
+impl From<NoMemory> for Stop {
+    ghost use Rattle.std.specs.Prelude.{◌≡◌};
+    ghost use Rattle.chi_eval.specs.declared.stop.Stop.TheVariants.{NoMemory};
+
+    ghost from_gives = { λ _ stop. stop ≡ NoMemory };
+
+    fn from(_refused: NoMemory) -> Stop {
+        Stop::NoMemory
+    }
+}
+
+impl From<AllocError> for Stop {
+    ghost use Rattle.std.specs.Prelude.{◌≡◌};
+    ghost use Rattle.chi_eval.specs.declared.stop.Stop.TheVariants.{NoMemory};
+
+    ghost from_gives = { λ _ stop. stop ≡ NoMemory };
+
+    fn from(_refused: AllocError) -> Stop {
+        Stop::NoMemory
+    }
+}
+
+impl<T: Drop> From<AllocFailed<T>> for Stop {
+    ghost use Rattle.std.specs.Prelude.{◌≡◌};
+    ghost use Rattle.chi_eval.specs.declared.stop.Stop.TheVariants.{NoMemory};
+
+    ghost from_gives = { λ _ stop. stop ≡ NoMemory };
+
+    fn from(_refused: AllocFailed<T>) -> Stop {
+        Stop::NoMemory
+    }
+}
+
+impl From<DefaultFault> for Stop {
+    ghost use Rattle.std.specs.Prelude.{◌≡◌};
+    ghost use Rattle.chi_eval.specs.Stops.{stop_of_default};
+
+    ghost from_gives = { λ fault stop. stop ≡ stop_of_default fault };
+
+    fn from(fault: DefaultFault) -> Stop {
+        match fault {
+            DefaultFault::TooManyChannels => Stop::Fault(FaultKind::TooManyChannels),
+            DefaultFault::NoMemory => Stop::NoMemory,
+        }
+    }
+}
+
+impl From<OpFault> for Stop {
+    ghost use Rattle.std.specs.Prelude.{◌≡◌};
+    ghost use Rattle.chi_eval.specs.Stops.{stop_of_operation};
+
+    ghost from_gives = { λ fault stop. stop ≡ stop_of_operation fault };
+
+    fn from(fault: OpFault) -> Stop {
+        match fault {
+            OpFault::Index => Stop::Fault(FaultKind::IndexRange),
+            OpFault::Key => Stop::Fault(FaultKind::KeyMissing),
+            OpFault::Empty => Stop::Fault(FaultKind::EmptyPop),
+            OpFault::Limit => Stop::Fault(FaultKind::TooLarge),
+            OpFault::SliceStep => Stop::Fault(FaultKind::SliceStep),
+            OpFault::NoMemory => Stop::NoMemory,
+        }
+    }
+}

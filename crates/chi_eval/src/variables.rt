@@ -1,0 +1,68 @@
+ghost use Rattle.std.specs.Prelude.{◌≡◌, ◌≢◌, ◌<◌, None, Some, IfOk, OnOk, length, slice_set};
+ghost use Rattle.std.specs.Option.{option_copied};
+ghost use Rattle.chi_core.specs.Variables.{variables_of, value_at, with_slot, bound};
+
+use chi_base::NoMemory;
+use chi_value::Value;
+use std::alloc::Global;
+use std::marker::Model;
+
+/// The variables of an instance or of a function's call, by their slots, each with its value once it
+/// is set.
+#[derive(Debug, Drop)]
+pub struct Variables {
+    slots: Vec<Option<Value>>,
+}
+
+impl Model for Variables {
+    ghost use Rattle.std.specs.Coded.{codes};
+    ghost use Rattle.chi_value.specs.contracts.value.Value as values;
+    ghost use Rattle.chi_core.specs.Variables as variables;
+
+    ghost Value = { variables.Variables };
+
+    ghost coded = { Prim.hlevel (codes, values.the_row.coded) };
+
+    ghost view = { λ v. v.slots.items };
+}
+
+impl Variables {
+    /// The variables at the start: the arguments in the first slots, and no other set.
+    pub fn new(alloc: Global, slots: usize, arguments: Vec<Value>) -> Result<Variables, NoMemory>
+        ensures { IfOk result (λ variables. variables ≡ variables_of slots arguments.items) }
+    {
+        Err(NoMemory)
+    }
+
+    pub fn copy(&self, alloc: Global) -> Result<Variables, NoMemory>
+        ensures { IfOk result (λ variables. variables ≡ self.now) }
+    {
+        Err(NoMemory)
+    }
+
+    /// The value of a slot, which is there and set.
+    pub fn get(&self, slot: u32) -> &Value
+        requires { value_at self.now slot ≢ None }
+        ensures { value_at self.now slot ≡ Some result.now }
+    {
+        match &self.slots[slot as usize] {
+            Some(value) => value,
+            None => unreachable!(),
+        }
+    }
+
+    pub fn set(&mut self, slot: u32, value: Value)
+        requires { slot < length self.old }
+        ensures { with_slot slot value self.old ≡ Some self.new }
+    {
+        self.slots[slot as usize] = Some(value);
+    }
+
+    /// Binds the names of these slots to an element: one name to itself, several to its parts.
+    pub fn bind(&mut self, alloc: Global, slots: &[u32], element: Value) -> Result<(), NoMemory>
+        requires { bound slots.now element self.old ≢ None }
+        ensures { OnOk result (bound slots.now element self.old ≡ Some self.new) }
+    {
+        Err(NoMemory)
+    }
+}
