@@ -4,3 +4,4 @@ pub mod Pairs
 pub mod Actors
 pub mod Options
 pub mod Enabled
+pub mod Going

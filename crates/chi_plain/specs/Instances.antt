@@ -1,8 +1,11 @@
 -- Private to proofs: what an instance stands for.
-use Rattle.std.specs.Prelude.{Bool, true, false, List, length, ◌≤◌}
-use Rattle.chi_core.specs.declared.limits.TheConstants.{MOST_OFFERS}
+use Rattle.std.specs.Prelude.{◌≡◌, ◌≢◌, ◌∷◌, drop, List, None, Some, Option, length, slice_get, unwrap_or}
+use Rattle.chi_value.specs.declared.value.Value.{Value}
 use Rattle.chi_core.specs.Config as config
-use Rattle.chi_core.specs.Config.{offers_in}
+use Rattle.chi_core.specs.Config.{Instance, Offer}
+use Rattle.chi_core.specs.Meeting.{filled}
+use Rattle.chi_core.specs.Terms.{first_the}
+use Rattle.chi_core.specs.Variables.{Variables, bind}
 use Rattle.chi_plain.specs.declared.instance.State.{State}
 use Rattle.chi_plain.specs.declared.instance.State.TheVariants.{Running, Waiting, Joining, Finished}
 
@@ -12,8 +15,6 @@ state_of (Waiting offers) = config.Waiting offers.items
 state_of (Joining numbers) = config.Joining numbers.items
 state_of Finished = config.Finished
 
-abbrev pub is_running : config.State → Bool
-is_running config.Running = true
-is_running (config.Waiting offers) = false
-is_running (config.Joining numbers) = false
-is_running config.Finished = false
+-- an instance without the item that comes first
+abbrev pub rest_of : Instance → Instance
+rest_of i = record i { term = drop 1 i.term }
