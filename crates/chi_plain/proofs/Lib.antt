@@ -5,3 +5,4 @@ pub mod Actors
 pub mod Options
 pub mod Enabled
 pub mod Going
+pub mod Bindings

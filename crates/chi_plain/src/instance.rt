@@ -1,17 +1,22 @@
-ghost use Rattle.std.specs.Prelude.{◌≡◌, ◌≢◌, ◌≤◌, ◌↔◌, IsTrue, [], drop, length, unwrap_or, slice_get, Some, IfOk, OnOk, IfSome, IfErr, MatchOption};
+ghost use Rattle.std.specs.Prelude.{◌≡◌, ◌≢◌, ◌≤◌, ◌↔◌, IsTrue, [], drop, length, unwrap_or, slice_get, Some, None, IfOk, OnOk, IfSome, IfErr, MatchOption};
 ghost use Rattle.chi_core.specs.declared.limits.TheConstants.{MOST_OFFERS};
+ghost use Rattle.chi_core.specs.Answer.{Amiss, Gives};
 ghost use Rattle.chi_core.specs.Config as config;
 ghost use Rattle.chi_core.specs.Config.{has_finished, new_instance, offers_in, settled};
+ghost use Rattle.chi_core.specs.Meeting.{filled};
+ghost use Rattle.chi_core.specs.Variables.{bind};
 ghost use Rattle.chi_eval.specs.Terms.{first_of, item_of};
 ghost use Rattle.chi_plain.specs.Instances.{state_of, rest_of};
+ghost use Rattle.chi_plain.specs.Meetings.{resumed_by, sent_in};
 
 use crate::offer::Offer;
-use chi_base::NoMemory;
-use chi_core::ProcDef;
+use chi_base::{Items, NoMemory};
+use chi_core::{Act, ProcDef, View};
 use chi_eval::{Task, Term, Variables};
 use chi_value::Value;
 use std::alloc::Global;
 use std::marker::Model;
+use std::mem;
 
 #[derive(Debug, Drop)]
 pub enum State<'a> {
@@ -56,6 +61,36 @@ impl<'a> Model for Instance<'a> {
     } };
 
     ghost invariant = { λ i. length (offers_in (state_of i.state)) ≤ MOST_OFFERS };
+}
+
+/// Binds slots, one after another.
+#[tactic(auto, using(crate::proofs::Bindings::binding))]
+fn bind_all(
+    alloc: Global,
+    variables: &mut Variables,
+    bindings: Items<(u32, Value)>,
+) -> Result<(), NoMemory>
+    requires { bind bindings variables.old ≢ None }
+    ensures { OnOk result (bind bindings variables.old ≡ Some variables.new) }
+{
+    for (slot, value) in bindings.into_vec(alloc)? {
+        variables.set(slot, value);
+    }
+    Ok(())
+}
+
+/// What is received goes into the slot: both are there, or neither is.
+#[tactic(auto, using(crate::proofs::Bindings::filling))]
+fn fill(variables: &mut Variables, slot: Option<u32>, received: Option<Value>)
+    requires { filled slot received variables.old ≢ None }
+    ensures { filled slot received variables.old ≡ Some variables.new }
+{
+    match (slot, received) {
+        (None, None) => {}
+        (Some(slot), Some(value)) => variables.set(slot, value),
+        (Some(_), None) => unreachable!(),
+        (None, Some(_)) => unreachable!(),
+    }
 }
 
 impl<'a> Instance<'a> {
@@ -160,5 +195,44 @@ impl<'a> Instance<'a> {
         }
         self.state = state;
         self.settle();
+    }
+
+    /// Takes its offer of this number out. It runs then.
+    fn accept(&mut self, number: u32) -> Offer<'a>
+        requires { slice_get (offers_in self.old.state) number ≢ None }
+        ensures offer { slice_get (offers_in self.old.state) number ≡ Some result }
+        ensures rest { self.new ≡ record self.old { state = config.Running } }
+    {
+        match mem::replace(&mut self.state, State::Running) {
+            State::Waiting(mut offers) => offers.swap_remove(number as usize),
+            State::Running => unreachable!(),
+            State::Joining(_) => unreachable!(),
+            State::Finished => unreachable!(),
+        }
+    }
+
+    /// Its offer of this number is taken, and it receives a value where there is one. What it sends is
+    /// the answer.
+    pub fn resume(
+        &mut self,
+        alloc: Global,
+        number: u32,
+        received: Option<Value>,
+        view: &View,
+    ) -> Result<Option<Value>, NoMemory>
+        requires { resumed_by number received self.old view.now ≢ Amiss }
+        ensures resumed { OnOk result (resumed_by number received self.old view.now ≡ Gives self.new view.now) }
+        ensures sent { IfOk result (λ sent. IfSome (slice_get (offers_in self.old.state) number) (λ o. sent ≡ sent_in o.act)) }
+    {
+        let (act, bindings, body) = self.accept(number).into_parts();
+        let (slot, sent) = match act {
+            Act::Send(_, value) => (None, value),
+            Act::Receive(_, slot) => (slot, None),
+            Act::Delay(_) => (None, None),
+        };
+        bind_all(alloc, &mut self.variables, bindings)?;
+        fill(&mut self.variables, slot, received);
+        self.term.put_first(body)?;
+        Ok(sent)
     }
 }

@@ -51,6 +51,20 @@ impl<'a> Offer<'a> {
         &self.act
     }
 
+    /// What it does, what the names are bound to, and what is done after it.
+    pub fn into_parts(self) -> (Act, Items<(u32, Value)>, &'a [CStat])
+        ensures act { result.0 ≡ self.entry.act }
+        ensures bindings { result.1 ≡ self.entry.bindings }
+        ensures body { result.2.now ≡ self.entry.body }
+    {
+        let Offer {
+            act,
+            bindings,
+            body,
+        } = self;
+        (act, bindings, body)
+    }
+
     /// The due time of a delay.
     fn due(&self) -> Option<i64>
         ensures { result ≡ least_time (due_in self.now.act) }
