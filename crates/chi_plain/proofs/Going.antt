@@ -1,5 +1,6 @@
 -- What isn't amiss, and what comes after it.
 use Rattle.std.proofs.Common.{◌≡◌, ◌≢◌, Option, Some, None, sym, ◌∙◌, ap, refl}
+use Rattle.std.specs.Prelude.{Result, Ok, Err, OnOk, IfOk}
 use Rattle.chi_core.specs.declared.view.View.{View}
 use Rattle.chi_core.specs.Answer.{Answer, Gives, Amiss, Does, then_do, giving, wanted}
 use Rattle.chi_eval.specs.declared.stop.Stop.{Stop}
@@ -33,3 +34,13 @@ giving_stops Spent it f e = ap (giving f) e
 giving_stops NoMemory it f e = tt
 
 pub ruleset going = (then_stops, giving_stops)
+
+-- on one variant
+
+pub on_ok : {T E : Type 0} (r : Result T E) {P Q : Type 0} → OnOk r P → (P → Q) → OnOk r Q
+on_ok (Ok x) p f = f p
+on_ok (Err e) p f = tt
+
+pub if_ok : {T E : Type 0} (r : Result T E) {P Q : T → Type 0} → IfOk r P → ((x : T) → P x → Q x) → IfOk r Q
+if_ok (Ok x) p f = f x p
+if_ok (Err e) p f = tt

@@ -6,3 +6,5 @@ pub mod Options
 pub mod Enabled
 pub mod Going
 pub mod Bindings
+pub mod Changes
+pub mod Meetings

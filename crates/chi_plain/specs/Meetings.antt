@@ -1,6 +1,5 @@
 -- Private to proofs: an offer of an instance that is taken.
-use Rattle.std.specs.Prelude.{ℕ, Option, None, slice_get}
-use Rattle.std.specs.Option.{option_and_then}
+use Rattle.std.specs.Prelude.{ℕ, Option, None, Some, slice_get}
 use Rattle.chi_value.specs.declared.value.Value.{Value}
 use Rattle.chi_core.specs.declared.act.Act.{Act}
 use Rattle.chi_core.specs.declared.act.Act.TheVariants.{Send, Receive, Delay}
@@ -24,9 +23,14 @@ sent_in (Delay due) = None
 abbrev pub resumed_by : ℕ → Option Value → Instance → Does Instance
 resumed_by a received i view = then_do (wanted (slice_get (offers_in i.state) a) view) (λ o. resumed o (slot_in o.act) received i)
 
+-- what is sent by an offer
+abbrev pub sent_by : Option Offer → Option Value
+sent_by None = None
+sent_by (Some o) = sent_in o.act
+
 -- what instance p sends by this offer
 abbrev pub sent_at : Config → ℕ → ℕ → Option Value
-sent_at config p a = option_and_then (λ (o : Offer). sent_in o.act) (offer_at (slice_get config.instances p) a)
+sent_at config p a = sent_by (offer_at (slice_get config.instances p) a)
 
 -- the configuration where an offer of instance p is taken
 abbrev pub resumed_at : Config → ℕ → ℕ → Option Value → Does Config

@@ -7,7 +7,7 @@ ghost use Rattle.chi_core.specs.Meeting.{filled};
 ghost use Rattle.chi_core.specs.Variables.{bind};
 ghost use Rattle.chi_eval.specs.Terms.{first_of, item_of};
 ghost use Rattle.chi_plain.specs.Instances.{state_of, rest_of};
-ghost use Rattle.chi_plain.specs.Meetings.{resumed_by, sent_in};
+ghost use Rattle.chi_plain.specs.Meetings.{resumed_by, sent_by};
 
 use crate::offer::Offer;
 use chi_base::{Items, NoMemory};
@@ -183,6 +183,14 @@ impl<'a> Instance<'a> {
         }
     }
 
+    /// What it waited for is there.
+    pub fn go_on(&mut self)
+        ensures { self.new ≡ settled (record self.old { state = config.Running }) }
+    {
+        self.state = State::Running;
+        self.settle();
+    }
+
     /// The item that came first is done, and it is in this state then, with these variables where
     /// they have changed.
     pub fn proceed(&mut self, variables: Option<Variables>, state: State<'a>)
@@ -222,7 +230,7 @@ impl<'a> Instance<'a> {
     ) -> Result<Option<Value>, NoMemory>
         requires { resumed_by number received self.old view.now ≢ Amiss }
         ensures resumed { OnOk result (resumed_by number received self.old view.now ≡ Gives self.new view.now) }
-        ensures sent { IfOk result (λ sent. IfSome (slice_get (offers_in self.old.state) number) (λ o. sent ≡ sent_in o.act)) }
+        ensures sent { IfOk result (λ sent. sent ≡ sent_by (slice_get (offers_in self.old.state) number)) }
     {
         let (act, bindings, body) = self.accept(number).into_parts();
         let (slot, sent) = match act {

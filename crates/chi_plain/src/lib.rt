@@ -6,6 +6,7 @@ mod choices;
 mod configuration;
 mod ending;
 mod instance;
+mod meeting;
 mod offer;
 mod plain;
 mod stepped;
