@@ -8,3 +8,10 @@ pub mod Going
 pub mod Bindings
 pub mod Changes
 pub mod Meetings
+pub mod Keeping
+pub mod Through
+pub mod Unwinding
+pub mod Making
+pub mod Named
+pub mod Owned
+pub mod Planned

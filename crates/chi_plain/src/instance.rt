@@ -1,18 +1,21 @@
-ghost use Rattle.std.specs.Prelude.{◌≡◌, ◌≢◌, ◌≤◌, ◌↔◌, IsTrue, [], drop, length, unwrap_or, slice_get, Some, None, IfOk, OnOk, IfSome, IfErr, MatchOption};
+ghost use Rattle.std.specs.Prelude.{◌≡◌, ◌≢◌, ◌≤◌, ◌↔◌, IsTrue, [], drop, length, unwrap_or, slice_get, Some, None, IfOk, OnOk, Err, IfSome, IfErr, MatchOption};
 ghost use Rattle.chi_core.specs.declared.limits.TheConstants.{MOST_OFFERS};
-ghost use Rattle.chi_core.specs.Answer.{Amiss, Gives};
+ghost use Rattle.chi_core.specs.Answer.{Amiss, Gives, giving};
 ghost use Rattle.chi_core.specs.Config as config;
 ghost use Rattle.chi_core.specs.Config.{has_finished, new_instance, offers_in, settled};
 ghost use Rattle.chi_core.specs.Meeting.{filled};
 ghost use Rattle.chi_core.specs.Variables.{bind};
+ghost use Rattle.chi_eval.specs.Stops.{Stops};
+ghost use Rattle.chi_eval.specs.Surroundings.{value_in};
 ghost use Rattle.chi_eval.specs.Terms.{first_of, item_of};
 ghost use Rattle.chi_plain.specs.Instances.{state_of, rest_of};
+ghost use Rattle.chi_plain.specs.Plans.{acted};
 ghost use Rattle.chi_plain.specs.Meetings.{resumed_by, sent_by};
 
 use crate::offer::Offer;
 use chi_base::{Items, NoMemory};
 use chi_core::{Act, ProcDef, View};
-use chi_eval::{Task, Term, Variables};
+use chi_eval::{Stop, Surroundings, Task, Term, Variables, act};
 use chi_value::Value;
 use std::alloc::Global;
 use std::marker::Model;
@@ -242,5 +245,25 @@ impl<'a> Instance<'a> {
         fill(&mut self.variables, slot, received);
         self.term.put_first(body)?;
         Ok(sent)
+    }
+    /// Does its first item, which is one that functions have too. What costs too much changes nothing.
+    pub fn act(
+        &mut self,
+        alloc: Global,
+        scene: &Surroundings<'_>,
+        view: &mut View,
+    ) -> Result<(), Stop>
+        requires { acted (value_in scene.now) self.old view.old ≢ Amiss }
+        ensures acted { OnOk result (giving settled (acted (value_in scene.now) self.old view.old) ≡ Gives self.new view.new) }
+        ensures stops { IfErr result (λ stop. Stops stop (acted (value_in scene.now) self.old view.old)) }
+        ensures kept { result ≡ Err Stop.Spent → self.new ≡ self.old }
+    {
+        match act(alloc, scene, &mut self.variables, &mut self.term, view)? {
+            None => {
+                self.settle();
+                Ok(())
+            }
+            Some(_) => unreachable!(),
+        }
     }
 }

@@ -1,0 +1,21 @@
+-- Private to proofs: the taking of a label.
+use Rattle.std.specs.Prelude.{◌≡◌, ◌≤◌, List, [], length, ℕ}
+use Rattle.chi_core.specs.declared.limits.TheConstants.{MOST_INSTANCES}
+use Rattle.chi_core.specs.Config.{Config}
+use Rattle.chi_core.specs.Step as outcome
+use Rattle.chi_core.specs.Step.{Outcome}
+use Rattle.chi_plain.specs.declared.stepping.Went.{Went}
+use Rattle.chi_plain.specs.declared.stepping.Went.TheVariants.{On, Over, Spent}
+
+-- a step isn't amiss, and where it goes on there are as many instances as there may be
+abbrev pub IsRight : Outcome → Type 0
+IsRight (outcome.Next config text left) = length config.instances ≤ MOST_INSTANCES
+IsRight (outcome.Over verdict) = Unit {0}
+IsRight outcome.Spent = Unit {0}
+IsRight outcome.Amiss = ⊥
+
+-- a step has led from old to new, with a text that was written
+abbrev pub Takes : Outcome → Config → Config → List ℕ → Went → Type 0
+Takes it old new text (On left) = it ≡ outcome.Next new text left
+Takes it old new text (Over verdict) = (it ≡ outcome.Over verdict) × (text ≡ [])
+Takes it old new text Spent = (it ≡ outcome.Spent) × (new ≡ old) × (text ≡ [])
