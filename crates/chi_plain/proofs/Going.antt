@@ -1,6 +1,6 @@
 -- What isn't amiss, and what comes after it.
-use Rattle.std.proofs.Common.{◌≡◌, ◌≢◌, Option, Some, None, sym, ◌∙◌, ap, refl}
-use Rattle.std.specs.Prelude.{Result, Ok, Err, OnOk, IfOk, IfErr}
+use Rattle.std.proofs.Common.{◌≡◌, ◌≢◌, Option, Some, None, sym, ◌∙◌, ap, subst, refl}
+use Rattle.std.specs.Prelude.{Result, Ok, Err, OnOk, IfOk, IfErr, IfSome}
 use Rattle.chi_core.specs.declared.view.View.{View}
 use Rattle.chi_core.specs.Answer.{Answer, Gives, Amiss, Does, then_do, giving, wanted}
 use Rattle.chi_eval.specs.declared.stop.Stop.{Stop}
@@ -48,3 +48,10 @@ if_ok (Err e) p f = tt
 pub if_err : {T E : Type 0} (r : Result T E) {P Q : E → Type 0} → IfErr r P → ((e : E) → P e → Q e) → IfErr r Q
 if_err (Ok x) p f = tt
 if_err (Err e) p f = f e p
+
+-- of what is there
+pub at_some : {A : Type 0} (o : Option A) (P : A → Type 0) (x : A) → o ≡ Some x → P x → IfSome o P
+at_some {A} o P x at p = let Q : Option A → Type 0 = λ o. IfSome o P in subst Q (sym at) p
+
+pub at_known : {A : Type 0} (o : Option A) (P : A → Type 0) (x : A) → o ≡ Some x → IfSome o P → P x
+at_known {A} o P x at p = let Q : Option A → Type 0 = λ o. IfSome o P in subst Q at p

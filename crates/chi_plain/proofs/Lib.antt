@@ -15,3 +15,8 @@ pub mod Making
 pub mod Named
 pub mod Owned
 pub mod Planned
+pub mod Adding
+pub mod Steps
+pub mod Finishing
+pub mod Moves
+pub mod Carrying

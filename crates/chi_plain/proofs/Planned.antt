@@ -1,19 +1,20 @@
 -- What an own statement of a process comes to, and what an item does that functions have too.
 use Rattle.std.proofs.Common.{◌≡◌, ◌≢◌, ℕ, ℤ, List, [], ◌∷◌, Option, Some, None, Bool, true, false, map, sym, ◌∙◌, ap, refl}
-use Rattle.std.specs.Prelude.{drop}
+use Rattle.std.specs.Prelude.{drop, slice_set}
 use Rattle.std.specs.List.{slice_get}
 use Rattle.chi_value.specs.declared.format.Piece.{Piece}
 use Rattle.chi_value.specs.declared.value.Value.{Value}
 use Rattle.chi_core.specs.declared.element.CElem.{CElem}
 use Rattle.chi_core.specs.declared.expression.CExpr.{CExpr}
 use Rattle.chi_core.specs.declared.program.Core.{Core}
+use Rattle.chi_core.specs.declared.program.ProcDef.{ProcDef}
 use Rattle.chi_core.specs.declared.statement.Branch.{Branch}
 use Rattle.chi_core.specs.declared.statement.CAlt.{CAlt}
 use Rattle.chi_core.specs.declared.statement.CStat.{CStat, CStat-F, out-CStat}
 use Rattle.chi_core.specs.declared.statement.CStat.TheVariants as stat
 use Rattle.chi_core.specs.declared.view.View.{View}
 use Rattle.chi_core.specs.Answer.{Answer, Gives, Fails, Spent, Amiss, Does, then_do, wanted, giving, in_turn}
-use Rattle.chi_core.specs.Config.{Config, Instance, settled, with_instance, scene_of, value_in}
+use Rattle.chi_core.specs.Config.{Config, Instance, settled, has_finished, with_instance, scene_of, value_in}
 use Rattle.chi_core.specs.declared.scene.Scene.{Scene}
 use Rattle.chi_core.specs.Evaluation.{Evaluates, eval}
 use Rattle.chi_core.specs.Functions.{calls}
@@ -207,3 +208,33 @@ module _ (core : Core) (config : Config) (p : ℕ) (i : Instance) (view : View) 
       ap (λ o. then_do (wanted o view) (λ i now. then_do (wanted (first_of i.term) now) (performed core config p (rest_of i)))) at
       ∙ shared_term core config p i view i.term refl none
       ∙ (λ k. giving (λ j. quietly (with_instance config p j)) (acted (sym evaluates k) i view))
+
+-- the instance settles after it
+pub shared_gives : (config : Config) (p : ℕ) (m : Answer Instance) (k : Instance) (now : View) → giving settled m ≡ Gives k now
+    → giving (λ j. quietly (with_instance config p j)) m ≡ Gives (quietly (record config { instances = slice_set config.instances p k })) now
+shared_gives config p (Gives j view) k now e =
+    let same : settled j ≡ k = cc in
+    let alike : view ≡ now = cc in
+    (λ i. Gives (quietly (record config { instances = slice_set config.instances p (same i) })) (alike i))
+shared_gives config p (Fails kind) k now e = absurd (cc)
+shared_gives config p Spent k now e = absurd (cc)
+shared_gives config p Amiss k now e = absurd (cc)
+
+-- what is read there
+pub scene_is : (core : Core) (config : Config) (s : Scene) (clock : ℤ) (constants : List Value) (finished : List Bool)
+    → s ≡ record { names = core.names; seed = config.seed; clock = clock; constants = constants; finished = finished } → clock ≡ config.clock → constants ≡ config.constants
+    → finished ≡ map has_finished config.instances → s ≡ scene_of core config
+scene_is core config s clock constants finished is same alike flags =
+    is ∙ (λ k. record { names = core.names; seed = config.seed; clock = same k; constants = alike k; finished = flags k })
+
+-- with the processes as a list
+module _ (core : Core) (evaluates : Variables → Evaluates) (clock : ℤ) (variables : Variables) (view : View) (s : CStat) where
+  pub planned_run_by : (line : ℕ) (elements now : List CElem) (procs : List ProcDef) → s ≡ stat.Run line elements → now ≡ elements → procs ≡ core.procs
+      → planned core evaluates clock variables (out-CStat s) view ≡ giving Runs (all_started evaluates procs variables now view)
+  planned_run_by line elements now procs is same alike =
+      planned_run core evaluates clock variables view s line elements now is same ∙ ap (λ ps. giving Runs (all_started evaluates ps variables now view)) (sym alike)
+
+  pub planned_start_by : (line : ℕ) (elements now : List CElem) (procs : List ProcDef) → s ≡ stat.Start line elements → now ≡ elements → procs ≡ core.procs
+      → planned core evaluates clock variables (out-CStat s) view ≡ giving Starts (all_started evaluates procs variables now view)
+  planned_start_by line elements now procs is same alike =
+      planned_start core evaluates clock variables view s line elements now is same ∙ ap (λ ps. giving Starts (all_started evaluates ps variables now view)) (sym alike)

@@ -92,6 +92,11 @@ abbrev pub change_by : Done → Config → List ℕ → Change
 change_by done.On config text = Goes config text
 change_by (done.Exits v) config text = Exits v
 
+-- an exit writes nothing
+abbrev pub IsQuiet : Done → List ℕ → Type 0
+IsQuiet done.On text = Unit {0}
+IsQuiet (done.Exits v) text = text ≡ []
+
 -- where it goes on, there are as many instances as there may be
 abbrev pub IsFew : Answer Change → Type 0
 IsFew (Gives (Goes config text) view) = length config.instances ≤ MOST_INSTANCES

@@ -7,12 +7,12 @@ ghost use Rattle.chi_core.specs.declared.limits.TheConstants.{MOST_INSTANCES, MO
 ghost use Rattle.chi_core.specs.declared.program.Core.{Core};
 ghost use Rattle.chi_core.specs.Answer.{Amiss, Gives};
 ghost use Rattle.chi_core.specs.Config as config;
-ghost use Rattle.chi_core.specs.Config.{offers_in, scene_of, settled, with_instance};
+ghost use Rattle.chi_core.specs.Config.{has_finished, offers_in, scene_of, settled, with_instance};
 ghost use Rattle.chi_core.specs.Performing.{quietly};
 ghost use Rattle.chi_eval.specs.Stops.{Stops};
 ghost use Rattle.chi_eval.specs.Surroundings.{scene_in};
 ghost use Rattle.chi_plain.specs.Instances.{rest_of, state_of};
-ghost use Rattle.chi_plain.specs.Plans.{IsFew, change_by, change_of, made_in, offers_kept, own_of, performed_at, plan_of};
+ghost use Rattle.chi_plain.specs.Plans.{IsFew, IsQuiet, change_by, change_of, made_in, offers_kept, own_of, performed_at, plan_of};
 ghost use Rattle.chi_plain.specs.Stage.{Appends};
 
 use crate::configuration::Configuration;
@@ -22,6 +22,7 @@ use crate::planning::{self, is_own};
 use chi_base::NoMemory;
 use chi_core::{CStat, Core, View};
 use chi_eval::{Stop, Surroundings, Task, Variables};
+use chi_value::Value;
 use std::alloc::Global;
 
 /// The statement that comes first, where functions don't have it.
@@ -45,6 +46,7 @@ fn own_statement<'a>(instance: &Instance<'a>) -> Option<&'a CStat>
 }
 
 /// The numbers that so many new instances will have, where there are `count`.
+#[tactic(auto, using(crate::proofs::Adding::numbering))]
 fn next_numbers(alloc: Global, count: usize, new: usize) -> Result<Vec<u32>, NoMemory>
     requires { count + new ≤ MOST_INSTANCES }
     ensures { IfOk result (λ numbers. numbers.items ≡ range_with_len count new) }
@@ -54,6 +56,46 @@ fn next_numbers(alloc: Global, count: usize, new: usize) -> Result<Vec<u32>, NoM
         numbers.push((count + k) as u32)?;
     }
     Ok(numbers)
+}
+
+/// New instances, each at rest where it has nothing to do, and for each whether it has finished.
+#[tactic(auto, using(crate::proofs::Adding::adding))]
+fn settle_all<'a>(
+    alloc: Global,
+    new: Vec<Instance<'a>>,
+) -> Result<(Vec<Instance<'a>>, Vec<bool>), NoMemory>
+    ensures settled { IfOk result (λ more. more.0.items ≡ map settled new.entry.items) }
+    ensures flags { IfOk result (λ more. more.1.items ≡ map has_finished more.0.items) }
+{
+    let mut more = Vec::new(alloc);
+    let mut flags = Vec::new(alloc);
+    for mut instance in new {
+        instance.settle();
+        flags.push(instance.has_finished())?;
+        more.push(instance)?;
+    }
+    Ok((more, flags))
+}
+
+/// What evaluations read.
+fn surroundings<'s>(
+    core: &'s Core,
+    seed: u64,
+    clock: i64,
+    constants: &'s [Value],
+    finished: &'s [bool],
+) -> Surroundings<'s>
+    ensures scene { scene_in result ≡ record { names = core.now.names; seed = seed; clock = clock; constants = constants.now; finished = finished.now } }
+    ensures functions { result.functions.now ≡ core.now.funcs }
+{
+    Surroundings {
+        functions: core.funcs.as_slice(),
+        names: &core.names,
+        seed,
+        clock,
+        constants,
+        finished,
+    }
 }
 
 impl<'a> Configuration<'a> {
@@ -122,16 +164,10 @@ impl<'a> Configuration<'a> {
         requires { length self.old.instances + length new.items ≤ MOST_INSTANCES }
         ensures { OnOk result (self.new ≡ record self.old { instances = self.old.instances ++ map settled new.entry.items }) }
     {
-        let mut settled = Vec::new(alloc);
-        let mut flags = Vec::new(alloc);
-        for mut instance in new {
-            instance.settle();
-            flags.push(instance.has_finished())?;
-            settled.push(instance)?;
-        }
+        let (mut more, mut flags) = settle_all(alloc, new)?;
         let before = self.finished.len();
         self.finished.append(&mut flags)?;
-        match self.instances.append(&mut settled) {
+        match self.instances.append(&mut more) {
             Ok(()) => Ok(()),
             Err(_) => {
                 self.finished.truncate(before);
@@ -150,14 +186,13 @@ impl<'a> Configuration<'a> {
         ensures stops { IfErr result (λ stop. Stops stop (performed_at core.now self.old pid view.old)) }
         ensures kept { result ≡ Err Stop.Spent → self.new ≡ self.old }
     {
-        let scene = Surroundings {
-            functions: core.funcs.as_slice(),
-            names: &core.names,
-            seed: self.seed,
-            clock: self.clock,
-            constants: self.constants.as_slice(),
-            finished: self.finished.as_slice(),
-        };
+        let scene = surroundings(
+            core,
+            self.seed,
+            self.clock,
+            self.constants.as_slice(),
+            self.finished.as_slice(),
+        );
         let instance = &mut self.instances[pid as usize];
         let acted = instance.act(alloc, &scene, view);
         let Surroundings {
@@ -184,7 +219,7 @@ impl<'a> Configuration<'a> {
         requires running { IsSomeAnd (slice_get self.old.instances pid) (λ i. i.state ≡ config.Running) }
         requires offers { length (offers_kept deed) ≤ MOST_OFFERS }
         requires few { length self.old.instances + length (made_in deed) ≤ MOST_INSTANCES }
-        ensures done { IfOk result (λ done. Appends out.old.items out.new.items (λ text. IfSome (slice_get self.old.instances pid)
+        ensures done { IfOk result (λ done. Appends out.old.items out.new.items (λ text. IsQuiet done text × IfSome (slice_get self.old.instances pid)
             (λ i. (core : Core) → change_of core self.old pid (rest_of i) (plan_of i.variables deed.entry) ≡ change_by done self.new text))) }
         ensures kept { OnErr result (out.new.items ≡ out.old.items) }
     {
@@ -230,7 +265,7 @@ impl<'a> Configuration<'a> {
         requires well { performed_at core.now self.old pid view.old ≢ Amiss }
         requires few { IsFew (performed_at core.now self.old pid view.old) }
         ensures done { IfOk result (λ done. Appends out.old.items out.new.items
-            (λ text. performed_at core.now self.old pid view.old ≡ Gives (change_by done self.new text) view.new)) }
+            (λ text. IsQuiet done text × (performed_at core.now self.old pid view.old ≡ Gives (change_by done self.new text) view.new))) }
         ensures stops { IfErr result (λ stop. Stops stop (performed_at core.now self.old pid view.old)) }
         ensures unchanged { result ≡ Err Stop.Spent → self.new ≡ self.old }
         ensures kept { OnErr result (out.new.items ≡ out.old.items) }

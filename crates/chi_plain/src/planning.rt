@@ -1,9 +1,11 @@
 //! What the statements come to that functions don't have. Nothing is changed.
 
-ghost use Rattle.std.specs.Prelude.{◌≡◌, ◌≢◌, ◌≤◌, [], length, IfErr, IfOk, OnOk, Some};
+ghost use Rattle.std.specs.Prelude.{◌≡◌, ◌≢◌, ◌≤◌, [], length, IfErr, IfOk, OnOk, Some, unwrap_or};
 ghost use Rattle.chi_core.specs.declared.limits.TheConstants.{MOST_OFFERS};
 ghost use Rattle.chi_core.specs.declared.statement.CStat.{out-CStat};
 ghost use Rattle.chi_core.specs.Answer.{Amiss, Gives};
+ghost use Rattle.chi_core.specs.Opening.{opened};
+ghost use Rattle.chi_core.specs.Starting.{all_started};
 ghost use Rattle.chi_core.specs.Performing.{all_named, written};
 ghost use Rattle.chi_eval.specs.Stops.{Stops};
 ghost use Rattle.chi_eval.specs.Surroundings.{value_in};
@@ -12,8 +14,10 @@ ghost use Rattle.chi_plain.specs.Plans.{is_own, leaves_with, left_with, offers_k
 use crate::alternatives::open_select;
 use crate::deed::Deed;
 use crate::elements::start_all;
+use crate::instance::Instance;
+use crate::offer::Offer;
 use chi_base::NoMemory;
-use chi_core::{CExpr, CStat, Core, FaultKind, View};
+use chi_core::{CAlt, CElem, CExpr, CStat, Core, FaultKind, ProcDef, View};
 use chi_eval::{Stop, Surroundings, Variables, instance_in, value_of, values_of};
 use chi_format::{RenderFault, render, rendered_where_allowed};
 use chi_value::{Piece, TextFault, Value, quoted_of};
@@ -96,6 +100,44 @@ fn all_named(alloc: Global, values: &[Value], view: &View) -> Result<Vec<u32>, N
     Ok(numbers)
 }
 
+/// Opens a select: the variables, where they have changed, and the offers.
+#[tactic(auto, using(crate::proofs::Finishing::finishing))]
+fn opened<'a>(
+    alloc: Global,
+    scene: &Surroundings<'_>,
+    variables: &Variables,
+    alternatives: &'a [CAlt],
+    view: &mut View,
+) -> Result<(Option<Variables>, Vec<Offer<'a>>), Stop>
+    requires { opened (value_in scene.now) scene.now.clock variables.now alternatives.now view.old ≢ Amiss }
+    ensures opened { IfOk result (λ o. opened (value_in scene.now) scene.now.clock variables.now alternatives.now view.old
+        ≡ Gives (record { variables = unwrap_or o.0 variables.now; offers = o.1.items }) view.new) }
+    ensures few { IfOk result (λ o. length o.1.items ≤ MOST_OFFERS) }
+    ensures stops { IfErr result (λ stop. Stops stop (opened (value_in scene.now) scene.now.clock variables.now alternatives.now view.old)) }
+{
+    let opening = open_select(alloc, scene, variables, alternatives, view)?;
+    Ok(opening.finish())
+}
+
+/// Starts the elements: the variables, where they have changed, and the new instances.
+#[tactic(auto, using(crate::proofs::Finishing::finishing))]
+fn started<'a>(
+    alloc: Global,
+    procs: &'a [ProcDef],
+    scene: &Surroundings<'_>,
+    variables: &Variables,
+    elements: &[CElem],
+    view: &mut View,
+) -> Result<(Option<Variables>, Vec<Instance<'a>>), Stop>
+    requires { all_started (value_in scene.now) procs.now variables.now elements.now view.old ≢ Amiss }
+    ensures started { IfOk result (λ s. all_started (value_in scene.now) procs.now variables.now elements.now view.old
+        ≡ Gives (record { variables = unwrap_or s.0 variables.now; made = s.1.items }) view.new) }
+    ensures stops { IfErr result (λ stop. Stops stop (all_started (value_in scene.now) procs.now variables.now elements.now view.old)) }
+{
+    let starting = start_all(alloc, scene, procs, variables, elements, view)?;
+    Ok(starting.finish())
+}
+
 /// Whether functions don't have the statement.
 pub fn is_own(statement: &CStat) -> bool
     ensures { result ≡ is_own (out-CStat statement.now) }
@@ -146,20 +188,29 @@ pub fn plan<'a>(
         )?)),
         CStat::Exit(_, e) => Ok(Deed::Exits(left_with(alloc, core, scene, variables, e, view)?)),
         CStat::Select(_, alternatives) => {
-            let opening = open_select(alloc, scene, variables, alternatives.as_slice(), view)?;
-            let (changed, offers) = opening.finish();
+            let (changed, offers) = opened(alloc, scene, variables, alternatives.as_slice(), view)?;
             Ok(Deed::Waits(changed, offers))
         }
         CStat::Run(_, elements) => {
-            let procs = core.procs.as_slice();
-            let starting = start_all(alloc, scene, procs, variables, elements.as_slice(), view)?;
-            let (changed, made) = starting.finish();
+            let (changed, made) = started(
+                alloc,
+                core.procs.as_slice(),
+                scene,
+                variables,
+                elements.as_slice(),
+                view,
+            )?;
             Ok(Deed::Runs(changed, made))
         }
         CStat::Start(_, elements) => {
-            let procs = core.procs.as_slice();
-            let starting = start_all(alloc, scene, procs, variables, elements.as_slice(), view)?;
-            let (changed, made) = starting.finish();
+            let (changed, made) = started(
+                alloc,
+                core.procs.as_slice(),
+                scene,
+                variables,
+                elements.as_slice(),
+                view,
+            )?;
             Ok(Deed::Starts(changed, made))
         }
         CStat::Finish(_, expressions) => {

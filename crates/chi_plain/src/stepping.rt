@@ -6,7 +6,7 @@ ghost use Rattle.chi_core.specs.declared.verdict.Verdict.TheVariants as verdict;
 ghost use Rattle.chi_core.specs.Step.{line_in, line_of, local, name_of, step};
 ghost use Rattle.chi_eval.specs.Terms.{first_of, item_of};
 ghost use Rattle.chi_plain.specs.Stage.{Appends};
-ghost use Rattle.chi_plain.specs.Takings.{IsRight, Takes};
+ghost use Rattle.chi_plain.specs.Takings.{HasName, IsRight, StopsAs, Takes};
 
 use crate::configuration::Configuration;
 use crate::deed::Done;
@@ -77,6 +77,24 @@ fn fault(
     Ok(Verdict::Fault(kind, name, line))
 }
 
+/// An item isn't done.
+fn stopped(
+    alloc: Global,
+    core: &Core,
+    definition: u32,
+    line: u32,
+    stop: Stop,
+) -> Result<Went, NoMemory>
+    requires { HasName stop (name_of core.now definition) }
+    ensures { IfOk result (λ went. StopsAs stop (name_of core.now definition) line went) }
+{
+    match stop {
+        Stop::Fault(kind) => Ok(Went::Over(fault(alloc, core, definition, line, kind)?)),
+        Stop::Spent => Ok(Went::Spent),
+        Stop::NoMemory => Err(NoMemory),
+    }
+}
+
 impl<'a> Configuration<'a> {
     /// The line of the first item of instance `pid`.
     fn line_at(&self, pid: u32) -> u32
@@ -112,9 +130,7 @@ impl<'a> Configuration<'a> {
                 Ok(Went::On(view.left))
             }
             Ok(Done::Exits(value)) => Ok(Went::Over(Verdict::Exit(value))),
-            Err(Stop::Fault(kind)) => Ok(Went::Over(fault(alloc, core, definition, line, kind)?)),
-            Err(Stop::Spent) => Ok(Went::Spent),
-            Err(Stop::NoMemory) => Err(NoMemory),
+            Err(stop) => Ok(stopped(alloc, core, definition, line, stop)?),
         }
     }
 
