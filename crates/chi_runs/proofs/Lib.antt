@@ -1,0 +1,16 @@
+pub mod Lists
+pub mod Options
+pub mod Enabled
+pub mod Used
+pub mod UsedByOperators
+pub mod UsedByExpressions
+pub mod UsedByTerms
+pub mod UsedByOpenings
+pub mod Steps
+pub mod Time
+pub mod Turns
+pub mod Tellings
+pub mod Bounds
+pub mod Picks
+pub mod Choices
+pub mod OwnNumbers
