@@ -2,9 +2,10 @@
 use Rattle.std.proofs.Common.{◌≡◌, ℕ, suc, ◌+◌, ◌<◌, ◌≤◌, Some, true, false, length, sym, ◌∙◌, ap, subst, refl, arith}
 use Rattle.std.specs.Prelude.{nat_lt}
 use Rattle.std.specs.List.{slice_get}
-use Rattle.chi_form_core.specs.Config.{Config}
-use Rattle.chi_form_core.specs.Options.{options, actors}
-use Rattle.chi_plain.specs.Configurations.{actors_below}
+use Rattle.std.proofs.lemmas.Option.{slice_get_within}
+use Rattle.chi_core.specs.Config.{Config}
+use Rattle.chi_core.specs.Options.{options, actors}
+use Rattle.chi_plain.specs.Scanning.{actors_below}
 use Rattle.chi_plain.proofs.Numbers.{passing, failing, place, length-push}
 
 pub length-actors_below-acts : (config : Config) (p n : ℕ) → n ≡ length (options config p) → 0 < n
@@ -46,3 +47,17 @@ unfolding actors_below
 actors-at config p i n h same some at = actors_below-at config p i (length config.instances) n h same some at
 
 pub ruleset actor_counting = (length-actors_below-acts, length-actors_below-rests, length-actors_below-none)
+
+-- whether there is any
+
+pub actors-some : (config : Config) (p n : ℕ) → p < length config.instances → n ≡ length (options config p) → 0 < n
+    → length (actors_below config p) ≡ 0 → true ≡ nat_lt 0 (length (actors config))
+actors-some config p n h same some none =
+    let at : slice_get (actors config) 0 ≡ Some p = actors-at config p 0 n h same some (sym none) in
+    let within : 0 < length (actors config) = slice_get_within (actors config) 0 p at in
+    grind arith
+
+pub actors-none : (config : Config) (n : ℕ) → n ≡ length config.instances → length (actors_below config n) ≡ 0 → false ≡ nat_lt 0 (length (actors config))
+actors-none config n all none =
+    let e : 0 ≡ length (actors config) = actors-count config 0 n all (sym none) in
+    ap (nat_lt 0) e

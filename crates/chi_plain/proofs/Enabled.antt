@@ -1,188 +1,182 @@
--- What an enabled label says of the configuration, and how a run ends where there is none.
-use Rattle.std.proofs.Common.{◌≡◌, ℕ, zero, suc, ◌<◌, ◌≤◌, ℤ, List, [], ◌∷◌, ◌++◌, Option, Some, None, Bool, true, false, length, sym, ◌∙◌, ap, subst, refl, arith}
-use Rattle.std.specs.Prelude.{nat_lt, IsTrue, IsSomeAnd, is_some, ◌↔◌, ◌==◌}
-use Rattle.std.specs.List.{slice_get, Contains}
+-- Whether something is enabled, and how a run ends where nothing is.
+use Rattle.std.proofs.Common.{◌≡◌, ℕ, zero, suc, ◌<◌, ◌≤◌, ℤ, List, [], ◌∷◌, ◌++◌, Option, Some, None, Bool, true, false, cond, length, sym, ◌∙◌, ap, subst, refl, arith}
+use Rattle.std.specs.Prelude.{map, filter, not, nat_eq, nat_lt, int_lt, IsTrue, is_some, ◌↔◌, ◌&&◌, ◌||◌}
+use Rattle.std.specs.List.{slice_get, Contains, flat_map, list_any}
 use Rattle.std.specs.Option.{option_to_list}
-use Rattle.std.proofs.lemmas.Bool.{eqb-true}
-use Rattle.std.proofs.lemmas.Option.{slice_get_within}
-use Rattle.chi_form_core.specs.declared.label.Label.{Label}
-use Rattle.chi_form_core.specs.declared.label.Label.TheVariants.{Local, Pair, Wake, Advance}
-use Rattle.chi_form_core.specs.declared.verdict.Verdict.{Verdict}
-use Rattle.chi_form_core.specs.Config.{Config, Instance, Offer, Running}
-use Rattle.chi_form_core.specs.Step.{offers_in, due_times}
-use Rattle.chi_form_core.specs.Options.{numbers, options, actors, advance_of, enabled, enabled_of, ending, ending_of, rest_verdict}
-use Rattle.chi_form_core.proofs.Lists.{filter-passes}
-use Rattle.chi_form_core.proofs.Enabled.{IsPair, IsWake, IsOption, own, pairs, wakes, IsDelayed, IsEnabled, option, advance, IsEnabled-from}
-use Rattle.chi_form_core.proofs.Time.{advance_last}
-use Rattle.chi_plain.specs.Offers.{IsSend, IsReceive, least_in}
-use Rattle.chi_plain.specs.Configurations.{OffersAt, SendsAt, ReceivesAt}
+use Rattle.std.proofs.lemmas.Bool.{false≢true}
+use Rattle.std.proofs.lemmas.Option.{slice_get_read}
+use Rattle.chi_core.specs.declared.act.Act.{Act}
+use Rattle.chi_core.specs.declared.act.Act.TheVariants.{Send, Receive, Delay}
+use Rattle.chi_core.specs.declared.label.Label.{Label}
+use Rattle.chi_core.specs.declared.label.Label.TheVariants.{Local, Pair, Wake, Join, Advance}
+use Rattle.chi_core.specs.Config.{Config, Instance, Offer, State, Running, Waiting, Joining, Finished, offers_in}
+use Rattle.chi_core.specs.Meeting.{may_reach, next_due}
+use Rattle.chi_core.specs.Options.{numbers, receivers, pairs_with, pairs, options_by, options_for, none_under_way, options_in, options_of, options, actors, advance_to, advance, enabled, enabled_of, Ending, at_rest, ending, ending_of}
+use Rattle.chi_plain.specs.Scanning.{is_advance}
 
-pub is_delayed : (config : Config) (label : Label) → label ≡ Advance → Contains (enabled config) label → IsDelayed config
-is_delayed config label is c = by_cases (IsEnabled-from config label c)
+-- what a filter keeps passes its test
+filter-passes : (t : ℕ → Bool) (xs : List ℕ) (k n : ℕ) → slice_get (filter t xs) k ≡ Some n → t n ≡ true
+filter-passes t [] k n e = absurd (cc)
+filter-passes t (x ∷ xs) k n e = by_test (filter-passes t xs) (t x) refl k e
   where
-    by_option : (q : ℕ) → IsOption config q label → IsDelayed config
-    by_option q (own i at running is') = absurd (let no : Local q ≡ Advance = sym is' ∙ is in cc)
-    by_option q (pairs a r b pair is') = absurd (let no : Pair q a r b ≡ Advance = sym is' ∙ is in cc)
-    by_option q (wakes a wake is') = absurd (let no : Wake q a ≡ Advance = sym is' ∙ is in cc)
+    by_test : ((k n : ℕ) → slice_get (filter t xs) k ≡ Some n → t n ≡ true)
+        → (b : Bool) → t x ≡ b → (k : ℕ) → slice_get (cond b (x ∷ filter t xs) (filter t xs)) k ≡ Some n → t n ≡ true
+    by_test below true is zero e = let same : x ≡ n = cc in ap t (sym same) ∙ is
+    by_test below true is (suc k) e = below k n e
+    by_test below false is k e = below k n e
 
-    by_cases : IsEnabled config label → IsDelayed config
-    by_cases (option p o) = by_option p o
-    by_cases (advance is' d) = d
-
-pub is_running : (config : Config) (label : Label) (p : ℕ) → label ≡ Local p → Contains (enabled config) label
-    → IsSomeAnd (slice_get config.instances p) (λ i. i.state ≡ Running)
-is_running config label p is c = by_cases (IsEnabled-from config label c)
+none-append : {A : Type 0} (t : A → Bool) (xs ys : List A) → list_any t xs ≡ false → list_any t ys ≡ false → list_any t (xs ++ ys) ≡ false
+none-append t [] ys e f = f
+none-append t (x ∷ xs) ys e f = by_test (none-append t xs ys) (t x) refl e
   where
-    by_option : (q : ℕ) → IsOption config q label → IsSomeAnd (slice_get config.instances p) (λ i. i.state ≡ Running)
-    by_option q (own i at running is') =
-        let same : Local q ≡ Local p = sym is' ∙ is in
-        let there : q ≡ p = cc in
-        let Q : Option Instance → Type 0 = λ o. IsSomeAnd o (λ i. i.state ≡ Running) in
-        subst Q (sym at ∙ ap (slice_get config.instances) there) running
-    by_option q (pairs a r b pair is') = absurd (let no : Pair q a r b ≡ Local p = sym is' ∙ is in cc)
-    by_option q (wakes a wake is') = absurd (let no : Wake q a ≡ Local p = sym is' ∙ is in cc)
+    by_test : (list_any t xs ≡ false → list_any t ys ≡ false → list_any t (xs ++ ys) ≡ false)
+        → (b : Bool) → t x ≡ b → (b || list_any t xs) ≡ false → (t x || list_any t (xs ++ ys)) ≡ false
+    by_test rest true is fails = absurd (false≢true (sym fails))
+    by_test rest false is fails = ap (λ b. b || list_any t (xs ++ ys)) is ∙ rest fails f
 
-    by_cases : IsEnabled config label → IsSomeAnd (slice_get config.instances p) (λ i. i.state ≡ Running)
-    by_cases (option q o) = by_option q o
-    by_cases (advance is' d) = absurd (let no : Advance ≡ Local p = sym is' ∙ is in cc)
+none-flat : {A B : Type 0} (t : B → Bool) (f : A → List B) (xs : List A) → ((x : A) → list_any t (f x) ≡ false) → list_any t (flat_map f xs) ≡ false
+none-flat t f [] none = refl
+none-flat t f (x ∷ xs) none = none-append t (f x) (flat_map f xs) (none x) (none-flat t f xs none)
 
--- the number of the first is below that of the places
-place-within : {A : Type 0} (xs : List A) (k : ℕ) (x : A) → slice_get xs k ≡ Some x → k < length xs
-place-within xs k x e = slice_get_within xs k x e
+none-map : {A B : Type 0} (t : B → Bool) (f : A → B) (xs : List A) → ((x : A) → t (f x) ≡ false) → list_any t (map f xs) ≡ false
+none-map t f [] none = refl
+none-map t f (x ∷ xs) none = ap (λ b. b || list_any t (map f xs)) (none x) ∙ none-map t f xs none
 
-offering : (config : Config) (p a q b : ℕ) (i : Instance) (o : Offer) → slice_get config.instances p ≡ Some i
-    → slice_get (offers_in i.state) a ≡ Some o → p ≡ q → a ≡ b → OffersAt config q b
-offering config p a q b i o at has same there =
-    let Q : Option Instance → Type 0 = λ x. IsSomeAnd x (λ i. b < length (offers_in i.state)) in
-    let R : ℕ → Type 0 = λ n. n < length (offers_in i.state) in
-    subst Q (sym at ∙ ap (slice_get config.instances) same) (subst R there (place-within (offers_in i.state) a o has))
-
-pub wake-is : (config : Config) (label : Label) (p a : ℕ) → label ≡ Wake p a → Contains (enabled config) label → IsWake config p a
-wake-is config label p a is c = by_cases (IsEnabled-from config label c)
+some-at : {A : Type 0} (t : A → Bool) (xs : List A) (k : ℕ) (x : A) → slice_get xs k ≡ Some x → t x ≡ true → list_any t xs ≡ true
+some-at t [] k x e is = absurd (cc)
+some-at t (y ∷ ys) zero x e is = let same : y ≡ x = cc in ap (λ z. t z || list_any t ys) same ∙ ap (λ b. b || list_any t ys) is
+some-at t (y ∷ ys) (suc k) x e is = by_test (t y) (some-at t ys k x e is)
   where
-    by_option : (q : ℕ) → IsOption config q label → IsWake config p a
-    by_option q (own i at running is') = absurd (let no : Local q ≡ Wake p a = sym is' ∙ is in cc)
-    by_option q (pairs b r d pair is') = absurd (let no : Pair q b r d ≡ Wake p a = sym is' ∙ is in cc)
-    by_option q (wakes b wake is') =
-        let same : Wake q b ≡ Wake p a = sym is' ∙ is in
-        let one : q ≡ p = cc in
-        let two : b ≡ a = cc in
-        let P : ℕ → Type 0 = λ n. IsWake config n b in
-        let Q : ℕ → Type 0 = λ n. IsWake config p n in
-        subst Q two (subst P one wake)
+    by_test : (b : Bool) → list_any t ys ≡ true → (b || list_any t ys) ≡ true
+    by_test true e = refl
+    by_test false e = e
 
-    by_cases : IsEnabled config label → IsWake config p a
-    by_cases (option q o) = by_option q o
-    by_cases (advance is' d) = absurd (let no : Advance ≡ Wake p a = sym is' ∙ is in cc)
+-- an element of a list in which none passes the test doesn't pass it
+contains-none : (t : Label → Bool) (xs : List Label) (x : Label) → t x ≡ true → list_any t xs ≡ false → Contains xs x → ⊥
+contains-none t xs x is none c =
+    let e : slice_get xs c.0 ≡ Some x = slice_get_read xs (length xs) c.0 x refl c.1 (sym c.2) in
+    let some : list_any t xs ≡ true = some-at t xs c.0 x e is in
+    false≢true (sym none ∙ some)
 
-pub wake-offers : (config : Config) (label : Label) (p a : ℕ) → label ≡ Wake p a → Contains (enabled config) label → OffersAt config p a
-wake-offers config label p a is c =
-    let wake = wake-is config label p a is c in
-    offering config p a p a wake.sleeper _ wake.sleeper_at wake.sleeps refl refl
+module _ (config : Config) (p : ℕ) where
+  pairs-none : (a channel q : ℕ) (j : Option Instance) → list_any is_advance (pairs_with p a channel q j) ≡ false
+  pairs-none a channel q None = refl
+  pairs-none a channel q (Some j) = by_test (nat_eq q p)
+    where
+      by_test : (b : Bool) → list_any is_advance (cond b [] (map (λ b. Pair p a q b) (receivers channel (offers_in j.state)))) ≡ false
+      by_test true = refl
+      by_test false = none-map is_advance (λ b. Pair p a q b) (receivers channel (offers_in j.state)) (λ b. refl)
 
-pub pair-is : (config : Config) (label : Label) (p a q b : ℕ) → label ≡ Pair p a q b → Contains (enabled config) label → IsPair config p a q b
-pair-is config label p a q b is c = by_cases (IsEnabled-from config label c)
-  where
-    by_option : (r : ℕ) → IsOption config r label → IsPair config p a q b
-    by_option r (own i at running is') = absurd (let no : Local r ≡ Pair p a q b = sym is' ∙ is in cc)
-    by_option r (pairs x s y pair is') =
-        let same : Pair r x s y ≡ Pair p a q b = sym is' ∙ is in
-        let one : r ≡ p = cc in
-        let two : x ≡ a = cc in
-        let three : s ≡ q = cc in
-        let four : y ≡ b = cc in
-        let P : ℕ → Type 0 = λ n. IsPair config n x s y in
-        let Q : ℕ → Type 0 = λ n. IsPair config p n s y in
-        let R : ℕ → Type 0 = λ n. IsPair config p a n y in
-        let S : ℕ → Type 0 = λ n. IsPair config p a q n in
-        subst S four (subst R three (subst Q two (subst P one pair)))
-    by_option r (wakes x wake is') = absurd (let no : Wake r x ≡ Pair p a q b = sym is' ∙ is in cc)
+  by-none : (a : ℕ) (act : Act) → list_any is_advance (options_by config p a act) ≡ false
+  by-none a (Send channel x) =
+      none-flat is_advance (λ q. pairs_with p a channel q (slice_get config.instances q)) (numbers (length config.instances))
+      (λ q. pairs-none a channel q (slice_get config.instances q))
+  by-none a (Receive channel slot) = refl
+  by-none a (Delay due) = by_test (int_lt config.clock due)
+    where
+      by_test : (b : Bool) → list_any is_advance (cond b [] (Wake p a ∷ [])) ≡ false
+      by_test true = refl
+      by_test false = refl
 
-    by_cases : IsEnabled config label → IsPair config p a q b
-    by_cases (option r o) = by_option r o
-    by_cases (advance is' d) = absurd (let no : Advance ≡ Pair p a q b = sym is' ∙ is in cc)
+  for-none : (a : ℕ) (o : Option Offer) → list_any is_advance (options_for config p a o) ≡ false
+  for-none a None = refl
+  for-none a (Some o) = by-none a o.act
 
-pub pair-sends : (config : Config) (p a q b : ℕ) → IsPair config p a q b → SendsAt config p a
-pair-sends config p a q b pair =
-    let Q : Option Instance → Type 0 = λ x. IsSomeAnd x (λ i. IsSomeAnd (slice_get (offers_in i.state) a) IsSend) in
-    let R : Option Offer → Type 0 = λ x. IsSomeAnd x IsSend in
-    subst Q (sym pair.sender_at) (subst R (sym pair.sends) tt)
+  in-none : (s : State) → list_any is_advance (options_in config p s) ≡ false
+  in-none Running = refl
+  in-none (Waiting offers) =
+      none-flat is_advance (λ a. options_for config p a (slice_get offers a)) (numbers (length offers)) (λ a. for-none a (slice_get offers a))
+  in-none (Joining waited) = by_test (none_under_way config waited)
+    where
+      by_test : (b : Bool) → list_any is_advance (cond b (Join p ∷ []) []) ≡ false
+      by_test true = refl
+      by_test false = refl
+  in-none Finished = refl
 
-pub pair-receives : (config : Config) (p a q b : ℕ) → IsPair config p a q b → ReceivesAt config q b
-pair-receives config p a q b pair =
-    let Q : Option Instance → Type 0 = λ x. IsSomeAnd x (λ i. IsSomeAnd (slice_get (offers_in i.state) b) IsReceive) in
-    let R : Option Offer → Type 0 = λ x. IsSomeAnd x IsReceive in
-    subst Q (sym pair.receiver_at) (subst R (sym pair.receives) tt)
+  of-none : (o : Option Instance) → list_any is_advance (options_of config p o) ≡ false
+  of-none None = refl
+  of-none (Some i) = in-none i.state
+
+-- where some instance has an option, Advance isn't enabled
+enabled-acts : (config : Config) (ps : List ℕ) → 0 < length ps → Contains (enabled_of config ps) Advance → ⊥
+enabled-acts config [] h c = absurd (omega arith)
+enabled-acts config (p ∷ ps) h c =
+    contains-none is_advance (flat_map (options config) (p ∷ ps)) Advance refl
+    (none-flat is_advance (options config) (p ∷ ps) (λ q. of-none config q (slice_get config.instances q))) c
 
 none-of : {A : Type 0} (xs : List A) → length xs ≤ 0 → xs ≡ []
 none-of [] h = refl
 none-of (x ∷ xs) h = absurd (omega arith)
 
-enabled-delayed : (config : Config) (t : ℤ) (ts : List ℤ) → actors config ≡ [] → due_times config ≡ t ∷ ts → enabled config ≡ Advance ∷ []
-enabled-delayed config t ts none is = ap (enabled_of config) none ∙ ap (λ l. option_to_list (advance_of l)) is
+lt-true : (n : ℕ) → nat_lt 0 n ≡ true → 0 < n
+lt-true zero e = absurd (false≢true e)
+lt-true (suc n) e = omega arith
 
-enabled-none : (config : Config) → actors config ≡ [] → due_times config ≡ [] → enabled config ≡ []
-enabled-none config none is = ap (enabled_of config) none ∙ ap (λ l. option_to_list (advance_of l)) is
+lt-false : (n : ℕ) → nat_lt 0 n ≡ false → n ≤ 0
+lt-false n e = grind arith
 
-pub advance-iff : (config : Config) (n : ℕ) (o : Option ℤ) (b : Bool) → n ≡ length (actors config) → n ≡ 0
-    → o ≡ least_in (due_times config) → b ≡ is_some o → IsTrue b ↔ Contains (enabled config) Advance
-unfolding least_in
-advance-iff config n o b count zero' least test = (λ t. to (due_times config) refl (truth t), λ c. from (is_delayed config Advance refl c))
+advance-is : (config : Config) (l : Label) → advance config ≡ Some l → l ≡ Advance
+advance-is config l e = by_due (next_due config) e
   where
-    none : actors config ≡ []
-    none = none-of (actors config) (omega arith)
+    by_test : (b : Bool) → cond b (Some Advance) None ≡ Some l → l ≡ Advance
+    by_test true e = cc
+    by_test false e = absurd (cc)
 
-    value : b ≡ is_some (least_in (due_times config))
-    value = test ∙ ap is_some least
+    by_due : (o : Option ℤ) → advance_to config o ≡ Some l → l ≡ Advance
+    by_due None e = absurd (cc)
+    by_due (Some t) e = by_test (may_reach config.until t) e
 
-    truth : IsTrue b → is_some (least_in (due_times config)) ≡ true
-    truth t = sym value ∙ t
+pub advance-none : (config : Config) (acts : Bool) → acts ≡ nat_lt 0 (length (actors config)) → acts ≡ true → IsTrue (not acts) ↔ Contains (enabled config) Advance
+advance-none config acts is some =
+    (λ t. absurd (false≢true (sym (ap not some) ∙ t)), λ c. absurd (enabled-acts config (actors config) (lt-true _ (sym is ∙ some)) c))
 
-    to : (ts : List ℤ) → due_times config ≡ ts → is_some (least_in ts) ≡ true → Contains (enabled config) Advance
-    to [] is e = absurd (cc)
-    to (t ∷ ts) is e =
+pub advance-some : (config : Config) (acts can : Bool) → acts ≡ nat_lt 0 (length (actors config)) → acts ≡ false → can ≡ is_some (advance config)
+    → IsTrue can ↔ Contains (enabled config) Advance
+advance-some config acts can is none same =
+    (λ t. to (advance config) refl (sym same ∙ t), λ c. same ∙ from (advance config) (let P : List Label → Type 0 = λ l. Contains l Advance in subst P at_rest c))
+  where
+    at_rest : enabled config ≡ option_to_list (advance config)
+    at_rest = ap (enabled_of config) (none-of (actors config) (lt-false _ (sym is ∙ none)))
+
+    to : (o : Option Label) → advance config ≡ o → is_some o ≡ true → Contains (enabled config) Advance
+    to None e t = absurd (false≢true t)
+    to (Some l) e t =
+        let here : enabled config ≡ Advance ∷ [] = at_rest ∙ ap option_to_list e ∙ ap (λ l. l ∷ []) (advance-is config l e) in
         let P : List Label → Type 0 = λ l. Contains l Advance in
-        subst P (sym (enabled-delayed config t ts none is)) (0, omega arith, refl)
+        subst P (sym here) (0, omega arith, refl)
 
-    from : IsDelayed config → IsTrue b
-    from d = value ∙ ap (λ l. is_some (least_in l)) d.due
-
-pub advance-none : (config : Config) (n : ℕ) → n ≡ length (actors config) → (n ≡ 0 → ⊥) → IsTrue (n == 0) ↔ Contains (enabled config) Advance
-advance-none config n count some = (λ t. absurd (some (eqb-true n 0 t)), λ c. absurd (some (count ∙ ap length (advance_last config c))))
+    from : (o : Option Label) → Contains (option_to_list o) Advance → is_some o ≡ true
+    from None c = absurd (omega (arith, c.1))
+    from (Some l) c = refl
 
 some-first : (config : Config) (l r : List Label) → 0 < length l → ending_of (l ++ r) config ≡ None
 some-first config [] r h = absurd (omega arith)
 some-first config (x ∷ xs) r h = refl
 
-is_some_of : (n : ℕ) → nat_lt 0 n ≡ true → 0 < n
-is_some_of zero e = absurd (cc)
-is_some_of (suc n) e = omega arith
-
-pub ending-acts : (config : Config) (n : ℕ) → n ≡ length (actors config) → 0 < n → None ≡ ending config
-ending-acts config n count some = sym (by_actors (actors config) refl)
+pub ending-acts : (config : Config) (acts : Bool) → acts ≡ nat_lt 0 (length (actors config)) → acts ≡ true → None ≡ ending config
+ending-acts config acts same some = sym (by_actors (actors config) refl (lt-true _ (sym same ∙ some)))
   where
-    by_actors : (ps : List ℕ) → actors config ≡ ps → ending_of (enabled_of config (actors config)) config ≡ None
-    by_actors [] is = absurd (omega (arith, ap length is))
-    by_actors (p ∷ ps) is =
+    by_actors : (ps : List ℕ) → actors config ≡ ps → 0 < length (actors config) → ending_of (enabled_of config (actors config)) config ≡ None
+    by_actors [] is h = absurd (omega (arith, ap length is))
+    by_actors (p ∷ ps) is h =
         let acts : nat_lt 0 (length (options config p)) ≡ true
         = filter-passes (λ q. nat_lt 0 (length (options config q))) (numbers (length config.instances)) 0 p (ap (λ l. slice_get l 0) is) in
-        ap (λ l. ending_of (enabled_of config l) config) is ∙ some-first config (options config p) _ (is_some_of _ acts)
+        ap (λ l. ending_of (enabled_of config l) config) is ∙ some-first config (options config p) _ (lt-true _ acts)
 
-pub ending-delayed : (config : Config) (n : ℕ) (o : Option ℤ) → n ≡ length (actors config) → n ≤ 0
-    → o ≡ least_in (due_times config) → is_some o ≡ true → None ≡ ending config
-unfolding least_in
-ending-delayed config n o count none least some = by_due (due_times config) refl (sym (ap is_some least) ∙ some)
-  where
-    by_due : (ts : List ℤ) → due_times config ≡ ts → is_some (least_in ts) ≡ true → None ≡ ending config
-    by_due [] is e = absurd (cc)
-    by_due (t ∷ ts) is e =
-        sym (ap (λ l. ending_of l config) (enabled-delayed config t ts (none-of (actors config) (omega arith)) is))
+module _ (config : Config) (acts can : Bool) (is : acts ≡ nat_lt 0 (length (actors config))) (none : acts ≡ false) (same : can ≡ is_some (advance config)) where
+  rests : ending config ≡ ending_of (option_to_list (advance config)) config
+  rests = ap (λ l. ending_of (enabled_of config l) config) (none-of (actors config) (lt-false _ (sym is ∙ none)))
 
-pub ending-rests : (config : Config) (n : ℕ) (o : Option ℤ) (verdict : Verdict) → n ≡ length (actors config) → n ≤ 0
-    → o ≡ least_in (due_times config) → is_some o ≡ false → verdict ≡ rest_verdict config → Some verdict ≡ ending config
-unfolding least_in
-ending-rests config n o verdict count none least some is' = ap Some is' ∙ by_due (due_times config) refl (sym (ap is_some least) ∙ some)
-  where
-    by_due : (ts : List ℤ) → due_times config ≡ ts → is_some (least_in ts) ≡ false → Some (rest_verdict config) ≡ ending config
-    by_due [] is e = sym (ap (λ l. ending_of l config) (enabled-none config (none-of (actors config) (omega arith)) is))
-    by_due (t ∷ ts) is e = absurd (cc)
+  pub ending-advances : can ≡ true → None ≡ ending config
+  ending-advances some = sym (rests ∙ by_advance (advance config) (sym same ∙ some))
+    where
+      by_advance : (o : Option Label) → is_some o ≡ true → ending_of (option_to_list o) config ≡ None
+      by_advance None e = absurd (false≢true e)
+      by_advance (Some l) e = refl
+
+  pub ending-rests : (end : Ending) → can ≡ false → end ≡ at_rest config → Some end ≡ ending config
+  ending-rests end not_any at = ap Some at ∙ sym (rests ∙ by_advance (advance config) (sym same ∙ not_any))
+    where
+      by_advance : (o : Option Label) → is_some o ≡ false → ending_of (option_to_list o) config ≡ Some (at_rest config)
+      by_advance None e = refl
+      by_advance (Some l) e = absurd (false≢true (sym e))

@@ -5,9 +5,9 @@ use Rattle.std.specs.List.{slice_get}
 use Rattle.std.proofs.lemmas.List.{append-nil}
 use Rattle.std.proofs.lemmas.List.Elements.{filter-append}
 use Rattle.std.proofs.lemmas.Option.{slice_get_read}
-use Rattle.chi_form_core.specs.Config.{Offer, Send, Receive, Delay}
-use Rattle.chi_form_core.specs.Options.{numbers, receives_on, receivers}
-use Rattle.chi_plain.specs.Offers.{is_receiving, receivers_below}
+use Rattle.chi_core.specs.Config.{Offer}
+use Rattle.chi_core.specs.Options.{numbers, receives_on, is_receiver, receivers}
+use Rattle.chi_plain.specs.Scanning.{receivers_below}
 
 pub length-push : {A : Type 0} (xs : List A) (y : A) → length (xs ++ y ∷ []) ≡ length xs + 1
 length-push xs y = length-append xs (y ∷ [])
@@ -55,24 +55,18 @@ place test (suc m) n h e = by_cases (place test m n) (let c : (n < m) ⊎ (n ≡
         subst P same (subst Q (sym (passing test n e)) (slice_get-last (filter test (numbers n)) n))
 
 receives_at_place : (channel : ℕ) (offers : List Offer) (b : ℕ) (o : Offer) (t : Bool) → b < length offers → o ≡ get_or offers b o
-    → is_receiving channel o ≡ t → receives_on channel (slice_get offers b) ≡ t
-receives_at_place channel offers b o t h at e =
-    ap (receives_on channel) (slice_get_read offers (length offers) b o refl h at) ∙ same_test o ∙ e
-  where
-    same_test : (o : Offer) → receives_on channel (Some o) ≡ is_receiving channel o
-    same_test (Send number value body) = refl
-    same_test (Receive number slot body) = refl
-    same_test (Delay due body) = refl
+    → receives_on channel o.act ≡ t → is_receiver channel (slice_get offers b) ≡ t
+receives_at_place channel offers b o t h at e = ap (is_receiver channel) (slice_get_read offers (length offers) b o refl h at) ∙ e
 
 pub length-receivers_below-more : (channel : ℕ) (offers : List Offer) (b : ℕ) (o : Offer) → b < length offers → o ≡ get_or offers b o
-    → is_receiving channel o ≡ true → length (receivers_below channel offers (b + 1)) ≡ length (receivers_below channel offers b) + 1
+    → receives_on channel o.act ≡ true → length (receivers_below channel offers (b + 1)) ≡ length (receivers_below channel offers b) + 1
 unfolding receivers_below
 length-receivers_below-more channel offers b o h at e =
     let one : b + 1 ≡ suc b = omega arith in
     rw one (ap length (passing _ b (receives_at_place channel offers b o true h at e)) ∙ length-push _ b)
 
 pub length-receivers_below-same : (channel : ℕ) (offers : List Offer) (b : ℕ) (o : Offer) → b < length offers → o ≡ get_or offers b o
-    → is_receiving channel o ≡ false → length (receivers_below channel offers (b + 1)) ≡ length (receivers_below channel offers b)
+    → receives_on channel o.act ≡ false → length (receivers_below channel offers (b + 1)) ≡ length (receivers_below channel offers b)
 unfolding receivers_below
 length-receivers_below-same channel offers b o h at e =
     let one : b + 1 ≡ suc b = omega arith in
@@ -88,7 +82,7 @@ unfolding receivers_below
 length-receivers channel offers n e = ap (λ k. length (receivers_below channel offers k)) e
 
 pub receivers-at : (channel : ℕ) (offers : List Offer) (b i : ℕ) (o : Offer) → b < length offers → o ≡ get_or offers b o
-    → is_receiving channel o ≡ true → i ≡ length (receivers_below channel offers b) → slice_get (receivers channel offers) i ≡ Some b
+    → receives_on channel o.act ≡ true → i ≡ length (receivers_below channel offers b) → slice_get (receivers channel offers) i ≡ Some b
 unfolding receivers_below
 receivers-at channel offers b i o h at e same =
     let P : ℕ → Type 0 = λ k. slice_get (receivers channel offers) k ≡ Some b in

@@ -1,37 +1,28 @@
--- The options of an instance: its own step where it runs, and else those by its offers.
-use Rattle.std.proofs.Common.{◌≡◌, ℕ, zero, suc, ◌<◌, List, [], ◌∷◌, Option, Some, None, true, false, length, ◌∙◌, ap, refl, arith}
+-- The options of an instance, by its state.
+use Rattle.std.proofs.Common.{◌≡◌, ℕ, zero, suc, ◌<◌, List, [], ◌∷◌, Option, Some, None, true, false, if◌then◌else◌, length, ◌∙◌, ap, refl, arith}
 use Rattle.std.specs.List.{slice_get}
 use Rattle.std.proofs.lemmas.Option.{slice_get_within}
-use Rattle.chi_form_core.specs.declared.label.Label.{Label}
-use Rattle.chi_form_core.specs.declared.label.Label.TheVariants.{Local}
-use Rattle.chi_form_core.specs.Config.{Config, Instance, State, Running, Waiting, Finished}
-use Rattle.chi_form_core.specs.Step.{offers_in}
-use Rattle.chi_form_core.specs.Options.{options_in, options_of, options}
-use Rattle.chi_plain.specs.Instances.{is_running}
-use Rattle.chi_plain.specs.Configurations.{offered_below}
+use Rattle.chi_core.specs.declared.label.Label.{Label}
+use Rattle.chi_core.specs.declared.label.Label.TheVariants.{Join}
+use Rattle.chi_core.specs.Config.{Config, Instance, Offer, Waiting, Joining}
+use Rattle.chi_core.specs.Options.{none_under_way, options_in, options_of, options}
+use Rattle.chi_plain.specs.Scanning.{offered_below}
 
-options_in-running : (config : Config) (p : ℕ) (s : State) → is_running s ≡ true → options_in config p s ≡ Local p ∷ []
-options_in-running config p Running e = refl
-options_in-running config p (Waiting offers) e = absurd (cc)
-options_in-running config p Finished e = absurd (cc)
-
-options_in-offers : (config : Config) (p : ℕ) (s : State) → is_running s ≡ false
-    → options_in config p s ≡ offered_below config p (offers_in s) (length (offers_in s))
-unfolding offered_below
-options_in-offers config p Running e = absurd (cc)
-options_in-offers config p (Waiting offers) e = refl
-options_in-offers config p Finished e = refl
-
-pub options-running : (config : Config) (p : ℕ) (i : Instance) → slice_get config.instances p ≡ Some i → is_running i.state ≡ true
-    → options config p ≡ Local p ∷ []
-options-running config p i at e = ap (options_of config p) at ∙ options_in-running config p i.state e
-
-pub options-offers : (config : Config) (p : ℕ) (i : Instance) → slice_get config.instances p ≡ Some i → is_running i.state ≡ false
-    → options config p ≡ offered_below config p (offers_in i.state) (length (offers_in i.state))
-options-offers config p i at e = ap (options_of config p) at ∙ options_in-offers config p i.state e
+pub options-some : (config : Config) (p : ℕ) (i : Instance) → slice_get config.instances p ≡ Some i → options config p ≡ options_in config p i.state
+options-some config p i at = ap (options_of config p) at
 
 pub options-none : (config : Config) (p : ℕ) → slice_get config.instances p ≡ None → options config p ≡ []
 options-none config p at = ap (options_of config p) at
+
+pub options-waiting : (config : Config) (p : ℕ) (offers : List Offer) → options_in config p (Waiting offers) ≡ offered_below config p offers (length offers)
+unfolding offered_below
+options-waiting config p offers = refl
+
+pub options-free : (config : Config) (p : ℕ) (waited : List ℕ) → none_under_way config waited ≡ true → options_in config p (Joining waited) ≡ Join p ∷ []
+options-free config p waited e = ap (λ b. if b then Join p ∷ [] else []) e
+
+pub options-held : (config : Config) (p : ℕ) (waited : List ℕ) → none_under_way config waited ≡ false → options_in config p (Joining waited) ≡ []
+options-held config p waited e = ap (λ b. if b then Join p ∷ [] else []) e
 
 pub options-within : (config : Config) (p i : ℕ) → i < length (options config p) → p < length config.instances
 options-within config p i h = by_instance (slice_get config.instances p) refl h
@@ -47,4 +38,4 @@ only-label labels label i is h = by_place i (let n = ap length is in omega arith
     by_place zero h' = ap (λ l. slice_get l 0) is
     by_place (suc k) h' = absurd (omega arith)
 
-pub ruleset choosing = (options-running, options-offers, options-none, options-within)
+pub ruleset choosing = (options-some, options-none, options-waiting, options-free, options-held, only-label)

@@ -6,12 +6,11 @@ use Rattle.std.specs.Option.{option_map}
 use Rattle.std.proofs.lemmas.Bool.{eq-eqb}
 use Rattle.std.proofs.lemmas.List.{append-nil, append_assoc, length-map}
 use Rattle.std.proofs.lemmas.Option.{slice_get-map, slice_get_read}
-use Rattle.chi_form_core.specs.declared.label.Label.{Label}
-use Rattle.chi_form_core.specs.declared.label.Label.TheVariants.{Pair}
-use Rattle.chi_form_core.specs.Config.{Config, Instance, Offer}
-use Rattle.chi_form_core.specs.Step.{offers_in}
-use Rattle.chi_form_core.specs.Options.{numbers, receivers, pairs_with, pairs, options_for}
-use Rattle.chi_plain.specs.Configurations.{pairs_below, offered_below}
+use Rattle.chi_core.specs.declared.label.Label.{Label}
+use Rattle.chi_core.specs.declared.label.Label.TheVariants.{Pair}
+use Rattle.chi_core.specs.Config.{Config, Instance, Offer, offers_in}
+use Rattle.chi_core.specs.Options.{numbers, receivers, pairs_with, pairs, options_for}
+use Rattle.chi_plain.specs.Scanning.{pairs_below, offered_below}
 
 flat_map-append : {A B : Type 0} (f : A → List B) (xs ys : List A) → flat_map f (xs ++ ys) ≡ flat_map f xs ++ flat_map f ys
 flat_map-append f [] ys = refl

@@ -1,6 +1,8 @@
 pub mod Stage
-pub mod Stops
-pub mod Offers
+pub mod Scanning
+pub mod Drafts
 pub mod Instances
 pub mod Configurations
-pub mod Standings
+pub mod Meetings
+pub mod Plans
+pub mod Takings

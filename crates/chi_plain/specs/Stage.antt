@@ -1,20 +1,23 @@
 -- What a runner stands for: a configuration, or the end of a run.
-use Rattle.std.specs.Prelude.{◌≡◌, ℕ, ℤ, List, [], ◌++◌, Option, Some, None, Contains}
-use Rattle.chi_form_core.specs.declared.program.Core.{Core}
-use Rattle.chi_form_core.specs.declared.label.Label.{Label}
-use Rattle.chi_form_core.specs.declared.verdict.Verdict.{Verdict}
-use Rattle.chi_form_core.specs.Config.{Config}
-use Rattle.chi_form_core.specs.Step as outcome
-use Rattle.chi_form_core.specs.Step.{step}
-use Rattle.chi_form_core.specs.Options.{options, actors, enabled, ending}
+use Rattle.std.specs.Prelude.{◌≡◌, ℕ, ◌+◌, ◌≤◌, ℤ, List, [], ◌++◌, Option, Some, None, option_map, Contains, IsTrue}
+use Rattle.chi_value.specs.declared.text.limit.TheConstants.{MOST_TEXT}
+use Rattle.chi_core.specs.declared.program.Core.{Core}
+use Rattle.chi_core.specs.declared.label.Label.{Label}
+use Rattle.chi_core.specs.declared.verdict.Verdict.{Verdict}
+use Rattle.chi_core.specs.Config.{Config}
+use Rattle.chi_core.specs.Step as outcome
+use Rattle.chi_core.specs.Step.{step}
+use Rattle.chi_core.specs.Options.{Ending, options, actors, enabled, ending, ending_at as over_at}
+use Rattle.chi_core.specs.Beginning.{Beginning, Begins, Breaks}
+use Rattle.chi_core.specs.Beginning as beginning
+use Rattle.chi_core.specs.VerdictLine.{may_tell, told_length}
 use Rattle.chi_plain.specs.declared.stepped.Stepped.{Stepped}
 use Rattle.chi_plain.specs.declared.stepped.Stepped.TheVariants.{Next, Over, Spent, NoMemory}
 
--- A runner is in a configuration, of which it keeps all but the output; or a step has ended the run
--- there; or memory was wanting.
+-- A runner is in a configuration; or the run is over, by a constant or a step; or memory was wanting.
 pub data Stage : Type 0 where
   At : Config → Stage
-  Ended : Verdict → Config → Stage
+  Ended : Ending → Stage
   Lost : Stage
 
 -- a runner of a program
@@ -22,61 +25,69 @@ pub record Runner : Type 0 where
   pub core : Core
   pub stage : Stage
 
--- the configuration, where so much was written
-abbrev pub showing : Config → List ℕ → Config
-showing config output = record config { output = output }
+-- a runner stands at the beginning of a run
+abbrev pub Begun : Beginning → Stage → Type 0
+Begun (Begins config) stage = stage ≡ At config
+Begun (Breaks end) stage = stage ≡ Ended end
+Begun beginning.Amiss stage = ⊥
 
 abbrev pub actors_at : Stage → List ℕ
 actors_at (At config) = actors config
-actors_at (Ended verdict config) = []
+actors_at (Ended end) = []
 actors_at Lost = []
 
 abbrev pub options_at : Stage → ℕ → List Label
 options_at (At config) p = options config p
-options_at (Ended verdict config) p = []
+options_at (Ended end) p = []
 options_at Lost p = []
 
 abbrev pub enabled_at : Stage → List Label
 enabled_at (At config) = enabled config
-enabled_at (Ended verdict config) = []
+enabled_at (Ended end) = []
 enabled_at Lost = []
 
-abbrev pub ending_at : Stage → Option Verdict
+-- how the run has ended, or ends there where nothing can happen
+abbrev pub ending_at : Stage → Option Ending
 ending_at (At config) = ending config
-ending_at (Ended verdict config) = Some verdict
+ending_at (Ended end) = Some end
 ending_at Lost = None
 
--- it is that time, unless memory was wanting
-abbrev pub IsTimeAt : Stage → ℤ → Type 0
-IsTimeAt (At config) time = time ≡ config.clock
-IsTimeAt (Ended verdict config) time = time ≡ config.clock
-IsTimeAt Lost time = Unit {0}
+abbrev pub verdict_at : Stage → Option Verdict
+verdict_at stage = option_map (λ end. end.verdict) (ending_at stage)
 
--- the label has a step there
-abbrev pub IsRight : outcome.Outcome → Type 0
-IsRight (outcome.Next config cost) = Unit {0}
-IsRight (outcome.Over verdict output) = Unit {0}
-IsRight outcome.Spent = Unit {0}
-IsRight outcome.Wrong = ⊥
+abbrev pub time_of : Option Ending → Config → ℤ
+time_of (Some end) config = end.clock
+time_of None config = config.clock
+
+-- the time: that of the ending, where there is one
+abbrev pub clock_at : Stage → Option ℤ
+clock_at (At config) = Some (time_of (ending config) config)
+clock_at (Ended end) = Some end.clock
+clock_at Lost = None
+
+-- the line of the verdict can be told
+pub record MayTell (core : Core) (verdict : Verdict) : Type 0 where
+  pub may : IsTrue (may_tell core.names.kinds verdict)
+  pub within : told_length core.names.kinds verdict ≤ MOST_TEXT
 
 -- a label that the runner may be given: an enabled one, or any once memory was wanting
 abbrev pub MayStep : Stage → Label → Type 0
 MayStep (At config) label = Contains (enabled config) label
-MayStep (Ended verdict config) label = ⊥
+MayStep (Ended end) label = ⊥
 MayStep Lost label = Unit {0}
 
--- the output after a step, `after`, is the one before it and what the step wrote; whatever was written
--- before both, it is the step of the semantics
-abbrev pub Steps : Core → Stage → Stage → Label → ℕ → List ℕ → List ℕ → Stepped → Type 0
-Steps core (At config) (At new) label left before after (Next cost) =
-    (written : List ℕ)
-    → step core (showing config (written ++ before)) label left ≡ outcome.Next (showing new (written ++ after)) cost
-Steps core (At config) (Ended verdict new) label left before after Over =
-    ((written : List ℕ)
-    → step core (showing config (written ++ before)) label left ≡ outcome.Over verdict (written ++ before))
-    × (new ≡ config) × (after ≡ before)
-Steps core (At config) new label left before after Spent =
-    ((written : List ℕ) → step core (showing config (written ++ before)) label left ≡ outcome.Spent)
-    × (new ≡ At config) × (after ≡ before)
-Steps core old new label left before after NoMemory = (new ≡ Lost) × (after ≡ before)
-Steps core old new label left before after answer = ⊥
+-- What a call that takes a label does, where so much is left of the bound: the step of the semantics, from the
+-- old stage to the new one, with the text that it appends to the output.
+abbrev pub Steps : Core → Stage → Stage → Label → ℕ → List ℕ → Stepped → Type 0
+Steps core (At config) (At new) label left text (Next cost) =
+    (rest : ℕ) × (step core config label left ≡ outcome.Next new text rest) × (left ≡ rest + cost)
+Steps core (At config) (Ended end) label left text Over =
+    (step core config label left ≡ outcome.Over end.verdict) × (end ≡ over_at end.verdict config) × (text ≡ [])
+Steps core (At config) new label left text Spent =
+    (step core config label left ≡ outcome.Spent) × (new ≡ At config) × (text ≡ [])
+Steps core old new label left text NoMemory = (new ≡ Lost) × (text ≡ [])
+Steps core old new label left text answer = ⊥
+
+-- a text goes to the end of what was there, and P holds of it
+abbrev pub Appends : List ℕ → List ℕ → (List ℕ → Type 0) → Type 0
+Appends before after P = (text : List ℕ) × (after ≡ before ++ text) × P text

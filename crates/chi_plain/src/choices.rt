@@ -1,14 +1,16 @@
 //! The options of an instance: how many there are, and which.
 
 ghost use Rattle.std.specs.Prelude.{◌≡◌, ℕ, ◌<◌, ◌≤◌, length, slice_get};
-ghost use Rattle.chi_form_core.specs.declared.limits.TheConstants.{MOST_OFFERS};
-ghost use Rattle.chi_form_core.specs.Options.{pairs_with, pairs, options_for, options};
-ghost use Rattle.chi_plain.specs.Configurations.{MOST_PAIRS, offered_below};
+ghost use Rattle.chi_core.specs.declared.limits.TheConstants.{MOST_OFFERS};
+ghost use Rattle.chi_core.specs.Config.{offers_in};
+ghost use Rattle.chi_core.specs.Options.{is_under_way, none_under_way, pairs_with, pairs, options_for, options_in, options};
+ghost use Rattle.chi_plain.specs.Instances.{state_of};
+ghost use Rattle.chi_plain.specs.Scanning.{MOST_PAIRS, offered_below};
 
 use crate::configuration::Configuration;
-use crate::instance::Instance;
-use crate::offer::{Act, Offer, receiver_at, receiver_count};
-use chi_form_core::Label;
+use crate::instance::{Instance, State};
+use crate::offer::{Offer, receiver_at, receiver_count};
+use chi_core::{Act, Label};
 
 /// How many pairs instance `pid`, which sends on a channel, may make with this instance, which is number `other`.
 #[tactic(auto, using(crate::proofs::Pairs::partners))]
@@ -131,34 +133,78 @@ impl<'a> Configuration<'a> {
         unreachable!()
     }
 
-    /// How many options instance `pid` has.
+    fn is_under_way(&self, pid: u32) -> bool
+        ensures { result ≡ is_under_way (slice_get self.now.instances pid) }
+    {
+        match self.instances.get(pid as usize) {
+            Some(instance) => !instance.has_finished(),
+            None => false,
+        }
+    }
+
+    /// Whether none of these is an instance that hasn't finished.
+    fn none_under_way(&self, waited: &[u32]) -> bool
+        ensures { result ≡ none_under_way self.now waited.now }
+    {
+        for pid in waited {
+            if self.is_under_way(*pid) {
+                return false;
+            }
+        }
+        true
+    }
+
+    /// How many options instance `pid` has, which is in this state.
     #[tactic(auto, using(crate::proofs::Options::choosing))]
+    fn option_count_in(&self, pid: u32, state: &State) -> u64
+        requires { length (offers_in (state_of state.now)) ≤ MOST_OFFERS }
+        ensures { result ≡ length (options_in self.now pid (state_of state.now)) }
+    {
+        match state {
+            State::Running => 1,
+            State::Waiting(offers) => self.offered_count(pid, offers.as_slice()),
+            State::Joining(waited) => {
+                if self.none_under_way(waited.as_slice()) {
+                    1
+                } else {
+                    0
+                }
+            }
+            State::Finished => 0,
+        }
+    }
+
+    /// Number `i` of these options.
+    #[tactic(auto, using(crate::proofs::Options::choosing))]
+    fn option_in(&self, pid: u32, state: &State, i: u64) -> Label
+        requires numbered { length (offers_in (state_of state.now)) ≤ MOST_OFFERS }
+        requires some { i < length (options_in self.now pid (state_of state.now)) }
+        ensures { slice_get (options_in self.now pid (state_of state.now)) i ≡ Some result }
+    {
+        match state {
+            State::Running => Label::Local(pid),
+            State::Waiting(offers) => self.offered_at(pid, offers.as_slice(), i),
+            State::Joining(_) => Label::Join(pid),
+            State::Finished => unreachable!(),
+        }
+    }
+
+    /// How many options instance `pid` has.
     pub fn option_count(&self, pid: u32) -> u64
         ensures { result ≡ length (options self.now pid) }
     {
         match self.instances.get(pid as usize) {
-            Some(instance) => {
-                if instance.is_running() {
-                    1
-                } else {
-                    self.offered_count(pid, instance.offers())
-                }
-            }
+            Some(instance) => self.option_count_in(pid, instance.state()),
             None => 0,
         }
     }
 
     /// Option number `i` of instance `pid`.
-    #[tactic(auto, using(crate::proofs::Options::choosing))]
     pub fn option_at(&self, pid: u32, i: u64) -> Label
         requires { i < length (options self.now pid) }
         ensures { slice_get (options self.now pid) i ≡ Some result }
     {
         let instance = &self.instances[pid as usize];
-        if instance.is_running() {
-            Label::Local(pid)
-        } else {
-            self.offered_at(pid, instance.offers(), i)
-        }
+        self.option_in(pid, instance.state(), i)
     }
 }

@@ -1,56 +1,48 @@
-ghost use Rattle.std.specs.Prelude.{◌≡◌, ◌<◌, length, slice_get, IfOk};
-ghost use Rattle.chi_form_core.specs.Config.{start};
-ghost use Rattle.chi_form_core.specs.Options.{actors};
+ghost use Rattle.std.specs.Prelude.{◌≡◌, ◌<◌, length, slice_get, Some};
+ghost use Rattle.chi_core.specs.Options.{actors};
 
 use crate::instance::Instance;
-use chi_base::NoMemory;
-use chi_form_core::Core;
-use std::alloc::Global;
+use chi_value::Value;
 use std::marker::Model;
 
-/// Where a run stands between two steps, without its output.
+/// Where a run stands between two steps.
 #[derive(Debug, Drop)]
 pub struct Configuration<'a> {
     /// In units of a real.
     pub(crate) clock: i64,
+    /// How many draws were taken from each stream.
+    pub(crate) draws: [u64; 64],
     /// How many channels there are.
     pub(crate) channels: u32,
     pub(crate) instances: Vec<Instance<'a>>,
+    /// Whether each instance has finished.
+    pub(crate) finished: Vec<bool>,
+    pub(crate) seed: u64,
+    /// The stopping time, in units of a real.
+    pub(crate) until: Option<i64>,
+    pub(crate) constants: Vec<Value>,
 }
 
 impl<'a> Model for Configuration<'a> {
-    ghost use Rattle.std.specs.Prelude.{◌≤◌, length};
     ghost use Rattle.std.specs.Coded.{codes};
-    ghost use Rattle.chi_form_core.specs.contracts.program.CStat as statements;
+    ghost use Rattle.chi_core.specs.contracts.statement.CStat as statements;
+    ghost use Rattle.chi_core.specs.contracts.expression.CExpr as expressions;
+    ghost use Rattle.chi_core.specs.contracts.element.CElem as elements;
     ghost use Rattle.chi_value.specs.contracts.value.Value as values;
-    ghost use Rattle.chi_form_core.specs.Config.{Config};
+    ghost use Rattle.chi_core.specs.Config.{Config};
 
     ghost Value = { Config };
 
-    ghost coded = { Prim.hlevel (codes, statements.the_row.coded, values.the_row.coded) };
+    ghost coded = { Prim.hlevel (codes, statements.the_row.coded, expressions.the_row.coded, elements.the_row.coded, values.the_row.coded) };
 
-    ghost use Rattle.chi_form_core.specs.declared.limits.TheConstants.{MOST_INSTANCES};
-    ghost use Rattle.chi_plain.specs.Configurations.{config_at};
+    ghost use Rattle.chi_plain.specs.Configurations.{config_at, IsKept};
 
-    ghost view = { λ c. config_at c.clock c.channels c.instances.items };
+    ghost view = { λ c. config_at c.clock c.draws c.channels c.instances.items c.seed c.until c.constants.items };
 
-    ghost invariant = { λ c. length c.instances.items ≤ MOST_INSTANCES };
+    ghost invariant = { λ c. IsKept c.instances.items c.finished.items };
 }
 
 impl<'a> Configuration<'a> {
-    pub fn start(alloc: Global, core: &'a Core) -> Result<Configuration<'a>, NoMemory>
-        ensures { IfOk result (λ configuration. configuration ≡ start core.now) }
-    {
-        let mut instances = Vec::new(alloc);
-        let instance = Instance::start(alloc, core, core.model, Vec::new(alloc))?;
-        instances.push(instance)?;
-        Ok(Configuration {
-            clock: 0,
-            channels: 0,
-            instances,
-        })
-    }
-
     pub fn clock(&self) -> i64
         ensures { result ≡ self.now.clock }
     {

@@ -1,24 +1,32 @@
-ghost use Rattle.std.specs.Prelude.{◌≡◌, ◌<◌, ◌≤◌, Some, None, ◌∷◌, ◌++◌, map, drop, length, vec_len, slice_get, slice_set, IfOk, OnOk, IfSome};
-ghost use Rattle.chi_form_core.specs.declared.limits.TheConstants.{MOST_OFFERS};
-ghost use Rattle.chi_form_core.specs.Config as config;
-ghost use Rattle.chi_form_core.specs.Config.{Do, rested, settled, variables_of, started};
-ghost use Rattle.chi_form_core.specs.Step.{offers_in};
-ghost use Rattle.chi_form_core.specs.Options.{is_finished};
-ghost use Rattle.chi_plain.specs.Offers.{body_in};
-ghost use Rattle.chi_plain.specs.Instances.{todo, state_of, is_running};
+ghost use Rattle.std.specs.Prelude.{◌≡◌, ◌≢◌, ◌≤◌, ◌↔◌, IsTrue, [], drop, length, unwrap_or, slice_get, Some, None, IfOk, OnOk, Err, IfSome, IfErr, MatchOption};
+ghost use Rattle.chi_core.specs.declared.limits.TheConstants.{MOST_OFFERS};
+ghost use Rattle.chi_core.specs.Answer.{Amiss, Gives, giving};
+ghost use Rattle.chi_core.specs.Config as config;
+ghost use Rattle.chi_core.specs.Config.{has_finished, new_instance, offers_in, settled};
+ghost use Rattle.chi_core.specs.Meeting.{filled};
+ghost use Rattle.chi_core.specs.Variables.{bind};
+ghost use Rattle.chi_eval.specs.Stops.{Stops};
+ghost use Rattle.chi_eval.specs.Surroundings.{value_in};
+ghost use Rattle.chi_eval.specs.Terms.{first_of, item_of};
+ghost use Rattle.chi_plain.specs.Instances.{state_of, rest_of};
+ghost use Rattle.chi_plain.specs.Plans.{acted};
+ghost use Rattle.chi_plain.specs.Meetings.{resumed_by, sent_by};
 
-use crate::definitions::{body_of, slot_count};
 use crate::offer::Offer;
-use chi_base::NoMemory;
-use chi_form_core::{CStat, Core};
+use chi_base::{Items, NoMemory};
+use chi_core::{Act, ProcDef, View};
+use chi_eval::{Stop, Surroundings, Task, Term, Variables, act};
 use chi_value::Value;
 use std::alloc::Global;
 use std::marker::Model;
+use std::mem;
 
 #[derive(Debug, Drop)]
 pub enum State<'a> {
     Running,
     Waiting(Vec<Offer<'a>>),
+    /// For the instances of these numbers.
+    Joining(Vec<u32>),
     Finished,
 }
 
@@ -27,97 +35,84 @@ pub enum State<'a> {
 pub struct Instance<'a> {
     /// The number of its definition.
     definition: u32,
-    /// The value of each slot, once it is set.
-    variables: Vec<Option<Value>>,
-    /// What it has left to do, the next statement last.
-    term: Vec<&'a CStat>,
+    variables: Variables,
+    term: Term<'a>,
     state: State<'a>,
 }
 
 impl<'a> Model for Instance<'a> {
     ghost use Rattle.std.specs.Coded.{codes};
-    ghost use Rattle.chi_form_core.specs.contracts.program.CStat as statements;
+    ghost use Rattle.chi_core.specs.contracts.statement.CStat as statements;
+    ghost use Rattle.chi_core.specs.contracts.expression.CExpr as expressions;
+    ghost use Rattle.chi_core.specs.contracts.element.CElem as elements;
     ghost use Rattle.chi_value.specs.contracts.value.Value as values;
-    ghost use Rattle.chi_form_core.specs.Config.{Instance};
+    ghost use Rattle.std.specs.Prelude.{◌≤◌, length};
+    ghost use Rattle.chi_core.specs.declared.limits.TheConstants.{MOST_OFFERS};
+    ghost use Rattle.chi_core.specs.Config.{Instance, offers_in};
 
     ghost Value = { Instance };
 
-    ghost coded = { Prim.hlevel (codes, statements.the_row.coded, values.the_row.coded) };
+    ghost coded = { Prim.hlevel (codes, statements.the_row.coded, expressions.the_row.coded, elements.the_row.coded, values.the_row.coded) };
 
-    ghost use Rattle.chi_plain.specs.Instances.{todo, state_of, IsKept};
+    ghost use Rattle.chi_plain.specs.Instances.{state_of};
 
     ghost view = { λ i. record {
       definition = i.definition;
-      variables = i.variables.items;
-      term = todo i.term.items;
+      variables = i.variables;
+      term = i.term;
       state = state_of i.state;
     } };
 
-    ghost invariant = { λ i. IsKept (todo i.term.items) (state_of i.state) };
+    ghost invariant = { λ i. length (offers_in (state_of i.state)) ≤ MOST_OFFERS };
 }
 
-/// Puts a body before what is left to do.
-#[tactic(auto, using(crate::proofs::Terms::terms))]
-fn put_first<'a>(term: &mut Vec<&'a CStat>, body: &'a [CStat]) -> Result<(), NoMemory>
-    ensures { OnOk result (todo term.new.items ≡ map Do body.now ++ todo term.old.items) }
+/// Binds slots, one after another.
+#[tactic(auto, using(crate::proofs::Bindings::binding))]
+fn bind_all(
+    alloc: Global,
+    variables: &mut Variables,
+    bindings: Items<(u32, Value)>,
+) -> Result<(), NoMemory>
+    requires { bind bindings variables.old ≢ None }
+    ensures { OnOk result (bind bindings variables.old ≡ Some variables.new) }
 {
-    let mut left = body.len();
-    while left > 0 {
-        left -= 1;
-        term.push(&body[left])?;
+    for (slot, value) in bindings.into_vec(alloc)? {
+        variables.set(slot, value);
     }
     Ok(())
 }
 
-/// What a Running instance is with so much left to do.
-#[tactic(auto, using(crate::proofs::Terms::terms))]
-fn running_or_finished<'a>(term: &[&'a CStat]) -> State<'a>
-    ensures { state_of result ≡ rested (todo term.now) config.Running }
+/// What is received goes into the slot: both are there, or neither is.
+#[tactic(auto, using(crate::proofs::Bindings::filling))]
+fn fill(variables: &mut Variables, slot: Option<u32>, received: Option<Value>)
+    requires { filled slot received variables.old ≢ None }
+    ensures { filled slot received variables.old ≡ Some variables.new }
 {
-    if term.is_empty() {
-        State::Finished
-    } else {
-        State::Running
+    match (slot, received) {
+        (None, None) => {}
+        (Some(slot), Some(value)) => variables.set(slot, value),
+        (Some(_), None) => unreachable!(),
+        (None, Some(_)) => unreachable!(),
     }
-}
-
-/// The variables at the start: the arguments in the first slots, and no other set.
-#[tactic(auto, using(crate::proofs::Slots::slots))]
-fn variables_of(
-    alloc: Global,
-    slots: usize,
-    arguments: Vec<Value>,
-) -> Result<Vec<Option<Value>>, NoMemory>
-    ensures { IfOk result (λ variables. variables.items ≡ variables_of slots arguments.items) }
-{
-    let mut variables = Vec::new(alloc);
-    for argument in arguments {
-        variables.push(Some(argument))?;
-    }
-    while variables.len() < slots {
-        variables.push(None)?;
-    }
-    Ok(variables)
 }
 
 impl<'a> Instance<'a> {
-    pub fn start(
+    /// An instance of the definition of this number, which isn't at rest yet where it has nothing to do.
+    pub fn new(
         alloc: Global,
-        core: &'a Core,
-        definition: u32,
+        number: u32,
+        process: &'a ProcDef,
         arguments: Vec<Value>,
     ) -> Result<Instance<'a>, NoMemory>
-        ensures { IfOk result (λ i. i ≡ started core.now definition arguments.items) }
+        ensures { IfOk result (λ i. i ≡ new_instance number process.now arguments.items) }
     {
-        let variables = variables_of(alloc, slot_count(core, definition), arguments)?;
-        let mut term = Vec::new(alloc);
-        put_first(&mut term, body_of(core, definition))?;
-        let state = running_or_finished(term.as_slice());
+        let variables = Variables::new(alloc, process.slots.as_slice().len(), arguments)?;
+        let term = Term::new(alloc, process.body.as_slice())?;
         Ok(Instance {
-            definition,
+            definition: number,
             variables,
             term,
-            state,
+            state: State::Running,
         })
     }
 
@@ -127,28 +122,33 @@ impl<'a> Instance<'a> {
         self.definition
     }
 
-    pub fn variables(&self) -> &[Option<Value>]
+    pub fn variables(&self) -> &Variables
         ensures { result.now ≡ self.now.variables }
     {
-        self.variables.as_slice()
+        &self.variables
     }
 
-    pub fn is_running(&self) -> bool
-        ensures { result ≡ is_running self.now.state }
+    /// The item that comes first.
+    pub fn first(&self) -> Option<&Task<'a>>
+        ensures { MatchOption result (self.now.term ≡ []) (λ task. first_of self.now.term ≡ Some (item_of task.now)) }
     {
-        match &self.state {
-            State::Running => true,
-            State::Waiting(_) => false,
-            State::Finished => false,
-        }
+        self.term.first()
     }
 
-    pub fn is_finished(&self) -> bool
-        ensures { result ≡ is_finished self.now.state }
+    pub fn state(&self) -> &State<'a>
+        ensures state { state_of result.now ≡ self.now.state }
+        ensures within { length (offers_in (state_of result.now)) ≤ MOST_OFFERS }
+    {
+        &self.state
+    }
+
+    pub fn has_finished(&self) -> bool
+        ensures { result ≡ has_finished self.now }
     {
         match &self.state {
             State::Running => false,
             State::Waiting(_) => false,
+            State::Joining(_) => false,
             State::Finished => true,
         }
     }
@@ -161,57 +161,109 @@ impl<'a> Instance<'a> {
         match &self.state {
             State::Running => &[],
             State::Waiting(offers) => offers.as_slice(),
+            State::Joining(_) => &[],
             State::Finished => &[],
         }
     }
 
-    /// The statement that comes next.
-    pub fn next(&self) -> &'a CStat
-        requires { self.now.state ≡ config.Running }
-        ensures { self.now.term ≡ Do result.now ∷ drop 1 self.now.term }
+    fn is_running(&self) -> bool
+        ensures { IsTrue result ↔ (self.now.state ≡ config.Running) }
     {
-        self.term[self.term.len() - 1]
-    }
-
-    /// The statement that came next is done.
-    pub fn pass(&mut self)
-        requires { self.old.state ≡ config.Running }
-        ensures { self.new ≡ settled (record self.old { term = drop 1 self.old.term }) }
-    {
-        let _ = self.term.pop();
-        self.state = running_or_finished(self.term.as_slice());
-    }
-
-    /// The slot has the value then.
-    pub fn set(&mut self, slot: u32, value: Value)
-        ensures { self.new ≡ record self.old { variables = slice_set self.old.variables slot (Some value) } }
-    {
-        if let Some(variable) = self.variables.get_mut(slot as usize) {
-            *variable = Some(value);
+        match &self.state {
+            State::Running => true,
+            State::Waiting(_) => false,
+            State::Joining(_) => false,
+            State::Finished => false,
         }
     }
 
-    /// The select that came next is open.
-    pub fn wait(&mut self, offers: Vec<Offer<'a>>)
-        requires { length offers.items ≤ MOST_OFFERS }
-        ensures { self.new ≡ settled (record self.old { term = drop 1 self.old.term; state = config.Waiting offers.entry.items }) }
+    /// Where it runs and has nothing left to do, it has finished.
+    pub fn settle(&mut self)
+        ensures { self.new ≡ settled self.old }
     {
-        let _ = self.term.pop();
-        self.state = State::Waiting(offers);
+        if self.is_running() && self.term.is_empty() {
+            self.state = State::Finished;
+        }
     }
 
-    /// The offer of this number is taken.
-    pub fn take(&mut self, number: u32) -> Result<(), NoMemory>
-        requires { number < length (offers_in self.old.state) }
-        ensures { OnOk result (IfSome (slice_get (offers_in self.old.state) number)
-            (λ o. self.new ≡ settled (record self.old { term = map Do (body_in o) ++ self.old.term; state = config.Running }))) }
+    /// What it waited for is there.
+    pub fn go_on(&mut self)
+        ensures { self.new ≡ settled (record self.old { state = config.Running }) }
     {
-        let body = match &self.state {
-            State::Waiting(offers) => offers[number as usize].body(),
-            _ => unreachable!(),
+        self.state = State::Running;
+        self.settle();
+    }
+
+    /// The item that came first is done, and it is in this state then, with these variables where
+    /// they have changed.
+    pub fn proceed(&mut self, variables: Option<Variables>, state: State<'a>)
+        requires { length (offers_in (state_of state)) ≤ MOST_OFFERS }
+        ensures { self.new ≡ settled (record (rest_of self.old) { variables = unwrap_or variables self.old.variables; state = state_of state.entry }) }
+    {
+        self.term.drop_first();
+        if let Some(changed) = variables {
+            self.variables = changed;
+        }
+        self.state = state;
+        self.settle();
+    }
+
+    /// Takes its offer of this number out. It runs then.
+    fn accept(&mut self, number: u32) -> Offer<'a>
+        requires { slice_get (offers_in self.old.state) number ≢ None }
+        ensures offer { slice_get (offers_in self.old.state) number ≡ Some result }
+        ensures rest { self.new ≡ record self.old { state = config.Running } }
+    {
+        match mem::replace(&mut self.state, State::Running) {
+            State::Waiting(mut offers) => offers.swap_remove(number as usize),
+            State::Running => unreachable!(),
+            State::Joining(_) => unreachable!(),
+            State::Finished => unreachable!(),
+        }
+    }
+
+    /// Its offer of this number is taken, and it receives a value where there is one. What it sends is
+    /// the answer.
+    pub fn resume(
+        &mut self,
+        alloc: Global,
+        number: u32,
+        received: Option<Value>,
+        view: &View,
+    ) -> Result<Option<Value>, NoMemory>
+        requires { resumed_by number received self.old view.now ≢ Amiss }
+        ensures resumed { OnOk result (resumed_by number received self.old view.now ≡ Gives self.new view.now) }
+        ensures sent { IfOk result (λ sent. sent ≡ sent_by (slice_get (offers_in self.old.state) number)) }
+    {
+        let (act, bindings, body) = self.accept(number).into_parts();
+        let (slot, sent) = match act {
+            Act::Send(_, value) => (None, value),
+            Act::Receive(_, slot) => (slot, None),
+            Act::Delay(_) => (None, None),
         };
-        put_first(&mut self.term, body)?;
-        self.state = running_or_finished(self.term.as_slice());
-        Ok(())
+        bind_all(alloc, &mut self.variables, bindings)?;
+        fill(&mut self.variables, slot, received);
+        self.term.put_first(body)?;
+        Ok(sent)
+    }
+    /// Does its first item, which is one that functions have too. What costs too much changes nothing.
+    pub fn act(
+        &mut self,
+        alloc: Global,
+        scene: &Surroundings<'_>,
+        view: &mut View,
+    ) -> Result<(), Stop>
+        requires { acted (value_in scene.now) self.old view.old ≢ Amiss }
+        ensures acted { OnOk result (giving settled (acted (value_in scene.now) self.old view.old) ≡ Gives self.new view.new) }
+        ensures stops { IfErr result (λ stop. Stops stop (acted (value_in scene.now) self.old view.old)) }
+        ensures kept { result ≡ Err Stop.Spent → self.new ≡ self.old }
+    {
+        match act(alloc, scene, &mut self.variables, &mut self.term, view)? {
+            None => {
+                self.settle();
+                Ok(())
+            }
+            Some(_) => unreachable!(),
+        }
     }
 }

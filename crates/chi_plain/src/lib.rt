@@ -2,23 +2,23 @@
 //! It is slow and plain, and keeps to the semantics step by step.
 #![tactic(auto)]
 
+mod alternatives;
 mod choices;
 mod configuration;
-mod definitions;
+mod deed;
+mod draft;
+mod elements;
 mod ending;
 mod instance;
+mod meeting;
 mod offer;
 mod opening;
+mod performing;
 mod plain;
-mod standing;
+mod planning;
 mod starting;
-mod statement;
 mod stepped;
-mod stop;
-mod take;
-mod value;
-mod went;
-mod writing;
+mod stepping;
 
 pub use plain::Plain;
 pub use stepped::Stepped;

@@ -1,69 +1,73 @@
-ghost use Rattle.std.specs.Prelude.{◌≡◌, ◌<◌, ◌≤◌, length, slice_get};
+ghost use Rattle.std.specs.Prelude.{◌≡◌, ◌<◌, ◌≤◌, length, slice_get, Some};
 ghost use Rattle.std.specs.List.{flat_map};
-ghost use Rattle.chi_form_core.specs.declared.limits.TheConstants.{MOST_OFFERS};
-ghost use Rattle.chi_form_core.specs.Step.{due_of};
-ghost use Rattle.chi_form_core.specs.Options.{receivers};
-ghost use Rattle.chi_plain.specs.Offers.{offer_of, body_in, is_receiving, earlier, least_in};
+ghost use Rattle.chi_core.specs.declared.limits.TheConstants.{MOST_OFFERS};
+ghost use Rattle.chi_core.specs.Meeting.{due_in, least_time};
+ghost use Rattle.chi_core.specs.Options.{receivers, receives_on};
+ghost use Rattle.chi_plain.specs.Scanning.{sooner};
 
-use chi_form_core::CStat;
+use chi_base::Items;
+use chi_core::{Act, CStat};
 use chi_value::Value;
 use std::marker::Model;
 
-/// What a waiting instance may do.
-#[derive(Debug, Drop)]
-pub enum Act {
-    /// To send the value on the channel.
-    Send(u32, Value),
-    /// To receive from the channel into the slot.
-    Receive(u32, u32),
-    /// To go on at a due time, in units of a real.
-    Delay(i64),
-}
-
-/// What a waiting instance offers. Then the body is done.
+/// What a waiting instance offers: what it does then, what the names of the unwinds around are
+/// bound to, and what is done after it.
 #[derive(Debug, Drop)]
 pub struct Offer<'a> {
     act: Act,
+    bindings: Items<(u32, Value)>,
     body: &'a [CStat],
 }
 
 impl<'a> Model for Offer<'a> {
     ghost use Rattle.std.specs.Coded.{codes};
-    ghost use Rattle.chi_form_core.specs.contracts.program.CStat as statements;
+    ghost use Rattle.chi_core.specs.contracts.statement.CStat as statements;
+    ghost use Rattle.chi_core.specs.contracts.expression.CExpr as expressions;
+    ghost use Rattle.chi_core.specs.contracts.element.CElem as elements;
     ghost use Rattle.chi_value.specs.contracts.value.Value as values;
-    ghost use Rattle.chi_form_core.specs.Config.{Offer};
-    ghost use Rattle.chi_plain.specs.Offers.{offer_of};
+    ghost use Rattle.chi_core.specs.Config.{Offer};
 
     ghost Value = { Offer };
 
-    ghost coded = { Prim.hlevel (codes, statements.the_row.coded, values.the_row.coded) };
+    ghost coded = { Prim.hlevel (codes, statements.the_row.coded, expressions.the_row.coded, elements.the_row.coded, values.the_row.coded) };
 
-    ghost view = { λ o. offer_of o.act o.body.now };
+    ghost view = { λ o. record { act = o.act; bindings = o.bindings; body = o.body.now } };
 }
 
 impl<'a> Offer<'a> {
-    pub fn new(act: Act, body: &'a [CStat]) -> Offer<'a>
-        ensures { result ≡ offer_of act body.now }
+    pub fn new(act: Act, bindings: Items<(u32, Value)>, body: &'a [CStat]) -> Offer<'a>
+        ensures { result ≡ record { act = act; bindings = bindings; body = body.now } }
     {
-        Offer { act, body }
+        Offer {
+            act,
+            bindings,
+            body,
+        }
     }
 
     pub fn act(&self) -> &Act
-        ensures { self.now ≡ offer_of result.now (body_in self.now) }
+        ensures { result.now ≡ self.now.act }
     {
         &self.act
     }
 
-    pub fn body(&self) -> &'a [CStat]
-        ensures { result.now ≡ body_in self.now }
+    /// What it does, what the names are bound to, and what is done after it.
+    pub fn into_parts(self) -> (Act, Items<(u32, Value)>, &'a [CStat])
+        ensures act { result.0 ≡ self.entry.act }
+        ensures bindings { result.1 ≡ self.entry.bindings }
+        ensures body { result.2.now ≡ self.entry.body }
     {
-        self.body
+        let Offer {
+            act,
+            bindings,
+            body,
+        } = self;
+        (act, bindings, body)
     }
 
     /// The due time of a delay.
-    #[tactic(auto, unfolding(crate::specs::Offers::least_in))]
     fn due(&self) -> Option<i64>
-        ensures { result ≡ least_in (due_of self.now) }
+        ensures { result ≡ least_time (due_in self.now.act) }
     {
         match &self.act {
             Act::Send(_, _) => None,
@@ -73,7 +77,7 @@ impl<'a> Offer<'a> {
     }
 
     fn receives_on(&self, channel: u32) -> bool
-        ensures { result ≡ is_receiving channel self.now }
+        ensures { result ≡ receives_on channel self.now.act }
     {
         match &self.act {
             Act::Send(_, _) => false,
@@ -118,9 +122,9 @@ pub fn receiver_at(offers: &[Offer], channel: u32, i: u64) -> u32
     unreachable!()
 }
 
-#[tactic(auto, unfolding(crate::specs::Offers::earlier))]
-pub fn earlier(one: Option<i64>, other: Option<i64>) -> Option<i64>
-    ensures { result ≡ earlier one other }
+#[tactic(auto, unfolding(crate::specs::Scanning::sooner))]
+pub fn sooner(one: Option<i64>, other: Option<i64>) -> Option<i64>
+    ensures { result ≡ sooner one other }
 {
     match (one, other) {
         (None, _) => other,
@@ -132,11 +136,11 @@ pub fn earlier(one: Option<i64>, other: Option<i64>) -> Option<i64>
 /// The least due time.
 #[tactic(auto, using(crate::proofs::Times::steps))]
 pub fn least_due(offers: &[Offer]) -> Option<i64>
-    ensures { result ≡ least_in (flat_map due_of offers.now) }
+    ensures { result ≡ least_time (flat_map (λ o. due_in o.act) offers.now) }
 {
     let mut least = None;
     for offer in offers {
-        least = earlier(least, offer.due());
+        least = sooner(least, offer.due());
     }
     least
 }

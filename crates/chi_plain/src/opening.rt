@@ -1,112 +1,120 @@
-ghost use Rattle.std.specs.Prelude.{◌≡◌, ◌≤◌, length, IfOk, IfErr};
-ghost use Rattle.chi_value.specs.declared.value.Value.{out-Value};
-ghost use Rattle.chi_form_core.specs.declared.limits.TheConstants.{MOST_OFFERS};
-ghost use Rattle.chi_form_core.specs.declared.program.CAlt.{out-CAlt};
-ghost use Rattle.chi_form_core.specs.Answer.{Gives};
-ghost use Rattle.chi_form_core.specs.Opening.{delayed, offered_by, offered_as, opened};
-ghost use Rattle.chi_plain.specs.Stops.{Stops};
+ghost use Rattle.std.specs.Prelude.{◌≡◌, ◌≢◌, ◌≤◌, [], ◌∷◌, ◌++◌, length, None, Some, IfErr, IfOk, OnOk, unwrap_or};
+ghost use Rattle.chi_core.specs.declared.limits.TheConstants.{MOST_OFFERS};
+ghost use Rattle.chi_core.specs.Answer.{Amiss, Gives};
+ghost use Rattle.chi_core.specs.Opening.{kept};
+ghost use Rattle.chi_core.specs.Variables.{bindings_at, bound};
+ghost use Rattle.chi_eval.specs.Stops.{Stops};
+ghost use Rattle.chi_plain.specs.Drafts.{opening_of};
 
-use crate::offer::{Act, Offer};
-use crate::stop::Stop;
-use crate::value::{channel_of, value_of};
-use chi_form_core::{CAlt, CComm, CStat, FaultKind, MOST_OFFERS};
+use crate::draft::Draft;
+use crate::offer::Offer;
+use chi_base::{Items, NoMemory};
+use chi_core::{Act, CStat, FaultKind, MOST_OFFERS, View};
+use chi_eval::{Stop, Variables};
 use chi_value::Value;
 use std::alloc::Global;
+use std::marker::Model;
 
-/// A delay from a time on.
-fn delayed<'a>(clock: i64, delay: &Value, body: &'a [CStat]) -> Result<Offer<'a>, Stop>
-    ensures offer { IfOk result (λ offer. delayed clock body.now (out-Value delay.now) ≡ Gives offer) }
-    ensures stops { IfErr result (λ stop. Stops stop (delayed clock body.now (out-Value delay.now))) }
+/// What slots are bound to, each of which is set.
+#[tactic(auto, using(crate::proofs::Keeping::gathering))]
+fn bindings_at(
+    alloc: Global,
+    slots: &[u32],
+    variables: &Variables,
+) -> Result<Items<(u32, Value)>, NoMemory>
+    requires { bindings_at slots.now variables.now ≢ None }
+    ensures { IfOk result (λ bindings. bindings_at slots.now variables.now ≡ Some bindings) }
 {
-    match delay {
-        Value::Real(real) => {
-            let delay = real.units();
-            if delay < 0 {
-                return Err(Stop::Fault(FaultKind::NegativeDelay));
-            }
-            match clock.checked_add(delay) {
-                Some(due) => Ok(Offer::new(Act::Delay(due), body)),
-                None => Err(Stop::Fault(FaultKind::RealRange)),
-            }
-        }
-        Value::Chan(_)
-        | Value::Bool(_)
-        | Value::Int(_)
-        | Value::Text(_)
-        | Value::Choice(_, _)
-        | Value::TupleOf(_)
-        | Value::ListOf(_)
-        | Value::SetOf(_)
-        | Value::DictOf(_)
-        | Value::Dist(_)
-        | Value::Timer(_)
-        | Value::Inst(_) => Err(Stop::Amiss),
+    let mut bindings = Vec::new(alloc);
+    for slot in slots {
+        let value = variables.get(*slot).copy(alloc)?;
+        bindings.push((*slot, value))?;
     }
+    Ok(Items::of(alloc, bindings)?)
 }
 
-/// What an alternative offers at a time.
-fn offer_by<'a>(
-    alloc: Global,
-    clock: i64,
-    variables: &[Option<Value>],
-    communication: &CComm,
-    body: &'a [CStat],
-) -> Result<Offer<'a>, Stop>
-    ensures offer { IfOk result (λ offer. offered_by clock variables.now communication.now body.now ≡ Gives offer) }
-    ensures stops { IfErr result (λ stop. Stops stop (offered_by clock variables.now communication.now body.now)) }
-{
-    match communication {
-        CComm::Send(target, expression) => {
-            let channel = channel_of(variables, *target)?;
-            let value = value_of(alloc, variables, expression)?;
-            Ok(Offer::new(Act::Send(channel, value), body))
-        }
-        CComm::Receive(target, slot) => {
-            let channel = channel_of(variables, *target)?;
-            Ok(Offer::new(Act::Receive(channel, *slot), body))
-        }
-        CComm::Delay(expression) => {
-            let delay = value_of(alloc, variables, expression)?;
-            Ok(delayed(clock, &delay, body)?)
-        }
-    }
+/// A select that is being opened: the variables, and the offers that were kept so far.
+#[derive(Debug, Drop)]
+pub struct Opening<'v, 'a> {
+    variables: Draft<'v>,
+    offers: Vec<Offer<'a>>,
 }
 
-fn offer_of<'a>(
-    alloc: Global,
-    clock: i64,
-    variables: &[Option<Value>],
-    alternative: &'a CAlt,
-) -> Result<Offer<'a>, Stop>
-    ensures offer { IfOk result (λ offer. offered_as clock variables.now (out-CAlt alternative.now) ≡ Gives offer) }
-    ensures stops { IfErr result (λ stop. Stops stop (offered_as clock variables.now (out-CAlt alternative.now))) }
-{
-    match alternative {
-        CAlt::Guarded(communication, body) => {
-            Ok(offer_by(alloc, clock, variables, communication, body.as_slice())?)
-        }
-    }
+impl<'v, 'a> Model for Opening<'v, 'a> {
+    ghost use Rattle.std.specs.Coded.{codes};
+    ghost use Rattle.std.specs.Prelude.{◌≤◌, length};
+    ghost use Rattle.chi_core.specs.contracts.statement.CStat as statements;
+    ghost use Rattle.chi_core.specs.contracts.expression.CExpr as expressions;
+    ghost use Rattle.chi_core.specs.contracts.element.CElem as elements;
+    ghost use Rattle.chi_value.specs.contracts.value.Value as values;
+    ghost use Rattle.chi_core.specs.declared.limits.TheConstants.{MOST_OFFERS};
+    ghost use Rattle.chi_plain.specs.Drafts.{Opened};
+
+    ghost Value = { Opened };
+
+    ghost coded = { Prim.hlevel (codes, statements.the_row.coded, expressions.the_row.coded, elements.the_row.coded, values.the_row.coded) };
+
+    ghost view = { λ o. record { origin = o.variables.origin; variables = o.variables.variables; offers = o.offers.items } };
+
+    ghost invariant = { λ o. length o.offers.items ≤ MOST_OFFERS };
 }
 
-/// The offers of a select that is opened at a time.
-#[tactic(auto, using(crate::proofs::Turns::turns, crate::proofs::Keeping::keeping))]
-pub fn open_select<'a>(
-    alloc: Global,
-    clock: i64,
-    variables: &[Option<Value>],
-    alternatives: &'a [CAlt],
-) -> Result<Vec<Offer<'a>>, Stop>
-    ensures offers { IfOk result (λ offers. opened clock variables.now alternatives.now ≡ Gives offers.items) }
-    ensures within { IfOk result (λ offers. length offers.items ≤ MOST_OFFERS) }
-    ensures stops { IfErr result (λ stop. Stops stop (opened clock variables.now alternatives.now)) }
-{
-    let mut offers = Vec::new(alloc);
-    for alternative in alternatives {
-        let offer = offer_of(alloc, clock, variables, alternative)?;
-        if offers.len() >= MOST_OFFERS {
+impl<'v, 'a> Opening<'v, 'a> {
+    pub fn new(alloc: Global, variables: &'v Variables) -> Opening<'v, 'a>
+        ensures { result ≡ record { origin = variables.now; variables = variables.now; offers = [] } }
+    {
+        Opening {
+            variables: Draft::of(variables),
+            offers: Vec::new(alloc),
+        }
+    }
+
+    pub fn variables(&self) -> &Variables
+        ensures { result.now ≡ self.now.variables }
+    {
+        self.variables.get()
+    }
+
+    /// Binds the names of an unwind to an element.
+    pub fn bind(&mut self, alloc: Global, slots: &[u32], element: Value) -> Result<(), NoMemory>
+        requires { bound slots.now element self.old.variables ≢ None }
+        ensures bound { OnOk result (bound slots.now element self.old.variables ≡ Some self.new.variables) }
+        ensures rest { self.new ≡ record self.old { variables = self.new.variables } }
+    {
+        self.variables.bind(alloc, slots, element)?;
+        Ok(())
+    }
+
+    /// Keeps an offer, with what the names of the unwinds around it are bound to.
+    #[tactic(auto, using(crate::proofs::Keeping::keeping))]
+    pub fn keep(
+        &mut self,
+        alloc: Global,
+        names: &[u32],
+        body: &'a [CStat],
+        act: Act,
+        view: &View,
+    ) -> Result<(), Stop>
+        requires { kept names.now body.now (opening_of self.old) act view.now ≢ Amiss }
+        ensures kept { OnOk result (kept names.now body.now (opening_of self.old) act view.now ≡ Gives (opening_of self.new) view.now) }
+        ensures stops { IfErr result (λ stop. Stops stop (kept names.now body.now (opening_of self.old) act view.now)) }
+        ensures origin { self.new.origin ≡ self.old.origin }
+    {
+        if self.offers.len() >= MOST_OFFERS {
             return Err(Stop::Fault(FaultKind::TooLarge));
         }
-        offers.push(offer)?;
+        let bindings = bindings_at(alloc, names, self.variables.get())?;
+        self.offers.push(Offer::new(act, bindings, body))?;
+        Ok(())
     }
-    Ok(offers)
+
+    /// The variables, where they have changed, and the offers.
+    pub fn finish(self) -> (Option<Variables>, Vec<Offer<'a>>)
+        ensures variables { unwrap_or result.0 self.entry.origin ≡ self.entry.variables }
+        ensures offers { result.1.items ≡ self.entry.offers }
+        ensures few { length result.1.items ≤ MOST_OFFERS }
+    {
+        let Opening { variables, offers } = self;
+        (variables.into_changed(), offers)
+    }
 }

@@ -19,9 +19,9 @@ use Rattle.chi_form_core.proofs.Runs.{Runs-rests, Runs-cut, Runs-on, Runs-over}
 use Rattle.chi_form_core.proofs.Picks.{MayPick-enabled}
 use Rattle.chi_form_core.proofs.Time.{costs_something}
 use Rattle.chi_form_core.proofs.Output.{ending-showing, picked_label-showing}
-use Rattle.chi_plain.specs.declared.stepped.Stepped.{Stepped}
-use Rattle.chi_plain.specs.declared.stepped.Stepped.TheVariants.{Next, Over, Spent}
-use Rattle.chi_plain.specs.Stage.{Stage, Runner, At, Ended, Lost, showing, actors_at, options_at, ending_at, IsTimeAt, MayStep, Steps}
+use Rattle.chi_form_plain.specs.declared.stepped.Stepped.{Stepped}
+use Rattle.chi_form_plain.specs.declared.stepped.Stepped.TheVariants.{Next, Over, Spent}
+use Rattle.chi_form_plain.specs.Stage.{Stage, Runner, At, Ended, Lost, showing, actors_at, options_at, ending_at, IsTimeAt, MayStep, Steps}
 use Rattle.chi_tool.specs.Report.{first, most_steps}
 use Rattle.chi_tool.specs.Turns.{GoesOn, PicksFirst, RunsTo}
 

@@ -5,7 +5,7 @@ use Rattle.chi_form_core.specs.declared.label.Label.{Label}
 use Rattle.chi_form_core.specs.Options.{ending}
 use Rattle.chi_form_core.specs.Runs.{End}
 use Rattle.chi_form_core.specs.Picks.{MayPick, Picked}
-use Rattle.chi_plain.specs.Stage.{Stage, At, Ended, Lost}
+use Rattle.chi_form_plain.specs.Stage.{Stage, At, Ended, Lost}
 use Rattle.chi_tool.specs.Report.{first, most_steps}
 
 -- something can happen

@@ -8,7 +8,7 @@ ghost use Rattle.chi_tool.specs.Turns.{GoesOn, PicksFirst};
 use crate::report::Reported;
 use chi_base::NoMemory;
 use chi_form_core::{Core, Label, Verdict, verdict_line};
-use chi_plain::{Plain, Stepped};
+use chi_form_plain::{Plain, Stepped};
 use std::alloc::Global;
 
 /// The bound on the costs of all steps together.

@@ -1,5 +1,5 @@
 use Rattle.std.proofs.Common.{◌≡◌, ◌≤◌, length}
-use Rattle.chi_plain.specs.Offers.{receivers_below}
+use Rattle.chi_plain.specs.Scanning.{receivers_below}
 use Rattle.chi_plain.proofs.offer.receiver_at.Given as goal
 
 abbrev pub invariant-loop-number : goal.invariant-loop-number

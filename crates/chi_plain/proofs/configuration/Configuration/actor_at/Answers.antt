@@ -1,7 +1,7 @@
 use Rattle.std.proofs.Common.{◌≡◌, ◌<◌, length, ap, sym, ◌∙◌, arith}
 use Rattle.std.proofs.lemmas.Grind.{common_steps}
-use Rattle.chi_form_core.specs.Config.{Config}
-use Rattle.chi_form_core.specs.Options.{actors}
+use Rattle.chi_core.specs.Config.{Config}
+use Rattle.chi_core.specs.Options.{actors}
 use Rattle.chi_plain.proofs.Actors.{actors-count, actors-at}
 use Rattle.chi_plain.proofs.configuration.Configuration.actor_at.Goals as goal
 

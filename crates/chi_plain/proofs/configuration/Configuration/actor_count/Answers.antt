@@ -1,6 +1,6 @@
 use Rattle.std.proofs.Common.{◌≡◌, length, ap, arith}
 use Rattle.std.proofs.lemmas.Grind.{common_steps}
-use Rattle.chi_form_core.specs.Config.{Config}
+use Rattle.chi_core.specs.Config.{Config}
 use Rattle.chi_plain.proofs.Actors.{actors-count}
 use Rattle.chi_plain.proofs.configuration.Configuration.actor_count.Goals as goal
 

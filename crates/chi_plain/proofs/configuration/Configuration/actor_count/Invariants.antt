@@ -1,5 +1,5 @@
 use Rattle.std.proofs.Common.{◌≡◌, ◌≤◌, length}
-use Rattle.chi_plain.specs.Configurations.{actors_below}
+use Rattle.chi_plain.specs.Scanning.{actors_below}
 use Rattle.chi_plain.proofs.configuration.Configuration.actor_count.Given as goal
 
 abbrev pub invariant-loop-pid : goal.invariant-loop-pid

@@ -1,21 +1,13 @@
-use Rattle.std.proofs.Common.{sym, ap, if◌then◌else◌}
-use Rattle.chi_form_core.specs.declared.verdict.Verdict.TheVariants.{Completed, Deadlock}
-use Rattle.chi_plain.proofs.Enabled.{ending-acts, ending-delayed, ending-rests}
+use Rattle.chi_plain.proofs.Enabled.{ending-acts, ending-advances, ending-rests}
 use Rattle.chi_plain.proofs.configuration.Configuration.ending.Goals as goal
 
-pub returns-then-actor_count-gt0 : goal.returns-then-actor_count-gt0
-returns-then-actor_count-gt0 c = ending-acts c.args.self.now _ c.actor_count.ensures c.if-actor_count-gt0.true
+pub returns-then-has_actor : goal.returns-then-has_actor
+returns-then-has_actor c = ending-acts c.args.self.now _ c.has_actor.ensures c.if-has_actor.true
 
-pub returns-then-is_some : goal.returns-then-is_some
-returns-then-is_some c =
-    ending-delayed c.args.self.now _ _ c.actor_count.ensures c.if-actor_count-gt0.false c.least_due.ensures (sym (c.if-is_some.ensures))
+pub returns-then-advances : goal.returns-then-advances
+returns-then-advances c =
+    ending-advances c.args.self.now _ _ c.has_actor.ensures c.if-has_actor.false c.advances.ensures c.if-advances.true
 
-pub returns-then-all_finished : goal.returns-then-all_finished
-returns-then-all_finished c =
-    ending-rests c.args.self.now _ _ Completed c.actor_count.ensures c.if-actor_count-gt0.false c.least_due.ensures (sym (c.if-is_some.ensures))
-    (ap (λ b. if b then Completed else Deadlock) (c.if-all_finished.ensures))
-
-pub returns-else-all_finished : goal.returns-else-all_finished
-returns-else-all_finished c =
-    ending-rests c.args.self.now _ _ Deadlock c.actor_count.ensures c.if-actor_count-gt0.false c.least_due.ensures (sym (c.if-is_some.ensures))
-    (ap (λ b. if b then Completed else Deadlock) (c.if-all_finished.ensures))
+pub returns : goal.returns
+returns c =
+    ending-rests c.args.self.now _ _ c.has_actor.ensures c.if-has_actor.false c.advances.ensures _ c.if-advances.false c.at_rest.ensures

@@ -1,5 +1,5 @@
 use Rattle.std.proofs.Common.{◌≡◌, ◌≤◌, length}
-use Rattle.chi_plain.specs.Configurations.{offered_below}
+use Rattle.chi_plain.specs.Scanning.{offered_below}
 use Rattle.chi_plain.proofs.configuration.Configuration.offered_at.Given as goal
 
 abbrev pub invariant-loop-number : goal.invariant-loop-number

@@ -1,5 +1,5 @@
 use Rattle.std.proofs.Common.{◌≡◌, ◌≤◌, ◌*◌, length}
-use Rattle.chi_plain.specs.Configurations.{MOST_PAIRS, offered_below}
+use Rattle.chi_plain.specs.Scanning.{MOST_PAIRS, offered_below}
 use Rattle.chi_plain.proofs.configuration.Configuration.offered_count.Given as goal
 
 abbrev pub invariant-loop-offer : goal.invariant-loop-offer

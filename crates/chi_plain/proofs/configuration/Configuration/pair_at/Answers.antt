@@ -2,7 +2,7 @@ use Rattle.std.proofs.Common.{◌≡◌, ◌<◌, ◌+◌, ◌-◌, ◌∙◌, S
 use Rattle.std.specs.List.{slice_get}
 use Rattle.std.proofs.lemmas.Grind.{common_steps}
 use Rattle.std.proofs.lemmas.Option.{slice_get_read}
-use Rattle.chi_form_core.specs.Config.{Config}
+use Rattle.chi_core.specs.Config.{Config}
 use Rattle.chi_plain.proofs.Pairs.{length-pairs_below-more, pairs-at}
 use Rattle.chi_plain.proofs.configuration.Configuration.pair_at.Goals as goal
 

@@ -1,5 +1,5 @@
 use Rattle.std.proofs.Common.{◌≡◌, ◌≤◌, length}
-use Rattle.chi_plain.specs.Configurations.{pairs_below}
+use Rattle.chi_plain.specs.Scanning.{pairs_below}
 use Rattle.chi_plain.proofs.configuration.Configuration.pair_at.Given as goal
 
 abbrev pub invariant-loop-other : goal.invariant-loop-other

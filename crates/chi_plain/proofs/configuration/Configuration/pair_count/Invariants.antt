@@ -1,6 +1,6 @@
 use Rattle.std.proofs.Common.{◌≡◌, ◌≤◌, ◌*◌, length}
-use Rattle.chi_form_core.specs.declared.limits.TheConstants.{MOST_OFFERS}
-use Rattle.chi_plain.specs.Configurations.{pairs_below}
+use Rattle.chi_core.specs.declared.limits.TheConstants.{MOST_OFFERS}
+use Rattle.chi_plain.specs.Scanning.{pairs_below}
 use Rattle.chi_plain.proofs.configuration.Configuration.pair_count.Given as goal
 
 abbrev pub invariant-loop-other : goal.invariant-loop-other

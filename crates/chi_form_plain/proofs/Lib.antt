@@ -1,0 +1,15 @@
+pub mod Turns
+pub mod Texts
+pub mod Numbers
+pub mod Times
+pub mod Keeping
+pub mod Lookups
+pub mod Terms
+pub mod Slots
+pub mod Pairs
+pub mod Options
+pub mod Actors
+pub mod Enabled
+pub mod Acts
+pub mod Takings
+pub mod Kept

@@ -1,0 +1,175 @@
+-- The options of an instance by its offers, counted and found one offer, and one other instance, after another.
+use Rattle.std.proofs.Common.{◌≡◌, ℕ, zero, suc, ◌+◌, ◌<◌, List, [], ◌∷◌, ◌++◌, Option, Some, None, Bool, true, false, cond, length, get_or, ◌⊎◌, inl, inr, sym, ◌∙◌, ap, subst, refl, arith, length-append}
+use Rattle.std.specs.Prelude.{map, nat_eq}
+use Rattle.std.specs.List.{slice_get, flat_map}
+use Rattle.std.specs.Option.{option_map}
+use Rattle.std.proofs.lemmas.Bool.{eq-eqb}
+use Rattle.std.proofs.lemmas.List.{append-nil, append_assoc, length-map}
+use Rattle.std.proofs.lemmas.Option.{slice_get-map, slice_get_read}
+use Rattle.chi_form_core.specs.declared.label.Label.{Label}
+use Rattle.chi_form_core.specs.declared.label.Label.TheVariants.{Pair}
+use Rattle.chi_form_core.specs.Config.{Config, Instance, Offer}
+use Rattle.chi_form_core.specs.Step.{offers_in}
+use Rattle.chi_form_core.specs.Options.{numbers, receivers, pairs_with, pairs, options_for}
+use Rattle.chi_form_plain.specs.Configurations.{pairs_below, offered_below}
+
+flat_map-append : {A B : Type 0} (f : A → List B) (xs ys : List A) → flat_map f (xs ++ ys) ≡ flat_map f xs ++ flat_map f ys
+flat_map-append f [] ys = refl
+flat_map-append f (x ∷ xs) ys = ap (λ l. f x ++ l) (flat_map-append f xs ys) ∙ sym (append_assoc (f x) (flat_map f xs) (flat_map f ys))
+
+flat-suc : {B : Type 0} (f : ℕ → List B) (n : ℕ) → flat_map f (numbers (suc n)) ≡ flat_map f (numbers n) ++ f n
+flat-suc f n = flat_map-append f (numbers n) (n ∷ []) ∙ ap (λ l. flat_map f (numbers n) ++ l) (append-nil (f n))
+
+length-flat-suc : {B : Type 0} (f : ℕ → List B) (n : ℕ) → length (flat_map f (numbers (n + 1))) ≡ length (flat_map f (numbers n)) + length (f n)
+length-flat-suc f n =
+    let one : n + 1 ≡ suc n = omega arith in
+    rw one (ap length (flat-suc f n) ∙ length-append (flat_map f (numbers n)) (f n))
+
+slice_get-front : {A : Type 0} (xs ys : List A) (k : ℕ) (x : A) → slice_get xs k ≡ Some x → slice_get (xs ++ ys) k ≡ Some x
+slice_get-front [] ys k x e = absurd (cc)
+slice_get-front (z ∷ zs) ys zero x e = e
+slice_get-front (z ∷ zs) ys (suc k) x e = slice_get-front zs ys k x e
+
+slice_get-back : {A : Type 0} (xs ys : List A) (k : ℕ) → slice_get (xs ++ ys) (length xs + k) ≡ slice_get ys k
+slice_get-back [] ys k = let e : 0 + k ≡ k = omega arith in ap (slice_get ys) e
+slice_get-back (x ∷ xs) ys k =
+    let e : length (x ∷ xs) + k ≡ suc (length xs + k) = omega arith in
+    ap (slice_get (x ∷ (xs ++ ys))) e ∙ slice_get-back xs ys k
+
+-- the place of an element of list number n, among all below m
+flat-at : {B : Type 0} (f : ℕ → List B) (m n i : ℕ) (y : B) → n < m → slice_get (f n) i ≡ Some y
+    → slice_get (flat_map f (numbers m)) (length (flat_map f (numbers n)) + i) ≡ Some y
+flat-at f zero n i y h e = absurd (omega arith)
+flat-at {B} f (suc m) n i y h e = by_cases (flat-at f m n i y) (let c : (n < m) ⊎ (n ≡ m) = grind arith in c)
+  where
+    k : ℕ
+    k = length (flat_map f (numbers n)) + i
+
+    by_cases : (n < m → slice_get (f n) i ≡ Some y → slice_get (flat_map f (numbers m)) k ≡ Some y)
+        → (n < m) ⊎ (n ≡ m) → slice_get (flat_map f (numbers (suc m))) k ≡ Some y
+    by_cases before (inl l) =
+        ap (λ xs. slice_get xs k) (flat-suc f m) ∙ slice_get-front (flat_map f (numbers m)) (f m) k y (before l e)
+    by_cases before (inr same) =
+        let P : ℕ → Type 0 = λ j. slice_get (flat_map f (numbers (suc j))) k ≡ Some y in
+        subst P same (ap (λ xs. slice_get xs k) (flat-suc f n) ∙ slice_get-back (flat_map f (numbers n)) (f n) i ∙ e)
+
+-- two families of lists that are as long one by one
+same_lengths : {A B C : Type 0} (f : A → List B) (g : A → List C) (xs : List A) → ((x : A) → length (f x) ≡ length (g x))
+    → length (flat_map f xs) ≡ length (flat_map g xs)
+same_lengths f g [] h = refl
+same_lengths f g (x ∷ xs) h =
+    length-append (f x) (flat_map f xs) ∙ (let e = h x in let r = same_lengths f g xs h in omega arith) ∙ sym (length-append (g x) (flat_map g xs))
+
+-- one other instance
+
+pub partner-none : (p a channel q n : ℕ) (j : Instance) → q ≡ p → n ≡ 0 → n ≡ length (pairs_with p a channel q (Some j))
+partner-none p a channel q n j same none =
+    none ∙ sym (ap (λ b. length (cond b [] (map (λ b. Pair p a q b) (receivers channel (offers_in j.state))))) (eq-eqb q p same))
+
+partner-others : (p a channel q : ℕ) (j : Instance) → nat_eq q p ≡ false
+    → pairs_with p a channel q (Some j) ≡ map (λ b. Pair p a q b) (receivers channel (offers_in j.state))
+partner-others p a channel q j other = ap (λ b. cond b [] (map (λ b. Pair p a q b) (receivers channel (offers_in j.state)))) other
+
+pub partner-some : (p a channel q n : ℕ) (j : Instance) → nat_eq q p ≡ false → n ≡ length (receivers channel (offers_in j.state))
+    → n ≡ length (pairs_with p a channel q (Some j))
+partner-some p a channel q n j other e =
+    e ∙ sym (length-map (receivers channel (offers_in j.state)) (λ b. Pair p a q b)) ∙ sym (ap length (partner-others p a channel q j other))
+
+-- an element of these pairs is one with another instance
+partner-other : (p a channel q i : ℕ) (j : Instance) → i < length (pairs_with p a channel q (Some j)) → nat_eq q p ≡ false
+partner-other p a channel q i j h = by_test (nat_eq q p) h
+  where
+    by_test : (t : Bool) → i < length (cond t [] (map (λ b. Pair p a q b) (receivers channel (offers_in j.state)))) → t ≡ false
+    by_test true h' = absurd (omega arith)
+    by_test false h' = refl
+
+pub partner-within : (p a channel q i : ℕ) (j : Instance) → i < length (pairs_with p a channel q (Some j))
+    → i < length (receivers channel (offers_in j.state))
+partner-within p a channel q i j h =
+    let e = partner-some p a channel q (length (receivers channel (offers_in j.state))) j (partner-other p a channel q i j h) refl in omega arith
+
+pub partner-at : (p a channel q i b : ℕ) (j : Instance) → i < length (pairs_with p a channel q (Some j))
+    → slice_get (receivers channel (offers_in j.state)) i ≡ Some b → slice_get (pairs_with p a channel q (Some j)) i ≡ Some (Pair p a q b)
+partner-at p a channel q i b j h e =
+    ap (λ l. slice_get l i) (partner-others p a channel q j (partner-other p a channel q i j h))
+    ∙ slice_get-map (λ b. Pair p a q b) (receivers channel (offers_in j.state)) i ∙ ap (option_map (λ b. Pair p a q b)) e
+
+length-pairs_with : (p a a' channel q : ℕ) (o : Option Instance) → length (pairs_with p a channel q o) ≡ length (pairs_with p a' channel q o)
+length-pairs_with p a a' channel q None = refl
+length-pairs_with p a a' channel q (Some j) = by_test (nat_eq q p)
+  where
+    by_test : (t : Bool) → length (cond t [] (map (λ b. Pair p a q b) (receivers channel (offers_in j.state))))
+        ≡ length (cond t [] (map (λ b. Pair p a' q b) (receivers channel (offers_in j.state))))
+    by_test true = refl
+    by_test false = length-map (receivers channel (offers_in j.state)) (λ b. Pair p a q b) ∙ sym (length-map (receivers channel (offers_in j.state)) (λ b. Pair p a' q b))
+
+-- all other instances
+
+pub length-pairs_below-none : (config : Config) (p a channel : ℕ) → length (pairs_below config p a channel 0) ≡ 0
+unfolding pairs_below
+length-pairs_below-none config p a channel = refl
+
+pub length-pairs_below-more : (config : Config) (p a channel q n : ℕ) (j : Instance) → slice_get config.instances q ≡ Some j
+    → n ≡ length (pairs_with p a channel q (Some j))
+    → length (pairs_below config p a channel (q + 1)) ≡ length (pairs_below config p a channel q) + n
+unfolding pairs_below
+length-pairs_below-more config p a channel q n j at e =
+    let here : length (pairs_with p a channel q (slice_get config.instances q)) ≡ n
+    = ap (λ o. length (pairs_with p a channel q o)) at ∙ sym e in
+    length-flat-suc (λ q. pairs_with p a channel q (slice_get config.instances q)) q
+    ∙ ap (λ k. length (pairs_below config p a channel q) + k) here
+
+pub length-pairs : (config : Config) (p a a' channel n : ℕ) → n ≡ length config.instances
+    → length (pairs_below config p a channel n) ≡ length (pairs config p a' channel)
+unfolding pairs_below
+length-pairs config p a a' channel n all =
+    same_lengths (λ q. pairs_with p a channel q (slice_get config.instances q)) (λ q. pairs_with p a' channel q (slice_get config.instances q))
+    (numbers n) (λ q. length-pairs_with p a a' channel q (slice_get config.instances q))
+    ∙ ap (λ k. length (flat_map (λ q. pairs_with p a' channel q (slice_get config.instances q)) (numbers k))) all
+
+pub pairs-at : (config : Config) (p a channel q seen i k : ℕ) (j : Instance) (label : Label) → q < length config.instances
+    → slice_get config.instances q ≡ Some j → seen ≡ length (pairs_below config p a channel q) → i ≡ seen + k
+    → slice_get (pairs_with p a channel q (Some j)) k ≡ Some label → slice_get (pairs config p a channel) i ≡ Some label
+unfolding pairs_below
+pairs-at config p a channel q seen i k j label within at e is has =
+    let f : ℕ → List Label = λ q. pairs_with p a channel q (slice_get config.instances q) in
+    let place : i ≡ length (flat_map f (numbers q)) + k = is ∙ ap (λ n. n + k) e in
+    ap (slice_get (pairs config p a channel)) place
+    ∙ flat-at f (length config.instances) q k label within (ap (λ o. slice_get (pairs_with p a channel q o) k) at ∙ has)
+
+-- all offers
+
+pub length-offered_below-none : (config : Config) (p : ℕ) (offers : List Offer) → length (offered_below config p offers 0) ≡ 0
+unfolding offered_below
+length-offered_below-none config p offers = refl
+
+pub length-offered_below-more : (config : Config) (p a n : ℕ) (offers : List Offer) (o : Offer) → a < length offers → o ≡ get_or offers a o
+    → n ≡ length (options_for config p a (Some o))
+    → length (offered_below config p offers (a + 1)) ≡ length (offered_below config p offers a) + n
+unfolding offered_below
+length-offered_below-more config p a n offers o h at e =
+    let here : length (options_for config p a (slice_get offers a)) ≡ n
+    = ap (λ x. length (options_for config p a x)) (slice_get_read offers (length offers) a o refl h at) ∙ sym e in
+    length-flat-suc (λ a. options_for config p a (slice_get offers a)) a
+    ∙ ap (λ k. length (offered_below config p offers a) + k) here
+
+pub length-offered_below-all : (config : Config) (p n : ℕ) (offers : List Offer) → n ≡ length offers
+    → length (offered_below config p offers n) ≡ length (offered_below config p offers (length offers))
+length-offered_below-all config p n offers e = ap (λ k. length (offered_below config p offers k)) e
+
+pub offered-at : (config : Config) (p a seen i k : ℕ) (offers : List Offer) (o : Offer) (label : Label) → a < length offers → o ≡ get_or offers a o
+    → seen ≡ length (offered_below config p offers a) → i ≡ seen + k → slice_get (options_for config p a (Some o)) k ≡ Some label
+    → slice_get (offered_below config p offers (length offers)) i ≡ Some label
+unfolding offered_below
+offered-at config p a seen i k offers o label h at e is has =
+    let f : ℕ → List Label = λ a. options_for config p a (slice_get offers a) in
+    let place : i ≡ length (flat_map f (numbers a)) + k = is ∙ ap (λ n. n + k) e in
+    ap (slice_get (flat_map f (numbers (length offers)))) place
+    ∙ flat-at f (length offers) a k label h
+    (ap (λ x. slice_get (options_for config p a x) k) (slice_get_read offers (length offers) a o refl h at) ∙ has)
+
+pub ruleset partners = (partner-none, partner-some, partner-within, partner-at)
+
+pub ruleset pairing = (length-pairs_below-none, length-pairs_below-more, length-pairs)
+
+pub ruleset offering = (length-offered_below-none, length-offered_below-more, length-offered_below-all)

@@ -1,0 +1,164 @@
+//! The options of an instance: how many there are, and which.
+
+ghost use Rattle.std.specs.Prelude.{◌≡◌, ℕ, ◌<◌, ◌≤◌, length, slice_get};
+ghost use Rattle.chi_form_core.specs.declared.limits.TheConstants.{MOST_OFFERS};
+ghost use Rattle.chi_form_core.specs.Options.{pairs_with, pairs, options_for, options};
+ghost use Rattle.chi_form_plain.specs.Configurations.{MOST_PAIRS, offered_below};
+
+use crate::configuration::Configuration;
+use crate::instance::Instance;
+use crate::offer::{Act, Offer, receiver_at, receiver_count};
+use chi_form_core::Label;
+
+/// How many pairs instance `pid`, which sends on a channel, may make with this instance, which is number `other`.
+#[tactic(auto, using(crate::proofs::Pairs::partners))]
+fn partner_count(instance: &Instance, other: u32, pid: u32, channel: u32) -> u64
+    ensures count { (a : ℕ) → result ≡ length (pairs_with pid a channel other (Some instance.now)) }
+    ensures within { result ≤ MOST_OFFERS }
+{
+    if other == pid {
+        return 0;
+    }
+    receiver_count(instance.offers(), channel)
+}
+
+/// Number `i` of these pairs.
+#[tactic(auto, using(crate::proofs::Pairs::partners))]
+fn partner_at(
+    instance: &Instance,
+    other: u32,
+    pid: u32,
+    alternative: u32,
+    channel: u32,
+    i: u64,
+) -> Label
+    requires { i < length (pairs_with pid alternative channel other (Some instance.now)) }
+    ensures { slice_get (pairs_with pid alternative channel other (Some instance.now)) i ≡ Some result }
+{
+    Label::Pair(
+        pid,
+        alternative,
+        other,
+        receiver_at(instance.offers(), channel, i),
+    )
+}
+
+impl<'a> Configuration<'a> {
+    /// How many pairs instance `pid` may make that sends on a channel.
+    #[tactic(auto, using(crate::proofs::Pairs::pairing))]
+    fn pair_count(&self, pid: u32, channel: u32) -> u64
+        ensures count { (a : ℕ) → result ≡ length (pairs self.now pid a channel) }
+        ensures within { result ≤ MOST_PAIRS }
+    {
+        let mut count = 0;
+        for other in 0..self.instances.len() as u32 {
+            let instance = &self.instances[other as usize];
+            count += partner_count(instance, other, pid, channel);
+        }
+        count
+    }
+
+    /// Number `i` of these pairs, where it sends by this alternative.
+    #[tactic(auto, using(crate::proofs::Pairs::pairing))]
+    fn pair_at(&self, pid: u32, alternative: u32, channel: u32, i: u64) -> Label
+        requires { i < length (pairs self.now pid alternative channel) }
+        ensures { slice_get (pairs self.now pid alternative channel) i ≡ Some result }
+    {
+        let mut seen = 0;
+        for other in 0..self.instances.len() as u32 {
+            let instance = &self.instances[other as usize];
+            let count = partner_count(instance, other, pid, channel);
+            if i - seen < count {
+                return partner_at(instance, other, pid, alternative, channel, i - seen);
+            }
+            seen += count;
+        }
+        unreachable!()
+    }
+
+    /// How many options instance `pid` has by this offer of its own.
+    fn offer_count(&self, pid: u32, offer: &Offer) -> u64
+        ensures count { (a : ℕ) → result ≡ length (options_for self.now pid a (Some offer.now)) }
+        ensures within { result ≤ MOST_PAIRS }
+    {
+        match offer.act() {
+            Act::Send(channel, _) => self.pair_count(pid, *channel),
+            Act::Receive(_, _) => 0,
+            Act::Delay(due) => { if self.clock < *due { 0 } else { 1 } }
+        }
+    }
+
+    /// Number `i` of these options, where the offer is this alternative.
+    fn offer_at(&self, pid: u32, alternative: u32, offer: &Offer, i: u64) -> Label
+        requires { i < length (options_for self.now pid alternative (Some offer.now)) }
+        ensures { slice_get (options_for self.now pid alternative (Some offer.now)) i ≡ Some result }
+    {
+        match offer.act() {
+            Act::Send(channel, _) => self.pair_at(pid, alternative, *channel, i),
+            Act::Receive(_, _) => unreachable!(),
+            Act::Delay(_) => Label::Wake(pid, alternative),
+        }
+    }
+
+    /// How many options instance `pid` has by these offers of its own.
+    #[tactic(auto, using(crate::proofs::Pairs::offering))]
+    fn offered_count(&self, pid: u32, offers: &[Offer]) -> u64
+        requires { length offers.now ≤ MOST_OFFERS }
+        ensures { result ≡ length (offered_below self.now pid offers.now (length offers.now)) }
+    {
+        let mut count = 0;
+        for offer in offers {
+            count += self.offer_count(pid, offer);
+        }
+        count
+    }
+
+    /// Number `i` of these options.
+    #[tactic(auto, using(crate::proofs::Pairs::offering))]
+    fn offered_at(&self, pid: u32, offers: &[Offer], i: u64) -> Label
+        requires numbered { length offers.now ≤ MOST_OFFERS }
+        requires some { i < length (offered_below self.now pid offers.now (length offers.now)) }
+        ensures { slice_get (offered_below self.now pid offers.now (length offers.now)) i ≡ Some result }
+    {
+        let mut seen = 0;
+        for (number, offer) in offers.iter().enumerate() {
+            let count = self.offer_count(pid, offer);
+            if i - seen < count {
+                return self.offer_at(pid, number as u32, offer, i - seen);
+            }
+            seen += count;
+        }
+        unreachable!()
+    }
+
+    /// How many options instance `pid` has.
+    #[tactic(auto, using(crate::proofs::Options::choosing))]
+    pub fn option_count(&self, pid: u32) -> u64
+        ensures { result ≡ length (options self.now pid) }
+    {
+        match self.instances.get(pid as usize) {
+            Some(instance) => {
+                if instance.is_running() {
+                    1
+                } else {
+                    self.offered_count(pid, instance.offers())
+                }
+            }
+            None => 0,
+        }
+    }
+
+    /// Option number `i` of instance `pid`.
+    #[tactic(auto, using(crate::proofs::Options::choosing))]
+    pub fn option_at(&self, pid: u32, i: u64) -> Label
+        requires { i < length (options self.now pid) }
+        ensures { slice_get (options self.now pid) i ≡ Some result }
+    {
+        let instance = &self.instances[pid as usize];
+        if instance.is_running() {
+            Label::Local(pid)
+        } else {
+            self.offered_at(pid, instance.offers(), i)
+        }
+    }
+}
