@@ -8,6 +8,7 @@ use Rattle.chi_tree.specs.declared.statement.Step.{Step}
 use Rattle.chi_tree.specs.declared.definition.Definition.{Definition}
 use Rattle.chi_tree.specs.declared.definition.Definition.TheVariants as definition
 use Rattle.chi_tree.specs.declared.definition.Item.{Item}
+use Rattle.chi_tree.specs.declared.definition.Program.{Program}
 use Rattle.chi_types.specs.declared.ty.Ty.{Ty, out-Ty}
 use Rattle.chi_types.specs.declared.ty.Ty.TheVariants as ty
 use Rattle.chi_core.specs.declared.program.Core.{Core}
@@ -30,9 +31,9 @@ use Rattle.chi_form.specs.declared.body.Body.{Body}
 use Rattle.chi_form.specs.Kinds.{type_of}
 use Rattle.chi_form.specs.Scope.{is_name, is_new}
 use Rattle.chi_form.specs.Turns.{in_turn, each}
-use Rattle.chi_form.specs.Form.{parameters_of, process_header, header_in, is_model, model_of, added, header_after, with_header, headers_of, body_of, proc_def, process_of, definition_in, definition_of, core_of, program_with, HasPlainModel}
+use Rattle.chi_form.specs.Form.{parameters_of, process_header, header_in, is_model, model_of, added, header_after, with_header, headers_of, body_of, proc_def, process_of, definition_in, definition_of, core_of, program_with, built, HasPlainModel}
 use Rattle.chi_form.proofs.NameLemmas.{name_token}
-use Rattle.chi_form.proofs.Turns.{Each, Each-append, length-push, some_same, Comes, each_comes}
+use Rattle.chi_form.proofs.Turns.{Each, Each-append, some_same, Comes, each_comes}
 use Rattle.chi_form.proofs.SoundStatements.{IsOwn, parameter_types, parameters_in, Matched, find-Each}
 use Rattle.chi_form.proofs.SoundBodies.{local_types, FillsOwn, SoundBody, body-sound}
 
@@ -126,6 +127,10 @@ header-added made item next e = by_model (model_of made) e
     by_model : (o : Option Header) → header_after made item.definition o ≡ Some next → Added made item next
     by_model (Some model) e = absurd (cc)
     by_model None e = by_header (header_in (length made) item.definition) refl e
+
+length-push : {A : Type 0} (xs : List A) (x : A) → length (xs ++ x ∷ []) ≡ suc (length xs)
+length-push [] x = refl
+length-push (y ∷ xs) x = ap suc (length-push xs x)
 
 abbrev Headed : List Header → List Item → List Header → Type 0
 Headed made items all = (hs : List Header) × (all ≡ made ++ hs) × Numbered (length made) items hs
@@ -231,9 +236,9 @@ model-alone (Process parameters) e = absurd (false≢true e)
 model-alone Model e = refl
 
 -- sound, with a model that has no parameters
-record Stands (program : Core) : Type 0 where
-  is_sound : Sound program
-  is_plain : HasPlainModel program
+pub record Stands (program : Core) : Type 0 where
+  pub is_sound : Sound program
+  pub is_plain : HasPlainModel program
 
 core-stands : (items : List Item) (headers : List Header) (procs : List ProcDef) (model : Header) → headers_of items ≡ Some headers
     → Comes (definition_of headers) items procs → model_of headers ≡ Some model → Stands (core_of procs model)
@@ -281,3 +286,11 @@ pub built-plain : (items : List Item) (headers : List Header) (program : Option 
     → program ≡ program_with items headers → IfSome program HasPlainModel
 built-plain items headers None named e = tt
 built-plain items headers (Some core) named e = (program-stands items headers core named (sym e)).is_plain
+
+pub built-stands : (tree : Program) (core : Core) → built tree ≡ Some core → Stands core
+unfolding built
+built-stands tree core e = by (headers_of tree.items) refl e
+  where
+    by : (o : Option (List Header)) → headers_of tree.items ≡ o → option_and_then (program_with tree.items) o ≡ Some core → Stands core
+    by None named is = absurd (cc)
+    by (Some headers) named is = program-stands tree.items headers core named is

@@ -7,7 +7,7 @@ mod declaration;
 mod definition;
 mod header;
 mod kind;
-mod list;
+mod laws;
 mod literal;
 mod name;
 mod program;
@@ -16,4 +16,5 @@ mod statement;
 mod value;
 mod write;
 
+pub use laws::built_law;
 pub use program::program_of;

@@ -5,12 +5,15 @@ use Rattle.chi_io.specs.Counts.{Rose, Stood}
 use Rattle.chi_io.specs.Shelf.{Files}
 use Rattle.chi_lex.specs.declared.lexer.TheConstants.{MOST_BYTES}
 use Rattle.chi_tool.specs.Words.{Request, Sim, request_of}
-use Rattle.chi_tool.specs.Report.{Report, usage, no_such_file, file_too_long, IsReportOfFile, IsReportOfRequest, IsReport}
+use Rattle.chi_tool.specs.Refusals.{Report, usage, no_such_file, file_too_long}
+use Rattle.chi_tool.specs.Report as report
+use Rattle.chi_tool.specs.Report.{IsReportOfFile, IsReportOfRequest, IsReport}
+use Rattle.chi_tool.specs.Settings.{plain_settings}
 use Rattle.chi_tool.specs.Call.{Call, SinkUse, Took, TookFront, TookSome, SinkStood, ShelfRose}
-use Rattle.chi_tool.specs.Headline.{NothingFailed, IsReported, IsReportedOrLost, IsReportedInFront, IsRefusedByFault, Meets, Headline}
+use Rattle.chi_tool.specs.Headline.{NothingFailed, IsReported, IsReportedOrLost, IsReportedInFront, IsRefusedByFault, Meets, IsUsage, Headline}
 use Rattle.chi_tool.specs.Delivery.{TookWhole, Delivers, whole, out_broke, log_broke, DeliversReport, Serves, reported, missing, long, failed, lost}
 use Rattle.chi_tool.proofs.Sinks.{whole_front, none_front, broken_front, none_some, none_whole}
-use Rattle.chi_tool.proofs.ReportLaw.{ReportLaw}
+use Rattle.chi_tool.proofs.LawClauses.{ReportLaw}
 
 -- how a call may stand to the report of its words and files
 data Stands (r : Report) (call : Call) : Type 0 where
@@ -100,21 +103,21 @@ by_any : ReportLaw → (call : Call) (files : Files) → ((r : Report) → Stand
 by_any law call files s = let p = law.some call.words files in by_report call files p.0 p.1 (s p.0)
 
 pub is_report : (call : Call) (name : List ℕ) (files : Files) (o : Option (List ℕ)) (r : Report) → request_of call.words ≡ Some (Sim name)
-    → files name ≡ o → IsReportOfFile o r → IsReport call.words files r
+    → files name ≡ o → IsReportOfFile o plain_settings r → IsReport call.words files r
 is_report call name files o r asked there is =
     let at_request : Option Request → Type 0 = λ q. IsReportOfRequest q files r in
-    let at_file : Option (List ℕ) → Type 0 = λ x. IsReportOfFile x r in
+    let at_file : Option (List ℕ) → Type 0 = λ x. IsReportOfFile x plain_settings r in
     subst at_request (sym asked) (subst at_file (sym there) is)
 
 pub served_told : ReportLaw → (call : Call) (name : List ℕ) (files : Files) → request_of call.words ≡ Some (Sim name) → call.shelf.files ≡ Some files
     → Serves name call.shelf call.status call.out call.log → MeetsOne call files
-served_told law call name files asked told (reported source within is r report d) =
+served_told law call name files asked told (reported source within is r of d) =
     let P : Option Files → Type 0 = λ o. IfSome o (λ f. f name ≡ Some source) in
-    by_report call files r (is_report call name files (Some source) r asked (subst P told is) (inr (within, report))) (delivered d)
+    by_report call files r (is_report call name files (Some source) r asked (subst P told is) (report.fetched source refl within of)) (delivered d)
 served_told law call name files asked told (missing (inr rose) d) = by_any law call files (λ r. misread rose no_such_file (inl refl) d)
 served_told law call name files asked told (missing (inl lacks) d) =
     let P : Option Files → Type 0 = λ o. IsSomeAnd o (λ f. f name ≡ None) in
-    by_report call files no_such_file (is_report call name files None no_such_file asked (subst P told lacks) refl) (delivered d)
+    by_report call files no_such_file (is_report call name files None no_such_file asked (subst P told lacks) (report.missing refl refl)) (delivered d)
 served_told law call name files asked told (long (inr rose) d) = by_any law call files (λ r. misread rose file_too_long (inr refl) d)
 served_told law call name files asked told (long (inl exceeds) d) =
     let P : Option Files → Type 0 = λ o. IsSomeAnd o (λ f. IsSomeAnd (f name) (λ source. MOST_BYTES < length source)) in
@@ -123,7 +126,7 @@ served_told law call name files asked told (long (inl exceeds) d) =
     by_file : (o : Option (List ℕ)) → files name ≡ o → IsSomeAnd o (λ source. MOST_BYTES < length source) → MeetsOne call files
     by_file None there e = absurd e
     by_file (Some source) there e =
-        by_report call files file_too_long (is_report call name files (Some source) file_too_long asked there (inl (e, refl))) (delivered d)
+        by_report call files file_too_long (is_report call name files (Some source) file_too_long asked there (report.long source refl e refl)) (delivered d)
 served_told law call name files asked told (failed rose status out log) = by_any law call files (λ r. silent rose status out log)
 served_told law call name files asked told (lost status out log) = by_any law call files (λ r. wanting status out log)
 
@@ -142,7 +145,7 @@ delivered_stopped status result output lines out log (out_broke s o l) stopped =
 delivered_stopped status result output lines out log (log_broke s o l) stopped = absurd (goes_stopped out o.goes stopped)
 
 served_stopped : (call : Call) (name : List ℕ) → Serves name call.shelf call.status call.out call.log → call.out.stopped ≡ true → Took call.log []
-served_stopped call name (reported source within is r report d) stopped = delivered_stopped _ _ _ _ call.out call.log d stopped
+served_stopped call name (reported source within is r of d) stopped = delivered_stopped _ _ _ _ call.out call.log d stopped
 served_stopped call name (missing cause d) stopped = delivered_stopped _ _ _ _ call.out call.log d stopped
 served_stopped call name (long cause d) stopped = delivered_stopped _ _ _ _ call.out call.log d stopped
 served_stopped call name (failed rose status out log) stopped = log.took
@@ -155,7 +158,7 @@ pub served-headline : ReportLaw → (call : Call) (name : List ℕ) → request_
     → Serves name call.shelf call.status call.out call.log → Headline call
 served-headline law call name asked s = record {
   report = where_told call.shelf.files (λ files told. served_told law call name files asked told s);
-  no_request = λ none out log. absurd (not_none (request_of call.words) (Sim name) asked none);
+  no_request = λ none. absurd (not_none (request_of call.words) (Sim name) asked none);
   out_stopped = served_stopped call name s;
 }
 
@@ -164,9 +167,27 @@ usage_told call files none d =
     let at_request : Option Request → Type 0 = λ q. IsReportOfRequest q files usage in
     by_report call files usage (subst at_request (sym none) refl) (delivered d)
 
+-- the refusal of words, delivered
+usage_read : (call : Call) → DeliversReport usage call.status call.out call.log → call.status ≡ 4 → ⊥
+usage_read call (whole status out log) is = omega arith
+usage_read call (out_broke status out log) is = omega arith
+usage_read call (log_broke status out log) is = omega arith
+
+usage_front : (call : Call) → DeliversReport usage call.status call.out call.log → IsReportedInFront usage call
+usage_front call (whole status out log) = record { out = whole_front call.out [] out.took; log = whole_front call.log usage.log log.took }
+usage_front call (out_broke status out log) = absurd (none_whole call.out out)
+usage_front call (log_broke status out log) = record { out = whole_front call.out [] out.took; log = broken_front call.log usage.log log }
+
+usage_kept : (call : Call) → DeliversReport usage call.status call.out call.log → IsUsage call
+usage_kept call d = record {
+  whole = λ out log. inr (delivered_whole usage call out log d);
+  front = usage_front call d;
+  read = usage_read call d;
+}
+
 pub usage-headline : (call : Call) → request_of call.words ≡ None → DeliversReport usage call.status call.out call.log → Headline call
 usage-headline call none d = record {
   report = where_told call.shelf.files (λ files told. usage_told call files none d);
-  no_request = λ same out log. inr (delivered_whole usage call out log d);
+  no_request = λ same. usage_kept call d;
   out_stopped = delivered_stopped _ _ _ _ call.out call.log d;
 }

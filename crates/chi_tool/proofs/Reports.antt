@@ -1,114 +1,73 @@
--- Words and files have exactly one report, and its status tells what it is.
+-- Words and files have exactly one report.
 use Rattle.std.proofs.Common.{◌≡◌, ℕ, ◌<◌, ◌≤◌, List, Option, Some, None, length, ◌⊎◌, inl, inr, sym, ◌∙◌, ap, subst, refl, arith}
-use Rattle.std.specs.Prelude.{Result, Ok, Err}
 use Rattle.chi_io.specs.Shelf.{Files}
-use Rattle.chi_token.specs.declared.place.Spanned.{Spanned}
-use Rattle.chi_lex.specs.declared.fault.LexFault.{LexFault}
 use Rattle.chi_lex.specs.declared.lexer.TheConstants.{MOST_BYTES}
-use Rattle.chi_lex.specs.Reading.{Reads}
-use Rattle.chi_lex.specs.Reading as lexical
-use Rattle.chi_lex.proofs.LawLemmas.{some_reading, one_list, one_fault, never_both}
-use Rattle.chi_grammar.specs.declared.fault.ParseFault.{ParseFault}
-use Rattle.chi_grammar.specs.declared.fault.ParseFault.TheVariants.{Syntax, TooDeep, NoMemory}
-use Rattle.chi_tree.specs.declared.definition.Program.{Program}
-use Rattle.chi_form.specs.Form.{built}
-use Rattle.chi_form_core.specs.declared.program.Core.{Core}
-use Rattle.chi_form_core.proofs.Picks.{Picked-some, Picked-one}
+use Rattle.chi_core.specs.declared.program.Core.{Core}
+use Rattle.chi_tool.specs.Refusals.{Report, usage, no_such_file, file_too_long}
+use Rattle.chi_tool.specs.Report.{IsReportOfSource, refused, run, IsReportOfFile, missing, long, fetched, IsReportOfRequest, IsReport}
+use Rattle.chi_tool.specs.Running.{IsRunReport, run_report}
+use Rattle.chi_tool.specs.Settings.{plain_settings}
+use Rattle.chi_tool.specs.Sources.{ComesTo}
 use Rattle.chi_tool.specs.Words.{Request, Sim, request_of}
-use Rattle.chi_tool.specs.Syntax.{HasTree, HasFault, syntax_text}
-use Rattle.chi_tool.specs.Report.{Report, refused, usage, no_such_file, file_too_long, lexical_text, not_built, run_report, first, most_steps, IsReportOfBuilt, IsReportOfTokens, of_tree, of_fault, IsReportOfSource, of_lexical_fault, of_tokens, IsReportOfFile, IsReportOfRequest, IsReport}
-use Rattle.chi_tool.proofs.Built.{built-Sound}
-use Rattle.chi_grammar_laws.specs.Answers.{IsAnswer}
-use Rattle.chi_tool.proofs.ReportLaw.{AnswerLaw}
+use Rattle.chi_tool.proofs.LawClauses.{AnswerLaw, RunLaw}
+use Rattle.chi_tool.proofs.Sources.{Comes, source_comes, one_refusal, refused_or_comes, one_core}
 
--- there is one
+module _ (answers : AnswerLaw) (runs : RunLaw) where
+  -- there is one
 
-built_some : (tree : Program) (o : Option Core) → built tree ≡ o → (r : Report) × IsReportOfBuilt o r
-built_some tree None e = (not_built, refl)
-built_some tree (Some core) e =
-    let p = Picked-some core first most_steps (built-Sound tree core e) (λ turn count some. some) in
-    (run_report p.1, (p.0, p.1, p.2, refl))
+  come_to_some : (source : List ℕ) → Comes source → (r : Report) × IsReportOfSource source plain_settings r
+  come_to_some source (inl (r, is)) = (r, refused is)
+  come_to_some source (inr (core, is)) =
+      let told = runs.some source core is in
+      (run_report core told.0, run core is (record { told = told.0; run = told.1; is = refl }))
 
-answer_report : (source : List ℕ) (tokens : List Spanned) (result : Result Program ParseFault) → IsAnswer tokens result
-    → (r : Report) × IsReportOfTokens source tokens r
-answer_report source tokens (Ok tree) has = let p = built_some tree (built tree) refl in (p.0, of_tree tree has p.1)
-answer_report source tokens (Err (Syntax k)) has = (refused 21 (syntax_text source tokens (Syntax k)), of_fault (Syntax k) has refl)
-answer_report source tokens (Err (TooDeep k)) has = (refused 21 (syntax_text source tokens (TooDeep k)), of_fault (TooDeep k) has refl)
-answer_report source tokens (Err NoMemory) has = absurd has
+  source_some : (source : List ℕ) → (r : Report) × IsReportOfSource source plain_settings r
+  source_some source = come_to_some source (source_comes answers source)
 
-tokens_some : AnswerLaw → (source : List ℕ) (tokens : List Spanned) → (r : Report) × IsReportOfTokens source tokens r
-tokens_some law source tokens = let a = law.some tokens in answer_report source tokens a.0 a.1
+  file_some : (o : Option (List ℕ)) → (r : Report) × IsReportOfFile o plain_settings r
+  file_some None = (no_such_file, missing refl refl)
+  file_some (Some source) = by_length (let c : (MOST_BYTES < length source) ⊎ (length source ≤ MOST_BYTES) = grind arith in c)
+    where
+      by_length : (MOST_BYTES < length source) ⊎ (length source ≤ MOST_BYTES) → (r : Report) × IsReportOfFile (Some source) plain_settings r
+      by_length (inl above) = (file_too_long, long source refl above refl)
+      by_length (inr within) = let p = source_some source in (p.0, fetched source refl within p.1)
 
-pub source_some : AnswerLaw → (source : List ℕ) → (r : Report) × IsReportOfSource source r
-source_some law source = by (some_reading source)
-  where
-    by : ((tokens : List Spanned) × Reads source tokens) ⊎ ((fault : LexFault) × lexical.HasFault source fault) → (r : Report) × IsReportOfSource source r
-    by (inl (tokens, reads)) = let p = tokens_some law source tokens in (p.0, of_tokens tokens reads p.1)
-    by (inr (fault, has)) = (refused 20 (lexical_text fault), of_lexical_fault fault has refl)
+  request_some : (o : Option Request) (files : Files) → (r : Report) × IsReportOfRequest o files r
+  request_some None files = (usage, refl)
+  request_some (Some (Sim name)) files = file_some (files name)
 
-file_some : AnswerLaw → (o : Option (List ℕ)) → (r : Report) × IsReportOfFile o r
-file_some law None = (no_such_file, refl)
-file_some law (Some source) = by_length (let c : (MOST_BYTES < length source) ⊎ (length source ≤ MOST_BYTES) = grind arith in c)
-  where
-    by_length : (MOST_BYTES < length source) ⊎ (length source ≤ MOST_BYTES) → (r : Report) × IsReportOfFile (Some source) r
-    by_length (inl long) = (file_too_long, inl (long, refl))
-    by_length (inr within) = let p = source_some law source in (p.0, inr (within, p.1))
+  pub report_some : (words : List (List ℕ)) (files : Files) → (r : Report) × IsReport words files r
+  report_some words files = request_some (request_of words) files
 
-request_some : AnswerLaw → (o : Option Request) (files : Files) → (r : Report) × IsReportOfRequest o files r
-request_some law None files = (usage, refl)
-request_some law (Some (Sim name)) files = file_some law (files name)
+  -- and no other
 
-pub report_some : AnswerLaw → (words : List (List ℕ)) (files : Files) → (r : Report) × IsReport words files r
-report_some law words files = request_some law (request_of words) files
+  run_one : (source : List ℕ) (core other : Core) (r s : Report) → ComesTo source core → ComesTo source other
+      → IsRunReport core plain_settings r → IsRunReport other plain_settings s → r ≡ s
+  run_one source core other r s p q a b =
+      let there : IsRunReport core plain_settings s = subst (λ c. IsRunReport c plain_settings s) (one_core answers source other core q p) b in
+      a.is ∙ ap (run_report core) (runs.one source core p a.told there.told a.run there.run) ∙ sym there.is
 
--- and no other
+  source_one : (source : List ℕ) (r s : Report) → IsReportOfSource source plain_settings r → IsReportOfSource source plain_settings s → r ≡ s
+  source_one source r s (refused p) (refused q) = one_refusal answers source r s p q
+  source_one source r s (refused p) (run core q b) = absurd (refused_or_comes answers source r core p q)
+  source_one source r s (run core p a) (refused q) = absurd (refused_or_comes answers source s core q p)
+  source_one source r s (run core p a) (run other q b) = run_one source core other r s p q a b
 
-built_one : (o : Option Core) (r s : Report) → IsReportOfBuilt o r → IsReportOfBuilt o s → r ≡ s
-built_one None r s p q = p ∙ sym q
-built_one (Some core) r s p q =
-    p.3 ∙ ap run_report (Picked-one core first most_steps p.0 q.0 p.1 q.1 p.2 q.2).1 ∙ sym q.3
+  file_one : (o : Option (List ℕ)) (r s : Report) → IsReportOfFile o plain_settings r → IsReportOfFile o plain_settings s → r ≡ s
+  file_one o r s (missing p a) (missing q b) = a ∙ sym b
+  file_one o r s (missing p a) (long y q m b) = absurd (cc)
+  file_one o r s (missing p a) (fetched y q m b) = absurd (cc)
+  file_one o r s (long x p l a) (missing q b) = absurd (cc)
+  file_one o r s (long x p l a) (long y q m b) = a ∙ sym b
+  file_one o r s (long x p l a) (fetched y q m b) = let same : x ≡ y = cc in let far : MOST_BYTES < length y = subst (λ z. MOST_BYTES < length z) same l in absurd (omega arith)
+  file_one o r s (fetched x p l a) (missing q b) = absurd (cc)
+  file_one o r s (fetched x p l a) (long y q m b) = let same : y ≡ x = cc in let far : MOST_BYTES < length x = subst (λ z. MOST_BYTES < length z) same m in absurd (omega arith)
+  file_one o r s (fetched x p l a) (fetched y q m b) =
+      let same : y ≡ x = cc in source_one x r s a (subst (λ z. IsReportOfSource z plain_settings s) same b)
 
-fault_answer : (tokens : List Spanned) (e : ParseFault) → HasFault tokens e → IsAnswer tokens (Err e)
-fault_answer tokens (Syntax k) h = h
-fault_answer tokens (TooDeep k) h = h
-fault_answer tokens NoMemory h = h
+  request_one : (o : Option Request) (files : Files) (r s : Report) → IsReportOfRequest o files r → IsReportOfRequest o files s → r ≡ s
+  request_one None files r s p q = p ∙ sym q
+  request_one (Some (Sim name)) files r s p q = file_one (files name) r s p q
 
-one_tree : AnswerLaw → (tokens : List Spanned) (t u : Program) → HasTree tokens t → HasTree tokens u → t ≡ u
-one_tree law tokens t u p q = let same : ◌≡◌ {A = Result Program ParseFault} (Ok t) (Ok u) = law.one tokens (Ok t) (Ok u) p q in cc
-
-one_syntax_fault : AnswerLaw → (tokens : List Spanned) (e f : ParseFault) → HasFault tokens e → HasFault tokens f → e ≡ f
-one_syntax_fault law tokens e f p q = let same : ◌≡◌ {A = Result Program ParseFault} (Err e) (Err f) = law.one tokens (Err e) (Err f) (fault_answer tokens e p) (fault_answer tokens f q) in cc
-
-tree_or_fault : AnswerLaw → (tokens : List Spanned) (t : Program) (e : ParseFault) → HasTree tokens t → HasFault tokens e → ⊥
-tree_or_fault law tokens t e p q = let same : ◌≡◌ {A = Result Program ParseFault} (Ok t) (Err e) = law.one tokens (Ok t) (Err e) p (fault_answer tokens e q) in cc
-
-tokens_one : AnswerLaw → (source : List ℕ) (tokens : List Spanned) (r s : Report) → IsReportOfTokens source tokens r → IsReportOfTokens source tokens s → r ≡ s
-tokens_one law source tokens r s (of_tree t p a) (of_tree u q b) =
-    let P : Program → Type 0 = λ x. IsReportOfBuilt (built x) s in
-    built_one (built t) r s a (subst P (one_tree law tokens u t q p) b)
-tokens_one law source tokens r s (of_tree t p a) (of_fault f q b) = absurd (tree_or_fault law tokens t f p q)
-tokens_one law source tokens r s (of_fault f p a) (of_tree u q b) = absurd (tree_or_fault law tokens u f q p)
-tokens_one law source tokens r s (of_fault e p a) (of_fault f q b) =
-    a ∙ ap (λ x. refused 21 (syntax_text source tokens x)) (one_syntax_fault law tokens e f p q) ∙ sym b
-
-source_one : AnswerLaw → (source : List ℕ) (r s : Report) → IsReportOfSource source r → IsReportOfSource source s → r ≡ s
-source_one law source r s (of_lexical_fault e p a) (of_lexical_fault f q b) =
-    a ∙ ap (λ x. refused 20 (lexical_text x)) (one_fault source e f p q) ∙ sym b
-source_one law source r s (of_lexical_fault e p a) (of_tokens ts q b) = absurd (never_both source ts e q p)
-source_one law source r s (of_tokens ts p a) (of_lexical_fault f q b) = absurd (never_both source ts f p q)
-source_one law source r s (of_tokens ts p a) (of_tokens us q b) =
-    tokens_one law source ts r s a (subst (λ x. IsReportOfTokens source x s) (one_list source us ts q p) b)
-
-file_one : AnswerLaw → (o : Option (List ℕ)) (r s : Report) → IsReportOfFile o r → IsReportOfFile o s → r ≡ s
-file_one law None r s p q = p ∙ sym q
-file_one law (Some source) r s (inl p) (inl q) = p.1 ∙ sym q.1
-file_one law (Some source) r s (inl p) (inr q) = let l = p.0 in let m = q.0 in absurd (omega arith)
-file_one law (Some source) r s (inr p) (inl q) = let l = p.0 in let m = q.0 in absurd (omega arith)
-file_one law (Some source) r s (inr p) (inr q) = source_one law source r s p.1 q.1
-
-request_one : AnswerLaw → (o : Option Request) (files : Files) (r s : Report) → IsReportOfRequest o files r → IsReportOfRequest o files s → r ≡ s
-request_one law None files r s p q = p ∙ sym q
-request_one law (Some (Sim name)) files r s p q = file_one law (files name) r s p q
-
-pub report_one : AnswerLaw → (words : List (List ℕ)) (files : Files) (r s : Report) → IsReport words files r → IsReport words files s → r ≡ s
-report_one law words files r s p q = request_one law (request_of words) files r s p q
+  pub report_one : (words : List (List ℕ)) (files : Files) (r s : Report) → IsReport words files r → IsReport words files s → r ≡ s
+  report_one words files r s p q = request_one (request_of words) files r s p q

@@ -1,5 +1,5 @@
 -- The tokens of a program that a source is are tokens that some bytes spell.
-use Rattle.std.proofs.Common.{◌≡◌, ℕ, zero, suc, List, [], ◌∷◌, length, map, slice_range, subst, sym, arith}
+use Rattle.std.proofs.Common.{ℕ, zero, suc, List, [], ◌∷◌, map, slice_range, subst, sym, arith}
 use Rattle.std.specs.List.{All}
 use Rattle.chi_token.specs.declared.place.Spanned.{Spanned}
 use Rattle.chi_token.specs.Tokens.{IsToken}

@@ -2,7 +2,10 @@
 use Rattle.std.specs.Prelude.{◌≡◌, ℕ, ◌≤◌, ◌<◌, ◌⊎◌, true, false, List, [], length, Some, None, IfSome, IsSomeAnd}
 use Rattle.chi_io.specs.Sink.{GrewByProperFront}
 use Rattle.chi_lex.specs.declared.lexer.TheConstants.{MOST_BYTES}
-use Rattle.chi_tool.specs.Report.{Report, no_such_file, file_too_long, IsReportOfSource}
+use Rattle.chi_tool.specs.Refusals.{Report, no_such_file, file_too_long}
+use Rattle.chi_tool.specs.Report.{IsReportOfSource}
+use Rattle.chi_tool.specs.Settings.{plain_settings}
+use Rattle.chi_tool.specs.Statuses as statuses
 use Rattle.chi_tool.specs.Call.{SinkUse, ShelfUse, Took, SinkRose, ShelfRose}
 
 -- the sink took all of the bytes, and goes on
@@ -19,8 +22,8 @@ pub record BrokeOff (sink : SinkUse) (bytes : List ℕ) : Type 0 where
 -- a report is delivered whole, or the output broke off and nothing is logged, or the log broke off
 pub data Delivers (status : ℕ) (output lines : List ℕ) (result : ℕ) (out log : SinkUse) : Type 0 where
   whole : result ≡ status → TookWhole out output → TookWhole log lines → Delivers status output lines result out log
-  out_broke : result ≡ 5 → BrokeOff out output → TookWhole log [] → Delivers status output lines result out log
-  log_broke : result ≡ 5 → TookWhole out output → BrokeOff log lines → Delivers status output lines result out log
+  out_broke : result ≡ statuses.not_written → BrokeOff out output → TookWhole log [] → Delivers status output lines result out log
+  log_broke : result ≡ statuses.not_written → TookWhole out output → BrokeOff log lines → Delivers status output lines result out log
 
 -- the delivery of a report
 abbrev pub DeliversReport : Report → ℕ → SinkUse → SinkUse → Type 0
@@ -29,10 +32,10 @@ DeliversReport r result out log = Delivers r.status r.out r.log result out log
 -- a file is served: its report is delivered, or its refusal is, or the shelf failed, or memory is wanting
 pub data Serves (name : List ℕ) (shelf : ShelfUse) (result : ℕ) (out log : SinkUse) : Type 0 where
   reported : (source : List ℕ) → length source ≤ MOST_BYTES → IfSome shelf.files (λ files. files name ≡ Some source)
-      → (r : Report) → IsReportOfSource source r → DeliversReport r result out log → Serves name shelf result out log
+      → (r : Report) → IsReportOfSource source plain_settings r → DeliversReport r result out log → Serves name shelf result out log
   missing : IsSomeAnd shelf.files (λ files. files name ≡ None) ⊎ ShelfRose shelf
       → DeliversReport no_such_file result out log → Serves name shelf result out log
   long : IsSomeAnd shelf.files (λ files. IsSomeAnd (files name) (λ source. MOST_BYTES < length source)) ⊎ ShelfRose shelf
       → DeliversReport file_too_long result out log → Serves name shelf result out log
-  failed : ShelfRose shelf → result ≡ 4 → TookWhole out [] → TookWhole log [] → Serves name shelf result out log
-  lost : result ≡ 6 → TookWhole out [] → TookWhole log [] → Serves name shelf result out log
+  failed : ShelfRose shelf → result ≡ statuses.not_read → TookWhole out [] → TookWhole log [] → Serves name shelf result out log
+  lost : result ≡ statuses.no_memory → TookWhole out [] → TookWhole log [] → Serves name shelf result out log

@@ -1,25 +1,26 @@
 -- What the program promises of each call.
-use Rattle.std.specs.Prelude.{◌≡◌, ℕ, ◌<◌, ◌≤◌, ◌⊎◌, ◌↔◌, true, false, List, [], length, Option, Some, None, Ok, Err, IfSome, IsSomeAnd}
+use Rattle.std.specs.Prelude.{◌≡◌, ℕ, ◌<◌, ◌≤◌, ◌⊎◌, ◌↔◌, true, false, List, [], length, Option, Some, None, IfSome, IsSomeAnd}
 use Rattle.chi_io.specs.Shelf.{Files}
 use Rattle.chi_token.specs.declared.place.Spanned.{Spanned}
 use Rattle.chi_lex.specs.declared.fault.LexFault.{LexFault}
 use Rattle.chi_lex.specs.declared.lexer.TheConstants.{MOST_BYTES}
-use Rattle.chi_lex.specs.Reading.{Reads}
 use Rattle.chi_lex.specs.Reading as lexical
 use Rattle.chi_grammar.specs.declared.fault.ParseFault.{ParseFault}
-use Rattle.chi_tree.specs.declared.definition.Program.{Program}
-use Rattle.chi_form.specs.Form.{built}
-use Rattle.chi_form_core.specs.declared.program.Core.{Core}
-use Rattle.chi_form_core.specs.declared.label.Label.{Label}
-use Rattle.chi_form_core.specs.declared.fault.FaultKind.{FaultKind}
-use Rattle.chi_form_core.specs.declared.verdict.Verdict.{Verdict}
-use Rattle.chi_form_core.specs.declared.verdict.Verdict.TheVariants as verdict
-use Rattle.chi_form_core.specs.Runs.{End}
-use Rattle.chi_form_core.specs.Picks.{Picked}
+use Rattle.chi_core.specs.declared.program.Core.{Core}
+use Rattle.chi_core.specs.declared.fault.FaultKind.{FaultKind}
+use Rattle.chi_core.specs.declared.verdict.Verdict.{Verdict}
+use Rattle.chi_core.specs.declared.verdict.Verdict.TheVariants as verdict
+use Rattle.chi_core.specs.Runs.{Told}
+use Rattle.chi_value.specs.declared.value.Value.{Value}
 use Rattle.chi_tool.specs.Words.{Request, Sim, request_of}
-use Rattle.chi_tool.specs.Syntax.{HasTree, HasFault}
-use Rattle.chi_tool.specs.Report.{Report, usage, no_such_file, file_too_long, status_of, first, most_steps, IsReport}
-use Rattle.chi_tool.specs.Call.{Call, ShelfUse, Took, TookFront, TookSome, SinkRose, SinkStood, ShelfRose, ShelfStood}
+use Rattle.chi_tool.specs.Refusals.{Report, usage, no_such_file, file_too_long}
+use Rattle.chi_tool.specs.Report.{IsReport}
+use Rattle.chi_tool.specs.Running.{IsRunOf}
+use Rattle.chi_tool.specs.Settings.{plain_settings}
+use Rattle.chi_tool.specs.Sources.{IsNoProgram, IsNotBuilt, ComesTo}
+use Rattle.chi_tool.specs.Statuses as statuses
+use Rattle.chi_tool.specs.Statuses.{status_of}
+use Rattle.chi_tool.specs.Call.{Call, SinkUse, ShelfUse, Took, TookFront, TookSome, SinkRose, SinkStood, ShelfRose, ShelfStood}
 
 -- no object that was handed in failed
 pub record NothingFailed (call : Call) : Type 0 where
@@ -35,7 +36,7 @@ pub record IsReported (r : Report) (call : Call) : Type 0 where
 
 -- the same, unless memory is wanting
 abbrev pub IsReportedOrLost : Report → Call → Type 0
-IsReportedOrLost r call = (call.status ≡ 6) ⊎ IsReported r call
+IsReportedOrLost r call = (call.status ≡ statuses.no_memory) ⊎ IsReported r call
 
 -- each sink took a front of the report's bytes
 pub record IsReportedInFront (r : Report) (call : Call) : Type 0 where
@@ -53,17 +54,25 @@ pub record Meets (r : Report) (call : Call) : Type 0 where
   -- where nothing fails, the status and every byte are the report's, unless memory is wanting
   pub whole : NothingFailed call → IsReportedOrLost r call
   -- whatever fails, the report is there whole, or the status is one of three
-  pub status : IsReported r call ⊎ ((call.status ≡ 4) ⊎ ((call.status ≡ 5) ⊎ (call.status ≡ 6)))
+  pub status : IsReported r call ⊎ ((call.status ≡ statuses.not_read) ⊎ ((call.status ≡ statuses.not_written) ⊎ (call.status ≡ statuses.no_memory)))
   -- and nothing else is written
   pub fronts : IsReportedInFront r call ⊎ IsRefusedByFault call
   -- the log follows the output
   pub out_first : TookSome call.log → Took call.out r.out ⊎ IsRefusedByFault call
 
+-- words that are no request are refused, whatever the shelf does
+pub record IsUsage (call : Call) : Type 0 where
+  -- where no sink fails, with exactly that line, unless memory is wanting
+  pub whole : SinkStood call.out → SinkStood call.log → IsReportedOrLost usage call
+  -- and in any case with a front of it
+  pub front : IsReportedInFront usage call
+  -- and a file is never to blame
+  pub read : call.status ≡ statuses.not_read → ⊥
+
 pub record Headline (call : Call) : Type 0 where
   -- where the shelf tells its files, there is a report of the words and files that the call meets
   pub report : IfSome call.shelf.files (λ files. (r : Report) × IsReport call.words files r × Meets r call)
-  -- words that are no request are refused whatever the shelf does
-  pub no_request : request_of call.words ≡ None → SinkStood call.out → SinkStood call.log → IsReportedOrLost usage call
+  pub no_request : request_of call.words ≡ None → IsUsage call
   -- once the output is stopped, nothing is logged
   pub out_stopped : call.out.stopped ≡ true → Took call.log []
 
@@ -74,49 +83,31 @@ pub record IsAskedSource (call : Call) (files : Files) (source : List ℕ) : Typ
   pub there : files name ≡ Some source
   pub within : length source ≤ MOST_BYTES
 
--- the words ask for a source that is read as these tokens
-pub record IsAskedTokens (call : Call) (files : Files) (tokens : List Spanned) : Type 0 where
-  pub source : List ℕ
-  pub asked : IsAskedSource call files source
-  pub read : Reads source tokens
+-- the words ask for a source of which P holds
+abbrev pub AsksFor : Call → Files → (List ℕ → Type 0) → Type 0
+AsksFor call files P = (source : List ℕ) × IsAskedSource call files source × P source
 
--- the words ask for a source that is this program, as it is written
-pub record IsAskedTree (call : Call) (files : Files) (tree : Program) : Type 0 where
-  pub tokens : List Spanned
-  pub asked : IsAskedTokens call files tokens
-  pub parsed : HasTree tokens tree
+-- the asked source has a lexical fault
+abbrev pub HasLexicalFault : List ℕ → Type 0
+HasLexicalFault source = (fault : LexFault) × lexical.HasFault source fault
 
--- the words ask for a source that is this program, as it is run
-pub record IsAskedProgram (call : Call) (files : Files) (core : Core) : Type 0 where
-  pub tree : Program
-  pub asked : IsAskedTree call files tree
-  pub program : built tree ≡ Some core
+-- it has none, and its tokens are no program
+abbrev pub HasSyntaxFault : List ℕ → Type 0
+HasSyntaxFault source = (tokens : List Spanned) × (fault : ParseFault) × IsNoProgram source tokens fault
 
--- the derivation of the asked program that the policy picks ends so
-pub record EndsWith (call : Call) (files : Files) (end : End) : Type 0 where
+-- it comes to a program whose run, as the policy picks it, ends with a verdict of which P holds
+pub record EndsAs (P : Verdict → Type 0) (source : List ℕ) : Type 0 where
   pub core : Core
-  pub asked : IsAskedProgram call files core
-  pub labels : List Label
-  pub picked : Picked core first most_steps labels end
+  pub program : ComesTo source core
+  pub told : Told
+  pub run : IsRunOf core plain_settings told
+  pub ends : P told.ending.verdict
 
--- it ends with a verdict of which P holds
-abbrev pub EndsAs : Call → Files → (Verdict → Type 0) → Type 0
-EndsAs call files P = (end : End) × EndsWith call files end × P end.verdict
+abbrev pub IsExit : Verdict → Type 0
+IsExit v = (x : Option Value) × (v ≡ verdict.Exit x)
 
 abbrev pub IsFault : Verdict → Type 0
 IsFault v = (kind : FaultKind) × (name : List ℕ) × (line : ℕ) × (v ≡ verdict.Fault kind name line)
-
--- the asked source has a lexical fault
-abbrev pub HasLexicalFault : Call → Files → Type 0
-HasLexicalFault call files = (source : List ℕ) × (fault : LexFault) × IsAskedSource call files source × lexical.HasFault source fault
-
--- it has none, and its tokens are no program: at one of them there is none, or it stands too deep
-abbrev pub HasSyntaxFault : Call → Files → Type 0
-HasSyntaxFault call files = (tokens : List Spanned) × (fault : ParseFault) × IsAskedTokens call files tokens × HasFault tokens fault
-
--- it is a program whose form isn't built yet
-abbrev pub IsNotBuilt : Call → Files → Type 0
-IsNotBuilt call files = (tree : Program) × IsAskedTree call files tree × (built tree ≡ None)
 
 -- the file that the words ask for can't be read: the shelf failed, or the file isn't there or is too long
 abbrev pub IsUnfit : Option (List ℕ) → Type 0
@@ -129,28 +120,37 @@ CannotBeRead shelf (Some (Sim name)) = ShelfRose shelf ⊎ IsSomeAnd shelf.files
 
 -- the status is this one exactly where the cause holds, unless memory is wanting
 abbrev pub IsExactly : Call → ℕ → Type 0 → Type 0
-IsExactly call status cause = (call.status ≡ status → cause) × (cause → (call.status ≡ status) ⊎ (call.status ≡ 6))
+IsExactly call n cause = (call.status ≡ n → cause) × (cause → (call.status ≡ n) ⊎ (call.status ≡ statuses.no_memory))
 
--- the same, where the shelf tells its files and nothing fails
-abbrev pub IsExactlyOf : Call → ℕ → (Files → Type 0) → Type 0
-IsExactlyOf call status cause = IfSome call.shelf.files (λ files. NothingFailed call → IsExactly call status (cause files))
+-- the same of a cause in the source that is asked for, where the shelf tells its files and nothing fails
+abbrev pub IsExactlyOf : Call → ℕ → (List ℕ → Type 0) → Type 0
+IsExactlyOf call n P = IfSome call.shelf.files (λ files. NothingFailed call → IsExactly call n (AsksFor call files P))
+
+-- a sink that is stopped has failed
+abbrev pub StoppedByFailure : SinkUse → Type 0
+StoppedByFailure sink = sink.stopped ≡ true → SinkRose sink
 
 -- when each status comes
 pub record Causes (call : Call) : Type 0 where
-  pub completed : IsExactlyOf call 0 (λ files. EndsAs call files (λ v. v ≡ verdict.Completed))
-  pub deadlock : IsExactlyOf call 11 (λ files. EndsAs call files (λ v. v ≡ verdict.Deadlock))
-  pub fault : IsExactlyOf call 12 (λ files. EndsAs call files IsFault)
-  pub out_of_steps : IsExactlyOf call 13 (λ files. EndsAs call files (λ v. v ≡ verdict.OutOfSteps))
-  pub lexical : IsExactlyOf call 20 (HasLexicalFault call)
-  pub syntax : IsExactlyOf call 21 (HasSyntaxFault call)
-  pub not_built : IsExactlyOf call 22 (IsNotBuilt call)
-  pub no_request : call.out.stopped ≡ false → call.log.stopped ≡ false → IsExactly call 3 (request_of call.words ≡ None)
-  pub not_read : call.status ≡ 4 → CannotBeRead call.shelf (request_of call.words)
-  pub not_written : (call.status ≡ 5) ↔ ((call.out.stopped ≡ true) ⊎ (call.log.stopped ≡ true))
-  pub not_written_cause : call.status ≡ 5 → SinkRose call.out ⊎ SinkRose call.log
+  pub completed : IsExactlyOf call statuses.completed (EndsAs (λ v. v ≡ verdict.Completed))
+  pub exit : IsExactlyOf call statuses.exited (EndsAs IsExit)
+  pub deadlock : IsExactlyOf call statuses.deadlocked (EndsAs (λ v. v ≡ verdict.Deadlock))
+  pub fault : IsExactlyOf call statuses.faulted (EndsAs IsFault)
+  pub out_of_steps : IsExactlyOf call statuses.out_of_steps (EndsAs (λ v. v ≡ verdict.OutOfSteps))
+  pub stopped : IsExactlyOf call statuses.stopped (EndsAs (λ v. v ≡ verdict.Stopped))
+  pub lexical : IsExactlyOf call statuses.lexical HasLexicalFault
+  pub syntax : IsExactlyOf call statuses.syntax HasSyntaxFault
+  pub not_built : IsExactlyOf call statuses.not_built IsNotBuilt
+  pub no_request : call.out.stopped ≡ false → call.log.stopped ≡ false → IsExactly call statuses.no_request (request_of call.words ≡ None)
+  pub not_read : call.status ≡ statuses.not_read → CannotBeRead call.shelf (request_of call.words)
+  pub not_written : (call.status ≡ statuses.not_written) ↔ ((call.out.stopped ≡ true) ⊎ (call.log.stopped ≡ true))
+  -- each sink by its own count
+  pub out_failed : StoppedByFailure call.out
+  pub log_failed : StoppedByFailure call.log
 
 -- a program that is asked for is run to its end: the status is that of its verdict, unless memory is wanting
 abbrev pub IsComplete : Call → Type 0
 IsComplete call =
-    IfSome call.shelf.files (λ files. NothingFailed call → (core : Core) → IsAskedProgram call files core
-    → EndsAs call files (λ v. (call.status ≡ status_of v) ⊎ (call.status ≡ 6)))
+    IfSome call.shelf.files (λ files. NothingFailed call → (source : List ℕ) → IsAskedSource call files source
+    → (core : Core) → ComesTo source core
+    → (told : Told) × IsRunOf core plain_settings told × ((call.status ≡ status_of told.ending.verdict) ⊎ (call.status ≡ statuses.no_memory)))

@@ -1,7 +1,13 @@
 pub mod Words
+pub mod Statuses
+pub mod Settings
 pub mod Syntax
+pub mod Refusals
+pub mod Sources
+pub mod Running
 pub mod Report
 pub mod Reported
+pub mod Readings
 pub mod Call
 pub mod Headline
 pub mod Delivery

@@ -1,5 +1,5 @@
 -- Private to proofs: a report as the program holds it.
-use Rattle.chi_tool.specs.Report.{Report}
+use Rattle.chi_tool.specs.Refusals.{Report}
 use Rattle.chi_tool.specs.declared.report.Reported.{Reported}
 
 -- the report that is held

@@ -2,10 +2,8 @@ ghost use Rattle.std.specs.Prelude.{◌≡◌, false};
 ghost use Rattle.chi_tool.specs.Call.{sink_use};
 ghost use Rattle.chi_tool.specs.Delivery.{Delivers};
 
+use crate::status::NOT_WRITTEN;
 use chi_io::{Sink, put_all};
-
-/// The status where a sink failed.
-pub const NOT_WRITTEN: u8 = 5;
 
 /// Puts the output and then the log. The first failure ends it.
 pub fn deliver<O: Sink, L: Sink>(

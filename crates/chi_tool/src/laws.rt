@@ -1,14 +1,33 @@
 ghost use Rattle.std.specs.Prelude.{◌≡◌, ℕ, All, List};
 ghost use Rattle.chi_io.specs.Shelf.{Files};
 ghost use Rattle.chi_grammar_laws.specs.Answers.{IsProgram};
+ghost use Rattle.chi_core.specs.declared.program.Core.{Core};
+ghost use Rattle.chi_core.specs.Runs.{Told};
 ghost use Rattle.chi_lex.specs.Reading.{Reads};
 ghost use Rattle.chi_spell.specs.Statements.{spelled};
 ghost use Rattle.chi_token.specs.declared.place.Spanned.{Spanned};
 ghost use Rattle.chi_token.specs.Tokens.{IsToken};
-ghost use Rattle.chi_tool.specs.Report.{Report, IsReport};
+ghost use Rattle.chi_tool.specs.Refusals.{Report};
+ghost use Rattle.chi_tool.specs.Report.{IsReport};
+ghost use Rattle.chi_tool.specs.Running.{IsRunOf};
+ghost use Rattle.chi_tool.specs.Settings.{plain_settings};
+ghost use Rattle.chi_tool.specs.Sources.{ComesTo};
 ghost use Rattle.chi_tree.specs.declared.definition.Program.{Program};
 
+use chi_form::built_law;
 use chi_grammar_laws::answer_law;
+use chi_kinded::kinded_law;
+use chi_runs::picked_law;
+
+/// The program that a source comes to has exactly one run.
+pub fn one_run_law()
+    ensures some { (source : List ℕ) (core : Core) → ComesTo source core → (told : Told) × IsRunOf core plain_settings told }
+    ensures one { (source : List ℕ) (core : Core) → ComesTo source core → (told other : Told)
+        → IsRunOf core plain_settings told → IsRunOf core plain_settings other → told ≡ other }
+{
+    built_law();
+    picked_law();
+}
 
 /// Words and files have exactly one report.
 pub fn report_law()
@@ -17,6 +36,7 @@ pub fn report_law()
         → IsReport words files r → IsReport words files other → r ≡ other }
 {
     answer_law();
+    one_run_law();
 }
 
 /// What a source is as a program has only tokens that some bytes spell: its names have the letters of names, and

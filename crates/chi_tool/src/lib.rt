@@ -7,9 +7,12 @@ mod refusal;
 mod report;
 mod run;
 mod serve;
+mod settings;
+mod source;
+mod status;
 mod syntax;
 mod top;
 mod words;
 
-pub use laws::{report_law, tokens_law};
+pub use laws::{one_run_law, report_law, tokens_law};
 pub use top::chi;

@@ -2,7 +2,7 @@ ghost use Rattle.std.specs.Prelude.{◌≡◌, ◌∷◌, ◌++◌, [], codes, I
 ghost use Rattle.std.specs.Fmt.{decimal};
 ghost use Rattle.chi_tool.specs.Syntax.{placed};
 ghost use Rattle.chi_tool.specs.Reported.{report_in};
-ghost use Rattle.chi_tool.specs.Report.{refused};
+ghost use Rattle.chi_tool.specs.Refusals.{refused};
 
 use crate::report::Reported;
 use chi_base::NoMemory;

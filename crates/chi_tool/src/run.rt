@@ -1,78 +1,129 @@
-ghost use Rattle.std.specs.Prelude.{◌≡◌, IfOk};
-ghost use Rattle.chi_form_core.specs.Sound.{Sound};
-ghost use Rattle.chi_form_core.specs.VerdictLine.{verdict_line_of};
+ghost use Rattle.std.specs.Prelude.{◌≡◌, ◌<◌, ◌^◌, [], Some, IfOk, slice_get};
+ghost use Rattle.chi_core.specs.declared.program.ProcDef.{ProcDef};
+ghost use Rattle.chi_core.specs.Beginning.{Beginning};
+ghost use Rattle.chi_core.specs.Kinds.{kinds_of};
+ghost use Rattle.chi_core.specs.Of.{at_start, AreOf};
+ghost use Rattle.chi_core.specs.Picks.{Pick};
+ghost use Rattle.chi_core.specs.Sound.{Sound};
+ghost use Rattle.chi_plain.specs.Stage.{Begun, MayTell, MayStep};
+ghost use Rattle.chi_sched.specs.Policies.{Answers};
 ghost use Rattle.chi_tool.specs.Reported.{report_in};
-ghost use Rattle.chi_tool.specs.Report.{IsRunReport, run_report, status_of};
-ghost use Rattle.chi_tool.specs.Turns.{GoesOn, PicksFirst};
+ghost use Rattle.chi_tool.specs.Running.{IsRunReport, run_report};
+ghost use Rattle.chi_tool.specs.Turns.{GoesOn, PicksAt, IsThere, RunsTo};
 
 use crate::report::Reported;
+use crate::settings::Settings;
+use crate::status::status_of;
 use chi_base::NoMemory;
-use chi_form_core::{Core, Label, Verdict, verdict_line};
-use chi_form_plain::{Plain, Stepped};
+use chi_core::{Core, Label, Verdict, verdict_line};
+use chi_plain::{Plain, Stepped};
+use chi_runs::{choice_law, options_law, time_law, turn_law};
+use chi_sched::Chooser;
+use chi_value::TextFault;
 use std::alloc::Global;
-
-/// The bound on the costs of all steps together.
-const MOST_STEPS: u64 = 10_000_000;
-
-fn status_of(verdict: &Verdict) -> u8
-    ensures { result ≡ status_of verdict.now }
-{
-    match verdict {
-        Verdict::Completed => 0,
-        Verdict::Deadlock => 11,
-        Verdict::Fault(_, _, _) => 12,
-        Verdict::OutOfSteps => 13,
-    }
-}
 
 fn reported(
     alloc: Global,
+    core: &Core,
     verdict: &Verdict,
     clock: i64,
     out: Vec<u8>,
 ) -> Result<Reported, NoMemory>
+    requires { MayTell core.now verdict.now }
     ensures { IfOk result (λ r. report_in r
-        ≡ run_report (record { verdict = verdict.now; clock = clock; output = out.items })) }
+        ≡ run_report core.now (record { labels = []; ending = record { verdict = verdict.now; clock = clock }; output = out.items })) }
 {
     let mut log = Vec::new(alloc);
-    verdict_line(alloc, verdict, clock, &mut log)?;
-    Ok(Reported {
-        status: status_of(verdict),
-        out,
-        log,
-    })
+    match verdict_line(alloc, verdict, clock, &core.names, &mut log) {
+        Ok(()) => Ok(Reported {
+            status: status_of(verdict),
+            out,
+            log,
+        }),
+        Err(TextFault::Limit) => unreachable!(),
+        Err(TextFault::NoMemory) => Err(NoMemory),
+    }
 }
 
-/// The label that comes next where the first choice is taken each time.
-fn first_label(plain: &Plain<'_>) -> Label
-    requires { GoesOn plain.now.stage }
-    ensures { PicksFirst plain.now.stage result }
+/// The label that the policy picks at a turn.
+fn picked_label<P: Chooser>(plain: &Plain<'_>, policy: &P, turn: u64) -> Label
+    requires goes_on { GoesOn plain.now.stage }
+    requires early { turn < 2 ^ 63 }
+    ensures picks { PicksAt (P.gives policy.now) turn plain.now.stage result }
+    ensures may { MayStep plain.now.stage result }
 {
-    if plain.actor_count() == 0 {
+    options_law();
+    choice_law();
+    let actors = plain.actor_count();
+    if actors == 0 {
         return Label::Advance;
     }
-    let actor = plain.actor_at(0);
-    plain.option_at(actor, 0)
+    let actor = plain.actor_at(policy.choose(2 * turn, actors as u64) as u32);
+    let options = plain.option_count(actor);
+    plain.option_at(actor, policy.choose(2 * turn + 1, options))
 }
 
-/// The report of a program's run, in which the first choice is taken each time.
-pub fn run(alloc: Global, core: &Core) -> Result<Reported, NoMemory>
-    requires { Sound core.now }
-    ensures { IfOk result (λ r. IsRunReport core.now (report_in r)) }
+/// The report of a run from its beginning: a label is picked at each turn, until the run is over or
+/// the next label costs more than is left of the bound.
+fn run_from<P: Chooser>(
+    alloc: Global,
+    core: &Core,
+    begun: Plain<'_>,
+    policy: &P,
+    bound: u64,
+) -> Result<Reported, NoMemory>
+    requires same_core { begun.core ≡ core.now }
+    requires there { IsThere begun.stage }
+    requires bound { bound < 2 ^ 63 }
+    ensures { IfOk result (λ r. (beginning : Beginning) → Begun beginning begun.entry.stage → (pick : Pick) → Answers (P.gives policy.now) pick
+        → RunsTo core.now beginning pick bound (report_in r)) }
 {
-    let mut plain = Plain::new(alloc, core)?;
+    time_law();
+    turn_law();
+    let mut plain = begun;
     let mut out = Vec::new(alloc);
-    let mut left = MOST_STEPS;
+    let mut left = bound;
+    let mut turn = 0;
     'turn: loop {
         let label = match plain.ending() {
-            Some(verdict) => return Ok(reported(alloc, verdict, plain.clock(), out)?),
-            None => first_label(&plain),
+            Some(verdict) => return Ok(reported(alloc, core, verdict, plain.clock(), out)?),
+            None => picked_label(&plain, policy, turn),
         };
         match plain.plain_step(&label, left, &mut out) {
-            Stepped::Next(cost) => left -= cost,
+            Stepped::Next(cost) => {
+                left -= cost;
+                turn += 1;
+            }
             Stepped::Over => {}
-            Stepped::Spent => return Ok(reported(alloc, &Verdict::OutOfSteps, plain.clock(), out)?),
+            Stepped::Spent => {
+                let clock = plain.clock();
+                return Ok(reported(alloc, core, &Verdict::OutOfSteps, clock, out)?);
+            }
             Stepped::NoMemory => return Err(NoMemory),
         }
     }
+}
+
+/// The report of a program's run.
+pub fn run<P: Chooser + Drop>(
+    alloc: Global,
+    core: &Core,
+    settings: Settings<P>,
+) -> Result<Reported, NoMemory>
+    requires sound { Sound core.now }
+    requires arguments { (d : ProcDef) → slice_get core.now.procs core.now.model ≡ Some d
+        → AreOf (at_start core.now.names.kinds) settings.arguments.items (kinds_of d.params) }
+    requires bound { settings.bound < 2 ^ 63 }
+    ensures { IfOk result (λ r. (pick : Pick) → Answers (P.gives settings.policy) pick
+        → IsRunReport core.now (record { seed = settings.seed; bound = settings.bound; pick = pick; arguments = settings.arguments.items; until = settings.until }) (report_in r)) }
+{
+    let Settings {
+        seed,
+        bound,
+        policy,
+        arguments,
+        until,
+    } = settings;
+    let plain = Plain::new(alloc, core, arguments, seed, until)?;
+    run_from(alloc, core, plain, &policy, bound)
 }

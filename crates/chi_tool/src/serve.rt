@@ -1,18 +1,31 @@
-ghost use Rattle.std.specs.Prelude.{◌≡◌, false};
+ghost use Rattle.std.specs.Prelude.{◌≡◌, ◌≤◌, false, IfOk, length};
 ghost use Rattle.chi_tool.specs.Call.{sink_use, shelf_use};
 ghost use Rattle.chi_tool.specs.Delivery.{Serves};
+ghost use Rattle.chi_tool.specs.Report.{IsReportOfSource};
+ghost use Rattle.chi_tool.specs.Reported.{report_in};
+ghost use Rattle.chi_tool.specs.Settings.{plain_settings};
 
 use crate::deliver::deliver;
-use crate::report::report_of;
+use crate::report::Reported;
+use crate::run::run;
+use crate::settings::Settings;
+use crate::source::{Source, read};
+use crate::status::{NO_MEMORY, NOT_READ};
+use chi_base::NoMemory;
 use chi_io::{Fetch, Shelf, Sink};
 use chi_lex::MOST_BYTES;
 use std::alloc::Global;
 
-/// The status where a file can't be read.
-pub const NOT_READ: u8 = 4;
-
-/// The status where memory is wanting.
-pub const NO_MEMORY: u8 = 6;
+/// The report of a source: its refusal, or the run of its program.
+fn report_of(alloc: Global, source: &[u8]) -> Result<Reported, NoMemory>
+    requires { length source.now ≤ MOST_BYTES }
+    ensures { IfOk result (λ r. IsReportOfSource source.now plain_settings (report_in r)) }
+{
+    match read(alloc, source)? {
+        Source::Refused(refusal) => Ok(refusal),
+        Source::Program(core) => run(alloc, &core, Settings::plain(alloc)),
+    }
+}
 
 /// Fetches the file of this name, and delivers its report or its refusal.
 pub fn serve<H: Shelf, O: Sink, L: Sink>(

@@ -2,17 +2,15 @@ ghost use Rattle.std.specs.Prelude.{◌≡◌, ◌≤◌, ◌++◌, codes, IfOk,
 ghost use Rattle.std.specs.Fmt.{decimal};
 ghost use Rattle.chi_tool.specs.Syntax.{place_of_token, token_text};
 ghost use Rattle.chi_tool.specs.Reported.{report_in};
-ghost use Rattle.chi_tool.specs.Report.{refused};
+ghost use Rattle.chi_tool.specs.Refusals.{refused};
 
 use crate::refusal::refused_at;
 use crate::report::Reported;
+use crate::status::SYNTAX;
 use chi_base::NoMemory;
 use chi_lex::{MOST_BYTES, end_place};
 use chi_token::{Place, Spanned};
 use std::alloc::Global;
-
-/// The status of a source whose tokens are no program.
-const SYNTAX: u8 = 21;
 
 /// The place of the token of this index, or of the source's end where there is none.
 fn place_of_token(source: &[u8], tokens: &[Spanned], index: u32) -> Place

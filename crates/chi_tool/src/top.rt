@@ -3,14 +3,12 @@ ghost use Rattle.chi_tool.specs.Call.{Call, sink_use, shelf_use};
 ghost use Rattle.chi_tool.specs.Headline.{Headline, Causes, IsComplete};
 
 use crate::deliver::deliver;
-use crate::laws::report_law;
+use crate::laws::{one_run_law, report_law};
 use crate::serve::serve;
+use crate::status::NO_REQUEST;
 use crate::words::asked_file;
 use chi_io::{Shelf, Sink};
 use std::alloc::Global;
-
-/// The status where the words are no request.
-const NO_REQUEST: u8 = 3;
 
 /// Does what the words ask for, and answers the status. `words` are those of the command line without
 /// the program's name.
@@ -50,6 +48,7 @@ pub fn chi<H: Shelf, O: Sink, L: Sink>(
     }) }
 {
     report_law();
+    one_run_law();
     match asked_file(words) {
         Some(file) => serve(alloc, file.as_bytes(), shelf, out, log),
         None => deliver(

@@ -1,0 +1,8 @@
+//! Policies: which choice is picked at each question of a run.
+#![tactic(auto)]
+
+mod chooser;
+mod formulas;
+
+pub use chooser::Chooser;
+pub use formulas::{First, Last, Spread, first_of, last_of, spread_of};

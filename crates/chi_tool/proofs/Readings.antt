@@ -1,0 +1,61 @@
+-- What a source comes to, by what the lexer and the parser answer.
+use Rattle.std.proofs.Common.{◌≡◌, ℕ, List, Result, Ok, Err, subst}
+use Rattle.std.specs.Prelude.{IfOk, codes}
+use Rattle.chi_base.specs.declared.no_memory.NoMemory.{NoMemory}
+use Rattle.chi_token.specs.declared.place.Place.{Place}
+use Rattle.chi_token.specs.declared.place.Spanned.{Spanned}
+use Rattle.chi_lex.specs.declared.fault.LexFault.{LexFault}
+use Rattle.chi_lex.specs.declared.fault.LexFault.TheVariants.{BadByte, OpenString, BadEscape}
+use Rattle.chi_lex.specs.Reading.{Reads, IsFaultOf}
+use Rattle.chi_grammar.specs.declared.fault.ParseFault.{ParseFault}
+use Rattle.chi_grammar.specs.declared.fault.ParseFault.TheVariants.{Syntax, TooDeep}
+use Rattle.chi_grammar.specs.Rules.{part}
+use Rattle.chi_grammar.specs.Exact.{ParsesAll}
+use Rattle.chi_grammar_laws.specs.Answers.{IsFault, IsDepth}
+use Rattle.chi_tree.specs.Limits.{whole_room}
+use Rattle.chi_tree.specs.Parts as s
+use Rattle.chi_tree.specs.Rules.{grammar}
+use Rattle.chi_tree.specs.Statements.{program_of}
+use Rattle.chi_tree.specs.declared.definition.Program as tree
+use Rattle.chi_tool.specs.declared.report.Reported.{Reported}
+use Rattle.chi_tool.specs.declared.source.Source.{Source}
+use Rattle.chi_tool.specs.declared.source.Source.TheVariants.{Refused, Program}
+use Rattle.chi_tool.specs.Readings.{IsReadAs, IsRefusal}
+use Rattle.chi_tool.specs.Refusals.{refused}
+use Rattle.chi_tool.specs.Reported.{report_in}
+use Rattle.chi_tool.specs.Sources.{IsRefused, by_lexer, by_parser}
+use Rattle.chi_tool.specs.Syntax.{placed, syntax_text}
+
+module _ (source : List ℕ) where
+  pub bad_byte : (fault : LexFault) (place : Place) (result : Result Source NoMemory) → fault ≡ BadByte place → IsFaultOf source fault
+      → IfOk result (λ it. IsRefusal it (refused 20 (placed place (codes "bad byte")))) → IfOk result (IsReadAs source)
+  bad_byte fault place (Ok (Refused r)) e has is = by_lexer (BadByte place) (subst (λ f. IsFaultOf source f) e has) is
+  bad_byte fault place (Ok (Program core)) e has is = absurd is
+  bad_byte fault place (Err lost) e has is = tt
+
+  pub open_string : (fault : LexFault) (place : Place) (result : Result Source NoMemory) → fault ≡ OpenString place → IsFaultOf source fault
+      → IfOk result (λ it. IsRefusal it (refused 20 (placed place (codes "open string")))) → IfOk result (IsReadAs source)
+  open_string fault place (Ok (Refused r)) e has is = by_lexer (OpenString place) (subst (λ f. IsFaultOf source f) e has) is
+  open_string fault place (Ok (Program core)) e has is = absurd is
+  open_string fault place (Err lost) e has is = tt
+
+  pub bad_escape : (fault : LexFault) (place : Place) (result : Result Source NoMemory) → fault ≡ BadEscape place → IsFaultOf source fault
+      → IfOk result (λ it. IsRefusal it (refused 20 (placed place (codes "bad escape")))) → IfOk result (IsReadAs source)
+  bad_escape fault place (Ok (Refused r)) e has is = by_lexer (BadEscape place) (subst (λ f. IsFaultOf source f) e has) is
+  bad_escape fault place (Ok (Program core)) e has is = absurd is
+  bad_escape fault place (Err lost) e has is = tt
+
+-- what the parser answers, but for want of memory
+abbrev Parsed : List Spanned → Result tree.Program ParseFault → Type 0
+Parsed tokens result = ParsesAll grammar tokens program_of whole_room (part s.Program) result
+
+module _ (source : List ℕ) (tokens : List Spanned) where
+  pub syntax_refused : (fault : ParseFault) (k : ℕ) (r : Reported) → (Parsed tokens (Err (Syntax k)) → IsFault tokens k) → Reads source tokens
+      → fault ≡ Syntax k → Parsed tokens (Err fault) → report_in r ≡ refused 21 (syntax_text source tokens (Syntax k)) → IsRefused source (report_in r)
+  syntax_refused fault k r named reads e has is =
+      by_parser tokens (Syntax k) (record { read = reads; has = named (subst (λ f. Parsed tokens (Err f)) e has) }) is
+
+  pub too_deep_refused : (fault : ParseFault) (k : ℕ) (r : Reported) → (Parsed tokens (Err (TooDeep k)) → IsDepth tokens k) → Reads source tokens
+      → fault ≡ TooDeep k → Parsed tokens (Err fault) → report_in r ≡ refused 21 (syntax_text source tokens (TooDeep k)) → IsRefused source (report_in r)
+  too_deep_refused fault k r named reads e has is =
+      by_parser tokens (TooDeep k) (record { read = reads; has = named (subst (λ f. Parsed tokens (Err f)) e has) }) is

@@ -1,0 +1,173 @@
+-- When each status comes of a call, by how it was served.
+use Rattle.std.proofs.Common.{◌≡◌, ◌≢◌, ℕ, ◌<◌, ◌≤◌, true, false, List, Option, Some, None, length, ◌⊎◌, inl, inr, sym, ◌∙◌, subst, arith}
+use Rattle.std.specs.Prelude.{IsSomeAnd}
+use Rattle.chi_io.specs.Shelf.{Files}
+use Rattle.chi_lex.specs.declared.lexer.TheConstants.{MOST_BYTES}
+use Rattle.chi_tool.specs.Call.{Call, SinkUse}
+use Rattle.chi_tool.specs.Delivery.{Delivers, whole, out_broke, log_broke, DeliversReport, Serves, reported, missing, long, failed, lost}
+use Rattle.chi_tool.specs.Headline.{IsUnfit, CannotBeRead, IsExactly, StoppedByFailure, Causes, IsComplete}
+use Rattle.chi_tool.specs.Refusals.{Report, usage}
+use Rattle.chi_tool.specs.Report.{IsReportOfSource, refused, run}
+use Rattle.chi_tool.specs.Settings.{plain_settings}
+use Rattle.chi_tool.specs.Sources.{by_lexer, by_parser, by_form}
+use Rattle.chi_tool.specs.Words.{Request, Sim, request_of}
+use Rattle.chi_tool.proofs.Causes.{status_ap, completed_exactly, exit_exactly, deadlock_exactly, fault_exactly, out_of_steps_exactly, stopped_exactly, lexical_exactly, syntax_exactly, unbuilt_exactly, ends_complete}
+use Rattle.chi_tool.proofs.LawClauses.{RunLaw, ReportLaw}
+use Rattle.chi_tool.proofs.Promises.{MeetsOne, where_told, served_told, usage_told, goes_stopped, not_none}
+use Rattle.chi_tool.proofs.Verdicts.{status_bound}
+
+-- the status of a source's report is none of the refusals around it
+record IsOfSource (n : ℕ) : Type 0 where
+  pub is_request : n ≢ 3
+  pub is_read : n ≢ 4
+  pub is_written : n ≢ 5
+
+of_source : (n m : ℕ) → n ≡ m → (m ≡ 0) ⊎ (10 ≤ m) → IsOfSource n
+of_source n m e (inl z) = record { is_request = λ h. omega arith; is_read = λ h. omega arith; is_written = λ h. omega arith }
+of_source n m e (inr low) = record { is_request = λ h. omega arith; is_read = λ h. omega arith; is_written = λ h. omega arith }
+
+source_status : (source : List ℕ) (r : Report) → IsReportOfSource source plain_settings r → IsOfSource r.status
+source_status source r (refused (by_lexer fault has e)) = of_source r.status 20 (status_ap r _ e) (inr (omega arith))
+source_status source r (refused (by_parser tokens fault has e)) = of_source r.status 21 (status_ap r _ e) (inr (omega arith))
+source_status source r (refused (by_form has e)) = of_source r.status 22 (status_ap r _ e) (inr (omega arith))
+source_status source r (run core comes of) = of_source r.status _ (status_ap r _ of.is) (low (status_bound of.told.ending.verdict))
+  where
+    low : {m : ℕ} → (m ≡ 0) ⊎ ((10 ≤ m) × (m ≤ 14)) → (m ≡ 0) ⊎ (10 ≤ m)
+    low (inl z) = inl z
+    low (inr b) = inr b.0
+
+-- a status that a delivery doesn't have by itself tells which of the sinks broke off
+delivered_status : (status n : ℕ) (output lines : List ℕ) (result : ℕ) (out log : SinkUse) → status ≢ n → n ≢ 5
+    → Delivers status output lines result out log → result ≡ n → ⊥
+delivered_status status n output lines result out log a b (whole s o l) is = a (sym s ∙ is)
+delivered_status status n output lines result out log a b (out_broke s o l) is = b (sym is ∙ s)
+delivered_status status n output lines result out log a b (log_broke s o l) is = b (sym is ∙ s)
+
+-- status 5 comes exactly where a sink is stopped, and each sink's count rose where it is
+record Breaks (result : ℕ) (out log : SinkUse) : Type 0 where
+  pub stops : result ≡ 5 → (out.stopped ≡ true) ⊎ (log.stopped ≡ true)
+  pub tells : (out.stopped ≡ true) ⊎ (log.stopped ≡ true) → result ≡ 5
+  pub out_failed : StoppedByFailure out
+  pub log_failed : StoppedByFailure log
+
+both_go : (out log : SinkUse) → out.stopped ≡ false → log.stopped ≡ false → (out.stopped ≡ true) ⊎ (log.stopped ≡ true) → ⊥
+both_go out log o l (inl stopped) = goes_stopped out o stopped
+both_go out log o l (inr stopped) = goes_stopped log l stopped
+
+unbroken : (result : ℕ) (out log : SinkUse) → result ≢ 5 → out.stopped ≡ false → log.stopped ≡ false → Breaks result out log
+unbroken result out log other o l = record {
+  stops = λ is. absurd (other is);
+  tells = λ stopped. absurd (both_go out log o l stopped);
+  out_failed = λ stopped. absurd (goes_stopped out o stopped);
+  log_failed = λ stopped. absurd (goes_stopped log l stopped);
+}
+
+delivered_breaks : (status : ℕ) (output lines : List ℕ) (result : ℕ) (out log : SinkUse) → status ≢ 5
+    → Delivers status output lines result out log → Breaks result out log
+delivered_breaks status output lines result out log other (whole s o l) = unbroken result out log (λ is. other (sym s ∙ is)) o.goes l.goes
+delivered_breaks status output lines result out log other (out_broke s o l) = record {
+  stops = λ is. inl o.stopped;
+  tells = λ stopped. s;
+  out_failed = λ stopped. o.rose;
+  log_failed = λ stopped. absurd (goes_stopped log l.goes stopped);
+}
+delivered_breaks status output lines result out log other (log_broke s o l) = record {
+  stops = λ is. inr l.stopped;
+  tells = λ stopped. s;
+  out_failed = λ stopped. absurd (goes_stopped out o.goes stopped);
+  log_failed = λ stopped. l.rose;
+}
+
+served_breaks : (call : Call) (name : List ℕ) → Serves name call.shelf call.status call.out call.log → Breaks call.status call.out call.log
+served_breaks call name (reported source within is r of d) = delivered_breaks _ _ _ _ call.out call.log (source_status source r of).is_written d
+served_breaks call name (missing cause d) = delivered_breaks _ _ _ _ call.out call.log (λ e. omega arith) d
+served_breaks call name (long cause d) = delivered_breaks _ _ _ _ call.out call.log (λ e. omega arith) d
+served_breaks call name (failed rose status out log) = unbroken _ call.out call.log (λ is. omega arith) out.goes log.goes
+served_breaks call name (lost status out log) = unbroken _ call.out call.log (λ is. omega arith) out.goes log.goes
+
+served_request : (call : Call) (name : List ℕ) → Serves name call.shelf call.status call.out call.log → call.status ≢ 3
+served_request call name (reported source within is r of d) e =
+    delivered_status _ 3 _ _ _ call.out call.log (source_status source r of).is_request (λ h. omega arith) d e
+served_request call name (missing cause d) e = delivered_status _ 3 _ _ _ call.out call.log (λ h. omega arith) (λ h. omega arith) d e
+served_request call name (long cause d) e = delivered_status _ 3 _ _ _ call.out call.log (λ h. omega arith) (λ h. omega arith) d e
+served_request call name (failed rose status out log) e = omega arith
+served_request call name (lost status out log) e = omega arith
+
+unfit_missing : (name : List ℕ) (o : Option Files) → IsSomeAnd o (λ f. f name ≡ None) → IsSomeAnd o (λ f. IsUnfit (f name))
+unfit_missing name None h = h
+unfit_missing name (Some files) h = let P : Option (List ℕ) → Type 0 = IsUnfit in subst P (sym h) tt
+
+unfit_long : (name : List ℕ) (o : Option Files) → IsSomeAnd o (λ f. IsSomeAnd (f name) (λ source. MOST_BYTES < length source))
+    → IsSomeAnd o (λ f. IsUnfit (f name))
+unfit_long name None h = h
+unfit_long name (Some files) h = by_file (files name) h
+  where
+    by_file : (o : Option (List ℕ)) → IsSomeAnd o (λ source. MOST_BYTES < length source) → IsUnfit o
+    by_file None e = absurd e
+    by_file (Some source) e = e
+
+served_unread : (call : Call) (name : List ℕ) → Serves name call.shelf call.status call.out call.log → call.status ≡ 4
+    → CannotBeRead call.shelf (Some (Sim name))
+served_unread call name (reported source within is r of d) e =
+    absurd (delivered_status _ 4 _ _ _ call.out call.log (source_status source r of).is_read (λ h. omega arith) d e)
+served_unread call name (missing (inl lacks) d) e = inr (unfit_missing name call.shelf.files lacks)
+served_unread call name (missing (inr rose) d) e = inl rose
+served_unread call name (long (inl exceeds) d) e = inr (unfit_long name call.shelf.files exceeds)
+served_unread call name (long (inr rose) d) e = inl rose
+served_unread call name (failed rose status out log) e = inl rose
+served_unread call name (lost status out log) e = absurd (omega arith)
+
+-- the parts of the causes that rest on how the call was served
+module _ (law : ReportLaw) (call : Call) (told : (files : Files) → call.shelf.files ≡ Some files → MeetsOne call files) where
+  causes : Breaks call.status call.out call.log
+      → (call.out.stopped ≡ false → call.log.stopped ≡ false → IsExactly call 3 (request_of call.words ≡ None))
+      → (call.status ≡ 4 → CannotBeRead call.shelf (request_of call.words)) → Causes call
+  causes breaks request unread = record {
+    completed = where_told call.shelf.files (λ files is none. completed_exactly law call files (told files is) none);
+    exit = where_told call.shelf.files (λ files is none. exit_exactly law call files (told files is) none);
+    deadlock = where_told call.shelf.files (λ files is none. deadlock_exactly law call files (told files is) none);
+    fault = where_told call.shelf.files (λ files is none. fault_exactly law call files (told files is) none);
+    out_of_steps = where_told call.shelf.files (λ files is none. out_of_steps_exactly law call files (told files is) none);
+    stopped = where_told call.shelf.files (λ files is none. stopped_exactly law call files (told files is) none);
+    lexical = where_told call.shelf.files (λ files is none. lexical_exactly law call files (told files is) none);
+    syntax = where_told call.shelf.files (λ files is none. syntax_exactly law call files (told files is) none);
+    not_built = where_told call.shelf.files (λ files is none. unbuilt_exactly law call files (told files is) none);
+    no_request = request;
+    not_read = unread;
+    not_written = (breaks.stops, breaks.tells);
+    out_failed = breaks.out_failed;
+    log_failed = breaks.log_failed;
+  }
+
+  complete : RunLaw → IsComplete call
+  complete runs =
+      where_told call.shelf.files (λ files is none source asked core comes. ends_complete law call files (told files is) none runs source asked core comes)
+
+pub served-causes : ReportLaw → (call : Call) (name : List ℕ) → request_of call.words ≡ Some (Sim name)
+    → Serves name call.shelf call.status call.out call.log → Causes call
+served-causes law call name asked s =
+    causes law call (λ files told. served_told law call name files asked told s) (served_breaks call name s)
+    (λ out log. ((λ is. absurd (served_request call name s is)), λ none. absurd (not_none (request_of call.words) (Sim name) asked none)))
+    (λ is. let P : Option Request → Type 0 = CannotBeRead call.shelf in subst P (sym asked) (served_unread call name s is))
+
+pub served-complete : RunLaw → ReportLaw → (call : Call) (name : List ℕ) → request_of call.words ≡ Some (Sim name)
+    → Serves name call.shelf call.status call.out call.log → IsComplete call
+served-complete runs law call name asked s = complete law call (λ files told. served_told law call name files asked told s) runs
+
+usage_exactly : (call : Call) → request_of call.words ≡ None → DeliversReport usage call.status call.out call.log
+    → call.out.stopped ≡ false → call.log.stopped ≡ false → IsExactly call 3 (request_of call.words ≡ None)
+usage_exactly call none (whole s o l) out log = ((λ is. none), λ h. inl s)
+usage_exactly call none (out_broke s o l) out log = absurd (goes_stopped call.out out o.stopped)
+usage_exactly call none (log_broke s o l) out log = absurd (goes_stopped call.log log l.stopped)
+
+usage_unread : (call : Call) → DeliversReport usage call.status call.out call.log → call.status ≡ 4
+    → CannotBeRead call.shelf (request_of call.words)
+usage_unread call d is = absurd (delivered_status _ 4 _ _ _ call.out call.log (λ h. omega arith) (λ h. omega arith) d is)
+
+pub usage-causes : ReportLaw → (call : Call) → request_of call.words ≡ None → DeliversReport usage call.status call.out call.log → Causes call
+usage-causes law call none d =
+    causes law call (λ files told. usage_told call files none d) (delivered_breaks _ _ _ _ call.out call.log (λ e. omega arith) d)
+    (usage_exactly call none d) (usage_unread call d)
+
+pub usage-complete : RunLaw → ReportLaw → (call : Call) → request_of call.words ≡ None → DeliversReport usage call.status call.out call.log → IsComplete call
+usage-complete runs law call none d = complete law call (λ files told. usage_told call files none d) runs

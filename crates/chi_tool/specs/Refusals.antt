@@ -1,0 +1,46 @@
+-- Reports, and those that are nothing but the line of a refusal.
+use Rattle.std.specs.Prelude.{ℕ, List, [], ◌∷◌, ◌++◌, codes}
+use Rattle.chi_token.specs.declared.place.Spanned.{Spanned}
+use Rattle.chi_lex.specs.declared.fault.LexFault.{LexFault}
+use Rattle.chi_lex.specs.declared.fault.LexFault.TheVariants as fault
+use Rattle.chi_grammar.specs.declared.fault.ParseFault.{ParseFault}
+use Rattle.chi_tool.specs.Statuses as statuses
+use Rattle.chi_tool.specs.Syntax.{placed, syntax_text}
+
+-- the status, and what is written to the output and to the log
+pub record Report : Type 0 where
+  pub status : ℕ
+  pub out : List ℕ
+  pub log : List ℕ
+
+abbrev pub line : List ℕ → List ℕ
+line text = text ++ 10 ∷ []
+
+-- nothing but one line, in the log
+abbrev pub refused : ℕ → List ℕ → Report
+refused status text = record { status = status; out = []; log = line text }
+
+abbrev pub usage : Report
+usage = refused statuses.no_request (codes "usage: chi COMMAND [OPTIONS] FILE [ARGS]")
+
+abbrev pub no_such_file : Report
+no_such_file = refused statuses.not_read (codes "no such file")
+
+abbrev pub file_too_long : Report
+file_too_long = refused statuses.not_read (codes "file too long")
+
+-- the line of a fault of a source's reading, of which want of memory is none
+abbrev pub lexical_text : LexFault → List ℕ
+lexical_text (fault.BadByte place) = placed place (codes "bad byte")
+lexical_text (fault.OpenString place) = placed place (codes "open string")
+lexical_text (fault.BadEscape place) = placed place (codes "bad escape")
+lexical_text fault.NoMemory = []
+
+abbrev pub lexical : LexFault → Report
+lexical fault = refused statuses.lexical (lexical_text fault)
+
+abbrev pub syntax : List ℕ → List Spanned → ParseFault → Report
+syntax source tokens fault = refused statuses.syntax (syntax_text source tokens fault)
+
+abbrev pub not_built : Report
+not_built = refused statuses.not_built (codes "form not built")

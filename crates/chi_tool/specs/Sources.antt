@@ -1,0 +1,42 @@
+-- What a source comes to: it is refused with its first fault, or it is a program that can be run.
+use Rattle.std.specs.Prelude.{◌≡◌, ℕ, List, Some, None}
+use Rattle.chi_token.specs.declared.place.Spanned.{Spanned}
+use Rattle.chi_lex.specs.declared.fault.LexFault.{LexFault}
+use Rattle.chi_lex.specs.Reading.{Reads}
+use Rattle.chi_lex.specs.Reading as lexical
+use Rattle.chi_grammar.specs.declared.fault.ParseFault.{ParseFault}
+use Rattle.chi_tree.specs.declared.definition.Program.{Program}
+use Rattle.chi_form.specs.Form.{built}
+use Rattle.chi_core.specs.declared.program.Core.{Core}
+use Rattle.chi_tool.specs.Refusals as refusal
+use Rattle.chi_tool.specs.Refusals.{Report}
+use Rattle.chi_tool.specs.Syntax.{HasTree, HasFault}
+
+-- the source is this program, as it is written
+pub record IsWritten (source : List ℕ) (tree : Program) : Type 0 where
+  pub tokens : List Spanned
+  pub read : Reads source tokens
+  pub parsed : HasTree tokens tree
+
+-- its tokens are no program: at one of them there is none, or it stands too deep
+pub record IsNoProgram (source : List ℕ) (tokens : List Spanned) (fault : ParseFault) : Type 0 where
+  pub read : Reads source tokens
+  pub has : HasFault tokens fault
+
+-- it is a program whose form isn't built yet
+pub record IsNotBuilt (source : List ℕ) : Type 0 where
+  pub tree : Program
+  pub written : IsWritten source tree
+  pub unbuilt : built tree ≡ None
+
+-- a source is refused with its first fault
+pub data IsRefused (source : List ℕ) (r : Report) : Type 0 where
+  by_lexer : (fault : LexFault) → lexical.HasFault source fault → r ≡ refusal.lexical fault → IsRefused source r
+  by_parser : (tokens : List Spanned) (fault : ParseFault) → IsNoProgram source tokens fault → r ≡ refusal.syntax source tokens fault → IsRefused source r
+  by_form : IsNotBuilt source → r ≡ refusal.not_built → IsRefused source r
+
+-- or it comes to a program that can be run
+pub record ComesTo (source : List ℕ) (core : Core) : Type 0 where
+  pub tree : Program
+  pub written : IsWritten source tree
+  pub built : built tree ≡ Some core

@@ -1,0 +1,70 @@
+-- The statuses with which the program ends.
+use Rattle.std.specs.Prelude.{ℕ}
+use Rattle.chi_core.specs.declared.verdict.Verdict.{Verdict}
+use Rattle.chi_core.specs.declared.verdict.Verdict.TheVariants as verdict
+
+-- a run has ended by itself
+
+abbrev pub completed : ℕ
+completed = 0
+
+abbrev pub exited : ℕ
+exited = 10
+
+abbrev pub deadlocked : ℕ
+deadlocked = 11
+
+abbrev pub faulted : ℕ
+faulted = 12
+
+-- or was cut off
+
+abbrev pub out_of_steps : ℕ
+out_of_steps = 13
+
+abbrev pub stopped : ℕ
+stopped = 14
+
+-- the status of a run, by its verdict
+abbrev pub status_of : Verdict → ℕ
+status_of verdict.Completed = completed
+status_of (verdict.Exit v) = exited
+status_of verdict.Deadlock = deadlocked
+status_of (verdict.Fault kind name line) = faulted
+status_of verdict.OutOfSteps = out_of_steps
+status_of verdict.Stopped = stopped
+
+-- there is none: the words are no request
+
+abbrev pub no_request : ℕ
+no_request = 3
+
+-- the file can't be read
+
+abbrev pub not_read : ℕ
+not_read = 4
+
+-- the source has a lexical fault
+
+abbrev pub lexical : ℕ
+lexical = 20
+
+-- its tokens are no program
+
+abbrev pub syntax : ℕ
+syntax = 21
+
+-- the program's form isn't built yet
+
+abbrev pub not_built : ℕ
+not_built = 22
+
+-- or the report isn't delivered: a sink failed
+
+abbrev pub not_written : ℕ
+not_written = 5
+
+-- or memory is wanting
+
+abbrev pub no_memory : ℕ
+no_memory = 6

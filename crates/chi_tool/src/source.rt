@@ -1,0 +1,79 @@
+ghost use Rattle.std.specs.Prelude.{◌≡◌, ◌≤◌, ◌<◌, ◌^◌, IfOk, length};
+ghost use Rattle.chi_tool.specs.Refusals.{refused};
+ghost use Rattle.chi_lex.specs.Reading.{Reads};
+ghost use Rattle.chi_tool.specs.Readings.{IsReadAs, IsRefusal};
+ghost use Rattle.chi_tool.specs.Sources.{IsWritten};
+ghost use Rattle.chi_tool.specs.Syntax.{placed};
+
+use crate::refusal::{refused, refused_at};
+use crate::report::Reported;
+use crate::status::{LEXICAL, NOT_BUILT};
+use crate::syntax::refused_token;
+use chi_base::NoMemory;
+use chi_core::Core;
+use chi_form::program_of;
+use chi_grammar::ParseFault;
+use chi_grammar_laws::parsed_law;
+use chi_lex::{LexFault, MOST_BYTES, lex};
+use chi_parse::parse;
+use chi_token::{Place, Spanned};
+use chi_tree::Program;
+use std::alloc::Global;
+
+/// What a source comes to.
+#[derive(Debug, Drop)]
+pub enum Source {
+    Refused(Reported),
+    Program(Core),
+}
+
+/// Reads a source to its end, or to the first rule that it breaks.
+pub fn read(alloc: Global, source: &[u8]) -> Result<Source, NoMemory>
+    requires { length source.now ≤ MOST_BYTES }
+    ensures { IfOk result (IsReadAs source.now) }
+{
+    match lex(alloc, source) {
+        Ok(tokens) => read_tokens(alloc, source, &tokens),
+        Err(LexFault::BadByte(place)) => unreadable(alloc, place, b"bad byte"),
+        Err(LexFault::OpenString(place)) => unreadable(alloc, place, b"open string"),
+        Err(LexFault::BadEscape(place)) => unreadable(alloc, place, b"bad escape"),
+        Err(LexFault::NoMemory) => Err(NoMemory),
+    }
+}
+
+/// The refusal of a source at the place where it can't be read on.
+fn unreadable(alloc: Global, place: Place, what: &[u8]) -> Result<Source, NoMemory>
+    ensures { IfOk result (λ it. IsRefusal it (refused 20 (placed place what.now))) }
+{
+    Ok(Source::Refused(refused_at(alloc, LEXICAL, place, what)?))
+}
+
+fn read_tokens(alloc: Global, source: &[u8], tokens: &[Spanned]) -> Result<Source, NoMemory>
+    requires within { length source.now ≤ MOST_BYTES }
+    requires short { length tokens.now < 2 ^ 32 }
+    requires read { Reads source.now tokens.now }
+    ensures { IfOk result (IsReadAs source.now) }
+{
+    parsed_law();
+    match parse(alloc, tokens) {
+        Ok(tree) => read_tree(alloc, source, &tree),
+        Err(ParseFault::Syntax(index)) => Ok(Source::Refused(refused_token(
+            alloc, source, tokens, "syntax", index,
+        )?)),
+        Err(ParseFault::TooDeep(index)) => Ok(Source::Refused(refused_token(
+            alloc, source, tokens, "too deep", index,
+        )?)),
+        Err(ParseFault::NoMemory) => Err(NoMemory),
+    }
+}
+
+fn read_tree(alloc: Global, source: &[u8], tree: &Program) -> Result<Source, NoMemory>
+    requires { IsWritten source.now tree.now }
+    ensures { IfOk result (IsReadAs source.now) }
+{
+    let _source = source;
+    match program_of(alloc, tree)? {
+        None => Ok(Source::Refused(refused(alloc, NOT_BUILT, b"form not built")?)),
+        Some(core) => Ok(Source::Program(core)),
+    }
+}

@@ -1,0 +1,57 @@
+ghost use Rattle.std.specs.Prelude.{◌≡◌};
+ghost use Rattle.chi_tool.specs.Statuses.{status_of};
+
+use chi_core::Verdict;
+
+/// The run completed.
+const COMPLETED: u8 = 0;
+
+/// The words are no request.
+pub const NO_REQUEST: u8 = 3;
+
+/// The file can't be read.
+pub const NOT_READ: u8 = 4;
+
+/// The output or the log can't be written.
+pub const NOT_WRITTEN: u8 = 5;
+
+/// Memory is wanting.
+pub const NO_MEMORY: u8 = 6;
+
+/// The run ended by an exit.
+const EXITED: u8 = 10;
+
+/// Nothing can happen any more in the run, and an instance hasn't finished.
+const DEADLOCKED: u8 = 11;
+
+/// The run ended by a fault.
+const FAULTED: u8 = 12;
+
+/// The run's next step costs more than is left of the bound.
+const OUT_OF_STEPS: u8 = 13;
+
+/// Nothing can happen in the run before the stopping time has passed.
+const STOPPED: u8 = 14;
+
+/// The source has a lexical fault.
+pub const LEXICAL: u8 = 20;
+
+/// The source's tokens are no program.
+pub const SYNTAX: u8 = 21;
+
+/// The program's form isn't built yet.
+pub const NOT_BUILT: u8 = 22;
+
+/// The status of a run.
+pub fn status_of(verdict: &Verdict) -> u8
+    ensures { result ≡ status_of verdict.now }
+{
+    match verdict {
+        Verdict::Completed => COMPLETED,
+        Verdict::Exit(_) => EXITED,
+        Verdict::Deadlock => DEADLOCKED,
+        Verdict::Fault(_, _, _) => FAULTED,
+        Verdict::OutOfSteps => OUT_OF_STEPS,
+        Verdict::Stopped => STOPPED,
+    }
+}
