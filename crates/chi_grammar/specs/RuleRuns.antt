@@ -16,58 +16,58 @@ pub data Outcome (A S : Type 0) : Type 0 where
 
 module _ {A S : Type 0} (g : Grammar A S) (table : Table S) (tokens : List A) where
   -- reading by the rule from an index on, within the room, ends so
-  pub data Runs : Room → Rule A S → ℕ → Outcome A S → Type 0 where
+  pub data RuleRuns : Room → Rule A S → ℕ → Outcome A S → Type 0 where
     word : {room : Room} {class : ℕ} {i : ℕ} {x : A}
-        → slice_get tokens i ≡ Some x → g.class_of x ≡ class → Runs room (rule.word class) i (Done (leaf x) (suc i))
+        → slice_get tokens i ≡ Some x → g.class_of x ≡ class → RuleRuns room (rule.word class) i (Done (leaf x) (suc i))
     no_word : {room : Room} {class : ℕ} {i : ℕ}
-        → Next g tokens i (class ∷ []) false → Runs room (rule.word class) i (Fail (Syntax i))
+        → Next g tokens i (class ∷ []) false → RuleRuns room (rule.word class) i (Fail (Syntax i))
     part : {room : Room} {s : S} {i j : ℕ} {t : Tree A S}
-        → Runs room (g.rule_of s) i (Done t j) → Runs room (rule.part s) i (Done (node s t) j)
+        → RuleRuns room (g.rule_of s) i (Done t j) → RuleRuns room (rule.part s) i (Done (node s t) j)
     part_fails : {room : Room} {s : S} {i : ℕ} {fault : ParseFault}
-        → Runs room (g.rule_of s) i (Fail fault) → Runs room (rule.part s) i (Fail fault)
+        → RuleRuns room (g.rule_of s) i (Fail fault) → RuleRuns room (rule.part s) i (Fail fault)
     both : {room : Room} {a b : Rule A S} {i j k : ℕ} {t u : Tree A S}
-        → Runs room a i (Done t j) → Runs room b j (Done u k) → Runs room (a ▸ b) i (Done (pair t u) k)
+        → RuleRuns room a i (Done t j) → RuleRuns room b j (Done u k) → RuleRuns room (a ▸ b) i (Done (pair t u) k)
     first_fails : {room : Room} {a b : Rule A S} {i : ℕ} {fault : ParseFault}
-        → Runs room a i (Fail fault) → Runs room (a ▸ b) i (Fail fault)
+        → RuleRuns room a i (Fail fault) → RuleRuns room (a ▸ b) i (Fail fault)
     next_fails : {room : Room} {a b : Rule A S} {i j : ℕ} {t : Tree A S} {fault : ParseFault}
-        → Runs room a i (Done t j) → Runs room b j (Fail fault) → Runs room (a ▸ b) i (Fail fault)
+        → RuleRuns room a i (Done t j) → RuleRuns room b j (Fail fault) → RuleRuns room (a ▸ b) i (Fail fault)
     left : {room : Room} {a b : Rule A S} {i : ℕ} {o : Outcome A S}
-        → Next g tokens i (first table a) true → Runs room a i o → Runs room (a ∣ b) i o
+        → Next g tokens i (first table a) true → RuleRuns room a i o → RuleRuns room (a ∣ b) i o
     right : {room : Room} {a b : Rule A S} {i : ℕ} {o : Outcome A S}
-        → Next g tokens i (first table a) false → Runs room b i o → Runs room (a ∣ b) i o
+        → Next g tokens i (first table a) false → RuleRuns room b i o → RuleRuns room (a ∣ b) i o
     once : {room : Room} {a : Rule A S} {i : ℕ} {o : Outcome A S}
-        → Next g tokens i (first table a) true → Runs room a i o → Runs room (maybe a) i o
+        → Next g tokens i (first table a) true → RuleRuns room a i o → RuleRuns room (maybe a) i o
     never : {room : Room} {a : Rule A S} {i : ℕ}
-        → Next g tokens i (first table a) false → Runs room (maybe a) i (Done none i)
+        → Next g tokens i (first table a) false → RuleRuns room (maybe a) i (Done none i)
     more : {room : Room} {a : Rule A S} {i j k : ℕ} {t u : Tree A S}
-        → Next g tokens i (first table a) true → Runs room a i (Done t j) → Runs room (many a) j (Done u k)
-        → Runs room (many a) i (Done (pair t u) k)
+        → Next g tokens i (first table a) true → RuleRuns room a i (Done t j) → RuleRuns room (many a) j (Done u k)
+        → RuleRuns room (many a) i (Done (pair t u) k)
     item_fails : {room : Room} {a : Rule A S} {i : ℕ} {fault : ParseFault}
-        → Next g tokens i (first table a) true → Runs room a i (Fail fault) → Runs room (many a) i (Fail fault)
+        → Next g tokens i (first table a) true → RuleRuns room a i (Fail fault) → RuleRuns room (many a) i (Fail fault)
     rest_fails : {room : Room} {a : Rule A S} {i j : ℕ} {t : Tree A S} {fault : ParseFault}
-        → Next g tokens i (first table a) true → Runs room a i (Done t j) → Runs room (many a) j (Fail fault)
-        → Runs room (many a) i (Fail fault)
+        → Next g tokens i (first table a) true → RuleRuns room a i (Done t j) → RuleRuns room (many a) j (Fail fault)
+        → RuleRuns room (many a) i (Fail fault)
     enough : {room : Room} {a : Rule A S} {i : ℕ}
-        → Next g tokens i (first table a) false → Runs room (many a) i (Done none i)
+        → Next g tokens i (first table a) false → RuleRuns room (many a) i (Done none i)
     deeper : {room inner : Room} {nesting : Nesting} {a : Rule A S} {i : ℕ} {o : Outcome A S}
-        → IsInside nesting room inner → Runs inner a i o → Runs room (rule.deeper nesting a) i o
+        → IsInside nesting room inner → RuleRuns inner a i o → RuleRuns room (rule.deeper nesting a) i o
     too_deep : {room : Room} {nesting : Nesting} {a : Rule A S} {i : ℕ}
-        → IsFull nesting room → Next g tokens i (first table a) true → Runs room (rule.deeper nesting a) i (Fail (TooDeep i))
+        → IsFull nesting room → Next g tokens i (first table a) true → RuleRuns room (rule.deeper nesting a) i (Fail (TooDeep i))
     not_deeper : {room : Room} {nesting : Nesting} {a : Rule A S} {i : ℕ}
-        → IsFull nesting room → Next g tokens i (first table a) false → Runs room (rule.deeper nesting a) i (Fail (Syntax i))
+        → IsFull nesting room → Next g tokens i (first table a) false → RuleRuns room (rule.deeper nesting a) i (Fail (Syntax i))
     chosen : {room : Room} {a b c : Rule A S} {test : Tree A S → Bool} {i j k : ℕ} {t u : Tree A S}
-        → Runs room a i (Done t j) → test t ≡ true → Runs room b j (Done u k)
-        → Runs room (when a test b c) i (Done (pair t u) k)
+        → RuleRuns room a i (Done t j) → test t ≡ true → RuleRuns room b j (Done u k)
+        → RuleRuns room (when a test b c) i (Done (pair t u) k)
     otherwise : {room : Room} {a b c : Rule A S} {test : Tree A S → Bool} {i j k : ℕ} {t u : Tree A S}
-        → Runs room a i (Done t j) → test t ≡ false → Runs room c j (Done u k)
-        → Runs room (when a test b c) i (Done (pair t u) k)
+        → RuleRuns room a i (Done t j) → test t ≡ false → RuleRuns room c j (Done u k)
+        → RuleRuns room (when a test b c) i (Done (pair t u) k)
     test_fails : {room : Room} {a b c : Rule A S} {test : Tree A S → Bool} {i : ℕ} {fault : ParseFault}
-        → Runs room a i (Fail fault) → Runs room (when a test b c) i (Fail fault)
+        → RuleRuns room a i (Fail fault) → RuleRuns room (when a test b c) i (Fail fault)
     chosen_fails : {room : Room} {a b c : Rule A S} {test : Tree A S → Bool} {i j : ℕ} {t : Tree A S} {fault : ParseFault}
-        → Runs room a i (Done t j) → test t ≡ true → Runs room b j (Fail fault)
-        → Runs room (when a test b c) i (Fail fault)
+        → RuleRuns room a i (Done t j) → test t ≡ true → RuleRuns room b j (Fail fault)
+        → RuleRuns room (when a test b c) i (Fail fault)
     otherwise_fails : {room : Room} {a b c : Rule A S} {test : Tree A S → Bool} {i j : ℕ} {t : Tree A S} {fault : ParseFault}
-        → Runs room a i (Done t j) → test t ≡ false → Runs room c j (Fail fault)
-        → Runs room (when a test b c) i (Fail fault)
+        → RuleRuns room a i (Done t j) → test t ≡ false → RuleRuns room c j (Fail fault)
+        → RuleRuns room (when a test b c) i (Fail fault)
     -- memory may be wanting anywhere
-    no_memory : {room : Room} {r : Rule A S} {i : ℕ} → Runs room r i (Fail NoMemory)
+    no_memory : {room : Room} {r : Rule A S} {i : ℕ} → RuleRuns room r i (Fail NoMemory)

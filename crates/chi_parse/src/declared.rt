@@ -9,7 +9,7 @@ ghost use Rattle.chi_tree.specs.Statements.{initial_of, more_variables_of, varia
 
 use chi_base::Items;
 use chi_grammar::{ParseFault, Room};
-use chi_look::{begins, take, take_name};
+use chi_look::{is_next, take, take_name};
 use chi_parse_expr::expr;
 use chi_token::{Sign, Spanned};
 use chi_tree::{Class, Initial, Variable};
@@ -25,7 +25,7 @@ fn initial(
     requires inside { at ≤ length tokens.now }
     ensures { Reads grammar table tokens.now initial_of room (maybe (part s.Initial)) at result }
 {
-    if !begins(tokens, at, &[Class::Sign(Sign::Assign)]) {
+    if !is_next(tokens, at, &[Class::Sign(Sign::Assign)]) {
         return Ok((None, at));
     }
     let (sign, start) = take(tokens, at, Class::Sign(Sign::Assign))?;
@@ -67,7 +67,7 @@ fn more_variables(
     let mut variables = Vec::new(alloc);
     variables.push(first)?;
     let mut end = at;
-    'turn: while begins(tokens, end, &[Class::Sign(Sign::Comma)]) {
+    'turn: while is_next(tokens, end, &[Class::Sign(Sign::Comma)]) {
         let (_, after) = take(tokens, end, Class::Sign(Sign::Comma))?;
         let (next, stop) = variable(alloc, tokens, after, room)?;
         variables.push(next)?;

@@ -11,14 +11,14 @@ ghost use Rattle.chi_tree.specs.Statements.{as_target, is_some, is_step_in, name
 use crate::communications::{communication, communication_end, delay};
 use chi_base::{Items, NoMemory};
 use chi_grammar::{ParseFault, Room};
-use chi_look::{begins, take};
+use chi_look::{is_next, take};
 use chi_parse_expr::expr;
 use chi_token::{Keyword, Sign, Spanned};
 use chi_tree::{Class, Communication, Expr, Postfix, Target};
 use std::alloc::Global;
 
 /// A guard, where there is one, and a communication.
-type Offer = (Option<Expr>, Communication);
+pub type Offer = (Option<Expr>, Communication);
 
 /// Whether an expression is a name alone.
 fn is_named(e: &Expr) -> bool
@@ -97,7 +97,7 @@ fn offered(
     requires target { is_some (as_target first) ≡ true }
     ensures { Reads grammar table tokens.now (offered first) room (part s.Offered) at result }
 {
-    if begins(tokens, at, &[Class::Sign(Sign::Comma)]) {
+    if is_next(tokens, at, &[Class::Sign(Sign::Comma)]) {
         return guarded(alloc, tokens, at, room, first);
     }
     let target = into_target(alloc, first)?;
@@ -115,7 +115,7 @@ pub fn offer(
     requires inside { at ≤ length tokens.now }
     ensures { Reads grammar table tokens.now offer_of room (part s.Offer) at result }
 {
-    if begins(tokens, at, &[Class::Word(Keyword::DelayWord)]) {
+    if is_next(tokens, at, &[Class::Word(Keyword::DelayWord)]) {
         let (communication, end) = delay(alloc, tokens, at, room)?;
         return Ok(((None, communication), end));
     }
