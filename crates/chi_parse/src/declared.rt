@@ -1,10 +1,11 @@
 ghost use Rattle.std.specs.Prelude.{◌^◌, ◌<◌, ◌≤◌, ◌∷◌, length};
 ghost use Rattle.chi_grammar.specs.Rules.{many, maybe, part, ◌▸◌};
 ghost use Rattle.chi_grammar.specs.Reads.{Reads};
-ghost use Rattle.chi_token.specs.declared.sign.Sign.TheVariants.{Comma};
+ghost use Rattle.chi_token.specs.declared.sign.Sign.TheVariants.{Assign, Comma};
 ghost use Rattle.chi_tree.specs.Parts as s;
 ghost use Rattle.chi_tree.specs.Rules.{grammar, sign};
 ghost use Rattle.chi_tree.specs.Tables.{table};
+ghost use Rattle.chi_parse.specs.Rests.{assigned_of};
 ghost use Rattle.chi_tree.specs.Statements.{initial_of, more_variables_of, variable_of, variables_of};
 
 use chi_base::Items;
@@ -28,13 +29,28 @@ fn initial(
     if !is_next(tokens, at, &[Class::Sign(Sign::Assign)]) {
         return Ok((None, at));
     }
+    let (initial, end) = assigned(alloc, tokens, at, room)?;
+    Ok((Some(initial), end))
+}
+
+/// `=` and the value after it.
+pub fn assigned(
+    alloc: Global,
+    tokens: &[Spanned],
+    at: u32,
+    room: Room,
+) -> Result<(Initial, u32), ParseFault>
+    requires short { length tokens.now < 2 ^ 32 }
+    requires inside { at ≤ length tokens.now }
+    ensures { Reads grammar table tokens.now assigned_of room (sign Assign ▸ part s.Expr) at result }
+{
     let (sign, start) = take(tokens, at, Class::Sign(Sign::Assign))?;
     let (value, end) = expr(alloc, tokens, start, room)?;
     let initial = Initial {
         equals: sign.place,
         value,
     };
-    Ok((Some(initial), end))
+    Ok((initial, end))
 }
 
 fn variable(

@@ -2,21 +2,23 @@ ghost use Rattle.std.specs.Prelude.{◌^◌, ◌<◌, ◌≤◌, length};
 ghost use Rattle.chi_grammar.specs.Rules.{part, ◌▸◌};
 ghost use Rattle.chi_grammar.specs.Reads.{Reads};
 ghost use Rattle.chi_tree.specs.Parts as s;
-ghost use Rattle.chi_tree.specs.Rules.{grammar};
+ghost use Rattle.chi_token.specs.declared.sign.Sign.TheVariants.{Assign, LeftBrace, RightBrace};
+ghost use Rattle.chi_tree.specs.Rules.{grammar, nested, sign};
 ghost use Rattle.chi_tree.specs.Tables.{table};
 ghost use Rattle.chi_tree.specs.Statements.{definition_of, item_of};
-ghost use Rattle.chi_parse.specs.Rests.{callable_of};
+ghost use Rattle.chi_parse.specs.Rests.{callable_of, values_of};
 
 use crate::blocks::body;
+use crate::declared::assigned;
 use crate::formal::{head, parameters};
 use crate::semicolon::optional_semicolon;
 use crate::walks::names;
 use chi_base::Items;
 use chi_grammar::{Nesting, ParseFault, Room};
 use chi_look::{enter, is_next, take, take_name};
-use chi_parse_expr::{any_type, expr};
+use chi_parse_expr::any_type;
 use chi_token::{Keyword, Sign, Spanned};
-use chi_tree::{Block, Class, Definition, Formal, Item};
+use chi_tree::{Block, Class, Definition, Formal, Initial, Item, Name};
 use std::alloc::Global;
 
 /// Formals, and the block in which they are known.
@@ -34,7 +36,29 @@ fn enumeration(
 {
     let (word, start) = take(tokens, at, Class::Word(Keyword::EnumWord))?;
     let (name, middle) = take_name(alloc, tokens, start)?;
-    let (_, from) = take(tokens, middle, Class::Sign(Sign::Assign))?;
+    let (values, end) = values(alloc, tokens, middle, room)?;
+    Ok((
+        Definition::Enum {
+            place: word.place,
+            name,
+            values,
+        },
+        end,
+    ))
+}
+
+/// The values of an enumeration, after `=` and in brackets.
+fn values(
+    alloc: Global,
+    tokens: &[Spanned],
+    at: u32,
+    room: Room,
+) -> Result<(Items<Name>, u32), ParseFault>
+    requires short { length tokens.now < 2 ^ 32 }
+    requires inside { at ≤ length tokens.now }
+    ensures { Reads grammar table tokens.now values_of room (sign Assign ▸ nested (sign LeftBrace ▸ part s.Names ▸ sign RightBrace)) at result }
+{
+    let (_, from) = take(tokens, at, Class::Sign(Sign::Assign))?;
     let inner = enter(
         tokens,
         from,
@@ -45,14 +69,7 @@ fn enumeration(
     let (_, next) = take(tokens, from, Class::Sign(Sign::LeftBrace))?;
     let (names, last) = names(alloc, tokens, next)?;
     let (_, end) = take(tokens, last, Class::Sign(Sign::RightBrace))?;
-    Ok((
-        Definition::Enum {
-            place: word.place,
-            name,
-            values: names,
-        },
-        end,
-    ))
+    Ok((names, end))
 }
 
 fn constant(
@@ -68,14 +85,13 @@ fn constant(
     let (word, start) = take(tokens, at, Class::Word(Keyword::ConstWord))?;
     let (ty, middle) = any_type(alloc, tokens, start, room)?;
     let (name, next) = take_name(alloc, tokens, middle)?;
-    let (sign, from) = take(tokens, next, Class::Sign(Sign::Assign))?;
-    let (value, end) = expr(alloc, tokens, from, room)?;
+    let (Initial { equals, value }, end) = assigned(alloc, tokens, next, room)?;
     Ok((
         Definition::Const {
             place: word.place,
             ty,
             name,
-            equals: sign.place,
+            equals,
             value,
         },
         end,

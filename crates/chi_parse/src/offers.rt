@@ -1,8 +1,10 @@
 ghost use Rattle.std.specs.Prelude.{◌≡◌, ◌^◌, ◌<◌, ◌≤◌, true, IfOk, List, Some, length};
-ghost use Rattle.chi_grammar.specs.Rules.{part};
+ghost use Rattle.chi_grammar.specs.Rules.{part, ◌▸◌};
 ghost use Rattle.chi_grammar.specs.Reads.{Reads};
 ghost use Rattle.chi_tree.specs.Parts as s;
-ghost use Rattle.chi_tree.specs.Rules.{grammar};
+ghost use Rattle.chi_token.specs.declared.sign.Sign.TheVariants.{Comma};
+ghost use Rattle.chi_tree.specs.Rules.{grammar, sign};
+ghost use Rattle.chi_parse.specs.Rests.{guarded_of};
 ghost use Rattle.chi_tree.specs.Tables.{table};
 ghost use Rattle.chi_tree.specs.declared.expr.Expr.{out-Expr};
 ghost use Rattle.chi_tree.specs.declared.expr.Postfix.{Postfix, out-Postfix};
@@ -79,9 +81,23 @@ fn guarded(
     requires inside { at ≤ length tokens.now }
     ensures { Reads grammar table tokens.now (offered guard) room (part s.Guarded) at result }
 {
-    let (_, start) = take(tokens, at, Class::Sign(Sign::Comma))?;
-    let (communication, end) = communication(alloc, tokens, start, room)?;
+    let (communication, end) = after_guard(alloc, tokens, at, room)?;
     Ok(((Some(guard), communication), end))
+}
+
+/// The communication after a guard and its comma.
+fn after_guard(
+    alloc: Global,
+    tokens: &[Spanned],
+    at: u32,
+    room: Room,
+) -> Result<(Communication, u32), ParseFault>
+    requires short { length tokens.now < 2 ^ 32 }
+    requires inside { at ≤ length tokens.now }
+    ensures { Reads grammar table tokens.now guarded_of room (sign Comma ▸ part s.Communication) at result }
+{
+    let (_, start) = take(tokens, at, Class::Sign(Sign::Comma))?;
+    communication(alloc, tokens, start, room)
 }
 
 /// What stands after an expression that is a target: it is a guard, or that of a communication.
