@@ -10,8 +10,8 @@ use Rattle.chi_grammar.specs.Fronts.{Front}
 use Rattle.chi_grammar.specs.Fronts as front
 use Rattle.chi_grammar.specs.Lookahead.{Table, first, going_on, starts_in}
 use Rattle.chi_grammar.specs.Fine.{Fine}
-use Rattle.chi_grammar.specs.Runs.{Outcome, Done, Fail, Runs}
-use Rattle.chi_grammar.specs.Runs as runs
+use Rattle.chi_grammar.specs.RuleRuns.{Outcome, Done, Fail, RuleRuns}
+use Rattle.chi_grammar.specs.RuleRuns as runs
 use Rattle.chi_grammar.proofs.At.{At, here, At-of_none}
 use Rattle.chi_grammar.proofs.Classes.{In}
 use Rattle.chi_grammar.proofs.Decided.{Decided, fine_part}
@@ -147,7 +147,7 @@ module _ {A S : Type 0} (g : Grammar A S) (table : Table S) (fine : Fine g table
 
   -- all rules
 
-  pub means : {room : Room} {r : Rule A S} {i : ℕ} {o : Outcome A S} → Decided table r → Runs g table ts room r i o → Means g ts room r i o
+  pub means : {room : Room} {r : Rule A S} {i : ℕ} {o : Outcome A S} → Decided table r → RuleRuns g table ts room r i o → Means g ts room r i o
   means d (runs.word {room = room} {class = class} {i = i} {x = x} at e) = word_done g table fine ts room class i x at e
   means d (runs.no_word {class = class} h) = blocked g table fine ts {r = rule.word class} d refl h
   means d (runs.part {room = room} {s = s} {i = i} {j = j} {t = t} p) =

@@ -12,8 +12,8 @@ use Rattle.chi_grammar.specs.Rules.{Tree, leaf, node, pair, none, spelling, Rule
 use Rattle.chi_grammar.specs.Rules as rule
 use Rattle.chi_grammar.specs.Lookahead.{Table, Next, may_be_empty, first, starts_in}
 use Rattle.chi_grammar.specs.Fine.{Fine, is_below}
-use Rattle.chi_grammar.specs.Runs.{Outcome, Done, Fail, Runs}
-use Rattle.chi_grammar.specs.Runs as runs
+use Rattle.chi_grammar.specs.RuleRuns.{Outcome, Done, Fail, RuleRuns}
+use Rattle.chi_grammar.specs.RuleRuns as runs
 use Rattle.chi_grammar.proofs.At.{At-ordered, At-inside, At-none}
 use Rattle.chi_grammar.proofs.Classes.{of_one}
 use Rattle.chi_grammar.proofs.Decided.{Decided, fine_part}
@@ -82,8 +82,8 @@ level Expression room = by room.expressions refl
 module _ {A S : Type 0} (g : Grammar A S) (table : Table S) (fine : Fine g table) (ts : List A) where
   -- reading by a rule ends there with a tree, or with a fault that isn't memory's
   pub data Ends (room : Room) (r : Rule A S) (i : ℕ) : Type 0 where
-    done : (t : Tree A S) (j : ℕ) → Runs g table ts room r i (Done t j) → Ends room r i
-    fails : (fault : ParseFault) → OfTokens fault → Runs g table ts room r i (Fail fault) → Ends room r i
+    done : (t : Tree A S) (j : ℕ) → RuleRuns g table ts room r i (Done t j) → Ends room r i
+    fails : (fault : ParseFault) → OfTokens fault → RuleRuns g table ts room r i (Fail fault) → Ends room r i
 
   -- reading by any rule ends, from a later index on
   abbrev Later : ℕ → Type 0
@@ -93,15 +93,15 @@ module _ {A S : Type 0} (g : Grammar A S) (table : Table S) (fine : Fine g table
   abbrev Here : (S → Type 0) → ℕ → Type 0
   Here P i = (room : Room) (s : S) → P s → Ends room (rule.part s) i
 
-  run_longest : {room : Room} {r : Rule A S} {i j : ℕ} {t : Tree A S} → Decided table r → Runs g table ts room r i (Done t j) → Longest g ts room r i t j
+  run_longest : {room : Room} {r : Rule A S} {i j : ℕ} {t : Tree A S} → Decided table r → RuleRuns g table ts room r i (Done t j) → Longest g ts room r i t j
   run_longest d run = means g table fine ts d run
 
   run_moves : {room : Room} {r : Rule A S} {i j : ℕ} {t : Tree A S} → Decided table r → may_be_empty r ≡ false
-      → Runs g table ts room r i (Done t j) → i < j
+      → RuleRuns g table ts room r i (Done t j) → i < j
   run_moves d some run = let l = run_longest d run in takes g table fine ts d some l.is l.at
 
   -- where no token is taken, the rule may be empty
-  run_stays : {room : Room} {r : Rule A S} {i j : ℕ} {t : Tree A S} → Decided table r → Runs g table ts room r i (Done t j) → i ≡ j
+  run_stays : {room : Room} {r : Rule A S} {i j : ℕ} {t : Tree A S} → Decided table r → RuleRuns g table ts room r i (Done t j) → i ≡ j
       → may_be_empty r ≡ true
   run_stays d run same = let l = run_longest d run in no_tokens g table fine d l.is (At-none l.at same)
 
@@ -116,7 +116,7 @@ module _ {A S : Type 0} (g : Grammar A S) (table : Table S) (fine : Fine g table
             | inr other ↦ fails (Syntax i) tt (runs.no_word (ap (starts_in g.class_of (class ∷ [])) e ∙ other))
           ]
 
-  run_inside : {room : Room} {r : Rule A S} {i j : ℕ} {t : Tree A S} → Decided table r → Runs g table ts room r i (Done t j) → i ≤ length ts
+  run_inside : {room : Room} {r : Rule A S} {i j : ℕ} {t : Tree A S} → Decided table r → RuleRuns g table ts room r i (Done t j) → i ≤ length ts
       → j ≤ length ts
   run_inside d run inside = let l = run_longest d run in At-inside l.at inside
 
@@ -164,7 +164,7 @@ module _ {A S : Type 0} (g : Grammar A S) (table : Table S) (fine : Fine g table
         by (inr e) = otherwise e (later j (run_moves d.0 d.3 run) (run_inside d.0 run inside) room c d.2)
 
     -- an end that is passed on
-    passed : {room inner : Room} {r a : Rule A S} → ((o : Outcome A S) → Runs g table ts inner a i o → Runs g table ts room r i o)
+    passed : {room inner : Room} {r a : Rule A S} → ((o : Outcome A S) → RuleRuns g table ts inner a i o → RuleRuns g table ts room r i o)
         → Ends inner a i → Ends room r i
     passed through (fails fault told run) = fails fault told (through (Fail fault) run)
     passed through (done t j run) = done t j (through (Done t j) run)

@@ -8,14 +8,14 @@ use Rattle.chi_grammar.specs.Rooms.{IsInside, IsFull}
 use Rattle.chi_grammar.specs.Rules.{Tree, leaf, node, pair, none, spelling, Rule, ◌▸◌, ◌∣◌, maybe, many, when, Grammar}
 use Rattle.chi_grammar.specs.Rules as rule
 use Rattle.chi_grammar.specs.Lookahead.{Table, Next, first}
-use Rattle.chi_grammar.specs.Runs.{Outcome, Done, Fail, Runs}
-use Rattle.chi_grammar.specs.Runs as runs
+use Rattle.chi_grammar.specs.RuleRuns.{Outcome, Done, Fail, RuleRuns}
+use Rattle.chi_grammar.specs.RuleRuns as runs
 use Rattle.chi_grammar.specs.Reads.{Reads, ReadsTree, TokenAt, Refuses}
 use Rattle.chi_grammar.proofs.At.{At, here, on, At-ordered, At-inside, At-join}
 
 module _ {A S : Type 0} (g : Grammar A S) (table : Table S) (tokens : List A) where
   -- the tokens of the tree that a run gives
-  pub run_at : {room : Room} {r : Rule A S} {i j : ℕ} {t : Tree A S} → Runs g table tokens room r i (Done t j) → At tokens i (spelling t) j
+  pub run_at : {room : Room} {r : Rule A S} {i j : ℕ} {t : Tree A S} → RuleRuns g table tokens room r i (Done t j) → At tokens i (spelling t) j
   run_at (runs.word e f) = on e here
   run_at (runs.part p) = run_at p
   run_at (runs.both p q) = At-join (run_at p) (run_at q)
@@ -31,27 +31,27 @@ module _ {A S : Type 0} (g : Grammar A S) (table : Table S) (tokens : List A) wh
 
   -- one token
 
-  pub run_word : {room : Room} {class i j : ℕ} {x : A} → TokenAt g tokens class i x j → Runs g table tokens room (rule.word class) i (Done (leaf x) j)
+  pub run_word : {room : Room} {class i j : ℕ} {x : A} → TokenAt g tokens class i x j → RuleRuns g table tokens room (rule.word class) i (Done (leaf x) j)
   run_word {room} {class} {i} {j} {x} t =
       let next : suc i ≡ j = omega (arith, t.after) in
-      subst (λ n. Runs g table tokens room (rule.word class) i (Done (leaf x) n)) next (runs.word t.stands t.of_class)
+      subst (λ n. RuleRuns g table tokens room (rule.word class) i (Done (leaf x) n)) next (runs.word t.stands t.of_class)
 
   pub run_no_word : {room : Room} {class i : ℕ} {fault : ParseFault} → (fault ≡ Syntax i) × Next g tokens i (class ∷ []) false
-      → Runs g table tokens room (rule.word class) i (Fail fault)
-  run_no_word {room} {class} {i} h = subst (λ f. Runs g table tokens room (rule.word class) i (Fail f)) (sym h.0) (runs.no_word h.1)
+      → RuleRuns g table tokens room (rule.word class) i (Fail fault)
+  run_no_word {room} {class} {i} h = subst (λ f. RuleRuns g table tokens room (rule.word class) i (Fail f)) (sym h.0) (runs.no_word h.1)
 
   -- no level is left
   pub run_refused : (room : Room) (nesting : Nesting) (a : Rule A S) (i : ℕ) (fault : ParseFault) → IsFull nesting room
-      → Refuses g tokens (first table a) i fault → Runs g table tokens room (rule.deeper nesting a) i (Fail fault)
+      → Refuses g tokens (first table a) i fault → RuleRuns g table tokens room (rule.deeper nesting a) i (Fail fault)
   run_refused room nesting a i fault full (inl h) =
-      subst (λ f. Runs g table tokens room (rule.deeper nesting a) i (Fail f)) (sym h.0) (runs.too_deep full h.1)
+      subst (λ f. RuleRuns g table tokens room (rule.deeper nesting a) i (Fail f)) (sym h.0) (runs.too_deep full h.1)
   run_refused room nesting a i fault full (inr h) =
-      subst (λ f. Runs g table tokens room (rule.deeper nesting a) i (Fail f)) (sym h.0) (runs.not_deeper full h.1)
+      subst (λ f. RuleRuns g table tokens room (rule.deeper nesting a) i (Fail f)) (sym h.0) (runs.not_deeper full h.1)
 
   module _ {T : Type 0} (view : Tree A S → T) where
     -- a tree that was read
     pub read : {room : Room} {r : Rule A S} {at k : ℕ} {t : Tree A S} {x : T} → at ≤ length tokens
-        → Runs g table tokens room r at (Done t k) → view t ≡ x → ReadsTree g table tokens view room r at x k
+        → RuleRuns g table tokens room r at (Done t k) → view t ≡ x → ReadsTree g table tokens view room r at x k
     read {t = t} inside p shows = record {
       tree = t;
       runs = p;
@@ -99,7 +99,7 @@ module _ {A S : Type 0} (g : Grammar A S) (table : Table S) (tokens : List A) wh
     -- an answer that is passed on after a tree
 
     pub reads_then : (room : Room) (a b : Rule A S) (at j : ℕ) (t : Tree A S) (result : Result (T × ℕ) ParseFault)
-        → Runs g table tokens room a at (Done t j) → Reads g table tokens (λ u. view (pair t u)) room b j result
+        → RuleRuns g table tokens room a at (Done t j) → Reads g table tokens (λ u. view (pair t u)) room b j result
         → Reads g table tokens view room (a ▸ b) at result
     reads_then room a b at j t (Ok p) begin q =
         let before = At-ordered (run_at begin) in
@@ -108,7 +108,7 @@ module _ {A S : Type 0} (g : Grammar A S) (table : Table S) (tokens : List A) wh
     reads_then room a b at j t (Err fault) begin q = runs.next_fails begin q
 
     pub reads_chosen : (room : Room) (a b c : Rule A S) (test : Tree A S → Bool) (at j : ℕ) (t : Tree A S) (result : Result (T × ℕ) ParseFault)
-        → Runs g table tokens room a at (Done t j) → test t ≡ true → Reads g table tokens (λ u. view (pair t u)) room b j result
+        → RuleRuns g table tokens room a at (Done t j) → test t ≡ true → Reads g table tokens (λ u. view (pair t u)) room b j result
         → Reads g table tokens view room (when a test b c) at result
     reads_chosen room a b c test at j t (Ok p) begin e q =
         let before = At-ordered (run_at begin) in
@@ -117,7 +117,7 @@ module _ {A S : Type 0} (g : Grammar A S) (table : Table S) (tokens : List A) wh
     reads_chosen room a b c test at j t (Err fault) begin e q = runs.chosen_fails begin e q
 
     pub reads_otherwise : (room : Room) (a b c : Rule A S) (test : Tree A S → Bool) (at j : ℕ) (t : Tree A S) (result : Result (T × ℕ) ParseFault)
-        → Runs g table tokens room a at (Done t j) → test t ≡ false → Reads g table tokens (λ u. view (pair t u)) room c j result
+        → RuleRuns g table tokens room a at (Done t j) → test t ≡ false → Reads g table tokens (λ u. view (pair t u)) room c j result
         → Reads g table tokens view room (when a test b c) at result
     reads_otherwise room a b c test at j t (Ok p) begin e q =
         let before = At-ordered (run_at begin) in
@@ -128,9 +128,9 @@ module _ {A S : Type 0} (g : Grammar A S) (table : Table S) (tokens : List A) wh
     -- a fault that `?` passes on
 
     pub failed : (room : Room) (r : Rule A S) (at : ℕ) (result : Result (T × ℕ) ParseFault) (fault : ParseFault) → IsErrAnd result (λ e. e ≡ fault)
-        → Runs g table tokens room r at (Fail fault) → Reads g table tokens view room r at result
+        → RuleRuns g table tokens room r at (Fail fault) → Reads g table tokens view room r at result
     failed room r at (Ok p) fault e run = absurd e
-    failed room r at (Err f) fault e run = subst (λ x. Runs g table tokens room r at (Fail x)) (sym e) run
+    failed room r at (Err f) fault e run = subst (λ x. RuleRuns g table tokens room r at (Fail x)) (sym e) run
 
     pub no_memory : (room : Room) (r : Rule A S) (at : ℕ) (result : Result (T × ℕ) ParseFault) → IsErrAnd result (λ e. e ≡ NoMemory)
         → Reads g table tokens view room r at result

@@ -4,8 +4,8 @@ use Rattle.chi_grammar.specs.declared.fault.ParseFault.{ParseFault}
 use Rattle.chi_grammar.specs.declared.room.Room.{Room}
 use Rattle.chi_grammar.specs.Rules.{Tree, pair, none, Rule, many, Grammar}
 use Rattle.chi_grammar.specs.Lookahead.{Table, Next, first}
-use Rattle.chi_grammar.specs.Runs.{Outcome, Done, Fail, Runs}
-use Rattle.chi_grammar.specs.Runs as runs
+use Rattle.chi_grammar.specs.RuleRuns.{Outcome, Done, Fail, RuleRuns}
+use Rattle.chi_grammar.specs.RuleRuns as runs
 use Rattle.chi_grammar.specs.Reads.{attach, Along}
 
 attach-append : {A S : Type 0} (ts : List (Tree A S)) (t u : Tree A S) → attach (ts ++ t ∷ []) u ≡ attach ts (pair t u)
@@ -18,19 +18,19 @@ module _ {A S : Type 0} (g : Grammar A S) (table : Table S) (tokens : List A) (r
   along_start (Fail fault) p = p
 
   pub along_more : (i j : ℕ) (ts : List (Tree A S)) (t : Tree A S) → Along g table tokens room a at i ts
-      → Next g tokens i (first table a) true → Runs g table tokens room a i (Done t j)
+      → Next g tokens i (first table a) true → RuleRuns g table tokens room a i (Done t j)
       → Along g table tokens room a at j (ts ++ t ∷ [])
   along_more i j ts t along h p (Done u k) q =
-      subst (λ x. Runs g table tokens room (many a) at (Done x k)) (sym (attach-append ts t u)) (along (Done (pair t u) k) (runs.more h p q))
+      subst (λ x. RuleRuns g table tokens room (many a) at (Done x k)) (sym (attach-append ts t u)) (along (Done (pair t u) k) (runs.more h p q))
   along_more i j ts t along h p (Fail fault) q = along (Fail fault) (runs.rest_fails h p q)
 
   -- the loop ends
   pub along_stop : (i : ℕ) (ts : List (Tree A S)) → Along g table tokens room a at i ts → Next g tokens i (first table a) false
-      → Runs g table tokens room (many a) at (Done (attach ts none) i)
+      → RuleRuns g table tokens room (many a) at (Done (attach ts none) i)
   along_stop i ts along h = along (Done none i) (runs.enough h)
 
   -- an item fails
   pub along_fails : (i : ℕ) (ts : List (Tree A S)) (fault : ParseFault) → Along g table tokens room a at i ts
-      → Next g tokens i (first table a) true → Runs g table tokens room a i (Fail fault)
-      → Runs g table tokens room (many a) at (Fail fault)
+      → Next g tokens i (first table a) true → RuleRuns g table tokens room a i (Fail fault)
+      → RuleRuns g table tokens room (many a) at (Fail fault)
   along_fails i ts fault along h p = along (Fail fault) (runs.item_fails h p)

@@ -6,7 +6,7 @@ use Rattle.chi_grammar.specs.declared.room.Room.{Room}
 use Rattle.chi_grammar.specs.Rules.{Tree, spelling, Rule, Grammar}
 use Rattle.chi_grammar.specs.Trees.{Is}
 use Rattle.chi_grammar.specs.Fronts.{Front}
-use Rattle.chi_grammar.specs.Runs.{Outcome, Done, Fail}
+use Rattle.chi_grammar.specs.RuleRuns.{Outcome, Done, Fail}
 use Rattle.chi_grammar.proofs.At.{At}
 
 module _ {A S : Type 0} (g : Grammar A S) (ts : List A) where

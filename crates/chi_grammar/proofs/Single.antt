@@ -13,7 +13,7 @@ use Rattle.chi_grammar.specs.Fronts.{Front}
 use Rattle.chi_grammar.specs.Fronts as front
 use Rattle.chi_grammar.specs.Lookahead.{Table, first, starts_in}
 use Rattle.chi_grammar.specs.Fine.{Fine}
-use Rattle.chi_grammar.specs.Runs.{Outcome, Done, Fail}
+use Rattle.chi_grammar.specs.RuleRuns.{Outcome, Done, Fail}
 use Rattle.chi_grammar.proofs.At.{At, here, on, At-of_none}
 use Rattle.chi_grammar.proofs.Classes.{In, in_apart}
 use Rattle.chi_grammar.proofs.Decided.{Decided}

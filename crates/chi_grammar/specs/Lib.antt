@@ -5,6 +5,6 @@ pub mod Fronts
 pub mod Exact
 pub mod Lookahead
 pub mod Fine
-pub mod Runs
+pub mod RuleRuns
 pub mod Reads
 pub mod Sample

@@ -5,13 +5,13 @@ use Rattle.chi_grammar.specs.declared.fault.ParseFault.TheVariants.{Syntax, TooD
 use Rattle.chi_grammar.specs.declared.room.Room.{Room}
 use Rattle.chi_grammar.specs.Rules.{Tree, pair, Rule, many, Grammar}
 use Rattle.chi_grammar.specs.Lookahead.{Table, Next}
-use Rattle.chi_grammar.specs.Runs.{Outcome, Done, Fail, Runs}
+use Rattle.chi_grammar.specs.RuleRuns.{Outcome, Done, Fail, RuleRuns}
 
 module _ {A S : Type 0} (g : Grammar A S) (table : Table S) (tokens : List A) where
   -- a tree that a run gives, as it is shown, with the index after it
   pub record ReadsTree {T : Type 0} (view : Tree A S → T) (room : Room) (r : Rule A S) (at : ℕ) (shown : T) (end : ℕ) : Type 0 where
     pub tree : Tree A S
-    pub runs : Runs g table tokens room r at (Done tree end)
+    pub runs : RuleRuns g table tokens room r at (Done tree end)
     pub shows : view tree ≡ shown
     pub ordered : at ≤ end
     pub inside : end ≤ length tokens
@@ -19,7 +19,7 @@ module _ {A S : Type 0} (g : Grammar A S) (table : Table S) (tokens : List A) wh
   -- the answer of a parsing function is that of a run
   abbrev pub Reads : {T : Type 0} → (Tree A S → T) → Room → Rule A S → ℕ → Result (T × ℕ) ParseFault → Type 0
   Reads view room r at (Ok p) = ReadsTree view room r at p.0 p.1
-  Reads view room r at (Err fault) = Runs g table tokens room r at (Fail fault)
+  Reads view room r at (Err fault) = RuleRuns g table tokens room r at (Fail fault)
 
 module _ {A S : Type 0} (g : Grammar A S) (tokens : List A) where
   -- a token of the class stands at the index, and another index is the one after it
@@ -52,4 +52,4 @@ after ts (Fail fault) = Fail fault
 -- Trees were read in turn from `at` to before `i`: however the rest is read, with them before it the whole is.
 abbrev pub Along : {A S : Type 0} → Grammar A S → Table S → List A → Room → Rule A S → ℕ → ℕ → List (Tree A S) → Type 0
 Along {A} {S} g table tokens room a at i ts =
-    (o : Outcome A S) → Runs g table tokens room (many a) i o → Runs g table tokens room (many a) at (after ts o)
+    (o : Outcome A S) → RuleRuns g table tokens room (many a) i o → RuleRuns g table tokens room (many a) at (after ts o)

@@ -13,7 +13,7 @@ use Rattle.chi_tree.specs.Parts.{Part}
 use Rattle.chi_tree.specs.Rules.{grammar}
 use Rattle.chi_tree.specs.View.{Built}
 use Rattle.chi_spell.specs.Words.{Tokens, token_of}
-use Rattle.chi_grammar_laws.specs.Beginnings.{Begins, BeginsWithin, NamesDepth, NoneGoesOn, NamesFault, StandsLongest, NamesStop}
+use Rattle.chi_grammar_laws.specs.Beginnings.{FormedFront, FormedFrontWithin, NamesDepth, NoneGoesOn, NamesFault, StandsLongest, NamesStop}
 use Rattle.chi_grammar_laws.specs.Nestings.{Nestings, first_passing}
 use Rattle.chi_grammar_laws.proofs.FormedPart.{FormedPart, placed, begins_of, front_of, begins_within, front_within, first_deep, deep_fronts}
 use Rattle.chi_grammar_laws.proofs.Leaves.{levels}
@@ -70,11 +70,11 @@ module _ (tokens : List Spanned) (s : Part) (at : ℕ) where
     size : length (map token_of rest) ≡ length tokens - at
     size = length-map rest token_of ∙ length-drop at tokens
 
-    begins_taken : (n : ℕ) → Begins Formed spelled nestings (take n (map token_of rest)) → Begins Formed spelled nestings (map token_of (take n rest))
-    begins_taken n b = subst (λ ts. Begins Formed spelled nestings ts) (take-map token_of n rest) b
+    begins_taken : (n : ℕ) → FormedFront Formed spelled nestings (take n (map token_of rest)) → FormedFront Formed spelled nestings (map token_of (take n rest))
+    begins_taken n b = subst (λ ts. FormedFront Formed spelled nestings ts) (take-map token_of n rest) b
 
-    taken_begins : (n : ℕ) → Begins Formed spelled nestings (map token_of (take n rest)) → Begins Formed spelled nestings (take n (map token_of rest))
-    taken_begins n b = subst (λ ts. Begins Formed spelled nestings ts) (sym (take-map token_of n rest)) b
+    taken_begins : (n : ℕ) → FormedFront Formed spelled nestings (map token_of (take n rest)) → FormedFront Formed spelled nestings (take n (map token_of rest))
+    taken_begins n b = subst (λ ts. FormedFront Formed spelled nestings ts) (sym (take-map token_of n rest)) b
 
     -- nothing goes on with a token
 
@@ -92,17 +92,17 @@ module _ (tokens : List Spanned) (s : Part) (at : ℕ) where
     -- the tokens before it are a front within the limits
 
     before_of : (room : Room) (n : ℕ) → FrontTo grammar tokens room (part s) at (at + n)
-        → BeginsWithin Formed spelled nestings room.blocks room.expressions (take n (map token_of rest))
+        → FormedFrontWithin Formed spelled nestings room.blocks room.expressions (take n (map token_of rest))
     before_of room n front =
-        subst (λ ts. BeginsWithin Formed spelled nestings room.blocks room.expressions ts) (sym (take-map token_of n rest))
+        subst (λ ts. FormedFrontWithin Formed spelled nestings room.blocks room.expressions ts) (sym (take-map token_of n rest))
         (begins_within Formed spelled nestings view s formed room (take n rest) (front_taken room n front))
 
     front_before_it : (room : Room) (n : ℕ) → n ≤ length (map token_of rest)
-        → BeginsWithin Formed spelled nestings room.blocks room.expressions (take n (map token_of rest)) → FrontTo grammar tokens room (part s) at (at + n)
+        → FormedFrontWithin Formed spelled nestings room.blocks room.expressions (take n (map token_of rest)) → FrontTo grammar tokens room (part s) at (at + n)
     front_before_it room n there w =
         taken_front room n (omega (arith, size))
         (front_within Formed spelled nestings view s formed room (take n rest)
-        (subst (λ ts. BeginsWithin Formed spelled nestings room.blocks room.expressions ts) (take-map token_of n rest) w))
+        (subst (λ ts. FormedFrontWithin Formed spelled nestings room.blocks room.expressions ts) (take-map token_of n rest) w))
 
     -- the first token too deep
 
@@ -125,12 +125,12 @@ module _ (tokens : List Spanned) (s : Part) (at : ℕ) where
         (not_past room n deep.none_within (omega arith)) b in
         named lt b first
       where
-        named : n < length (map token_of rest) → (b : Begins Formed spelled nestings (map token_of (take (n + 1) rest)))
+        named : n < length (map token_of rest) → (b : FormedFront Formed spelled nestings (map token_of (take (n + 1) rest)))
             → first_passing room.blocks room.expressions (nestings b.whole) ≡ Some n
             → NamesDepth Formed spelled nestings room.blocks room.expressions (map token_of rest) n
         named lt b first = record {
           inside = lt;
-          begins = record {
+          front = record {
             blocks = b.blocks;
             expressions = b.expressions;
             whole = b.whole;
@@ -145,13 +145,13 @@ module _ (tokens : List Spanned) (s : Part) (at : ℕ) where
         → IsTooDeep grammar tokens room (part s) at (at + n)
     is_too_deep room n names =
         let lt = names.inside in
-        let b : Begins Formed spelled nestings (map token_of (take (n + 1) rest)) = record {
-          blocks = names.begins.blocks;
-          expressions = names.begins.expressions;
-          whole = names.begins.whole;
-          formed = names.begins.formed;
-          more = names.begins.more;
-          same = names.begins.same ∙ ap (λ ts. ts ++ names.begins.more) (take-map token_of (n + 1) rest);
+        let b : FormedFront Formed spelled nestings (map token_of (take (n + 1) rest)) = record {
+          blocks = names.front.blocks;
+          expressions = names.front.expressions;
+          whole = names.front.whole;
+          formed = names.front.formed;
+          more = names.front.more;
+          same = names.front.same ∙ ap (λ ts. ts ++ names.front.more) (take-map token_of (n + 1) rest);
         } in
         let fronts = deep_fronts Formed spelled nestings view s formed room (take (n + 1) rest) n (taken_size n lt) b names.first in
         let larger = front_of Formed spelled nestings view s formed (take (n + 1) rest) b in
@@ -192,7 +192,7 @@ module _ (tokens : List Spanned) (s : Part) (at : ℕ) where
         let long = stuck.front.stands.inside in
         record {
           inside = omega (arith, size);
-          before = before_of room n stuck.front;
+          front = before_of room n stuck.front;
           none_goes_on = none_goes n stuck.none_further;
           none_has_them = λ b d x p e. stuck.no_tree (levels b d) (tree_of b d n x p e long);
         }
@@ -200,7 +200,7 @@ module _ (tokens : List Spanned) (s : Part) (at : ℕ) where
     pub is_stuck : (room : Room) (n : ℕ) → NamesStop Formed spelled nestings room.blocks room.expressions (map token_of rest) n
         → IsStuck grammar tokens room (part s) at (at + n)
     is_stuck room n names = record {
-      front = front_before_it room n names.inside names.before;
+      front = front_before_it room n names.inside names.front;
       none_further = none_further n names.none_goes_on;
       no_tree = λ any t.
           names.none_has_them any.blocks any.expressions (view t.tree) (formed.shown any t.tree t.is)
@@ -245,7 +245,7 @@ module _ (tokens : List Spanned) (s : Part) {X : Type 0} (Formed : ℕ → ℕ �
       let long = bad.front.stands.inside in
       record {
         inside = omega (arith, length-map tokens token_of);
-        before = before_of tokens s 0 Formed spelled nestings view formed none_before room k
+        front = before_of tokens s 0 Formed spelled nestings view formed none_before room k
             (subst (λ e. FrontTo grammar tokens room (part s) 0 e) (sym (as_it_is k)) bad.front);
         none_goes_on = none_goes tokens s 0 Formed spelled nestings view formed none_before k
             (subst (λ e. NoneFurther grammar tokens (part s) 0 e) (sym (as_it_is k)) bad.none_further);
@@ -258,7 +258,7 @@ module _ (tokens : List Spanned) (s : Part) {X : Type 0} (Formed : ℕ → ℕ �
       → IsBad grammar tokens room (part s) k
   is_bad room k names = record {
     front = subst (λ e. FrontTo grammar tokens room (part s) 0 e) (as_it_is k)
-        (front_before_it tokens s 0 Formed spelled nestings view formed none_before room k names.inside names.before);
+        (front_before_it tokens s 0 Formed spelled nestings view formed none_before room k names.inside names.front);
     none_further = subst (λ e. NoneFurther grammar tokens (part s) 0 e) (as_it_is k)
         (none_further tokens s 0 Formed spelled nestings view formed none_before k names.none_goes_on);
     no_tree = λ any t is same.

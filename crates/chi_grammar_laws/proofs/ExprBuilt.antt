@@ -3,7 +3,7 @@ use Rattle.std.proofs.Common.{ℕ, suc, true, false, List, [], ◌∷◌, ◌++�
 use Rattle.chi_grammar.specs.Rules.{leaf, node, pair, none, part, ◌▸◌, maybe, many}
 use Rattle.chi_grammar.specs.Trees as is
 use Rattle.chi_token.specs.declared.keyword.Keyword.TheVariants.{AndWord, ChanWord, DictWord, DistWord, ListWord, NotWord, OrWord, SetWord, TimeWord, TupleWord, VoidWord}
-use Rattle.chi_token.specs.declared.sign.Sign.TheVariants.{LeftParen, RightParen, LeftBracket, RightBracket, LeftBrace, RightBrace, Less, Greater, Caret, Colon, Comma, Dot, Semicolon}
+use Rattle.chi_token.specs.declared.sign.Sign.TheVariants.{LeftParen, RightParen, LeftBracket, RightBracket, Caret, Colon, Comma, Dot, Semicolon}
 use Rattle.chi_token.specs.declared.token.Token.TheVariants as token
 use Rattle.chi_tree.specs.declared.operator.Operator.TheVariants as operator
 use Rattle.chi_tree.specs.declared.operator.PrefixSign.TheVariants as prefix
@@ -26,7 +26,8 @@ use Rattle.chi_grammar_laws.specs.Expressions as formed
 use Rattle.chi_grammar_laws.specs.Nestings.{outside, in_level, bracketed, all, each_after, separated}
 use Rattle.chi_grammar_laws.specs.ExprNestings.{fields, expr_nestings, postfix_nestings, type_nestings, entry_nestings, link_nestings, declared}
 use Rattle.chi_grammar_laws.proofs.Depths.{depths, one-depths}
-use Rattle.chi_grammar_laws.proofs.ExprNestingsIn.{type-Word, type-Defined, type-List, type-Set, type-Dist, type-Dict, type-Tuple, type-Chan, expr-Prefix, expr-Relation, expr-Power, expr-Int, expr-Real, expr-Text, expr-Time, expr-Named, expr-Call, expr-Cast, expr-Round, expr-TupleOf, expr-ListOf, expr-SetOf, expr-DictOf, expr-EmptyList, expr-EmptySet, expr-EmptyDict, postfix-Index, postfix-Field, chained-in, parted-in, in_brackets, linked, entered, entries_in, more_fields, fields-first, field-bare, field-typed}
+use Rattle.chi_grammar_laws.proofs.ExprNestingsIn.{type-Word, type-Defined, type-List, type-Set, type-Dist, type-Dict, type-Tuple, type-Chan, expr-Prefix, expr-Relation, expr-Power, expr-Int, expr-Real, expr-Text, expr-Time, expr-Named, expr-Call, expr-Cast, expr-Round, expr-TupleOf, expr-ListOf, postfix-Index, postfix-Field, chained-in, parted-in, in_brackets, linked, entered, more_fields, fields-first, field-bare, field-typed}
+use Rattle.chi_grammar_laws.proofs.BracesBuilt.{set_of_one, set_of_more, dict_of_entries, empty_list, empty_set, empty_dict}
 use Rattle.chi_grammar_laws.proofs.Leaves.{levels, at, mark, mark_at, word_at, name_leaf, Builds, sum_is, product_is, operator_back, relation_is, relation_back, prefix_is, prefix_back, cast_is, cast_back, type_word_is, type_word_back, way_tree, way_is, way_nests, way_back, level_part, link_part, IfAny, if_tree, if_built, if_nests, if_shown, truth_built, carried_is, slice_built, left_out, given}
 
 mutual
@@ -278,57 +279,12 @@ mutual
     shown = ap (λ es. expr.ListOf place es) v.shown;
     nests = ap bracketed v.nests ∙ sym (expr-ListOf place _);
   }
-  build_expr b (formed.set_of {place = place} (formed.exprs p formed.no_exprs)) = let u = build_expr b p in record {
-    tree = node s.Primary (node s.Curly (pair (mark_at place LeftBrace) (pair u.tree (pair none (mark RightBrace)))));
-    built = is.part (is.right (is.right (is.right (is.right (is.right (is.left (is.deeper (refl, refl) (is.part (is.both (is.word refl)
-        (is.both u.built (is.both is.never (is.word refl))))))))))));
-    shown = ap (λ e. expr.SetOf place (e ∷ [])) u.shown;
-    nests = ap bracketed (u.nests ∙ sym (append-nil _)) ∙ sym (expr-SetOf place _);
-  }
-  build_expr b (formed.set_of {place = place} (formed.exprs p (formed.exprs q qs))) =
-      let u = build_expr b p in let v = build_exprs b (formed.exprs q qs) in record {
-        tree = node s.Primary (node s.Curly (pair (mark_at place LeftBrace) (pair u.tree
-            (pair (node s.Contents (node s.Others (pair (mark Comma) v.tree))) (mark RightBrace)))));
-        built = is.part (is.right (is.right (is.right (is.right (is.right (is.left (is.deeper (refl, refl) (is.part (is.both (is.word refl)
-            (is.both u.built (is.both (is.once (is.part (is.left (is.part (is.both (is.word refl) v.built))))) (is.word refl))))))))))));
-        shown = λ i. expr.SetOf place (u.shown i ∷ v.shown i);
-        nests = in_brackets (depths u.built) (outside ∷ depths v.built) ∙ (λ i. bracketed (u.nests i ++ outside ∷ v.nests i)) ∙ sym (expr-SetOf place _);
-      }
-  build_expr b (formed.dict_of {place = place} (formed.entries p q es)) =
-      let u = build_expr b p in let v = build_expr b q in let w = build_entries b es in record {
-        tree = node s.Primary (node s.Curly (pair (mark_at place LeftBrace) (pair u.tree
-            (pair (node s.Contents (node s.Entries (pair (mark Colon) (pair v.tree w.tree)))) (mark RightBrace)))));
-        built = is.part (is.right (is.right (is.right (is.right (is.right (is.left (is.deeper (refl, refl) (is.part (is.both (is.word refl)
-            (is.both u.built (is.both (is.once (is.part (is.right (is.part (is.both (is.word refl) (is.both v.built w.built)))))) (is.word refl))))))))))));
-        shown = λ i. expr.DictOf place (formed.entry (u.shown i) (v.shown i) ∷ w.shown i);
-        nests = in_brackets (depths u.built) (outside ∷ depths v.built ++ depths w.built)
-            ∙ (λ i. bracketed (u.nests i ++ (outside ∷ v.nests i ++ w.nests i))) ∙ entries_in _ _ _ ∙ sym (expr-DictOf place _);
-      }
-  build_expr b (formed.empty_list {place = place} p) = let u = build_type b p in record {
-    tree = node s.Primary (node s.Blank (pair (mark_at place Less) (pair u.tree
-        (node s.BlankEnd (pair (mark Greater) (node s.BlankItems (pair (mark LeftBracket) (mark RightBracket))))))));
-    built = is.part (is.right (is.right (is.right (is.right (is.right (is.right (is.part (is.both (is.word refl) (is.both u.built
-        (is.part (is.left (is.both (is.word refl) (is.left (is.deeper (refl, refl) (is.part (is.both (is.word refl) (is.word refl)))))))))))))))));
-    shown = ap (λ t. expr.EmptyList place t) u.shown;
-    nests = ap (λ ns. outside ∷ ns ++ outside ∷ bracketed []) u.nests ∙ sym (expr-EmptyList place _);
-  }
-  build_expr b (formed.empty_set {place = place} p) = let u = build_type b p in record {
-    tree = node s.Primary (node s.Blank (pair (mark_at place Less) (pair u.tree
-        (node s.BlankEnd (pair (mark Greater) (node s.BlankElements (pair (mark LeftBrace) (mark RightBrace))))))));
-    built = is.part (is.right (is.right (is.right (is.right (is.right (is.right (is.part (is.both (is.word refl) (is.both u.built
-        (is.part (is.left (is.both (is.word refl) (is.right (is.deeper (refl, refl) (is.part (is.both (is.word refl) (is.word refl)))))))))))))))));
-    shown = ap (λ t. expr.EmptySet place t) u.shown;
-    nests = ap (λ ns. outside ∷ ns ++ outside ∷ bracketed []) u.nests ∙ sym (expr-EmptySet place _);
-  }
-  build_expr b (formed.empty_dict {place = place} p q) = let u = build_type b p in let v = build_type b q in record {
-    tree = node s.Primary (node s.Blank (pair (mark_at place Less) (pair u.tree
-        (node s.BlankEnd (pair (mark Colon) (pair v.tree (pair (mark Greater) (node s.BlankElements (pair (mark LeftBrace) (mark RightBrace))))))))));
-    built = is.part (is.right (is.right (is.right (is.right (is.right (is.right (is.part (is.both (is.word refl) (is.both u.built
-        (is.part (is.right (is.both (is.word refl) (is.both v.built (is.both (is.word refl)
-        (is.deeper (refl, refl) (is.part (is.both (is.word refl) (is.word refl))))))))))))))))));
-    shown = λ i. expr.EmptyDict place (u.shown i) (v.shown i);
-    nests = (λ i. outside ∷ u.nests i ++ (outside ∷ v.nests i ++ outside ∷ bracketed [])) ∙ sym (expr-EmptyDict place _ _);
-  }
+  build_expr b (formed.set_of {place = place} (formed.exprs p formed.no_exprs)) = set_of_one b place (build_expr b p)
+  build_expr b (formed.set_of {place = place} (formed.exprs p (formed.exprs q qs))) = set_of_more b place (build_expr b p) (build_exprs b (formed.exprs q qs))
+  build_expr b (formed.dict_of {place = place} (formed.entries p q es)) = dict_of_entries b place (build_expr b p) (build_expr b q) (build_entries b es)
+  build_expr b (formed.empty_list {place = place} p) = empty_list b place (build_type b p)
+  build_expr b (formed.empty_set {place = place} p) = empty_set b place (build_type b p)
+  build_expr b (formed.empty_dict {place = place} p q) = empty_dict b place (build_type b p) (build_type b q)
 
   build_links : (b : ℕ) {level : Level} {d : ℕ} {ls : List Link} → FormedLinks level d ls → Builds b d (many (part (link_part level))) links_of ls (all (map link_nestings ls))
   build_links b formed.no_links = record { tree = none; built = is.enough; shown = refl; nests = refl }

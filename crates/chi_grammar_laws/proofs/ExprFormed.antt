@@ -13,8 +13,8 @@ use Rattle.chi_tree.specs.Classes.{class_of, number_of}
 use Rattle.chi_tree.specs.Parts.{Part}
 use Rattle.chi_tree.specs.Parts as s
 use Rattle.chi_tree.specs.Rules.{rule_of, sign}
-use Rattle.chi_tree.specs.Tokens.{bytes_of, operator_of, prefix_of, literal_of}
-use Rattle.chi_tree.specs.View.{Built, expr_of, links_of, postfixes_of, optional, more_exprs_of, entries_of}
+use Rattle.chi_tree.specs.Tokens.{bytes_of}
+use Rattle.chi_tree.specs.View.{operator_shown, prefix_shown, literal_shown, Built, expr_of, links_of, postfixes_of, optional, more_exprs_of, entries_of}
 use Rattle.chi_grammar_laws.specs.Levels.{Level, level_of, prefix_level}
 use Rattle.chi_grammar_laws.specs.Levels as level
 use Rattle.chi_grammar_laws.specs.Expressions.{FormedType, FormedFormals, MoreFormals, FormedExpr, FormedLinks, FormedPostfix, FormedPostfixes, FormedIfAny, FormedExprs, FormedEntries}
@@ -43,8 +43,8 @@ prod_links : {room : Room} {t : Built} → F room (many (part s.ProdLink)) t →
 prod_links made.enough = formed.no_links
 prod_links (made.more (made.part p) ps) = p _ (prod_links ps)
 
-operator_is : (x : Spanned) {n : ℕ} → number_of (class_of x.token) ≡ n → operator_of x.token ≡ operator_of (token_at n (bytes_of x.token))
-operator_is x e = ap operator_of (token_is x.token e)
+operator_is : (x : Spanned) {n : ℕ} → number_of (class_of x.token) ≡ n → operator_shown x.token ≡ operator_shown (token_at n (bytes_of x.token))
+operator_is x e = ap operator_shown (token_is x.token e)
 
 with_operator : {level : Level} {d : ℕ} {o p : Operator} {place : Place} {e : Expr} {links : List Link} → o ≡ p
     → FormedLinks level d (formed.link p place e ∷ links) → FormedLinks level d (formed.link o place e ∷ links)
@@ -121,11 +121,11 @@ unary (made.right (made.part p)) = formed.no_prefix p
 
 pub prefixed : {room : Room} {t : Built} → F room (rule_of s.Prefixed) t → Formed room s.Prefixed (node s.Prefixed t)
 prefixed (made.both (made.left (made.word {x = x} e)) (made.part p)) =
-    formed.prefixed (ap (λ w. prefix_level (prefix_of w)) (token_is x.token e)) p
+    formed.prefixed (ap (λ w. prefix_level (prefix_shown w)) (token_is x.token e)) p
 prefixed (made.both (made.right (made.left (made.word {x = x} e))) (made.part p)) =
-    formed.prefixed (ap (λ w. prefix_level (prefix_of w)) (token_is x.token e)) p
+    formed.prefixed (ap (λ w. prefix_level (prefix_shown w)) (token_is x.token e)) p
 prefixed (made.both (made.right (made.right (made.word {x = x} e))) (made.part p)) =
-    formed.prefixed (ap (λ w. prefix_level (prefix_of w)) (token_is x.token e)) p
+    formed.prefixed (ap (λ w. prefix_level (prefix_shown w)) (token_is x.token e)) p
 
 pub power : {room : Room} {t : Built} → F room (rule_of s.Power) t → Formed room s.Power (node s.Power t)
 power (made.both (made.part p) made.never) = formed.no_power p
@@ -202,8 +202,8 @@ primary (made.right (made.right (made.right (made.right (made.right (made.left (
 primary (made.right (made.right (made.right (made.right (made.right (made.right (made.part p))))))) = p
 
 literal_is : (x : Spanned) {n : ℕ} {d : ℕ} → number_of (class_of x.token) ≡ n
-    → FormedExpr level.Primary d (literal_of (token_at n (bytes_of x.token)) x.place) → FormedExpr level.Primary d (literal_of x.token x.place)
-literal_is x {d = d} e p = subst (λ w. FormedExpr level.Primary d (literal_of w x.place)) (sym (token_is x.token e)) p
+    → FormedExpr level.Primary d (literal_shown (token_at n (bytes_of x.token)) x.place) → FormedExpr level.Primary d (literal_shown x.token x.place)
+literal_is x {d = d} e p = subst (λ w. FormedExpr level.Primary d (literal_shown w x.place)) (sym (token_is x.token e)) p
 
 pub literal_formed : {room : Room} {t : Built} → F room (rule_of s.Literal) t → Formed room s.Literal (node s.Literal t)
 literal_formed (made.left (made.word {x = x} e)) = literal_is x e formed.int

@@ -9,7 +9,7 @@ use Rattle.chi_grammar.specs.declared.room.Room.{Room}
 use Rattle.chi_grammar.specs.Exact.{Stands}
 use Rattle.chi_grammar.specs.Fronts.{Front}
 use Rattle.chi_grammar.specs.Rules.{part, spelling}
-use Rattle.chi_grammar.specs.Runs.{Fail, Runs}
+use Rattle.chi_grammar.specs.RuleRuns.{Fail, RuleRuns}
 use Rattle.chi_grammar.specs.Trees.{Is}
 use Rattle.chi_grammar.proofs.Answers.{means}
 use Rattle.chi_grammar.proofs.At.{At, Stands-from_At, At-from_Stands}
@@ -22,7 +22,7 @@ use Rattle.chi_tree.specs.Rules.{grammar}
 use Rattle.chi_tree.specs.Tables.{table}
 use Rattle.chi_tree.specs.View.{Built}
 use Rattle.chi_spell.specs.Words.{Tokens, token_of}
-use Rattle.chi_grammar_laws.specs.Beginnings.{Begins, BeginsWithin}
+use Rattle.chi_grammar_laws.specs.Beginnings.{FormedFront, FormedFrontWithin}
 use Rattle.chi_grammar_laws.specs.Nestings.{Nestings, first_passing}
 use Rattle.chi_grammar_laws.proofs.Depths.{depths, depths-length, depths_keep}
 use Rattle.chi_grammar_laws.proofs.FrontTrees.{front_tree}
@@ -97,8 +97,8 @@ module _ (s : Part) where
           whole e longest.is refl
       by (Some k) e run =
           let same : 0 + k ≡ k = omega arith in
-          let at : Runs grammar table (spelling t) room (part s) 0 (Fail (TooDeep k)) =
-          subst (λ n. Runs grammar table (spelling t) room (part s) 0 (Fail (TooDeep n))) same run in
+          let at : RuleRuns grammar table (spelling t) room (part s) 0 (Fail (TooDeep k)) =
+          subst (λ n. RuleRuns grammar table (spelling t) room (part s) 0 (Fail (TooDeep n))) same run in
           let d : Deep grammar (spelling t) room (part s) 0 k = means grammar table grammar_fine (spelling t) tt at in
           deep k e
           (subst (λ f. Front grammar room (part s) f) (front_is_take (spelling t) d.reaches.tokens k d.reaches.at) d.reaches.is)
@@ -131,11 +131,11 @@ module _ {X : Type 0} (Formed : ℕ → ℕ → X → Type 0) (spelled : X → T
       (u.tree, subst (λ ys. ReadTokens s room (nestings x) u.tree ys) u.spells (read_tokens s room larger (nestings x) u.tree u.nested))
 
   -- what begins with the tokens, with those after them at any place
-  record Rest (f : List Spanned) (b : Begins Formed spelled nestings (map token_of f)) : Type 0 where
+  record Rest (f : List Spanned) (b : FormedFront Formed spelled nestings (map token_of f)) : Type 0 where
     rest : List Spanned
     same : spelled b.whole ≡ map token_of (f ++ rest)
 
-  rest_of : (f : List Spanned) (b : Begins Formed spelled nestings (map token_of f)) → Rest f b
+  rest_of : (f : List Spanned) (b : FormedFront Formed spelled nestings (map token_of f)) → Rest f b
   rest_of f b =
       let rest = map bare_token b.more in record {
         rest = rest;
@@ -144,7 +144,7 @@ module _ {X : Type 0} (Formed : ℕ → ℕ → X → Type 0) (spelled : X → T
 
   -- a front is the beginning of a tree
 
-  pub begins_of : (room : Room) (f : List Spanned) → Front grammar room (part s) f → Begins Formed spelled nestings (map token_of f)
+  pub begins_of : (room : Room) (f : List Spanned) → Front grammar room (part s) f → FormedFront Formed spelled nestings (map token_of f)
   begins_of room f p = let u = front_tree refl p in record {
     blocks = u.room.blocks;
     expressions = u.room.expressions;
@@ -154,7 +154,7 @@ module _ {X : Type 0} (Formed : ℕ → ℕ → X → Type 0) (spelled : X → T
     same = formed.spells u.room u.tree u.is ∙ ap (map token_of) u.spells ∙ map-append token_of f u.more;
   }
 
-  pub front_of : (f : List Spanned) → Begins Formed spelled nestings (map token_of f) → (room : Room) × Front grammar room (part s) f
+  pub front_of : (f : List Spanned) → FormedFront Formed spelled nestings (map token_of f) → (room : Room) × Front grammar room (part s) f
   front_of f b =
       let room = levels b.blocks b.expressions in
       let r = rest_of f b in
@@ -181,14 +181,14 @@ module _ {X : Type 0} (Formed : ℕ → ℕ → X → Type 0) (spelled : X → T
       omega arith
 
   pub begins_within : (room : Room) (f : List Spanned) → Front grammar room (part s) f
-      → BeginsWithin Formed spelled nestings room.blocks room.expressions (map token_of f)
+      → FormedFrontWithin Formed spelled nestings room.blocks room.expressions (map token_of f)
   begins_within room f p =
       let b = begins_of room f p in
       let r = rest_of f b in
       let larger = levels b.blocks b.expressions in
       let enough = long_enough larger b.whole f r.rest b.formed r.same in
       record {
-        begins = b;
+        front = b;
         keeps = ap (λ n. first_passing room.blocks room.expressions (take n (nestings b.whole))) (length-map f token_of)
             ∙ keeps_first room f r.rest (nestings b.whole) enough p (read_formed room larger b.whole b.formed (f ++ r.rest) r.same).1;
       }
@@ -205,10 +205,10 @@ module _ {X : Type 0} (Formed : ℕ → ℕ → X → Type 0) (spelled : X → T
           front_before grammar room (part s) f (take (k - length f) rest)
           (subst (λ ts. Front grammar room (part s) ts) (past-front f rest k le) front)
 
-  pub front_within : (room : Room) (f : List Spanned) → BeginsWithin Formed spelled nestings room.blocks room.expressions (map token_of f)
+  pub front_within : (room : Room) (f : List Spanned) → FormedFrontWithin Formed spelled nestings room.blocks room.expressions (map token_of f)
       → Front grammar room (part s) f
   front_within room f w =
-      let b = w.begins in
+      let b = w.front in
       let r = rest_of f b in
       let larger = levels b.blocks b.expressions in
       let keeps = ap (λ n. first_passing room.blocks room.expressions (take n (nestings b.whole))) (sym (length-map f token_of)) ∙ w.keeps in
@@ -238,7 +238,7 @@ module _ {X : Type 0} (Formed : ℕ → ℕ → X → Type 0) (spelled : X → T
           e ∙ ap (λ n. Some n) same
 
   pub first_deep : (room : Room) (f : List Spanned) (k : ℕ) → length f ≡ k + 1 → Front grammar room (part s) (take k f)
-      → (Front grammar room (part s) f → ⊥) → (b : Begins Formed spelled nestings (map token_of f))
+      → (Front grammar room (part s) f → ⊥) → (b : FormedFront Formed spelled nestings (map token_of f))
       → first_passing room.blocks room.expressions (nestings b.whole) ≡ Some k
   first_deep room f k size earlier none b =
       let r = rest_of f b in
@@ -265,7 +265,7 @@ module _ {X : Type 0} (Formed : ℕ → ℕ → X → Type 0) (spelled : X → T
             omega arith;
       }
 
-  pub deep_fronts : (room : Room) (f : List Spanned) (k : ℕ) → length f ≡ k + 1 → (b : Begins Formed spelled nestings (map token_of f))
+  pub deep_fronts : (room : Room) (f : List Spanned) (k : ℕ) → length f ≡ k + 1 → (b : FormedFront Formed spelled nestings (map token_of f))
       → first_passing room.blocks room.expressions (nestings b.whole) ≡ Some k → DeepFronts room f k
   deep_fronts room f k size b is =
       let r = rest_of f b in

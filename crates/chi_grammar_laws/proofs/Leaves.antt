@@ -33,8 +33,7 @@ use Rattle.chi_tree.specs.declared.expr.Postfix.TheVariants as postfix
 use Rattle.chi_tree.specs.Parts.{Part}
 use Rattle.chi_tree.specs.Parts as s
 use Rattle.chi_tree.specs.Rules.{grammar, sign, sum_sign, product_sign, relation_sign, prefix_sign, cast_word, type_word}
-use Rattle.chi_tree.specs.Tokens.{operator_of, relation_of, prefix_of, cast_of, type_word_of}
-use Rattle.chi_tree.specs.View.{Built, carried_of, inside, stepped, nowhere, way_in, optional, type_of, expr_of, postfix_of}
+use Rattle.chi_tree.specs.View.{operator_shown, relation_shown, prefix_shown, cast_shown, type_word_shown, Built, carried_of, inside, stepped, nowhere, way_in, optional, type_of, expr_of, postfix_of}
 use Rattle.chi_spell.specs.Words.{operator_token, relation_token, prefix_token, cast_token, type_token}
 use Rattle.chi_grammar_laws.specs.Levels.{Level, level_of, prefix_level}
 use Rattle.chi_grammar_laws.specs.Levels as level
@@ -84,7 +83,7 @@ product_is operator.DivideWhole place e = is.right (is.right (is.left (is.word r
 product_is operator.Remainder place e = is.right (is.right (is.right (is.word refl)))
 product_is _ place e = cc
 
-pub operator_back : (o : Operator) → operator_of (operator_token o) ≡ o
+pub operator_back : (o : Operator) → operator_shown (operator_token o) ≡ o
 operator_back operator.Or = refl
 operator_back operator.And = refl
 operator_back operator.Add = refl
@@ -104,7 +103,7 @@ relation_is relation.GreaterEqual place = is.right (is.right (is.right (is.right
 relation_is relation.In place = is.right (is.right (is.right (is.right (is.right (is.right (is.left (is.word refl)))))))
 relation_is relation.Sub place = is.right (is.right (is.right (is.right (is.right (is.right (is.right (is.word refl)))))))
 
-pub relation_back : (o : RelationSign) → relation_of (relation_token o) ≡ o
+pub relation_back : (o : RelationSign) → relation_shown (relation_token o) ≡ o
 relation_back relation.Less = refl
 relation_back relation.LessEqual = refl
 relation_back relation.Equal = refl
@@ -120,7 +119,7 @@ prefix_is prefix.Plus place e = is.right (is.left (is.word refl))
 prefix_is prefix.Sample place e = is.right (is.right (is.word refl))
 prefix_is prefix.Not place e = cc
 
-pub prefix_back : (o : PrefixSign) → prefix_of (prefix_token o) ≡ o
+pub prefix_back : (o : PrefixSign) → prefix_shown (prefix_token o) ≡ o
 prefix_back prefix.Not = refl
 prefix_back prefix.Minus = refl
 prefix_back prefix.Plus = refl
@@ -133,7 +132,7 @@ cast_is cast.Text place = is.right (is.right (is.left (is.word refl)))
 cast_is cast.Bool place = is.right (is.right (is.right (is.left (is.word refl))))
 cast_is cast.Timer place = is.right (is.right (is.right (is.right (is.word refl))))
 
-pub cast_back : (o : CastWord) → cast_of (cast_token o) ≡ o
+pub cast_back : (o : CastWord) → cast_shown (cast_token o) ≡ o
 cast_back cast.Int = refl
 cast_back cast.Real = refl
 cast_back cast.Text = refl
@@ -148,7 +147,7 @@ type_word_is type_word.Text place = is.right (is.right (is.right (is.left (is.wo
 type_word_is type_word.Timer place = is.right (is.right (is.right (is.right (is.left (is.word refl)))))
 type_word_is type_word.Inst place = is.right (is.right (is.right (is.right (is.right (is.word refl)))))
 
-pub type_word_back : (o : TypeWord) → type_word_of (type_token o) ≡ o
+pub type_word_back : (o : TypeWord) → type_word_shown (type_token o) ≡ o
 type_word_back type_word.Bool = refl
 type_word_back type_word.Int = refl
 type_word_back type_word.Real = refl

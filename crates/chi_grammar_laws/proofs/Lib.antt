@@ -2,6 +2,7 @@ pub mod ShownExpressions
 pub mod TypeFormed
 pub mod ExprFormed
 pub mod Leaves
+pub mod BracesBuilt
 pub mod ExprBuilt
 pub mod ExprLaw
 pub mod TargetFormed

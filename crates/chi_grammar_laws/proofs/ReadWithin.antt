@@ -15,8 +15,8 @@ use Rattle.chi_grammar.specs.Trees.{Is}
 use Rattle.chi_grammar.specs.Trees as is
 use Rattle.chi_grammar.specs.Lookahead.{Table, Next, starts_in, may_be_empty, first, going_on}
 use Rattle.chi_grammar.specs.Fine.{Fine, are_apart}
-use Rattle.chi_grammar.specs.Runs.{Done, Fail, Runs}
-use Rattle.chi_grammar.specs.Runs as runs
+use Rattle.chi_grammar.specs.RuleRuns.{Done, Fail, RuleRuns}
+use Rattle.chi_grammar.specs.RuleRuns as runs
 use Rattle.chi_grammar.proofs.At.{At, here, on, At-ordered, At-split, At-none}
 use Rattle.chi_grammar.proofs.Classes.{In, in_apart, in_among, in_left, in_right, in_either, in_second}
 use Rattle.chi_grammar.proofs.Decided.{Decided, fine_part}
@@ -55,8 +55,8 @@ full-passing nesting room full (n ∷ ns) some =
 module _ {A S : Type 0} (g : Grammar A S) (table : Table S) (fine : Fine g table) (ts : List A) where
   -- reading with the room ends with the tree, or with the token, counted from index i, that is too deep
   abbrev pub Ended : Room → Rule A S → ℕ → Tree A S → ℕ → Option ℕ → Type 0
-  Ended room r i t j None = Runs g table ts room r i (Done t j)
-  Ended room r i t j (Some k) = Runs g table ts room r i (Fail (TooDeep (i + k)))
+  Ended room r i t j None = RuleRuns g table ts room r i (Done t j)
+  Ended room r i t j (Some k) = RuleRuns g table ts room r i (Fail (TooDeep (i + k)))
 
   -- the tree doesn't go on at the index
   abbrev Halts : Rule A S → ℕ → Type 0
@@ -70,10 +70,10 @@ module _ {A S : Type 0} (g : Grammar A S) (table : Table S) (fine : Fine g table
   part_ended room s i j t None x = runs.part x
   part_ended room s i j t (Some k) x = runs.part_fails x
 
-  later : (room : Room) (r : Rule A S) (i n m k : ℕ) → i + n ≡ m → Runs g table ts room r i (Fail (TooDeep (m + k)))
-      → Runs g table ts room r i (Fail (TooDeep (i + (n + k))))
+  later : (room : Room) (r : Rule A S) (i n m k : ℕ) → i + n ≡ m → RuleRuns g table ts room r i (Fail (TooDeep (m + k)))
+      → RuleRuns g table ts room r i (Fail (TooDeep (i + (n + k))))
   later room r i n m k e x =
-      let same : m + k ≡ i + (n + k) = omega arith in subst (λ l. Runs g table ts room r i (Fail (TooDeep l))) same x
+      let same : m + k ≡ i + (n + k) = omega arith in subst (λ l. RuleRuns g table ts room r i (Fail (TooDeep l))) same x
 
   both_ended : (room : Room) (a b : Rule A S) (i n m j : ℕ) (t u : Tree A S) (o p : Option ℕ) → i + n ≡ m
       → Ended room a i t m o → Ended room b m u j p → Ended room (a ▸ b) i (pair t u) j (and_then n o p)
@@ -168,7 +168,7 @@ module _ {A S : Type 0} (g : Grammar A S) (table : Table S) (fine : Fine g table
   within_level room nesting a i j t ns e lt h x (inr full) =
       let zero_more : i ≡ i + 0 = omega arith in
       subst (λ o. Ended room (rule.deeper nesting a) i t j o) (sym (full-passing nesting room full ns (omega arith)))
-      (subst (λ k. Runs g table ts room (rule.deeper nesting a) i (Fail (TooDeep k))) zero_more (runs.too_deep full h))
+      (subst (λ k. RuleRuns g table ts room (rule.deeper nesting a) i (Fail (TooDeep k))) zero_more (runs.too_deep full h))
 
   pub read_within : (room : Room) {larger : Room} {r : Rule A S} {t : Tree A S} {i j : ℕ} → Decided table r → (p : Is g larger r t)
       → At ts i (spelling t) j → (In g ts j (going_on table r) → ⊥)

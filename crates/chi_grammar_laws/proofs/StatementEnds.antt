@@ -23,8 +23,7 @@ use Rattle.chi_tree.specs.Parts as s
 use Rattle.chi_tree.specs.Rules.{grammar}
 use Rattle.chi_spell.specs.Expressions.{spelled_expr}
 use Rattle.chi_spell.specs.Statements.{spelled_exprs, spelled_walk, assigned_tokens, spelled_element, spelled_elements, else_tokens, to_end, spelled_alternative, spelled_branch, spelled_step, spelled_statement}
-use Rattle.chi_tree.specs.Statements.{step, statement_of, elements_of, last_ends, ends_element, ends_in_end}
-use Rattle.chi_tree.specs.Tokens.{is_run}
+use Rattle.chi_tree.specs.Statements.{is_run_shown, step, statement_of, elements_of, last_ends, ends_element, ends_in_end}
 use Rattle.chi_tree.specs.View.{Built}
 use Rattle.chi_spell.specs.Marks.{plain}
 use Rattle.chi_spell.specs.Words.{Tokens, token_of, name_token, all, separated}
@@ -66,8 +65,8 @@ launched_ends true place es = ap last_is_end (statement-Run plain place es) ∙ 
 launched_ends false place es = ap last_is_end (statement-Start plain place es) ∙ list_ends (Word StartWord) refl es
 
 launch_ends : {room : Room} {t : Built} → Is grammar room (part s.Launch) t → last_is_end (spelled_statement (statement_of t)) ≡ ends_in_end t
-launch_ends (is.part (is.both {u = u} (is.left (is.word {x = x} e)) p)) = launched_ends (is_run x.token) x.place (elements_of u)
-launch_ends (is.part (is.both {u = u} (is.right (is.word {x = x} e)) p)) = launched_ends (is_run x.token) x.place (elements_of u)
+launch_ends (is.part (is.both {u = u} (is.left (is.word {x = x} e)) p)) = launched_ends (is_run_shown x.token) x.place (elements_of u)
+launch_ends (is.part (is.both {u = u} (is.right (is.word {x = x} e)) p)) = launched_ends (is_run_shown x.token) x.place (elements_of u)
 
 -- a statement that is neither closed nor a launch holds no "end": it is spelled as a block of it alone
 

@@ -25,9 +25,9 @@ use Rattle.chi_tree.specs.Classes.{class_of, number_of}
 use Rattle.chi_tree.specs.Parts.{Part}
 use Rattle.chi_tree.specs.Parts as s
 use Rattle.chi_tree.specs.Rules.{rule_of, sign, keyword}
-use Rattle.chi_tree.specs.Tokens.{bytes_of, jump_of}
+use Rattle.chi_tree.specs.Tokens.{bytes_of}
 use Rattle.chi_tree.specs.View.{Built, expr_of, postfixes_of, optional, more_exprs_of}
-use Rattle.chi_tree.specs.Statements.{more_targets_of, more_variables_of, more_elements_of, elifs_of, more_alternatives_of, ends_element, last_ends, launched}
+use Rattle.chi_tree.specs.Statements.{jump_shown, more_targets_of, more_variables_of, more_elements_of, elifs_of, more_alternatives_of, ends_element, last_ends, launched}
 use Rattle.chi_grammar_laws.specs.Expressions.{FormedIfAny, FormedExprs}
 use Rattle.chi_grammar_laws.specs.Expressions as formed
 use Rattle.chi_grammar_laws.specs.Statements.{FormedSteps, FormedTarget, FormedTargets, FormedVariable, FormedVariables, FormedWalk, FormedElement, FormedElements, FormedInner, FormedStatement, FormedBranches, FormedAlternative, FormedAlternatives, FormedBlock}
@@ -217,8 +217,8 @@ pub timed : {room : Room} {t : Built} → G room (rule_of s.Timed) t → Stated 
 timed (made.part p) = stated.communicate p
 
 jumping : (x : Spanned) {n b d : ℕ} → number_of (class_of x.token) ≡ n
-    → FormedStatement false b d (jump_of (token_at n (bytes_of x.token)) x.place) → FormedStatement false b d (jump_of x.token x.place)
-jumping x {b = b} {d = d} e p = subst (λ w. FormedStatement false b d (jump_of w x.place)) (sym (token_is x.token e)) p
+    → FormedStatement false b d (jump_shown (token_at n (bytes_of x.token)) x.place) → FormedStatement false b d (jump_shown x.token x.place)
+jumping x {b = b} {d = d} e p = subst (λ w. FormedStatement false b d (jump_shown w x.place)) (sym (token_is x.token e)) p
 
 pub jump_formed : {room : Room} {t : Built} → G room (rule_of s.Jump) t → Stated room s.Jump (node s.Jump t)
 jump_formed (made.left (made.word {x = x} e)) = jumping x e stated.pass

@@ -11,8 +11,7 @@ use Rattle.chi_tree.specs.declared.expr.Expr.{Expr}
 use Rattle.chi_tree.specs.declared.expr.Link.{Link}
 use Rattle.chi_tree.specs.declared.expr.Postfix.{Postfix}
 use Rattle.chi_tree.specs.Parts as s
-use Rattle.chi_tree.specs.Tokens.{literal_of}
-use Rattle.chi_tree.specs.View.{Built, nowhere, place_in, name_in, more_names_in, names_in, way_in, chained, parted, optional, called}
+use Rattle.chi_tree.specs.View.{literal_shown, Built, nowhere, place_in, name_in, more_names_in, names_in, way_in, chained, parted, optional, called}
 use Rattle.chi_grammar_laws.specs.Unplaced.{unplaced_name, unplaced_expr, unplaced_postfix, unplaced_link}
 use Rattle.chi_grammar_laws.proofs.UnplacedBuilt.{unplaced_tree}
 use Rattle.chi_grammar_laws.proofs.UnplacedTrees.{without-Chain, without-Part, without-Int, without-Real, without-Text, without-Bool, without-Time, without-Named, without-Call}
@@ -37,13 +36,14 @@ pub shown_names : (t : Built) → map unplaced_name (names_in t) ≡ names_in (u
 shown_names (node s.Names (pair n ns)) = λ i. shown_name n i ∷ shown_more_names ns i
 shown_names _ = refl
 
-pub shown_literal : (t : Token) (p : Place) → unplaced_expr (literal_of t p) ≡ literal_of t nowhere
+pub shown_literal : (t : Token) (p : Place) → unplaced_expr (literal_shown t p) ≡ literal_shown t nowhere
 shown_literal (token.Int digits) p = without-Int digits p
 shown_literal (token.Real digits) p = without-Real digits p
 shown_literal (token.Text text) p = without-Text text p
 shown_literal (token.Word keyword.TrueWord) p = without-Bool true p
 shown_literal (token.Word keyword.FalseWord) p = without-Bool false p
-shown_literal _ p = without-Time p
+shown_literal (token.Word keyword.TimeWord) p = without-Time p
+shown_literal _ p = without-Time nowhere
 
 pub shown_optional : {A B : Type 0} (f : A → B) (t : Built) (x : A) (y : B) → f x ≡ y → option_map f (optional t x) ≡ optional (unplaced_tree t) y
 shown_optional f none x y e = refl

@@ -10,9 +10,8 @@ use Rattle.chi_tree.specs.declared.type_tree.TypeTree.TheVariants as type
 use Rattle.chi_tree.specs.declared.expr.Expr.{Expr}
 use Rattle.chi_tree.specs.declared.expr.Expr.TheVariants as expr
 use Rattle.chi_tree.specs.declared.expr.Postfix.TheVariants as postfix
-use Rattle.chi_tree.specs.Tokens.{operator_of, relation_of, prefix_of, cast_of, type_word_of}
 use Rattle.chi_tree.specs.Parts as s
-use Rattle.chi_tree.specs.View.{Built, nowhere, place_in, name_in, way_in, chained, parted, optional, called, no_expr, no_link, type_of, size_of, carried_of, formals_of, more_formals_of, formal_of, formal_in, expr_of, links_of, link_of, link_in, related, powered, postfixes_of, postfix_of, inside, indexed, sliced, stepped, arguments_of, exprs_of, more_exprs_of, bracketed, braced, entries_of, entry_of, blank}
+use Rattle.chi_tree.specs.View.{operator_shown, relation_shown, prefix_shown, cast_shown, type_word_shown, Built, nowhere, place_in, name_in, way_in, chained, parted, optional, called, no_expr, no_link, type_of, size_of, carried_of, formals_of, more_formals_of, formal_of, formal_in, expr_of, links_of, link_of, link_in, related, powered, postfixes_of, postfix_of, inside, indexed, sliced, stepped, arguments_of, exprs_of, more_exprs_of, bracketed, braced, entries_of, entry_of, blank}
 use Rattle.chi_grammar_laws.specs.Expressions.{link, entry, formal}
 use Rattle.chi_grammar_laws.specs.Unplaced.{unplaced_type, unplaced_formal, unplaced_expr, unplaced_postfix, unplaced_link, unplaced_entry}
 use Rattle.chi_grammar_laws.proofs.UnplacedBuilt.{unplaced_tree}
@@ -38,7 +37,7 @@ mutual
   shown_type (node s.AnyType t) = shown_type t
   shown_type (node s.BuiltType t) = shown_type t
   shown_type (node s.NamedType t) = without-Defined (name_in t) ∙ ap type.Defined (shown_name t)
-  shown_type (node s.WordType (leaf x)) = without-Word (type_word_of x.token) x.place
+  shown_type (node s.WordType (leaf x)) = without-Word (type_word_shown x.token) x.place
   shown_type (node s.ListType (pair w (pair size t))) =
       without-List (place_in w) (size_of size) (type_of t) ∙ (λ i. type.List (shown_place w i) (shown_size size i) (shown_type t i))
   shown_type (node s.SetType (pair w t)) = without-Set (place_in w) (type_of t) ∙ (λ i. type.Set (shown_place w i) (shown_type t i))
@@ -95,7 +94,7 @@ mutual
   shown_expr (node s.Prod (pair e ls)) = without-chained (expr_of e) (links_of ls) ∙ (λ i. chained (shown_expr e i) (shown_links ls i))
   shown_expr (node s.Unary t) = shown_expr t
   shown_expr (node s.Prefixed (pair (leaf x) e)) =
-      without-Prefix (prefix_of x.token) x.place (expr_of e) ∙ (λ i. expr.Prefix (prefix_of x.token) nowhere (shown_expr e i))
+      without-Prefix (prefix_shown x.token) x.place (expr_of e) ∙ (λ i. expr.Prefix (prefix_shown x.token) nowhere (shown_expr e i))
   shown_expr (node s.Power (pair e more)) = shown_powered (expr_of e) more ∙ (λ i. powered (shown_expr e i) (unplaced_tree more))
   shown_expr (node s.Post (pair e ps)) = without-parted (expr_of e) (postfixes_of ps) ∙ (λ i. parted (shown_expr e i) (shown_postfixes ps i))
   shown_expr (node s.Primary t) = shown_expr t
@@ -103,7 +102,7 @@ mutual
   shown_expr (node s.Named (pair n more)) =
       without-called (name_in n) more (arguments_of more) ∙ (λ i. called (shown_name n i) (unplaced_tree more) (shown_arguments more i))
   shown_expr (node s.Cast (pair (leaf x) (pair l (pair e r)))) =
-      without-Cast (cast_of x.token) x.place (expr_of e) ∙ (λ i. expr.Cast (cast_of x.token) nowhere (shown_expr e i))
+      without-Cast (cast_shown x.token) x.place (expr_of e) ∙ (λ i. expr.Cast (cast_shown x.token) nowhere (shown_expr e i))
   shown_expr (node s.Round (pair l (pair e (pair more r)))) =
       shown_bracketed (place_in l) (expr_of e) more ∙ (λ i. bracketed (shown_place l i) (shown_expr e i) (unplaced_tree more))
   shown_expr (node s.Square (pair l (pair es r))) =
@@ -127,12 +126,12 @@ mutual
 
   shown_link_in : (t : Built) → unplaced_link (link_in t) ≡ link_in (unplaced_tree t)
   shown_link_in (pair (leaf x) e) =
-      without-link (operator_of x.token) x.place (expr_of e) ∙ (λ i. link (operator_of x.token) nowhere (shown_expr e i))
+      without-link (operator_shown x.token) x.place (expr_of e) ∙ (λ i. link (operator_shown x.token) nowhere (shown_expr e i))
   shown_link_in _ = no_link_shown
 
   shown_related : (e : Expr) (t : Built) → unplaced_expr (related e t) ≡ related (unplaced_expr e) (unplaced_tree t)
   shown_related e (node s.RelLink (pair (leaf x) f)) =
-      without-Relation e (relation_of x.token) x.place (expr_of f) ∙ (λ i. expr.Relation (unplaced_expr e) (relation_of x.token) nowhere (shown_expr f i))
+      without-Relation e (relation_shown x.token) x.place (expr_of f) ∙ (λ i. expr.Relation (unplaced_expr e) (relation_shown x.token) nowhere (shown_expr f i))
   shown_related e _ = refl
 
   shown_powered : (e : Expr) (t : Built) → unplaced_expr (powered e t) ≡ powered (unplaced_expr e) (unplaced_tree t)

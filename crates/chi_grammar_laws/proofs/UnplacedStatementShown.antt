@@ -15,9 +15,9 @@ use Rattle.chi_tree.specs.declared.statement.Alternative.TheVariants as alternat
 use Rattle.chi_tree.specs.declared.statement.Statement.{Statement}
 use Rattle.chi_tree.specs.declared.statement.Statement.TheVariants as statement
 use Rattle.chi_tree.specs.Parts as s
-use Rattle.chi_tree.specs.Tokens.{bytes_of, jump_of, ends_line, is_run}
+use Rattle.chi_tree.specs.Tokens.{bytes_of}
 use Rattle.chi_tree.specs.View.{Built, nowhere, place_in, expr_of, exprs_of, more_exprs_of, optional, type_of, no_expr}
-use Rattle.chi_tree.specs.Statements.{target_of, more_targets_of, walk_of, variables_of, communicated, communication_of, offer_of, elements_of, led, launched, written, step, statement_of, block_of, followed, inner_of, body_of, branch_of, elifs_of, elif_of, else_of, alternatives_of, more_alternatives_of, alternative_of, alternative_body_of}
+use Rattle.chi_tree.specs.Statements.{jump_shown, ends_line_shown, is_run_shown, target_of, more_targets_of, walk_of, variables_of, communicated, communication_of, offer_of, elements_of, led, launched, written, step, statement_of, block_of, followed, inner_of, body_of, branch_of, elifs_of, elif_of, else_of, alternatives_of, more_alternatives_of, alternative_of, alternative_body_of}
 use Rattle.chi_grammar_laws.specs.Unplaced.{unplaced_expr}
 use Rattle.chi_grammar_laws.specs.UnplacedStatements.{unplaced_target, unplaced_element, unplaced_step, unplaced_statement, unplaced_branch, unplaced_alternative}
 use Rattle.chi_grammar_laws.proofs.UnplacedBuilt.{unplaced_tree}
@@ -45,10 +45,11 @@ no_alternative_shown =
 
 -- single statements
 
-shown_jump : (t : Token) (p : Place) → unplaced_statement (jump_of t p) ≡ jump_of t nowhere
+shown_jump : (t : Token) (p : Place) → unplaced_statement (jump_shown t p) ≡ jump_shown t nowhere
 shown_jump (token.Word keyword.BreakWord) p = statement-Break p
 shown_jump (token.Word keyword.ContinueWord) p = statement-Continue p
-shown_jump _ p = statement-Pass p
+shown_jump (token.Word keyword.PassWord) p = statement-Pass p
+shown_jump _ p = no_statement_shown
 
 pub shown_led : (target : Target) (t : Built) → unplaced_statement (led target t) ≡ led (unplaced_target target) (unplaced_tree t)
 shown_led target (node s.AfterName t) = shown_led target t
@@ -70,13 +71,13 @@ launched_by true p es = statement-Run p es
 launched_by false p es = statement-Start p es
 
 pub shown_launched : (t : Built) (es : List Element) → unplaced_statement (launched t es) ≡ launched (unplaced_tree t) (map unplaced_element es)
-shown_launched (leaf x) es = launched_by (is_run x.token) x.place es
+shown_launched (leaf x) es = launched_by (is_run_shown x.token) x.place es
 shown_launched _ es = no_statement_shown
 
 pub shown_written : (w t : Built) → unplaced_statement (written w t) ≡ written (unplaced_tree w) (unplaced_tree t)
 shown_written (leaf x) (node s.Written (pair l (pair (leaf y) (pair es r)))) =
-    statement-Write x.place (ends_line x.token) (bytes_of y.token) y.place (more_exprs_of es)
-    ∙ (λ i. statement.Write nowhere (ends_line x.token) (bytes_of y.token) nowhere (shown_more_exprs es i))
+    statement-Write x.place (ends_line_shown x.token) (bytes_of y.token) y.place (more_exprs_of es)
+    ∙ (λ i. statement.Write nowhere (ends_line_shown x.token) (bytes_of y.token) nowhere (shown_more_exprs es i))
 shown_written _ _ = no_statement_shown
 
 -- an alternative with its offer, and a step, by what they are made of

@@ -6,7 +6,7 @@ use Rattle.chi_grammar_laws.specs.Nestings.{Nestings, first_passing}
 
 module _ {X : Type 0} (Formed : ℕ → ℕ → X → Type 0) (spelled : X → Tokens) (nestings : X → Nestings) where
   -- something formed begins with the tokens, however deep it nests
-  pub record Begins (tokens : Tokens) : Type 0 where
+  pub record FormedFront (tokens : Tokens) : Type 0 where
     pub blocks : ℕ
     pub expressions : ℕ
     pub whole : X
@@ -15,20 +15,20 @@ module _ {X : Type 0} (Formed : ℕ → ℕ → X → Type 0) (spelled : X → T
     pub same : spelled whole ≡ tokens ++ more
 
   -- something formed begins with the tokens, and none of them passes a limit
-  pub record BeginsWithin (b d : ℕ) (tokens : Tokens) : Type 0 where
-    pub begins : Begins tokens
-    pub keeps : first_passing b d (take (length tokens) (nestings begins.whole)) ≡ None
+  pub record FormedFrontWithin (b d : ℕ) (tokens : Tokens) : Type 0 where
+    pub front : FormedFront tokens
+    pub keeps : first_passing b d (take (length tokens) (nestings front.whole)) ≡ None
 
   -- Token k is the first too deep: something formed begins with the tokens up to it, and there it is the first whose nesting
   -- passes a limit.
   pub record NamesDepth (b d : ℕ) (tokens : Tokens) (k : ℕ) : Type 0 where
     pub inside : k < length tokens
-    pub begins : Begins (take (k + 1) tokens)
-    pub first : first_passing b d (nestings begins.whole) ≡ Some k
+    pub front : FormedFront (take (k + 1) tokens)
+    pub first : first_passing b d (nestings front.whole) ≡ Some k
 
   -- nothing formed begins with the first k tokens and token k
   abbrev pub NoneGoesOn : Tokens → ℕ → Type 0
-  NoneGoesOn tokens k = k < length tokens → Begins (take (k + 1) tokens) → ⊥
+  NoneGoesOn tokens k = k < length tokens → FormedFront (take (k + 1) tokens) → ⊥
 
   -- nothing formed has just these tokens, however deep it nests
   abbrev pub NoneHas : Tokens → Type 0
@@ -38,7 +38,7 @@ module _ {X : Type 0} (Formed : ℕ → ℕ → X → Type 0) (spelled : X → T
   -- None of the tokens before it passes a limit, and nothing has just these tokens.
   pub record NamesFault (b d : ℕ) (tokens : Tokens) (k : ℕ) : Type 0 where
     pub inside : k ≤ length tokens
-    pub before : BeginsWithin b d (take k tokens)
+    pub front : FormedFrontWithin b d (take k tokens)
     pub none_goes_on : NoneGoesOn tokens k
     pub none_has_all : NoneHas tokens
 
@@ -53,6 +53,6 @@ module _ {X : Type 0} (Formed : ℕ → ℕ → X → Type 0) (spelled : X → T
   -- None of the tokens before it passes a limit, and nothing has just those.
   pub record NamesStop (b d : ℕ) (tokens : Tokens) (k : ℕ) : Type 0 where
     pub inside : k ≤ length tokens
-    pub before : BeginsWithin b d (take k tokens)
+    pub front : FormedFrontWithin b d (take k tokens)
     pub none_goes_on : NoneGoesOn tokens k
     pub none_has_them : NoneHas (take k tokens)

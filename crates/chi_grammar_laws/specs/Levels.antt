@@ -13,9 +13,14 @@ level_of operator.Or = Expr
 level_of operator.And = Conj
 level_of operator.Add = Sum
 level_of operator.Subtract = Sum
-level_of _ = Prod
+level_of operator.Multiply = Prod
+level_of operator.Divide = Prod
+level_of operator.DivideWhole = Prod
+level_of operator.Remainder = Prod
 
 -- the level of what begins with a prefix operator
 abbrev pub prefix_level : PrefixSign → Level
 prefix_level prefix.Not = Neg
-prefix_level _ = Unary
+prefix_level prefix.Minus = Unary
+prefix_level prefix.Plus = Unary
+prefix_level prefix.Sample = Unary

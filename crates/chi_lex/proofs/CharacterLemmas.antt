@@ -3,7 +3,7 @@ use Rattle.std.proofs.Common.{◌≡◌, ◌≢◌, ℕ, zero, suc, ◌<◌, ◌
 use Rattle.std.specs.List.{slice_get}
 use Rattle.std.proofs.lemmas.Bool.{ne_eqb}
 use Rattle.chi_token.specs.Characters.{is_plain, line_feed, quote, backslash}
-use Rattle.chi_token.specs.Texts.{meaning, escaped, before}
+use Rattle.chi_token.specs.Texts.{meaning, escaped, byte_then}
 use Rattle.chi_lex.specs.declared.text.Character.TheVariants.{Means, Unclosed, BadEscape, BadByte}
 use Rattle.chi_lex.specs.declared.piece.Stop.TheVariants.{Byte, Open, Escape}
 use Rattle.chi_lex.specs.Stops.{text_stop}
@@ -14,7 +14,7 @@ pub plain-character : (rest : List ℕ) (c : ℕ) → Some c ≡ slice_get rest 
 plain-character [] c is plain = cc
 plain-character (x ∷ xs) c is plain =
     let same : x ≡ c = cc in (
-      ap (λ y. meaning (y ∷ [])) same ∙ meaning-plain c [] plain ∙ ap (λ o. before (Some c) o) meaning-empty,
+      ap (λ y. meaning (y ∷ [])) same ∙ meaning-plain c [] plain ∙ ap (λ o. byte_then (Some c) o) meaning-empty,
       omega arith,
       omega arith,
     )
@@ -49,8 +49,8 @@ escape-character (x ∷ y ∷ ys) letter byte first two second is = (
   ap (λ z. meaning (z ∷ y ∷ [])) first
       ∙ ap (λ z. meaning (backslash ∷ z ∷ [])) (sym second)
       ∙ meaning-escape letter []
-      ∙ ap (λ o. before o (meaning [])) (sym is)
-      ∙ ap (λ o. before (Some byte) o) meaning-empty,
+      ∙ ap (λ o. byte_then o (meaning [])) (sym is)
+      ∙ ap (λ o. byte_then (Some byte) o) meaning-empty,
   omega arith,
   omega arith,
 )
@@ -59,7 +59,7 @@ escape-character (x ∷ y ∷ ys) letter byte first two second is = (
 escape-none : (letter : ℕ) (ys : List ℕ) → None ≡ escaped letter → (k : ℕ) → meaning (take (suc k) (backslash ∷ letter ∷ ys)) ≡ None
 escape-none letter ys is zero = meaning-lone
 escape-none letter ys is (suc k) =
-    meaning-escape letter (take k ys) ∙ ap (λ o. before o (meaning (take k ys))) (sym is)
+    meaning-escape letter (take k ys) ∙ ap (λ o. byte_then o (meaning (take k ys))) (sym is)
 
 pub bad_escape-character : (rest : List ℕ) (letter : ℕ) → get_or rest 0 0 ≡ backslash → 1 < length rest → letter ≡ get_or rest 1 letter → None ≡ escaped letter → IsCharacter rest BadEscape
 bad_escape-character [] letter first two second is = absurd (omega arith)

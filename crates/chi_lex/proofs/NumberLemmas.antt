@@ -10,7 +10,7 @@ use Rattle.std.proofs.lemmas.List.Folds.{length-prefix_len}
 use Rattle.chi_token.specs.declared.token.Token.TheVariants.{Int, Real}
 use Rattle.chi_token.specs.Characters.{is_name_start, is_digit, is_point, point}
 use Rattle.chi_token.specs.Prefixes.{longest_prefix}
-use Rattle.chi_token.specs.Tokens.{token_of, number_of, is_digits, is_real, is_fraction}
+use Rattle.chi_token.specs.Tokens.{token_spelled_by, number_of, is_digits, is_real, is_fraction}
 use Rattle.chi_lex.specs.Fractions.{fraction_by, fraction_length}
 use Rattle.chi_lex.proofs.Prefixes.{longest_prefix-at}
 use Rattle.chi_lex.proofs.Runs.{StopsAt, and_left, list_all-stop, list_all-take-prefix_len, StopsAt-drop-prefix_len, prefix_len-stop}
@@ -35,13 +35,13 @@ is_digits-stop ds x more stops =
     ap (λ b. ltb 0 (length (ds ++ x ∷ more)) && b) (list_all-stop is_digit ds x more stops)
     ∙ and-false (ltb 0 (length (ds ++ x ∷ more)))
 
-token_of-number : (c : ℕ) (cs : List ℕ) → is_digit c ≡ true → token_of (c ∷ cs) ≡ number_of (c ∷ cs)
-unfolding token_of
-token_of-number c cs digit = rw (digit-no_name c digit) (rw digit refl)
+token_spelled_by-number : (c : ℕ) (cs : List ℕ) → is_digit c ≡ true → token_spelled_by (c ∷ cs) ≡ number_of (c ∷ cs)
+unfolding token_spelled_by
+token_spelled_by-number c cs digit = rw (digit-no_name c digit) (rw digit refl)
 
-token_of-Digits : (ds more : List ℕ) → Digits ds → token_of (ds ++ more) ≡ number_of (ds ++ more)
-token_of-Digits [] more digits = absurd (let low = digits.some in omega arith)
-token_of-Digits (c ∷ cs) more digits = token_of-number c (cs ++ more) (and_left (is_digit c) (list_all is_digit cs) digits.all)
+token_spelled_by-Digits : (ds more : List ℕ) → Digits ds → token_spelled_by (ds ++ more) ≡ number_of (ds ++ more)
+token_spelled_by-Digits [] more digits = absurd (let low = digits.some in omega arith)
+token_spelled_by-Digits (c ∷ cs) more digits = token_spelled_by-number c (cs ++ more) (and_left (is_digit c) (list_all is_digit cs) digits.all)
 
 -- digits and something else: a number only where that is a point and digits
 number_of-split : (ds : List ℕ) (x : ℕ) (more : List ℕ) → Digits ds → is_digit x ≡ false → number_of (ds ++ x ∷ more) ≡ cond (is_point x && is_digits more) (Some (Real (ds ++ x ∷ more))) None
@@ -55,9 +55,9 @@ number_of-split ds x more digits stops =
     ap (λ b. cond b (Some (Int bytes)) (cond (is_real bytes) (Some (Real bytes)) None)) (is_digits-stop ds x more stops)
     ∙ ap (λ b. cond b (Some (Real bytes)) None) real
 
-number_of-none : (ds : List ℕ) (x : ℕ) (more : List ℕ) → Digits ds → is_digit x ≡ false → (is_point x && is_digits more) ≡ false → token_of (ds ++ x ∷ more) ≡ None
+number_of-none : (ds : List ℕ) (x : ℕ) (more : List ℕ) → Digits ds → is_digit x ≡ false → (is_point x && is_digits more) ≡ false → token_spelled_by (ds ++ x ∷ more) ≡ None
 number_of-none ds x more digits stops none =
-    token_of-Digits ds (x ∷ more) digits
+    token_spelled_by-Digits ds (x ∷ more) digits
     ∙ number_of-split ds x more digits stops
     ∙ ap (λ b. cond b (Some (Real (ds ++ x ∷ more))) None) none
 
@@ -73,7 +73,7 @@ no_digits (y ∷ ys) none (suc k) =
     by false is h = is
 
 -- digits with no fraction after them
-int-longer : (ds back : List ℕ) → Digits ds → StopsAt is_digit back → fraction_length back ≡ 0 → (k : ℕ) → k < length back → token_of (ds ++ take (suc k) back) ≡ None
+int-longer : (ds back : List ℕ) → Digits ds → StopsAt is_digit back → fraction_length back ≡ 0 → (k : ℕ) → k < length back → token_spelled_by (ds ++ take (suc k) back) ≡ None
 int-longer ds [] digits stops none k low = absurd (omega arith)
 int-longer ds (x ∷ back) digits stops none k low =
     number_of-none ds x (take k back) digits stops (by (is_point x) none)
@@ -86,24 +86,24 @@ int-longer ds (x ∷ back) digits stops none k low =
         zero_of (suc n) h = absurd (omega arith)
     by false h = refl
 
-int-at : (ds back : List ℕ) → Digits ds → StopsAt is_digit back → fraction_length back ≡ 0 → longest_prefix token_of (length (ds ++ back)) (ds ++ back) ≡ Some (Int ds, length ds)
+int-at : (ds back : List ℕ) → Digits ds → StopsAt is_digit back → fraction_length back ≡ 0 → longest_prefix token_spelled_by (length (ds ++ back)) (ds ++ back) ≡ Some (Int ds, length ds)
 int-at ds back digits stops none =
-    longest_prefix-at token_of (Int ds) ds back
-    (subst (λ xs. token_of xs ≡ number_of xs) (append-nil ds) (token_of-Digits ds [] digits)
+    longest_prefix-at token_spelled_by (Int ds) ds back
+    (subst (λ xs. token_spelled_by xs ≡ number_of xs) (append-nil ds) (token_spelled_by-Digits ds [] digits)
     ∙ ap (λ b. cond b (Some (Int ds)) (cond (is_real ds) (Some (Real ds)) None)) (is_digits-Digits ds digits))
     (int-longer ds back digits stops none)
 
 -- digits, a point and digits, with no digit after them
-real-longer : (ds es back : List ℕ) → Digits ds → StopsAt is_digit back → (k : ℕ) → k < length back → token_of ((ds ++ point ∷ es) ++ take (suc k) back) ≡ None
+real-longer : (ds es back : List ℕ) → Digits ds → StopsAt is_digit back → (k : ℕ) → k < length back → token_spelled_by ((ds ++ point ∷ es) ++ take (suc k) back) ≡ None
 real-longer ds es [] digits stops k low = absurd (omega arith)
 real-longer ds es (x ∷ back) digits stops k low =
-    subst (λ xs. token_of xs ≡ None) (sym (append_assoc ds (point ∷ es) (x ∷ take k back)))
+    subst (λ xs. token_spelled_by xs ≡ None) (sym (append_assoc ds (point ∷ es) (x ∷ take k back)))
     (number_of-none ds point (es ++ x ∷ take k back) digits refl (is_digits-stop es x (take k back) stops))
 
-real-at : (ds es back : List ℕ) → Digits ds → Digits es → StopsAt is_digit back → longest_prefix token_of (length ((ds ++ point ∷ es) ++ back)) ((ds ++ point ∷ es) ++ back) ≡ Some (Real (ds ++ point ∷ es), length (ds ++ point ∷ es))
+real-at : (ds es back : List ℕ) → Digits ds → Digits es → StopsAt is_digit back → longest_prefix token_spelled_by (length ((ds ++ point ∷ es) ++ back)) ((ds ++ point ∷ es) ++ back) ≡ Some (Real (ds ++ point ∷ es), length (ds ++ point ∷ es))
 real-at ds es back digits fraction stops =
-    longest_prefix-at token_of (Real (ds ++ point ∷ es)) (ds ++ point ∷ es) back
-    (token_of-Digits ds (point ∷ es) digits
+    longest_prefix-at token_spelled_by (Real (ds ++ point ∷ es)) (ds ++ point ∷ es) back
+    (token_spelled_by-Digits ds (point ∷ es) digits
     ∙ number_of-split ds point es digits refl
     ∙ ap (λ b. cond b (Some (Real (ds ++ point ∷ es))) None) (is_digits-Digits es fraction))
     (real-longer ds es back digits stops)
@@ -149,12 +149,12 @@ back-StopsAt rest back whole fraction parts =
     (sym (parts.back_is ∙ ap (λ n. drop n rest) (whole-prefix_len rest back whole fraction parts)))
     (StopsAt-drop-prefix_len is_digit rest)
 
-pub longest-int : (rest back digits : List ℕ) (whole fraction : ℕ) → Parts rest back whole fraction → fraction ≡ 0 → digits ≡ take (whole + fraction) rest → longest_prefix token_of (length rest) rest ≡ Some (Int digits, whole + fraction)
+pub longest-int : (rest back digits : List ℕ) (whole fraction : ℕ) → Parts rest back whole fraction → fraction ≡ 0 → digits ≡ take (whole + fraction) rest → longest_prefix token_spelled_by (length rest) rest ≡ Some (Int digits, whole + fraction)
 longest-int rest back digits whole fraction parts none is =
     let ds = take whole rest in
     let size : whole + fraction ≡ whole = omega arith in
     let same : ds ≡ digits = ap (λ n. take n rest) (sym size) ∙ sym is in
-    subst (λ xs. longest_prefix token_of (length xs) xs ≡ Some (Int ds, length ds)) (front-back rest back whole fraction parts)
+    subst (λ xs. longest_prefix token_spelled_by (length xs) xs ≡ Some (Int ds, length ds)) (front-back rest back whole fraction parts)
     (int-at ds back (front-Digits rest back whole fraction parts) (back-StopsAt rest back whole fraction parts) (sym parts.fraction_is ∙ none))
     ∙ ap (λ n. Some (Int ds, n)) (front-length rest back whole fraction parts ∙ sym size)
     ∙ ap (λ xs. Some (Int xs, whole + fraction)) same
@@ -194,18 +194,18 @@ fraction-Fraction (x ∷ xs) n is some = by (is_point x) refl is
         }
 
 -- a real number and what follows it, by the names of its parts
-real-is : (rest ds es back digits : List ℕ) (size : ℕ) → Digits ds → Digits es → StopsAt is_digit back → (ds ++ point ∷ es) ++ back ≡ rest → length (ds ++ point ∷ es) ≡ size → digits ≡ take size rest → longest_prefix token_of (length rest) rest ≡ Some (Real digits, size)
+real-is : (rest ds es back digits : List ℕ) (size : ℕ) → Digits ds → Digits es → StopsAt is_digit back → (ds ++ point ∷ es) ++ back ≡ rest → length (ds ++ point ∷ es) ≡ size → digits ≡ take size rest → longest_prefix token_spelled_by (length rest) rest ≡ Some (Real digits, size)
 real-is rest ds es back digits size some fraction stops split long is =
     let same : ds ++ point ∷ es ≡ digits =
     sym (take-append_seam (ds ++ point ∷ es) back)
     ∙ ap (λ xs. take (length (ds ++ point ∷ es)) xs) split
     ∙ ap (λ n. take n rest) long
     ∙ sym is in
-    subst (λ xs. longest_prefix token_of (length xs) xs ≡ Some (Real (ds ++ point ∷ es), length (ds ++ point ∷ es))) split (real-at ds es back some fraction stops)
+    subst (λ xs. longest_prefix token_spelled_by (length xs) xs ≡ Some (Real (ds ++ point ∷ es), length (ds ++ point ∷ es))) split (real-at ds es back some fraction stops)
     ∙ ap (λ n. Some (Real (ds ++ point ∷ es), n)) long
     ∙ ap (λ xs. Some (Real xs, size)) same
 
-pub longest-real : (rest back digits : List ℕ) (whole fraction : ℕ) → Parts rest back whole fraction → fraction ≢ 0 → digits ≡ take (whole + fraction) rest → longest_prefix token_of (length rest) rest ≡ Some (Real digits, whole + fraction)
+pub longest-real : (rest back digits : List ℕ) (whole fraction : ℕ) → Parts rest back whole fraction → fraction ≢ 0 → digits ≡ take (whole + fraction) rest → longest_prefix token_spelled_by (length rest) rest ≡ Some (Real digits, whole + fraction)
 longest-real rest back digits whole fraction parts some is =
     let ds = take whole rest in
     let part = fraction-Fraction back fraction parts.fraction_is some in

@@ -5,8 +5,8 @@ use Rattle.std.specs.List.{flat_map}
 use Rattle.std.proofs.lemmas.Bool.{eqb-true}
 use Rattle.chi_token.specs.declared.token.Token.TheVariants as token
 use Rattle.chi_token.specs.Characters.{is_plain, quote, backslash}
-use Rattle.chi_token.specs.Texts.{meaning, escape_meaning, escaped, before, quoted, quoted_by, quoted_byte}
-use Rattle.chi_token.specs.Tokens.{token_of}
+use Rattle.chi_token.specs.Texts.{meaning, escape_meaning, escaped, byte_then, quoted, quoted_by, quoted_byte}
+use Rattle.chi_token.specs.Tokens.{token_spelled_by}
 use Rattle.chi_lex.proofs.TextLemmas.{meaning-plain, meaning-empty, meaning-append, text_of-snoc}
 
 -- the byte's spelling within quotes means that byte
@@ -48,7 +48,7 @@ Meant-escaped letter c is = by (eqb 110 letter) (eqb 116 letter) (eqb 34 letter)
     by false false false true h = let same : 92 ≡ c = cc in subst (λ x. Meant x) same refl
     by false false false false h = cc
 
-before-AllMeant : (o : Option ℕ) (here : Option (List ℕ)) (bs : List ℕ) → ((c : ℕ) → o ≡ Some c → Meant c) → ((ms : List ℕ) → here ≡ Some ms → AllMeant ms) → before o here ≡ Some bs → AllMeant bs
+before-AllMeant : (o : Option ℕ) (here : Option (List ℕ)) (bs : List ℕ) → ((c : ℕ) → o ≡ Some c → Meant c) → ((ms : List ℕ) → here ≡ Some ms → AllMeant ms) → byte_then o here ≡ Some bs → AllMeant bs
 unfolding AllMeant
 before-AllMeant None here bs first rest h = cc
 before-AllMeant (Some c) None bs first rest h = cc
@@ -61,7 +61,7 @@ unfolding meaning escape_meaning AllMeant
 meaning-AllMeant [] bs h = let none : [] ≡ bs = cc in subst (λ xs. AllMeant xs) none tt
 meaning-AllMeant (c ∷ []) bs h = one (eqb c backslash) (is_plain c) refl h
   where
-    one : (b p : Bool) → is_plain c ≡ p → cond b None (cond p (before (Some c) (Some [])) None) ≡ Some bs → AllMeant bs
+    one : (b p : Bool) → is_plain c ≡ p → cond b None (cond p (byte_then (Some c) (Some [])) None) ≡ Some bs → AllMeant bs
     one true p is h = cc
     one false true is h =
         let list : c ∷ [] ≡ bs = cc in
@@ -70,7 +70,7 @@ meaning-AllMeant (c ∷ []) bs h = one (eqb c backslash) (is_plain c) refl h
 meaning-AllMeant (c ∷ d ∷ cs) bs h =
     two (eqb c backslash) (is_plain c) refl (λ ms is. meaning-AllMeant cs ms is) (λ ms is. meaning-AllMeant (d ∷ cs) ms is) h
   where
-    two : (b p : Bool) → is_plain c ≡ p → ((ms : List ℕ) → meaning cs ≡ Some ms → AllMeant ms) → ((ms : List ℕ) → meaning (d ∷ cs) ≡ Some ms → AllMeant ms) → cond b (before (escaped d) (meaning cs)) (cond p (before (Some c) (meaning (d ∷ cs))) None) ≡ Some bs → AllMeant bs
+    two : (b p : Bool) → is_plain c ≡ p → ((ms : List ℕ) → meaning cs ≡ Some ms → AllMeant ms) → ((ms : List ℕ) → meaning (d ∷ cs) ≡ Some ms → AllMeant ms) → cond b (byte_then (escaped d) (meaning cs)) (cond p (byte_then (Some c) (meaning (d ∷ cs))) None) ≡ Some bs → AllMeant bs
     two true p is after next h = before-AllMeant (escaped d) (meaning cs) bs (λ e e_is. Meant-escaped d e e_is) after h
     two false true is after next h = before-AllMeant (Some c) (meaning (d ∷ cs)) bs (λ e e_is. let same : c ≡ e = cc in subst (λ x. Meant x) same (Meant-plain c is)) next h
     two false false is after next h = cc
@@ -83,8 +83,8 @@ meaning-flat_map (c ∷ cs) all =
     ∙ ap (λ o. option_map (λ b. (c ∷ []) ++ b) o) (meaning-flat_map cs all.1)
 
 -- a text that some run means is spelled by its quoted form
-pub token_of-quoted : (run bs : List ℕ) → meaning run ≡ Some bs → token_of (quoted bs) ≡ Some (token.Text bs)
-unfolding token_of quoted
-token_of-quoted run bs is =
+pub token_spelled_by-quoted : (run bs : List ℕ) → meaning run ≡ Some bs → token_spelled_by (quoted bs) ≡ Some (token.Text bs)
+unfolding token_spelled_by quoted
+token_spelled_by-quoted run bs is =
     ap (λ o. option_map (λ t. token.Text t) o)
     (text_of-snoc (flat_map quoted_byte bs) quote ∙ meaning-flat_map bs (meaning-AllMeant run bs is))

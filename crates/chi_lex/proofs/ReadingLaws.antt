@@ -13,7 +13,7 @@ use Rattle.chi_lex.specs.Places.{place_of}
 use Rattle.chi_lex.specs.Reading.{ReadsFrom, at_end, past_gap, past_token, at_fault, Reads, HasFault, IsFaultOf, longest_token, spanned}
 use Rattle.chi_lex.specs.declared.piece.Stop.TheVariants.{Byte, Open, Escape}
 use Rattle.chi_lex.specs.Stops.{stop_of, fault_of, text_stop}
-use Rattle.chi_lex.proofs.ReadingFunction.{reading, reading_from, from_gap, from_token, before}
+use Rattle.chi_lex.proofs.ReadingFunction.{reading, reading_from, from_gap, from_token, token_then}
 use Rattle.chi_lex.proofs.Sizes.{gap-size, token-size}
 use Rattle.chi_lex.proofs.Turns.{reading_from-step}
 
@@ -22,7 +22,7 @@ abbrev pub answer : List Spanned → Option LexFault → Result (List Spanned) L
 answer tokens None = Ok tokens
 answer tokens (Some fault) = Err fault
 
-answer-token : (t : Spanned) (tokens : List Spanned) (fault : Option LexFault) → before t (answer tokens fault) ≡ answer (t ∷ tokens) fault
+answer-token : (t : Spanned) (tokens : List Spanned) (fault : Option LexFault) → token_then t (answer tokens fault) ≡ answer (t ∷ tokens) fault
 answer-token t tokens None = refl
 answer-token t tokens (Some fault) = refl
 
@@ -162,7 +162,7 @@ reads-answer source offset _ fault (past_token _ token size tokens _ no_gap foun
     reading_from-step left source (drop offset source) offset refl (omega arith)
     ∙ ap (λ o. from_gap source offset (reading_from left source) (drop offset source) o) no_gap
     ∙ ap (λ o. from_token source offset (reading_from left source) o) found
-    ∙ ap (λ r. before (spanned source token offset (offset + size)) r)
+    ∙ ap (λ r. token_then (spanned source token offset (offset + size)) r)
     (reads-answer source (offset + size) tokens fault reads left (omega (arith, length-drop offset source, length-drop (offset + size) source)))
     ∙ answer-token (spanned source token offset (offset + size)) tokens fault
 reads-answer source offset _ _ (at_fault _ fault no_gap none is) zero enough = absurd (omega (arith, fault-left source offset fault is))

@@ -10,7 +10,7 @@ use Rattle.chi_token.specs.Characters.{is_name_start, is_digit, quote}
 use Rattle.chi_token.specs.Prefixes.{longest_prefix}
 use Rattle.chi_token.specs.Signs.{sign_of}
 use Rattle.chi_token.specs.Tables.{value_at}
-use Rattle.chi_token.specs.Tokens.{token_of}
+use Rattle.chi_token.specs.Tokens.{token_spelled_by}
 use Rattle.chi_lex.specs.Stops.{stop_of}
 use Rattle.chi_lex.specs.declared.piece.Stop.TheVariants.{Byte}
 use Rattle.chi_lex.proofs.Prefixes.{longest_prefix-at, longest_prefix-none}
@@ -42,20 +42,20 @@ pub record BeginsSign (c : ℕ) : Type 0 where
   pub no_digit : is_digit c ≡ false
   pub no_quote : c ≢ quote
 
-token_of-sign : (c : ℕ) (cs : List ℕ) → BeginsSign c → token_of (c ∷ cs) ≡ option_map (λ s. token.Sign s) (sign_of (c ∷ cs))
-unfolding token_of
-token_of-sign c cs begins =
+token_spelled_by-sign : (c : ℕ) (cs : List ℕ) → BeginsSign c → token_spelled_by (c ∷ cs) ≡ option_map (λ s. token.Sign s) (sign_of (c ∷ cs))
+unfolding token_spelled_by
+token_spelled_by-sign c cs begins =
     rw begins.no_name (rw begins.no_digit (rw (ne_eqb c quote begins.no_quote) refl))
 
 -- a front of signs, and more bytes after it that spell no sign with it
-sign-longer : (c : ℕ) (cs : List ℕ) (back : List ℕ) → BeginsSign c → ((k : ℕ) → k < length back → sign_of ((c ∷ cs) ++ take (suc k) back) ≡ None) → (k : ℕ) → k < length back → token_of ((c ∷ cs) ++ take (suc k) back) ≡ None
+sign-longer : (c : ℕ) (cs : List ℕ) (back : List ℕ) → BeginsSign c → ((k : ℕ) → k < length back → sign_of ((c ∷ cs) ++ take (suc k) back) ≡ None) → (k : ℕ) → k < length back → token_spelled_by ((c ∷ cs) ++ take (suc k) back) ≡ None
 sign-longer c cs back begins longer k low =
-    token_of-sign c (cs ++ take (suc k) back) begins ∙ ap (λ o. option_map (λ s. token.Sign s) o) (longer k low)
+    token_spelled_by-sign c (cs ++ take (suc k) back) begins ∙ ap (λ o. option_map (λ s. token.Sign s) o) (longer k low)
 
-sign-at : (c : ℕ) (cs back : List ℕ) (sign : Sign) → BeginsSign c → sign_of (c ∷ cs) ≡ Some sign → ((k : ℕ) → k < length back → sign_of ((c ∷ cs) ++ take (suc k) back) ≡ None) → longest_prefix token_of (length ((c ∷ cs) ++ back)) ((c ∷ cs) ++ back) ≡ Some (token.Sign sign, length (c ∷ cs))
+sign-at : (c : ℕ) (cs back : List ℕ) (sign : Sign) → BeginsSign c → sign_of (c ∷ cs) ≡ Some sign → ((k : ℕ) → k < length back → sign_of ((c ∷ cs) ++ take (suc k) back) ≡ None) → longest_prefix token_spelled_by (length ((c ∷ cs) ++ back)) ((c ∷ cs) ++ back) ≡ Some (token.Sign sign, length (c ∷ cs))
 sign-at c cs back sign begins reads longer =
-    longest_prefix-at token_of (token.Sign sign) (c ∷ cs) back
-    (token_of-sign c cs begins ∙ ap (λ o. option_map (λ s. token.Sign s) o) reads)
+    longest_prefix-at token_spelled_by (token.Sign sign) (c ∷ cs) back
+    (token_spelled_by-sign c cs begins ∙ ap (λ o. option_map (λ s. token.Sign s) o) reads)
     (sign-longer c cs back begins longer)
 
 -- what a look at the first bytes gives
@@ -63,7 +63,7 @@ pub record IsSignOf (rest : List ℕ) (size : ℕ) (found : Option Sign) : Type 
   pub fits : size ≤ length rest → found ≡ sign_of (take size rest)
   pub short : length rest < size → found ≡ None
 
-pub longest-sign_of_two : (rest : List ℕ) (sign : Sign) → 0 < length rest → BeginsSign (get_or rest 0 0) → IsSignOf rest 2 (Some sign) → longest_prefix token_of (length rest) rest ≡ Some (token.Sign sign, 2)
+pub longest-sign_of_two : (rest : List ℕ) (sign : Sign) → 0 < length rest → BeginsSign (get_or rest 0 0) → IsSignOf rest 2 (Some sign) → longest_prefix token_spelled_by (length rest) rest ≡ Some (token.Sign sign, 2)
 longest-sign_of_two [] sign some begins is = absurd (omega arith)
 longest-sign_of_two (c ∷ []) sign some begins is = let no : Some sign ≡ None = is.short (omega arith) in cc
 longest-sign_of_two (c ∷ d ∷ ds) sign some begins is =
@@ -77,14 +77,14 @@ one-longer c (d ∷ ds) two zero low = sym (two.fits (omega arith))
 one-longer c (d ∷ ds) two (suc k) low =
     sign_of-long (c ∷ d ∷ take (suc k) ds) (omega (arith, length-take (suc k) ds))
 
-pub longest-sign_of_one : (rest : List ℕ) (sign : Sign) → 0 < length rest → BeginsSign (get_or rest 0 0) → IsSignOf rest 2 None → IsSignOf rest 1 (Some sign) → longest_prefix token_of (length rest) rest ≡ Some (token.Sign sign, 1)
+pub longest-sign_of_one : (rest : List ℕ) (sign : Sign) → 0 < length rest → BeginsSign (get_or rest 0 0) → IsSignOf rest 2 None → IsSignOf rest 1 (Some sign) → longest_prefix token_spelled_by (length rest) rest ≡ Some (token.Sign sign, 1)
 longest-sign_of_one [] sign some begins two one = absurd (omega arith)
 longest-sign_of_one (c ∷ cs) sign some begins two one =
     sign-at c [] cs sign begins (sym (one.fits (omega arith))) (one-longer c cs two)
 
-none-longer : (c : ℕ) (cs : List ℕ) → BeginsSign c → IsSignOf (c ∷ cs) 2 None → IsSignOf (c ∷ cs) 1 None → (k : ℕ) → k < length (c ∷ cs) → token_of (take (suc k) (c ∷ cs)) ≡ None
+none-longer : (c : ℕ) (cs : List ℕ) → BeginsSign c → IsSignOf (c ∷ cs) 2 None → IsSignOf (c ∷ cs) 1 None → (k : ℕ) → k < length (c ∷ cs) → token_spelled_by (take (suc k) (c ∷ cs)) ≡ None
 none-longer c cs begins two one zero low =
-    token_of-sign c [] begins ∙ ap (λ o. option_map (λ s. token.Sign s) o) (sym (one.fits (omega arith)))
+    token_spelled_by-sign c [] begins ∙ ap (λ o. option_map (λ s. token.Sign s) o) (sym (one.fits (omega arith)))
 none-longer c cs begins two one (suc k) low =
     sign-longer c [] cs begins (one-longer c cs two) k (omega arith)
 
@@ -92,10 +92,10 @@ stop_of-first : (c : ℕ) (cs : List ℕ) → c ≢ quote → Byte 0 ≡ stop_of
 unfolding stop_of
 stop_of-first c cs no_quote = rw (ne_eqb c quote no_quote) refl
 
-pub no-sign : (rest : List ℕ) → 0 < length rest → BeginsSign (get_or rest 0 0) → IsSignOf rest 2 None → IsSignOf rest 1 None → (longest_prefix token_of (length rest) rest ≡ None) × (Byte 0 ≡ stop_of rest)
-unfolding token_of
+pub no-sign : (rest : List ℕ) → 0 < length rest → BeginsSign (get_or rest 0 0) → IsSignOf rest 2 None → IsSignOf rest 1 None → (longest_prefix token_spelled_by (length rest) rest ≡ None) × (Byte 0 ≡ stop_of rest)
+unfolding token_spelled_by
 no-sign [] some begins two one = absurd (omega arith)
 no-sign (c ∷ cs) some begins two one = (
-  longest_prefix-none token_of (c ∷ cs) (length (c ∷ cs)) refl (none-longer c cs begins two one),
+  longest_prefix-none token_spelled_by (c ∷ cs) (length (c ∷ cs)) refl (none-longer c cs begins two one),
   stop_of-first c cs begins.no_quote,
 )

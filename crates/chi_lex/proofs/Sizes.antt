@@ -8,7 +8,7 @@ use Rattle.chi_token.specs.declared.token.Token.{Token}
 use Rattle.chi_token.specs.Characters.{quote, line_feed, backslash}
 use Rattle.chi_token.specs.Prefixes.{longest_prefix, or_shorter, length_found}
 use Rattle.chi_token.specs.Texts.{meaning}
-use Rattle.chi_token.specs.Tokens.{token_of}
+use Rattle.chi_token.specs.Tokens.{token_spelled_by}
 use Rattle.chi_lex.specs.declared.piece.Stop.{Stop}
 use Rattle.chi_lex.specs.declared.piece.Stop.TheVariants.{Byte, Open, Escape}
 use Rattle.chi_lex.specs.Stops.{text_stop, stop_of}
@@ -56,15 +56,15 @@ pub record IsSizeIn (rest : List ℕ) (size : ℕ) : Type 0 where
   pub some : 0 < size
   pub within : size ≤ length rest
 
-pub token-size : (rest : List ℕ) (t : Token) (n : ℕ) → longest_prefix token_of (length rest) rest ≡ Some (t, n) → IsSizeIn rest n
-unfolding token_of
+pub token-size : (rest : List ℕ) (t : Token) (n : ℕ) → longest_prefix token_spelled_by (length rest) rest ≡ Some (t, n) → IsSizeIn rest n
+unfolding token_spelled_by
 token-size rest t n found =
     record {
-      some = positive n (longest_prefix-means token_of (length rest) rest t n found);
-      within = omega (arith, ap (λ o. length_found o) found, longest_prefix-within token_of (length rest) rest);
+      some = positive n (longest_prefix-means token_spelled_by (length rest) rest t n found);
+      within = omega (arith, ap (λ o. length_found o) found, longest_prefix-within token_spelled_by (length rest) rest);
     }
   where
-    positive : (n : ℕ) → token_of (take n rest) ≡ Some t → 0 < n
+    positive : (n : ℕ) → token_spelled_by (take n rest) ≡ Some t → 0 < n
     positive zero h = cc
     positive (suc n) h = omega arith
 

@@ -4,11 +4,11 @@ use Rattle.std.specs.List.{All}
 use Rattle.chi_token.specs.declared.place.Spanned.{Spanned}
 use Rattle.chi_token.specs.declared.token.Token.{Token}
 use Rattle.chi_token.specs.Prefixes.{longest_prefix}
-use Rattle.chi_token.specs.Tokens.{token_of, IsToken}
+use Rattle.chi_token.specs.Tokens.{token_spelled_by, IsToken}
 use Rattle.chi_lex.specs.declared.fault.LexFault.{LexFault}
 use Rattle.chi_lex.specs.Gaps.{gap_of}
 use Rattle.chi_lex.specs.Reading.{spanned}
-use Rattle.chi_lex.proofs.ReadingFunction.{reading, reading_from, from_rest, from_gap, from_token, before}
+use Rattle.chi_lex.proofs.ReadingFunction.{reading, reading_from, from_rest, from_gap, from_token, token_then}
 use Rattle.chi_lex.specs.Spans.{IsSpanOf, SpanFrom}
 use Rattle.chi_lex.proofs.Sizes.{longest_prefix-means, token-size}
 
@@ -18,7 +18,7 @@ SpanFrom-earlier source early late (t ∷ ts) low spans =
     let after = spans.0 in
     (omega arith, spans.1, spans.2)
 
-token-IsSpanOf : (source : List ℕ) (offset : ℕ) (token : Token) (n : ℕ) → longest_prefix token_of (length (drop offset source)) (drop offset source) ≡ Some (token, n) → IsSpanOf source (spanned source token offset (offset + n))
+token-IsSpanOf : (source : List ℕ) (offset : ℕ) (token : Token) (n : ℕ) → longest_prefix token_spelled_by (length (drop offset source)) (drop offset source) ≡ Some (token, n) → IsSpanOf source (spanned source token offset (offset + n))
 token-IsSpanOf source offset token n found =
     let rest = drop offset source in
     let fits = token-size rest token n found in
@@ -26,7 +26,7 @@ token-IsSpanOf source offset token n found =
     let within = fits.within in
     let size : (offset + n) - offset ≡ n = omega arith in
     record {
-      spelled = ap (λ k. token_of (take k rest)) size ∙ longest_prefix-means token_of (length rest) rest token n found;
+      spelled = ap (λ k. token_spelled_by (take k rest)) size ∙ longest_prefix-means token_spelled_by (length rest) rest token n found;
       placed = refl;
       some = omega arith;
       within = omega (arith, length-drop offset source);
@@ -45,14 +45,14 @@ reading_from-SpanFrom (suc left) source offset tokens reads =
     Later : Type 0
     Later = (later : ℕ) (ts : List Spanned) → reading_from left source later ≡ Ok ts → SpanFrom source later ts
 
-    cons : (token : Token) (n : ℕ) (next : Result (List Spanned) LexFault) (tokens : List Spanned) → IsSpanOf source (spanned source token offset (offset + n)) → ((ts : List Spanned) → next ≡ Ok ts → SpanFrom source (offset + n) ts) → before (spanned source token offset (offset + n)) next ≡ Ok tokens → SpanFrom source offset tokens
+    cons : (token : Token) (n : ℕ) (next : Result (List Spanned) LexFault) (tokens : List Spanned) → IsSpanOf source (spanned source token offset (offset + n)) → ((ts : List Spanned) → next ≡ Ok ts → SpanFrom source (offset + n) ts) → token_then (spanned source token offset (offset + n)) next ≡ Ok tokens → SpanFrom source offset tokens
     cons token n (Err fault) tokens is later h = cc
     cons token n (Ok ts) [] is later h = cc
     cons token n (Ok ts) (u ∷ us) is later h =
         let list : ◌≡◌ {A = List Spanned} (spanned source token offset (offset + n) ∷ ts) (u ∷ us) = cc in
         subst (λ xs. SpanFrom source offset xs) list (omega arith, is, later ts refl)
 
-    token_of_rest : (o : Option (Token × ℕ)) → longest_prefix token_of (length (drop offset source)) (drop offset source) ≡ o → Later → from_token source offset (reading_from left source) o ≡ Ok tokens → SpanFrom source offset tokens
+    token_of_rest : (o : Option (Token × ℕ)) → longest_prefix token_spelled_by (length (drop offset source)) (drop offset source) ≡ o → Later → from_token source offset (reading_from left source) o ≡ Ok tokens → SpanFrom source offset tokens
     token_of_rest None is later h = cc
     token_of_rest (Some found) is later h =
         cons found.0 found.1 (reading_from left source (offset + found.1)) tokens
@@ -64,7 +64,7 @@ reading_from-SpanFrom (suc left) source offset tokens reads =
     gap_of_rest rest is (Some gap) later h =
         SpanFrom-earlier source offset (offset + gap) tokens (omega arith) (later (offset + gap) tokens h)
     gap_of_rest rest is None later h =
-        token_of_rest (longest_prefix token_of (length rest) rest) (ap (λ xs. longest_prefix token_of (length xs) xs) is) later h
+        token_of_rest (longest_prefix token_spelled_by (length rest) rest) (ap (λ xs. longest_prefix token_spelled_by (length xs) xs) is) later h
 
     rest_of : (rest : List ℕ) → drop offset source ≡ rest → Later → from_rest source offset (reading_from left source) rest ≡ Ok tokens → SpanFrom source offset tokens
     rest_of [] is later h = no_tokens source offset tokens h

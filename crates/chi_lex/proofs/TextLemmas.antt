@@ -4,7 +4,7 @@ use Rattle.std.specs.Option.{option_map}
 use Rattle.std.proofs.Math.Seq.{get_or-append_seam, take-append_seam}
 use Rattle.std.proofs.lemmas.Bool.{ne_eqb}
 use Rattle.chi_token.specs.Characters.{is_plain, quote, backslash}
-use Rattle.chi_token.specs.Texts.{meaning, escape_meaning, escaped, before, text_of}
+use Rattle.chi_token.specs.Texts.{meaning, escape_meaning, escaped, byte_then, text_of}
 use Rattle.chi_lex.proofs.Runs.{and_right}
 
 not_or : (a b : Bool) → not (a || b) ≡ true → b ≡ false
@@ -15,13 +15,13 @@ not_or false false h = refl
 plain_no_backslash : (c : ℕ) → is_plain c ≡ true → eqb c backslash ≡ false
 plain_no_backslash c plain = not_or (eqb c quote) (eqb c backslash) (and_right _ (not (eqb c quote || eqb c backslash)) plain)
 
-pub meaning-plain : (c : ℕ) (cs : List ℕ) → is_plain c ≡ true → meaning (c ∷ cs) ≡ before (Some c) (meaning cs)
+pub meaning-plain : (c : ℕ) (cs : List ℕ) → is_plain c ≡ true → meaning (c ∷ cs) ≡ byte_then (Some c) (meaning cs)
 unfolding meaning escape_meaning
 meaning-plain c cs plain =
-    ap (λ b. cond b (escape_meaning cs) (cond (is_plain c) (before (Some c) (meaning cs)) None)) (plain_no_backslash c plain)
-    ∙ ap (λ b. cond b (before (Some c) (meaning cs)) None) plain
+    ap (λ b. cond b (escape_meaning cs) (cond (is_plain c) (byte_then (Some c) (meaning cs)) None)) (plain_no_backslash c plain)
+    ∙ ap (λ b. cond b (byte_then (Some c) (meaning cs)) None) plain
 
-pub meaning-escape : (letter : ℕ) (cs : List ℕ) → meaning (backslash ∷ letter ∷ cs) ≡ before (escaped letter) (meaning cs)
+pub meaning-escape : (letter : ℕ) (cs : List ℕ) → meaning (backslash ∷ letter ∷ cs) ≡ byte_then (escaped letter) (meaning cs)
 unfolding meaning escape_meaning
 meaning-escape letter cs = refl
 
@@ -33,22 +33,22 @@ meaning-lone = refl
 pub meaning-bad : (c : ℕ) (cs : List ℕ) → is_plain c ≡ false → c ≢ backslash → meaning (c ∷ cs) ≡ None
 unfolding meaning escape_meaning
 meaning-bad c cs bad other =
-    ap (λ b. cond b (escape_meaning cs) (cond (is_plain c) (before (Some c) (meaning cs)) None)) (ne_eqb c backslash other)
-    ∙ ap (λ b. cond b (before (Some c) (meaning cs)) None) bad
+    ap (λ b. cond b (escape_meaning cs) (cond (is_plain c) (byte_then (Some c) (meaning cs)) None)) (ne_eqb c backslash other)
+    ∙ ap (λ b. cond b (byte_then (Some c) (meaning cs)) None) bad
 
 pub meaning-empty : meaning [] ≡ Some []
 unfolding meaning escape_meaning
 meaning-empty = refl
 
 -- a character before a run and its rest: by what is known of the rest after each run
-before-append : (c : Option ℕ) (m : List ℕ) (here rest back : Option (List ℕ)) → ((bs : List ℕ) → here ≡ Some bs → rest ≡ option_map (λ b. bs ++ b) back) → before c here ≡ Some m → before c rest ≡ option_map (λ b. m ++ b) back
+before-append : (c : Option ℕ) (m : List ℕ) (here rest back : Option (List ℕ)) → ((bs : List ℕ) → here ≡ Some bs → rest ≡ option_map (λ b. bs ++ b) back) → byte_then c here ≡ Some m → byte_then c rest ≡ option_map (λ b. m ++ b) back
 before-append None m here rest back go h = cc
 before-append (Some c) m None rest back go h = cc
 before-append (Some c) m (Some bs) rest back go h =
     let same : c ∷ bs ≡ m = cc in
-    ap (λ o. before (Some c) o) (go bs refl) ∙ onto back ∙ ap (λ xs. option_map (λ b. xs ++ b) back) same
+    ap (λ o. byte_then (Some c) o) (go bs refl) ∙ onto back ∙ ap (λ xs. option_map (λ b. xs ++ b) back) same
   where
-    onto : (o : Option (List ℕ)) → before (Some c) (option_map (λ b. bs ++ b) o) ≡ option_map (λ b. (c ∷ bs) ++ b) o
+    onto : (o : Option (List ℕ)) → byte_then (Some c) (option_map (λ b. bs ++ b) o) ≡ option_map (λ b. (c ∷ bs) ++ b) o
     onto None = refl
     onto (Some b) = refl
 
@@ -62,14 +62,14 @@ unfolding meaning escape_meaning
 meaning-append [] ys m h = let none : [] ≡ m = cc in nothing_before m none (meaning ys)
 meaning-append (c ∷ []) ys m h = one (eqb c backslash) (is_plain c) h
   where
-    one : (b p : Bool) → cond b None (cond p (before (Some c) (Some [])) None) ≡ Some m → cond b (escape_meaning ys) (cond p (before (Some c) (meaning ys)) None) ≡ option_map (λ b. m ++ b) (meaning ys)
+    one : (b p : Bool) → cond b None (cond p (byte_then (Some c) (Some [])) None) ≡ Some m → cond b (escape_meaning ys) (cond p (byte_then (Some c) (meaning ys)) None) ≡ option_map (λ b. m ++ b) (meaning ys)
     one true p h = cc
     one false true h = before-append (Some c) m (Some []) (meaning ys) (meaning ys) (λ bs is. let none : [] ≡ bs = cc in nothing_before bs none (meaning ys)) h
     one false false h = cc
 meaning-append (c ∷ d ∷ cs) ys m h =
     two (eqb c backslash) (is_plain c) (λ bs is. meaning-append cs ys bs is) (λ bs is. meaning-append (d ∷ cs) ys bs is) h
   where
-    two : (b p : Bool) → ((bs : List ℕ) → meaning cs ≡ Some bs → meaning (cs ++ ys) ≡ option_map (λ b. bs ++ b) (meaning ys)) → ((bs : List ℕ) → meaning (d ∷ cs) ≡ Some bs → meaning (d ∷ cs ++ ys) ≡ option_map (λ b. bs ++ b) (meaning ys)) → cond b (before (escaped d) (meaning cs)) (cond p (before (Some c) (meaning (d ∷ cs))) None) ≡ Some m → cond b (before (escaped d) (meaning (cs ++ ys))) (cond p (before (Some c) (meaning (d ∷ cs ++ ys))) None) ≡ option_map (λ b. m ++ b) (meaning ys)
+    two : (b p : Bool) → ((bs : List ℕ) → meaning cs ≡ Some bs → meaning (cs ++ ys) ≡ option_map (λ b. bs ++ b) (meaning ys)) → ((bs : List ℕ) → meaning (d ∷ cs) ≡ Some bs → meaning (d ∷ cs ++ ys) ≡ option_map (λ b. bs ++ b) (meaning ys)) → cond b (byte_then (escaped d) (meaning cs)) (cond p (byte_then (Some c) (meaning (d ∷ cs))) None) ≡ Some m → cond b (byte_then (escaped d) (meaning (cs ++ ys))) (cond p (byte_then (Some c) (meaning (d ∷ cs ++ ys))) None) ≡ option_map (λ b. m ++ b) (meaning ys)
     two true p after next h = before-append (escaped d) m (meaning cs) (meaning (cs ++ ys)) (meaning ys) after h
     two false true after next h = before-append (Some c) m (meaning (d ∷ cs)) (meaning (d ∷ cs ++ ys)) (meaning ys) next h
     two false false after next h = cc

@@ -6,7 +6,7 @@ use Rattle.chi_token.specs.declared.token.Token.TheVariants as token
 use Rattle.chi_token.specs.Characters.{quote}
 use Rattle.chi_token.specs.Prefixes.{longest_prefix}
 use Rattle.chi_token.specs.Texts.{meaning}
-use Rattle.chi_token.specs.Tokens.{token_of}
+use Rattle.chi_token.specs.Tokens.{token_spelled_by}
 use Rattle.chi_lex.specs.declared.piece.Stop.{Stop}
 use Rattle.chi_lex.specs.Stops.{stop_of, text_stop}
 use Rattle.chi_lex.specs.TextParts.{StopsText}
@@ -50,7 +50,7 @@ HasRead-character rest left bytes after passed byte size read is within next =
       room = omega (arith, ap length split, length-append part after, length-take size left);
     }
 
-pub HasRead-closed : (rest left bytes text : List ℕ) (passed : ℕ) → HasRead rest left bytes passed → 0 < length left → get_or left 0 0 ≡ quote → text ≡ bytes → longest_prefix token_of (length rest) rest ≡ Some (token.Text text, passed + 1)
+pub HasRead-closed : (rest left bytes text : List ℕ) (passed : ℕ) → HasRead rest left bytes passed → 0 < length left → get_or left 0 0 ≡ quote → text ≡ bytes → longest_prefix token_spelled_by (length rest) rest ≡ Some (token.Text text, passed + 1)
 HasRead-closed rest [] bytes text passed read some closes is = absurd (omega arith)
 HasRead-closed rest (c ∷ cs) bytes text passed read some closes is =
     let front = quote ∷ read.run ++ quote ∷ [] in
@@ -60,14 +60,14 @@ HasRead-closed rest (c ∷ cs) bytes text passed read some closes is =
     ∙ read.whole in
     let old_size = read.size in
     let size : length front ≡ passed + 1 = omega (arith, length-append read.run (quote ∷ [])) in
-    subst (λ xs. longest_prefix token_of (length xs) xs ≡ Some (token.Text bytes, length front)) whole
+    subst (λ xs. longest_prefix token_spelled_by (length xs) xs ≡ Some (token.Text bytes, length front)) whole
     (longest-text read.run cs bytes read.means)
     ∙ ap (λ n. Some (token.Text bytes, n)) size
     ∙ ap (λ t. Some (token.Text t, passed + 1)) (sym is)
 
-pub HasRead-stopped : (rest left bytes : List ℕ) (passed : ℕ) (stop : Stop) → HasRead rest left bytes passed → StopsText left → text_stop passed left ≡ stop → (longest_prefix token_of (length rest) rest ≡ None) × (stop ≡ stop_of rest)
+pub HasRead-stopped : (rest left bytes : List ℕ) (passed : ℕ) (stop : Stop) → HasRead rest left bytes passed → StopsText left → text_stop passed left ≡ stop → (longest_prefix token_spelled_by (length rest) rest ≡ None) × (stop ≡ stop_of rest)
 HasRead-stopped rest left bytes passed stop read stops is = (
-  subst (λ xs. longest_prefix token_of (length xs) xs ≡ None) read.whole
+  subst (λ xs. longest_prefix token_spelled_by (length xs) xs ≡ None) read.whole
       (longest-no_text read.run left bytes read.means stops),
   sym is
       ∙ ap (λ n. text_stop n left) read.size

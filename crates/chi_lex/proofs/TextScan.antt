@@ -9,22 +9,22 @@ use Rattle.chi_token.specs.declared.token.Token.TheVariants as token
 use Rattle.chi_token.specs.Characters.{quote}
 use Rattle.chi_token.specs.Prefixes.{longest_prefix, length_found}
 use Rattle.chi_token.specs.Texts.{meaning, text_of}
-use Rattle.chi_token.specs.Tokens.{token_of}
+use Rattle.chi_token.specs.Tokens.{token_spelled_by}
 use Rattle.chi_lex.specs.Stops.{stop_of, text_stop}
 use Rattle.chi_lex.specs.Faults.{characters_length}
 use Rattle.chi_lex.specs.TextParts.{StopsText}
 use Rattle.chi_lex.proofs.Prefixes.{longest_prefix-at, longest_prefix-none}
 use Rattle.chi_lex.proofs.TextLemmas.{meaning-append-none, meaning-quote, meaning-before-quote, text_of-snoc, text_of-no_run, text_of-open}
 
-token_of-text : (cs : List ℕ) → token_of (quote ∷ cs) ≡ option_map (λ t. token.Text t) (text_of cs)
-unfolding token_of
-token_of-text cs = refl
+token_spelled_by-text : (cs : List ℕ) → token_spelled_by (quote ∷ cs) ≡ option_map (λ t. token.Text t) (text_of cs)
+unfolding token_spelled_by
+token_spelled_by-text cs = refl
 
-token_of-no_text : (cs : List ℕ) → text_of cs ≡ None → token_of (quote ∷ cs) ≡ None
-token_of-no_text cs none = token_of-text cs ∙ ap (λ o. option_map (λ t. token.Text t) o) none
+token_spelled_by-no_text : (cs : List ℕ) → text_of cs ≡ None → token_spelled_by (quote ∷ cs) ≡ None
+token_spelled_by-no_text cs none = token_spelled_by-text cs ∙ ap (λ o. option_map (λ t. token.Text t) o) none
 
 -- more bytes after a closed text
-closed-longer : (run back m : List ℕ) → meaning run ≡ Some m → (k : ℕ) → k < length back → token_of ((quote ∷ run ++ quote ∷ []) ++ take (suc k) back) ≡ None
+closed-longer : (run back m : List ℕ) → meaning run ≡ Some m → (k : ℕ) → k < length back → token_spelled_by ((quote ∷ run ++ quote ∷ []) ++ take (suc k) back) ≡ None
 closed-longer run back m is k low =
     let front = run ++ quote ∷ [] in
     let last = get_or back k 0 in
@@ -33,13 +33,13 @@ closed-longer run back m is k low =
     (meaning-append-none run (quote ∷ take k back) m is (meaning-quote (take k back))) in
     let split : front ++ take (suc k) back ≡ (front ++ take k back) ++ last ∷ [] =
     ap (λ xs. front ++ xs) (take-suc back k 0 low) ∙ sym (append_assoc front (take k back) (last ∷ [])) in
-    token_of-no_text (front ++ take (suc k) back)
+    token_spelled_by-no_text (front ++ take (suc k) back)
     (subst (λ xs. text_of xs ≡ None) (sym split) (text_of-no_run (front ++ take k back) last none))
 
-pub longest-text : (run back m : List ℕ) → meaning run ≡ Some m → longest_prefix token_of (length ((quote ∷ run ++ quote ∷ []) ++ back)) ((quote ∷ run ++ quote ∷ []) ++ back) ≡ Some (token.Text m, length (quote ∷ run ++ quote ∷ []))
+pub longest-text : (run back m : List ℕ) → meaning run ≡ Some m → longest_prefix token_spelled_by (length ((quote ∷ run ++ quote ∷ []) ++ back)) ((quote ∷ run ++ quote ∷ []) ++ back) ≡ Some (token.Text m, length (quote ∷ run ++ quote ∷ []))
 longest-text run back m is =
-    longest_prefix-at token_of (token.Text m) (quote ∷ run ++ quote ∷ []) back
-    (token_of-text (run ++ quote ∷ [])
+    longest_prefix-at token_spelled_by (token.Text m) (quote ∷ run ++ quote ∷ []) back
+    (token_spelled_by-text (run ++ quote ∷ [])
     ∙ ap (λ o. option_map (λ t. token.Text t) o) (text_of-snoc run quote ∙ is))
     (closed-longer run back m is)
 
@@ -89,11 +89,11 @@ no_text run back m is stops (suc j) low = by (cases_lt j (length run))
         (subst (λ xs. text_of xs ≡ None) (sym (take-append-add run back (suc k)))
         (stopped-no_text run back m is stops k (omega (arith, length-append run back))))
 
-pub longest-no_text : (run back m : List ℕ) → meaning run ≡ Some m → StopsText back → longest_prefix token_of (length (quote ∷ run ++ back)) (quote ∷ run ++ back) ≡ None
-unfolding token_of
+pub longest-no_text : (run back m : List ℕ) → meaning run ≡ Some m → StopsText back → longest_prefix token_spelled_by (length (quote ∷ run ++ back)) (quote ∷ run ++ back) ≡ None
+unfolding token_spelled_by
 longest-no_text run back m is stops =
-    longest_prefix-none token_of (quote ∷ run ++ back) (length (quote ∷ run ++ back)) refl
-    (λ n low. token_of-no_text (take n (run ++ back)) (no_text run back m is stops n (omega arith)))
+    longest_prefix-none token_spelled_by (quote ∷ run ++ back) (length (quote ∷ run ++ back)) refl
+    (λ n low. token_spelled_by-no_text (take n (run ++ back)) (no_text run back m is stops n (omega arith)))
 
 -- the whole characters before what stops a text
 characters_length-run : (run back m : List ℕ) → meaning run ≡ Some m → StopsText back → characters_length (run ++ back) ≡ length run

@@ -6,14 +6,14 @@ use Rattle.chi_token.specs.declared.place.Place.{Place}
 use Rattle.chi_token.specs.declared.place.Spanned.{Spanned}
 use Rattle.chi_token.specs.declared.token.Token.{Token}
 use Rattle.chi_token.specs.Prefixes.{longest_prefix}
-use Rattle.chi_token.specs.Tokens.{token_of}
+use Rattle.chi_token.specs.Tokens.{token_spelled_by}
 use Rattle.chi_lex.specs.declared.cursor.Cursor.{Cursor}
 use Rattle.chi_lex.specs.declared.fault.LexFault.{LexFault}
 use Rattle.chi_lex.specs.Cursors.{StandsAfter}
 use Rattle.chi_lex.specs.Stops.{stop_of, fault_of}
 use Rattle.chi_lex.specs.Gaps.{gap_of}
 use Rattle.chi_lex.specs.Places.{place_of, line_of, column_of}
-use Rattle.chi_lex.proofs.ReadingFunction.{reading, reading_from, from_gap, from_token, before}
+use Rattle.chi_lex.proofs.ReadingFunction.{reading, reading_from, from_gap, from_token, token_then}
 use Rattle.chi_lex.proofs.Sizes.{IsSizeIn}
 
 -- tokens before a reading
@@ -21,7 +21,7 @@ abbrev pub prefixed : List Spanned → Result (List Spanned) LexFault → Result
 prefixed tokens (Ok more) = Ok (tokens ++ more)
 prefixed tokens (Err fault) = Err fault
 
-prefixed-before : (tokens : List Spanned) (token : Spanned) (next : Result (List Spanned) LexFault) → prefixed tokens (before token next) ≡ prefixed (tokens ++ token ∷ []) next
+prefixed-before : (tokens : List Spanned) (token : Spanned) (next : Result (List Spanned) LexFault) → prefixed tokens (token_then token next) ≡ prefixed (tokens ++ token ∷ []) next
 prefixed-before tokens token (Ok more) = ap (λ ts. Ok ts) (sym (append_assoc tokens (token ∷ []) more))
 prefixed-before tokens token (Err fault) = refl
 
@@ -133,7 +133,7 @@ cursor-place source rest cursor tokens h =
     ∙ ap (λ l. here l (column_of h.done)) (sym h.stands.line)
     ∙ ap (λ c. here cursor.line c) (sym h.stands.column)
 
-pub HasLexed-token : (source rest passed after : List ℕ) (size : ℕ) (cursor next : Cursor) (tokens : List Spanned) (token : Token) (place : Place) → HasLexed source rest cursor tokens → IsSizeIn rest size → gap_of rest ≡ None → longest_prefix token_of (length rest) rest ≡ Some (token, size) → Passes rest passed after size cursor next → place.line ≡ cursor.line → place.column ≡ cursor.column → HasLexed source after next (tokens ++ record { token = token; place = place; start = cursor.offset; stop = cursor.offset + size } ∷ [])
+pub HasLexed-token : (source rest passed after : List ℕ) (size : ℕ) (cursor next : Cursor) (tokens : List Spanned) (token : Token) (place : Place) → HasLexed source rest cursor tokens → IsSizeIn rest size → gap_of rest ≡ None → longest_prefix token_spelled_by (length rest) rest ≡ Some (token, size) → Passes rest passed after size cursor next → place.line ≡ cursor.line → place.column ≡ cursor.column → HasLexed source after next (tokens ++ record { token = token; place = place; start = cursor.offset; stop = cursor.offset + size } ∷ [])
 HasLexed-token source rest passed after size cursor next tokens token place h fits gap found passes line column =
     let moved : cursor.offset + size ≡ next.offset =
     ap (λ n. cursor.offset + n) (sym (passed-length rest passed after size cursor next passes fits)) ∙ sym passes.offset in
@@ -149,8 +149,8 @@ HasLexed-token source rest passed after size cursor next tokens token place h fi
     (reading_from-step left source rest cursor.offset (rest-drop source rest cursor tokens h) (some-rest rest size fits)
     ∙ ap (λ o. from_gap source cursor.offset (reading_from left source) rest o) gap
     ∙ ap (λ o. from_token source cursor.offset (reading_from left source) o) found
-    ∙ ap (λ p. before (make p) (reading_from left source (cursor.offset + size))) at
-    ∙ ap (λ i. before (make place) (reading_from left source i)) moved)
+    ∙ ap (λ p. token_then (make p) (reading_from left source (cursor.offset + size))) at
+    ∙ ap (λ i. token_then (make place) (reading_from left source i)) moved)
     ∙ prefixed-before tokens (make place) (reading_from left source next.offset))
 
 pub HasLexed-end : (source rest : List ℕ) (cursor : Cursor) (tokens : List Spanned) → HasLexed source rest cursor tokens → length rest ≡ 0 → reading source ≡ Ok tokens
@@ -163,7 +163,7 @@ HasLexed-end source [] cursor tokens h none = by h.left h.reads
     by (suc left) reads =
         sym reads ∙ (rw (rest-drop source [] cursor tokens h) refl) ∙ ap (λ ts. Ok ts) (append-nil tokens)
 
-pub HasLexed-stopped : (source rest : List ℕ) (cursor : Cursor) (tokens : List Spanned) → HasLexed source rest cursor tokens → 0 < length rest → gap_of rest ≡ None → longest_prefix token_of (length rest) rest ≡ None → reading source ≡ Err (fault_of source cursor.offset (stop_of rest))
+pub HasLexed-stopped : (source rest : List ℕ) (cursor : Cursor) (tokens : List Spanned) → HasLexed source rest cursor tokens → 0 < length rest → gap_of rest ≡ None → longest_prefix token_spelled_by (length rest) rest ≡ None → reading source ≡ Err (fault_of source cursor.offset (stop_of rest))
 HasLexed-stopped source rest cursor tokens h some gap none = by h.left h.enough h.reads
   where
     by : (left : ℕ) → length rest ≤ left → prefixed tokens (reading_from left source cursor.offset) ≡ reading source → reading source ≡ Err (fault_of source cursor.offset (stop_of rest))

@@ -3,7 +3,7 @@ use Rattle.std.specs.Prelude.{ℕ, ◌≡◌, ◌+◌, ⊤, Option, Some, None, 
 use Rattle.chi_token.specs.declared.place.Spanned.{Spanned}
 use Rattle.chi_token.specs.declared.token.Token.{Token}
 use Rattle.chi_token.specs.Prefixes.{longest_prefix}
-use Rattle.chi_token.specs.Tokens.{token_of}
+use Rattle.chi_token.specs.Tokens.{token_spelled_by}
 use Rattle.chi_lex.specs.declared.fault.LexFault.{LexFault}
 use Rattle.chi_lex.specs.declared.fault.LexFault.TheVariants.{BadByte, OpenString, BadEscape, NoMemory}
 use Rattle.chi_lex.specs.Faults.{IsFaultAt}
@@ -16,7 +16,7 @@ spanned source token start stop = record { token = token; place = place_of sourc
 
 -- the longest prefix that is a token, with its length, or none
 abbrev pub longest_token : List ℕ → Option (Token × ℕ)
-longest_token rest = longest_prefix token_of (length rest) rest
+longest_token rest = longest_prefix token_spelled_by (length rest) rest
 
 -- From an offset on these tokens are read, in turn and to the end, or to the fault where no token is a prefix of the rest.
 pub data ReadsFrom (source : List ℕ) : ℕ → List Spanned → Option LexFault → Type 0 where

@@ -2,13 +2,13 @@
 use Rattle.std.specs.Prelude.{ℕ, ◌≡◌, ◌<◌, ◌≤◌, ⊤, Some, List, [], ◌∷◌, length, slice_range}
 use Rattle.chi_token.specs.declared.place.Spanned.{Spanned}
 use Rattle.chi_token.specs.declared.token.Token.{Token}
-use Rattle.chi_token.specs.Spelling.{spelled}
-use Rattle.chi_token.specs.Tokens.{token_of}
+use Rattle.chi_token.specs.Spelling.{canonical_spelling}
+use Rattle.chi_token.specs.Tokens.{token_spelled_by}
 use Rattle.chi_lex.specs.Places.{place_of}
 
 -- the token's bytes in the source spell it, and its place is that of the first of them
 pub record IsSpanOf (source : List ℕ) (t : Spanned) : Type 0 where
-  pub spelled : token_of (slice_range source t.start t.stop) ≡ Some t.token
+  pub spelled : token_spelled_by (slice_range source t.start t.stop) ≡ Some t.token
   pub placed : t.place ≡ place_of source t.start
   pub some : t.start < t.stop
   pub within : t.stop ≤ length source
@@ -20,4 +20,4 @@ SpanFrom source offset (t ∷ ts) = (offset ≤ t.start) × IsSpanOf source t ×
 
 -- a token that stands alone in a source, by its canonical spelling
 abbrev pub alone : Token → Spanned
-alone token = record { token = token; place = record { line = 1; column = 1 }; start = 0; stop = length (spelled token) }
+alone token = record { token = token; place = record { line = 1; column = 1 }; start = 0; stop = length (canonical_spelling token) }

@@ -2,14 +2,14 @@ ghost use Rattle.std.specs.Prelude.{◌≡◌, ◌⊎◌, ℕ, List, [], ◌∷�
 ghost use Rattle.chi_lex.specs.declared.fault.LexFault.{LexFault};
 ghost use Rattle.chi_token.specs.declared.place.Spanned.{Spanned};
 ghost use Rattle.chi_token.specs.declared.token.Token.{Token};
-ghost use Rattle.chi_token.specs.Spelling.{spelled};
+ghost use Rattle.chi_token.specs.Spelling.{canonical_spelling};
 ghost use Rattle.chi_token.specs.Tokens.{IsToken};
 ghost use Rattle.chi_lex.specs.Reading.{Reads, HasFault};
 ghost use Rattle.chi_lex.specs.Spans.{SpanFrom, alone};
 
 /// A law of every token that some bytes spell: its canonical spelling is read as that token alone.
 pub fn spelling_law()
-    ensures { (token : Token) → IsToken token → Reads (spelled token) (alone token ∷ []) }
+    ensures { (token : Token) → IsToken token → Reads (canonical_spelling token) (alone token ∷ []) }
 {}
 
 /// A law of every source that is read: its tokens lie in it one after another, and the bytes of

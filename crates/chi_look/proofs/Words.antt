@@ -8,8 +8,8 @@ use Rattle.chi_grammar.specs.declared.room.Room.{Room}
 use Rattle.chi_grammar.specs.Rules.{leaf}
 use Rattle.chi_grammar.specs.Lookahead.{holds, Next, starts_in}
 use Rattle.chi_grammar.specs.Reads.{TokenAt}
-use Rattle.chi_grammar.specs.Runs.{Done, Fail, Runs}
-use Rattle.chi_grammar.specs.Runs as runs
+use Rattle.chi_grammar.specs.RuleRuns.{Done, Fail, RuleRuns}
+use Rattle.chi_grammar.specs.RuleRuns as runs
 use Rattle.chi_grammar.proofs.Exits.{run_word, run_no_word}
 use Rattle.chi_token.specs.declared.place.Spanned.{Spanned}
 use Rattle.chi_tree.specs.declared.class.Class.{Class}
@@ -42,13 +42,13 @@ none_here c cs at (Some x) e = by (number_of c == grammar.class_of x) refl
 
 module _ {tokens : List Spanned} {room : Room} where
   pub run_one_of : (c : Class) (cs : List Class) {at end : ℕ} {x : Spanned} → OneAt tokens (c ∷ cs) at x end
-      → Runs grammar table tokens room (one_of c cs) at (Done (leaf x) end)
+      → RuleRuns grammar table tokens room (one_of c cs) at (Done (leaf x) end)
   run_one_of c [] t = run_word grammar table tokens (one_alone t)
   run_one_of c (d ∷ ds) {at = at} {end = end} {x = x} t = by (number_of c == grammar.class_of x) refl (run_one_of d ds)
     where
       by : (b : Bool) → (number_of c == grammar.class_of x) ≡ b
-          → (OneAt tokens (d ∷ ds) at x end → Runs grammar table tokens room (one_of d ds) at (Done (leaf x) end))
-          → Runs grammar table tokens room (one_of c (d ∷ ds)) at (Done (leaf x) end)
+          → (OneAt tokens (d ∷ ds) at x end → RuleRuns grammar table tokens room (one_of d ds) at (Done (leaf x) end))
+          → RuleRuns grammar table tokens room (one_of c (d ∷ ds)) at (Done (leaf x) end)
       by true e others =
           let here : Next grammar tokens at (number_of c ∷ []) true = ap (λ o. starts_in grammar.class_of (number_of c ∷ []) o) t.stands ∙ ap (λ b. b || false) e in
           let alone : OneAt tokens (c ∷ []) at x end = record { stands = t.stands; of_classes = ap (λ b. b || false) e; after = t.after; inside = t.inside } in
@@ -64,7 +64,7 @@ module _ {tokens : List Spanned} {room : Room} where
           runs.right here (others other)
 
   pub run_none_of : (c : Class) (cs : List Class) {at : ℕ} {fault : ParseFault} → NoneAt tokens (c ∷ cs) at fault
-      → Runs grammar table tokens room (one_of c cs) at (Fail fault)
+      → RuleRuns grammar table tokens room (one_of c cs) at (Fail fault)
   run_none_of c [] h = run_no_word grammar table tokens h
   run_none_of c (d ∷ ds) {at = at} h =
       let apart = none_here c (d ∷ ds) at (slice_get tokens at) h.1 in

@@ -5,4 +5,4 @@
 pub mod classes;
 mod look;
 
-pub use look::{begins, bytes_of, enter, refuse, take, take_name, take_one_of};
+pub use look::{bytes_of, enter, is_next, refuse, take, take_name, take_one_of};

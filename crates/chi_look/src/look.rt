@@ -24,7 +24,7 @@ fn is_one_of(token: &Token, classes: &[Class]) -> bool
 }
 
 /// Whether a token of one of the classes stands at an index.
-pub fn begins(tokens: &[Spanned], at: u32, classes: &[Class]) -> bool
+pub fn is_next(tokens: &[Spanned], at: u32, classes: &[Class]) -> bool
     ensures { Next grammar tokens.now at (map number_of classes.now) result }
 {
     match tokens.get(at as usize) {
@@ -92,7 +92,7 @@ pub fn take_name(alloc: Global, tokens: &[Spanned], at: u32) -> Result<(Name, u3
 pub fn refuse(tokens: &[Spanned], at: u32, classes: &[Class]) -> ParseFault
     ensures { Refuses grammar tokens.now (map number_of classes.now) at result }
 {
-    if begins(tokens, at, classes) {
+    if is_next(tokens, at, classes) {
         ParseFault::TooDeep(at)
     } else {
         ParseFault::Syntax(at)

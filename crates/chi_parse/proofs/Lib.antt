@@ -1,3 +1,4 @@
 pub mod Shapes
 pub mod Stretch
 pub mod Ending
+pub mod Rows

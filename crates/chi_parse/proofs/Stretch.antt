@@ -5,8 +5,8 @@ use Rattle.chi_grammar.specs.declared.room.Room.{Room}
 use Rattle.chi_grammar.specs.Rules.{Rule, node, pair, none, part, maybe}
 use Rattle.chi_grammar.specs.Lookahead.{Next, first, holds, starts_in}
 use Rattle.chi_grammar.specs.Reads.{ReadsTree}
-use Rattle.chi_grammar.specs.Runs.{Outcome, Done, Fail, Runs}
-use Rattle.chi_grammar.specs.Runs as runs
+use Rattle.chi_grammar.specs.RuleRuns.{Outcome, Done, Fail, RuleRuns}
+use Rattle.chi_grammar.specs.RuleRuns as runs
 use Rattle.chi_grammar.proofs.Exits.{read}
 use Rattle.chi_token.specs.declared.place.Spanned.{Spanned}
 use Rattle.chi_token.specs.declared.sign.Sign.TheVariants.{Semicolon}
@@ -15,14 +15,14 @@ use Rattle.chi_tree.specs.declared.statement.Step.{Step}
 use Rattle.chi_tree.specs.Parts.{Part}
 use Rattle.chi_tree.specs.Parts as s
 use Rattle.chi_tree.specs.Rules.{grammar, sign}
-use Rattle.chi_tree.specs.Statements.{block_of, followed, statement_of, step}
+use Rattle.chi_tree.specs.Statements.{block_of, ends_in_end, followed, statement_of, step}
 use Rattle.chi_tree.specs.Tables.{table}
 use Rattle.chi_tree.specs.View.{Built}
 use Rattle.chi_parse.proofs.Shapes.{run_ahead}
-use Rattle.chi_parse.specs.Heads.{statement, ends, shown, is_there}
+use Rattle.chi_parse.specs.Heads.{statement, shown, is_there}
 
 abbrev pub R : List Spanned → Room → Rule Spanned Part → ℕ → Outcome Spanned Part → Type 0
-R = Runs grammar table
+R = RuleRuns grammar table
 
 -- Statements were read from `at` to before `i`, where a block begins: with them before it, the whole is a block.
 pub record Before (tokens : List Spanned) (room : Room) (at i : ℕ) (steps : List Step) : Type 0 where
@@ -70,7 +70,7 @@ class_one f c cs None h = h
 class_one f c cs (Some x) h = or_alone (c == f x) (holds cs (f x)) h
 
 module _ (tokens : List Spanned) (room : Room) where
-  closes : {i j : ℕ} {t : Built} (e : Bool) → ends t ≡ e → R tokens room statement i (Done t j) → (o : Outcome Spanned Part)
+  closes : {i j : ℕ} {t : Built} (e : Bool) → ends_in_end t ≡ e → R tokens room statement i (Done t j) → (o : Outcome Spanned Part)
       → R tokens room (maybe (part (after_rule e))) j o → R tokens room (part s.Block) i (around t o)
   closes true same (runs.left h (runs.part p)) (Done u k) q = runs.part (runs.left h (runs.both (runs.part p) q))
   closes true same (runs.left h (runs.part p)) (Fail fault) q = runs.part_fails (runs.left h (runs.next_fails (runs.part p) q))
@@ -112,7 +112,7 @@ module _ (tokens : List Spanned) (room : Room) where
   statement_ahead (runs.right h (runs.left h' p)) = run_ahead p
   statement_ahead (runs.right h (runs.right h' p)) = run_ahead p
 
-  module _ {at i j : ℕ} {t : Built} {steps : List Step} (before : Before tokens room at i steps) (e : Bool) (same : ends t ≡ e)
+  module _ {at i j : ℕ} {t : Built} {steps : List Step} (before : Before tokens room at i steps) (e : Bool) (same : ends_in_end t ≡ e)
       (p : R tokens room statement i (Done t j)) (semi : Bool) (longer : List Step) (is : longer ≡ steps ++ step (statement_of t) semi ∷ []) where
     goes_on : {k : ℕ} (rest : Built → Built)
         → ((v : Built) (m : ℕ) → R tokens room (part s.Block) k (Done (node s.Block v) m) → R tokens room (maybe (part (after_rule e))) j (Done (rest v) m))
@@ -137,7 +137,7 @@ module _ (tokens : List Spanned) (room : Room) where
         (before.shows (pair t w) ∙ ap (λ xs. steps ++ xs) view ∙ sym is)
 
   turn_by : {at i j k : ℕ} {t u : Built} {steps : List Step} → Before tokens room at i steps → R tokens room statement i (Done t j)
-      → R tokens room (maybe (sign Semicolon)) j (Done u k) → (e semi next : Bool) → ends t ≡ e → is_there u ≡ semi
+      → R tokens room (maybe (sign Semicolon)) j (Done u k) → (e semi next : Bool) → ends_in_end t ≡ e → is_there u ≡ semi
       → Next grammar tokens k block_classes next → (longer : List Step) → longer ≡ steps ++ step (statement_of t) semi ∷ []
       → at ≤ length tokens → k ≤ length tokens → Stretch tokens room at ((e || semi) && next) k longer
   turn_by {k = k} before p (runs.never h) true false true same there next longer is start inside =

@@ -1,25 +1,24 @@
 ghost use Rattle.std.specs.Prelude.{◌^◌, ◌<◌, ◌≤◌, ◌∷◌, length};
-ghost use Rattle.chi_grammar.specs.Rules.{many, maybe, part, ◌▸◌};
+ghost use Rattle.chi_grammar.specs.Rules.{many, maybe, part};
 ghost use Rattle.chi_grammar.specs.Reads.{Reads};
 ghost use Rattle.chi_tree.specs.Parts as s;
-ghost use Rattle.chi_tree.specs.Rules.{grammar, keyword};
+ghost use Rattle.chi_tree.specs.Rules.{grammar};
 ghost use Rattle.chi_tree.specs.Tables.{table};
-ghost use Rattle.chi_token.specs.declared.keyword.Keyword.TheVariants.{AltWord};
-ghost use Rattle.chi_tree.specs.Statements.{alternative_body_of, alternative_of, alternatives_of, block_of, body_of, branch_of, elifs_of, else_of, inner_of, more_alternatives_of, statement_of};
+ghost use Rattle.chi_tree.specs.Statements.{block_of, body_of, branch_of, elifs_of, else_of, inner_of, statement_of};
 ghost use Rattle.chi_parse.specs.Heads.{shown, statement};
 
 use crate::launches::launch;
-use crate::offers::offer;
+use crate::selects::select;
 use crate::semicolon::optional_semicolon;
 use crate::simple::open;
 use crate::walks::walk;
 use chi_base::Items;
 use chi_grammar::{Nesting, ParseFault, Room};
-use chi_look::classes::{FIRST_OF_ALTERNATIVES, FIRST_OF_BLOCK, FIRST_OF_CLOSED, FIRST_OF_LAUNCH};
-use chi_look::{begins, enter, take};
+use chi_look::classes::{FIRST_OF_BLOCK, FIRST_OF_CLOSED, FIRST_OF_LAUNCH};
+use chi_look::{enter, is_next, take};
 use chi_parse_expr::expr;
 use chi_token::{Keyword, Sign, Spanned};
-use chi_tree::{Alternative, Block, Branch, Class, Statement, Step};
+use chi_tree::{Block, Branch, Class, Statement, Step};
 use std::alloc::Global;
 
 /// Statements in turn. The `;` after one may be left out where its last token is `end`.
@@ -39,7 +38,7 @@ fn block(alloc: Global, tokens: &[Spanned], at: u32, room: Room) -> Result<(Bloc
             statement,
             semicolon,
         })?;
-        let goes_on = begins(tokens, stop, &FIRST_OF_BLOCK);
+        let goes_on = is_next(tokens, stop, &FIRST_OF_BLOCK);
         more = (ends | semicolon) & goes_on;
         end = stop;
     }
@@ -58,11 +57,11 @@ fn statement(
     requires inside { at ≤ length tokens.now }
     ensures { Reads grammar table tokens.now shown room statement at result }
 {
-    if begins(tokens, at, &FIRST_OF_CLOSED) {
+    if is_next(tokens, at, &FIRST_OF_CLOSED) {
         let (statement, end) = closed(alloc, tokens, at, room)?;
         return Ok(((statement, true), end));
     }
-    if begins(tokens, at, &FIRST_OF_LAUNCH) {
+    if is_next(tokens, at, &FIRST_OF_LAUNCH) {
         return launch(alloc, tokens, at, room);
     }
     let (statement, end) = open(alloc, tokens, at, room)?;
@@ -81,13 +80,13 @@ fn closed(
     requires inside { at ≤ length tokens.now }
     ensures { Reads grammar table tokens.now statement_of room (part s.Closed) at result }
 {
-    if begins(tokens, at, &[Class::Word(Keyword::SelectWord)]) {
+    if is_next(tokens, at, &[Class::Word(Keyword::SelectWord)]) {
         return select(alloc, tokens, at, room);
     }
-    if begins(tokens, at, &[Class::Word(Keyword::IfWord)]) {
+    if is_next(tokens, at, &[Class::Word(Keyword::IfWord)]) {
         return branching(alloc, tokens, at, room);
     }
-    if begins(tokens, at, &[Class::Word(Keyword::WhileWord)]) {
+    if is_next(tokens, at, &[Class::Word(Keyword::WhileWord)]) {
         return repetition(alloc, tokens, at, room);
     }
     walking(alloc, tokens, at, room)
@@ -95,7 +94,12 @@ fn closed(
 
 /// A block inside another part: one level deeper.
 #[cycle(blocks)]
-fn inner(alloc: Global, tokens: &[Spanned], at: u32, room: Room) -> Result<(Block, u32), ParseFault>
+pub fn inner(
+    alloc: Global,
+    tokens: &[Spanned],
+    at: u32,
+    room: Room,
+) -> Result<(Block, u32), ParseFault>
     requires short { length tokens.now < 2 ^ 32 }
     requires inside { at ≤ length tokens.now }
     ensures { Reads grammar table tokens.now inner_of room (part s.Inner) at result }
@@ -155,7 +159,7 @@ fn more_branches(
     let mut branches = Vec::new(alloc);
     branches.push(first)?;
     let mut end = at;
-    'turn: while begins(tokens, end, &[Class::Word(Keyword::ElifWord)]) {
+    'turn: while is_next(tokens, end, &[Class::Word(Keyword::ElifWord)]) {
         let (_, after) = take(tokens, end, Class::Word(Keyword::ElifWord))?;
         let (next, stop) = branch(alloc, tokens, after, room)?;
         branches.push(next)?;
@@ -176,7 +180,7 @@ fn otherwise(
     requires inside { at ≤ length tokens.now }
     ensures { Reads grammar table tokens.now else_of room (maybe (part s.Else)) at result }
 {
-    if !begins(tokens, at, &[Class::Word(Keyword::ElseWord)]) {
+    if !is_next(tokens, at, &[Class::Word(Keyword::ElseWord)]) {
         return Ok((Items::of(alloc, Vec::new(alloc))?, at));
     }
     let (_, middle) = take(tokens, at, Class::Word(Keyword::ElseWord))?;
@@ -256,153 +260,4 @@ fn walking(
         },
         end,
     ))
-}
-
-#[cycle(blocks)]
-fn select(
-    alloc: Global,
-    tokens: &[Spanned],
-    at: u32,
-    room: Room,
-) -> Result<(Statement, u32), ParseFault>
-    requires short { length tokens.now < 2 ^ 32 }
-    requires inside { at ≤ length tokens.now }
-    ensures { Reads grammar table tokens.now statement_of room (part s.Select) at result }
-{
-    let (word, start) = take(tokens, at, Class::Word(Keyword::SelectWord))?;
-    let (alternatives, middle) = alternatives(alloc, tokens, start, room)?;
-    let (_, end) = take(tokens, middle, Class::Word(Keyword::EndWord))?;
-    Ok((
-        Statement::Select {
-            place: word.place,
-            alternatives,
-        },
-        end,
-    ))
-}
-
-#[cycle(blocks)]
-fn alternatives(
-    alloc: Global,
-    tokens: &[Spanned],
-    at: u32,
-    room: Room,
-) -> Result<(Items<Alternative>, u32), ParseFault>
-    requires short { length tokens.now < 2 ^ 32 }
-    requires inside { at ≤ length tokens.now }
-    ensures { Reads grammar table tokens.now alternatives_of room (part s.Alternatives) at result }
-{
-    let (first, middle) = alternative(alloc, tokens, at, room)?;
-    more_alternatives(alloc, tokens, middle, room, first)
-}
-
-/// The alternatives after a first one.
-#[cycle(blocks)]
-fn more_alternatives(
-    alloc: Global,
-    tokens: &[Spanned],
-    at: u32,
-    room: Room,
-    first: Alternative,
-) -> Result<(Items<Alternative>, u32), ParseFault>
-    requires short { length tokens.now < 2 ^ 32 }
-    requires inside { at ≤ length tokens.now }
-    ensures { Reads grammar table tokens.now (λ xs. first ∷ more_alternatives_of xs) room (many (keyword AltWord ▸ part s.Alternative)) at result }
-{
-    let mut alternatives = Vec::new(alloc);
-    alternatives.push(first)?;
-    let mut end = at;
-    'turn: while begins(tokens, end, &[Class::Word(Keyword::AltWord)]) {
-        let (_, after) = take(tokens, end, Class::Word(Keyword::AltWord))?;
-        let (next, stop) = alternative(alloc, tokens, after, room)?;
-        alternatives.push(next)?;
-        end = stop;
-    }
-    Ok((Items::of(alloc, alternatives)?, end))
-}
-
-#[cycle(blocks)]
-fn alternative(
-    alloc: Global,
-    tokens: &[Spanned],
-    at: u32,
-    room: Room,
-) -> Result<(Alternative, u32), ParseFault>
-    requires short { length tokens.now < 2 ^ 32 }
-    requires inside { at ≤ length tokens.now }
-    ensures { Reads grammar table tokens.now alternative_of room (part s.Alternative) at result }
-{
-    if begins(tokens, at, &[Class::Word(Keyword::UnwindWord)]) {
-        return unwound_alternatives(alloc, tokens, at, room);
-    }
-    guarded_alternative(alloc, tokens, at, room)
-}
-
-#[cycle(blocks)]
-fn unwound_alternatives(
-    alloc: Global,
-    tokens: &[Spanned],
-    at: u32,
-    room: Room,
-) -> Result<(Alternative, u32), ParseFault>
-    requires short { length tokens.now < 2 ^ 32 }
-    requires inside { at ≤ length tokens.now }
-    ensures { Reads grammar table tokens.now alternative_of room (part s.UnwoundAlternatives) at result }
-{
-    let (word, start) = take(tokens, at, Class::Word(Keyword::UnwindWord))?;
-    let (walk, middle) = walk(alloc, tokens, start, room)?;
-    let (_, from) = take(tokens, middle, Class::Sign(Sign::Colon))?;
-    let inner = enter(tokens, from, room, Nesting::Block, &FIRST_OF_ALTERNATIVES)?;
-    let (alternatives, last) = alternatives(alloc, tokens, from, inner)?;
-    let (_, end) = take(tokens, last, Class::Word(Keyword::EndWord))?;
-    Ok((
-        Alternative::Unwind {
-            place: word.place,
-            walk,
-            alternatives,
-        },
-        end,
-    ))
-}
-
-#[cycle(blocks)]
-fn guarded_alternative(
-    alloc: Global,
-    tokens: &[Spanned],
-    at: u32,
-    room: Room,
-) -> Result<(Alternative, u32), ParseFault>
-    requires short { length tokens.now < 2 ^ 32 }
-    requires inside { at ≤ length tokens.now }
-    ensures { Reads grammar table tokens.now alternative_of room (part s.GuardedAlternative) at result }
-{
-    let ((guard, communication), middle) = offer(alloc, tokens, at, room)?;
-    let (block, end) = alternative_body(alloc, tokens, middle, room)?;
-    Ok((
-        Alternative::Guarded {
-            guard,
-            communication,
-            block,
-        },
-        end,
-    ))
-}
-
-/// The block of an alternative, empty where there is none.
-#[cycle(blocks)]
-fn alternative_body(
-    alloc: Global,
-    tokens: &[Spanned],
-    at: u32,
-    room: Room,
-) -> Result<(Block, u32), ParseFault>
-    requires short { length tokens.now < 2 ^ 32 }
-    requires inside { at ≤ length tokens.now }
-    ensures { Reads grammar table tokens.now alternative_body_of room (maybe (part s.AlternativeBody)) at result }
-{
-    if !begins(tokens, at, &[Class::Sign(Sign::Colon)]) {
-        return Ok((Items::of(alloc, Vec::new(alloc))?, at));
-    }
-    let (_, start) = take(tokens, at, Class::Sign(Sign::Colon))?;
-    inner(alloc, tokens, start, room)
 }

@@ -10,7 +10,7 @@ ghost use Rattle.chi_tree.specs.View.{expr_of, name_in, optional};
 use crate::targets::target;
 use chi_grammar::{ParseFault, Room};
 use chi_look::classes::FIRST_OF_EXPR;
-use chi_look::{begins, take, take_name};
+use chi_look::{is_next, take, take_name};
 use chi_parse_expr::expr;
 use chi_token::{Keyword, Sign, Spanned};
 use chi_tree::{Class, Communication, Expr, Name, Target};
@@ -27,7 +27,7 @@ pub fn optional_expr(
     requires inside { at ≤ length tokens.now }
     ensures { Reads grammar table tokens.now (λ t. optional t (expr_of t)) room (maybe (part s.Expr)) at result }
 {
-    if !begins(tokens, at, &FIRST_OF_EXPR) {
+    if !is_next(tokens, at, &FIRST_OF_EXPR) {
         return Ok((None, at));
     }
     let (value, end) = expr(alloc, tokens, at, room)?;
@@ -45,7 +45,7 @@ fn optional_name(
     requires inside { at ≤ length tokens.now }
     ensures { Reads grammar table tokens.now (λ t. optional t (name_in t)) room (maybe name) at result }
 {
-    if !begins(tokens, at, &[Class::Name]) {
+    if !is_next(tokens, at, &[Class::Name]) {
         return Ok((None, at));
     }
     let (name, end) = take_name(alloc, tokens, at)?;
@@ -110,7 +110,7 @@ pub fn communication_end(
     requires inside { at ≤ length tokens.now }
     ensures { Reads grammar table tokens.now (communicated target) room (part s.CommunicationEnd) at result }
 {
-    if begins(tokens, at, &[Class::Sign(Sign::Bang)]) {
+    if is_next(tokens, at, &[Class::Sign(Sign::Bang)]) {
         return sending(alloc, tokens, at, room, target);
     }
     receiving(alloc, tokens, at, room, target)
@@ -147,7 +147,7 @@ pub fn communication(
     requires inside { at ≤ length tokens.now }
     ensures { Reads grammar table tokens.now communication_of room (part s.Communication) at result }
 {
-    if begins(tokens, at, &[Class::Word(Keyword::DelayWord)]) {
+    if is_next(tokens, at, &[Class::Word(Keyword::DelayWord)]) {
         return delay(alloc, tokens, at, room);
     }
     let (target, middle) = target(alloc, tokens, at, room)?;

@@ -1,15 +1,16 @@
 ghost use Rattle.std.specs.Prelude.{◌^◌, ◌<◌, ◌≤◌, ◌∷◌, length};
 ghost use Rattle.chi_grammar.specs.Rules.{many, maybe, part, ◌▸◌};
 ghost use Rattle.chi_grammar.specs.Reads.{Reads};
-ghost use Rattle.chi_token.specs.declared.sign.Sign.TheVariants.{Comma};
+ghost use Rattle.chi_token.specs.declared.sign.Sign.TheVariants.{Assign, Comma};
 ghost use Rattle.chi_tree.specs.Parts as s;
 ghost use Rattle.chi_tree.specs.Rules.{grammar, sign};
 ghost use Rattle.chi_tree.specs.Tables.{table};
+ghost use Rattle.chi_parse.specs.Rests.{assigned_of};
 ghost use Rattle.chi_tree.specs.Statements.{initial_of, more_variables_of, variable_of, variables_of};
 
 use chi_base::Items;
 use chi_grammar::{ParseFault, Room};
-use chi_look::{begins, take, take_name};
+use chi_look::{is_next, take, take_name};
 use chi_parse_expr::expr;
 use chi_token::{Sign, Spanned};
 use chi_tree::{Class, Initial, Variable};
@@ -25,16 +26,31 @@ fn initial(
     requires inside { at ≤ length tokens.now }
     ensures { Reads grammar table tokens.now initial_of room (maybe (part s.Initial)) at result }
 {
-    if !begins(tokens, at, &[Class::Sign(Sign::Assign)]) {
+    if !is_next(tokens, at, &[Class::Sign(Sign::Assign)]) {
         return Ok((None, at));
     }
+    let (initial, end) = assigned(alloc, tokens, at, room)?;
+    Ok((Some(initial), end))
+}
+
+/// `=` and the value after it.
+pub fn assigned(
+    alloc: Global,
+    tokens: &[Spanned],
+    at: u32,
+    room: Room,
+) -> Result<(Initial, u32), ParseFault>
+    requires short { length tokens.now < 2 ^ 32 }
+    requires inside { at ≤ length tokens.now }
+    ensures { Reads grammar table tokens.now assigned_of room (sign Assign ▸ part s.Expr) at result }
+{
     let (sign, start) = take(tokens, at, Class::Sign(Sign::Assign))?;
     let (value, end) = expr(alloc, tokens, start, room)?;
     let initial = Initial {
         equals: sign.place,
         value,
     };
-    Ok((Some(initial), end))
+    Ok((initial, end))
 }
 
 fn variable(
@@ -67,7 +83,7 @@ fn more_variables(
     let mut variables = Vec::new(alloc);
     variables.push(first)?;
     let mut end = at;
-    'turn: while begins(tokens, end, &[Class::Sign(Sign::Comma)]) {
+    'turn: while is_next(tokens, end, &[Class::Sign(Sign::Comma)]) {
         let (_, after) = take(tokens, end, Class::Sign(Sign::Comma))?;
         let (next, stop) = variable(alloc, tokens, after, room)?;
         variables.push(next)?;

@@ -1,21 +1,28 @@
 ghost use Rattle.std.specs.Prelude.{◌^◌, ◌<◌, ◌≤◌, length};
-ghost use Rattle.chi_grammar.specs.Rules.{part};
+ghost use Rattle.chi_grammar.specs.Rules.{part, ◌▸◌};
 ghost use Rattle.chi_grammar.specs.Reads.{Reads};
 ghost use Rattle.chi_tree.specs.Parts as s;
-ghost use Rattle.chi_tree.specs.Rules.{grammar};
+ghost use Rattle.chi_token.specs.declared.sign.Sign.TheVariants.{Assign, LeftBrace, RightBrace};
+ghost use Rattle.chi_tree.specs.Rules.{grammar, nested, sign};
 ghost use Rattle.chi_tree.specs.Tables.{table};
 ghost use Rattle.chi_tree.specs.Statements.{definition_of, item_of};
+ghost use Rattle.chi_parse.specs.Rests.{callable_of, values_of};
 
 use crate::blocks::body;
+use crate::declared::assigned;
 use crate::formal::{head, parameters};
 use crate::semicolon::optional_semicolon;
 use crate::walks::names;
+use chi_base::Items;
 use chi_grammar::{Nesting, ParseFault, Room};
-use chi_look::{begins, enter, take, take_name};
-use chi_parse_expr::{any_type, expr};
+use chi_look::{enter, is_next, take, take_name};
+use chi_parse_expr::any_type;
 use chi_token::{Keyword, Sign, Spanned};
-use chi_tree::{Class, Definition, Item};
+use chi_tree::{Block, Class, Definition, Formal, Initial, Item, Name};
 use std::alloc::Global;
+
+/// Formals, and the block in which they are known.
+type Callable = (Items<Formal>, Block);
 
 fn enumeration(
     alloc: Global,
@@ -29,7 +36,29 @@ fn enumeration(
 {
     let (word, start) = take(tokens, at, Class::Word(Keyword::EnumWord))?;
     let (name, middle) = take_name(alloc, tokens, start)?;
-    let (_, from) = take(tokens, middle, Class::Sign(Sign::Assign))?;
+    let (values, end) = values(alloc, tokens, middle, room)?;
+    Ok((
+        Definition::Enum {
+            place: word.place,
+            name,
+            values,
+        },
+        end,
+    ))
+}
+
+/// The values of an enumeration, after `=` and in brackets.
+fn values(
+    alloc: Global,
+    tokens: &[Spanned],
+    at: u32,
+    room: Room,
+) -> Result<(Items<Name>, u32), ParseFault>
+    requires short { length tokens.now < 2 ^ 32 }
+    requires inside { at ≤ length tokens.now }
+    ensures { Reads grammar table tokens.now values_of room (sign Assign ▸ nested (sign LeftBrace ▸ part s.Names ▸ sign RightBrace)) at result }
+{
+    let (_, from) = take(tokens, at, Class::Sign(Sign::Assign))?;
     let inner = enter(
         tokens,
         from,
@@ -40,14 +69,7 @@ fn enumeration(
     let (_, next) = take(tokens, from, Class::Sign(Sign::LeftBrace))?;
     let (names, last) = names(alloc, tokens, next)?;
     let (_, end) = take(tokens, last, Class::Sign(Sign::RightBrace))?;
-    Ok((
-        Definition::Enum {
-            place: word.place,
-            name,
-            values: names,
-        },
-        end,
-    ))
+    Ok((names, end))
 }
 
 fn constant(
@@ -63,14 +85,13 @@ fn constant(
     let (word, start) = take(tokens, at, Class::Word(Keyword::ConstWord))?;
     let (ty, middle) = any_type(alloc, tokens, start, room)?;
     let (name, next) = take_name(alloc, tokens, middle)?;
-    let (sign, from) = take(tokens, next, Class::Sign(Sign::Assign))?;
-    let (value, end) = expr(alloc, tokens, from, room)?;
+    let (Initial { equals, value }, end) = assigned(alloc, tokens, next, room)?;
     Ok((
         Definition::Const {
             place: word.place,
             ty,
             name,
-            equals: sign.place,
+            equals,
             value,
         },
         end,
@@ -101,6 +122,22 @@ fn type_name(
     ))
 }
 
+/// The formals of a definition and its block.
+fn callable(
+    alloc: Global,
+    tokens: &[Spanned],
+    at: u32,
+    room: Room,
+) -> Result<(Callable, u32), ParseFault>
+    requires short { length tokens.now < 2 ^ 32 }
+    requires inside { at ≤ length tokens.now }
+    ensures { Reads grammar table tokens.now callable_of room (part s.Parameters ▸ part s.Body) at result }
+{
+    let (formals, middle) = parameters(alloc, tokens, at, room)?;
+    let (block, end) = body(alloc, tokens, middle, room)?;
+    Ok(((formals, block), end))
+}
+
 fn function(
     alloc: Global,
     tokens: &[Spanned],
@@ -114,8 +151,7 @@ fn function(
     let (word, start) = take(tokens, at, Class::Word(Keyword::FuncWord))?;
     let (ty, middle) = any_type(alloc, tokens, start, room)?;
     let (name, next) = take_name(alloc, tokens, middle)?;
-    let (formals, last) = parameters(alloc, tokens, next, room)?;
-    let (block, end) = body(alloc, tokens, last, room)?;
+    let ((formals, block), end) = callable(alloc, tokens, next, room)?;
     Ok((
         Definition::Func {
             place: word.place,
@@ -140,8 +176,7 @@ fn process(
 {
     let (word, start) = take(tokens, at, Class::Word(Keyword::ProcWord))?;
     let ((ty, name), middle) = head(alloc, tokens, start, room)?;
-    let (formals, last) = parameters(alloc, tokens, middle, room)?;
-    let (block, end) = body(alloc, tokens, last, room)?;
+    let ((formals, block), end) = callable(alloc, tokens, middle, room)?;
     Ok((
         Definition::Proc {
             place: word.place,
@@ -166,8 +201,7 @@ fn model(
 {
     let (word, start) = take(tokens, at, Class::Word(Keyword::ModelWord))?;
     let ((ty, name), middle) = head(alloc, tokens, start, room)?;
-    let (formals, last) = parameters(alloc, tokens, middle, room)?;
-    let (block, end) = body(alloc, tokens, last, room)?;
+    let ((formals, block), end) = callable(alloc, tokens, middle, room)?;
     Ok((
         Definition::Model {
             place: word.place,
@@ -222,22 +256,22 @@ fn defined(
     requires inside { at ≤ length tokens.now }
     ensures { Reads grammar table tokens.now definition_of room (part s.Defined) at result }
 {
-    if begins(tokens, at, &[Class::Word(Keyword::EnumWord)]) {
+    if is_next(tokens, at, &[Class::Word(Keyword::EnumWord)]) {
         return enumeration(alloc, tokens, at, room);
     }
-    if begins(tokens, at, &[Class::Word(Keyword::ConstWord)]) {
+    if is_next(tokens, at, &[Class::Word(Keyword::ConstWord)]) {
         return constant(alloc, tokens, at, room);
     }
-    if begins(tokens, at, &[Class::Word(Keyword::TypeWord)]) {
+    if is_next(tokens, at, &[Class::Word(Keyword::TypeWord)]) {
         return type_name(alloc, tokens, at, room);
     }
-    if begins(tokens, at, &[Class::Word(Keyword::FuncWord)]) {
+    if is_next(tokens, at, &[Class::Word(Keyword::FuncWord)]) {
         return function(alloc, tokens, at, room);
     }
-    if begins(tokens, at, &[Class::Word(Keyword::ProcWord)]) {
+    if is_next(tokens, at, &[Class::Word(Keyword::ProcWord)]) {
         return process(alloc, tokens, at, room);
     }
-    if begins(tokens, at, &[Class::Word(Keyword::ModelWord)]) {
+    if is_next(tokens, at, &[Class::Word(Keyword::ModelWord)]) {
         return model(alloc, tokens, at, room);
     }
     experiment(alloc, tokens, at, room)

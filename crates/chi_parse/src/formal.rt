@@ -7,11 +7,11 @@ ghost use Rattle.chi_tree.specs.Tables.{table};
 ghost use Rattle.chi_tree.specs.View.{formal_of, formals_of, more_formals_of};
 ghost use Rattle.chi_tree.specs.Statements.{head_of, parameters_of};
 
-use chi_base::{Boxed, Items};
+use chi_base::Items;
 use chi_grammar::{Nesting, ParseFault, Room};
 use chi_look::classes::{FIRST_OF_BUILT_TYPE, FIRST_OF_MORE_FORMAL, FIRST_OF_TYPE};
-use chi_look::{begins, enter, take, take_name};
-use chi_parse_expr::{any_type, built_type};
+use chi_look::{enter, is_next, take, take_name};
+use chi_parse_expr::{boxed_type, built_type};
 use chi_token::{Sign, Spanned};
 use chi_tree::{Class, Formal, Name, TypeTree};
 use std::alloc::Global;
@@ -27,15 +27,14 @@ fn more_formal(
     requires inside { at ≤ length tokens.now }
     ensures { Reads grammar table tokens.now formal_of room (part s.MoreFormal) at result }
 {
-    if begins(tokens, at, &[Class::Sign(Sign::Comma)]) {
+    if is_next(tokens, at, &[Class::Sign(Sign::Comma)]) {
         let (_, start) = take(tokens, at, Class::Sign(Sign::Comma))?;
         let (name, end) = take_name(alloc, tokens, start)?;
         return Ok((Formal { ty: None, name }, end));
     }
     let (_, from) = take(tokens, at, Class::Sign(Sign::Semicolon))?;
-    let (ty, middle) = any_type(alloc, tokens, from, room)?;
+    let (own, middle) = boxed_type(alloc, tokens, from, room)?;
     let (called, last) = take_name(alloc, tokens, middle)?;
-    let own = Boxed::new(alloc, ty)?;
     let formal = Formal {
         ty: Some(own),
         name: called,
@@ -58,7 +57,7 @@ fn more_formals(
     let mut formals = Vec::new(alloc);
     formals.push(first)?;
     let mut end = at;
-    'turn: while begins(tokens, end, &FIRST_OF_MORE_FORMAL) {
+    'turn: while is_next(tokens, end, &FIRST_OF_MORE_FORMAL) {
         let (next, stop) = more_formal(alloc, tokens, end, room)?;
         formals.push(next)?;
         end = stop;
@@ -77,12 +76,11 @@ fn formals(
     requires inside { at ≤ length tokens.now }
     ensures { Reads grammar table tokens.now formals_of room (maybe (part s.Formals)) at result }
 {
-    if !begins(tokens, at, &FIRST_OF_TYPE) {
+    if !is_next(tokens, at, &FIRST_OF_TYPE) {
         return Ok((Items::of(alloc, Vec::new(alloc))?, at));
     }
-    let (ty, middle) = any_type(alloc, tokens, at, room)?;
+    let (own, middle) = boxed_type(alloc, tokens, at, room)?;
     let (name, start) = take_name(alloc, tokens, middle)?;
-    let own = Boxed::new(alloc, ty)?;
     let first = Formal {
         ty: Some(own),
         name,
@@ -125,13 +123,13 @@ pub fn head(
     requires inside { at ≤ length tokens.now }
     ensures { Reads grammar table tokens.now head_of room (part s.Head) at result }
 {
-    if begins(tokens, at, &FIRST_OF_BUILT_TYPE) {
+    if is_next(tokens, at, &FIRST_OF_BUILT_TYPE) {
         let (ty, middle) = built_type(alloc, tokens, at, room)?;
         let (name, end) = take_name(alloc, tokens, middle)?;
         return Ok(((Some(ty), name), end));
     }
     let (first, next) = take_name(alloc, tokens, at)?;
-    if !begins(tokens, next, &[Class::Name]) {
+    if !is_next(tokens, next, &[Class::Name]) {
         return Ok(((None, first), next));
     }
     let (second, last) = take_name(alloc, tokens, next)?;

@@ -1,22 +1,23 @@
-ghost use Rattle.std.specs.Prelude.{◌≡◌, ◌^◌, ◌<◌, ◌≤◌, ◌∷◌, length, if◌then◌else◌};
-ghost use Rattle.chi_grammar.specs.Rules.{many, part, ◌▸◌};
+ghost use Rattle.std.specs.Prelude.{◌≡◌, ◌^◌, ◌<◌, ◌≤◌, ◌∷◌, true, length, Some};
+ghost use Rattle.chi_grammar.specs.Rules.{leaf, many, part, ◌▸◌};
 ghost use Rattle.chi_grammar.specs.Reads.{Reads};
-ghost use Rattle.chi_token.specs.declared.sign.Sign.TheVariants.{Comma};
+ghost use Rattle.chi_token.specs.declared.sign.Sign.TheVariants.{Colon, Comma};
+ghost use Rattle.chi_token.specs.declared.keyword.Keyword.TheVariants.{EndWord};
 ghost use Rattle.chi_tree.specs.Parts as s;
-ghost use Rattle.chi_tree.specs.Rules.{grammar, sign};
+ghost use Rattle.chi_tree.specs.Rules.{grammar, inner_block, keyword, sign};
 ghost use Rattle.chi_tree.specs.Tables.{table};
 ghost use Rattle.chi_tree.specs.Tokens.{is_run};
-ghost use Rattle.chi_tree.specs.declared.statement.Statement.TheVariants as statement;
 ghost use Rattle.chi_tree.specs.declared.statement.Element.{out-Element};
 ghost use Rattle.chi_parse.specs.Heads.{shown};
-ghost use Rattle.chi_tree.specs.Statements.{element_of, elements_of, ends_element, last_ends, made, more_elements_of};
+ghost use Rattle.chi_parse.specs.Rests.{repeated_elements_of};
+ghost use Rattle.chi_tree.specs.Statements.{element_of, elements_of, ends_element, is_some, last_ends, launched, made, more_elements_of};
 
 use crate::targets::{is_bare, target};
 use crate::walks::walk;
 use chi_base::Items;
 use chi_grammar::{Nesting, ParseFault, Room};
 use chi_look::classes::{FIRST_OF_ELEMENTS, FIRST_OF_LAUNCH};
-use chi_look::{begins, enter, take, take_name, take_one_of};
+use chi_look::{enter, is_next, take, take_name, take_one_of};
 use chi_parse_expr::arguments;
 use chi_token::{Keyword, Sign, Spanned, Token};
 use chi_tree::{Class, Element, Statement, Target};
@@ -53,7 +54,7 @@ fn more_elements(
     let mut elements = Vec::new(alloc);
     elements.push(first)?;
     let mut end = at;
-    'turn: while begins(tokens, end, &[Class::Sign(Sign::Comma)]) {
+    'turn: while is_next(tokens, end, &[Class::Sign(Sign::Comma)]) {
         let (_, after) = take(tokens, end, Class::Sign(Sign::Comma))?;
         let (next, stop) = element(alloc, tokens, after, room)?;
         elements.push(next)?;
@@ -73,7 +74,7 @@ fn element(
     requires inside { at ≤ length tokens.now }
     ensures { Reads grammar table tokens.now element_of room (part s.Element) at result }
 {
-    if begins(tokens, at, &[Class::Word(Keyword::UnwindWord)]) {
+    if is_next(tokens, at, &[Class::Word(Keyword::UnwindWord)]) {
         return unwound_elements(alloc, tokens, at, room);
     }
     make(alloc, tokens, at, room)
@@ -92,10 +93,7 @@ fn unwound_elements(
 {
     let (word, start) = take(tokens, at, Class::Word(Keyword::UnwindWord))?;
     let (walk, middle) = walk(alloc, tokens, start, room)?;
-    let (_, from) = take(tokens, middle, Class::Sign(Sign::Colon))?;
-    let inner = enter(tokens, from, room, Nesting::Block, &FIRST_OF_ELEMENTS)?;
-    let (elements, last) = elements(alloc, tokens, from, inner)?;
-    let (_, end) = take(tokens, last, Class::Word(Keyword::EndWord))?;
+    let (elements, end) = repeated_elements(alloc, tokens, middle, room)?;
     Ok((
         Element::Unwind {
             place: word.place,
@@ -104,6 +102,25 @@ fn unwound_elements(
         },
         end,
     ))
+}
+
+/// The elements that an unwind repeats, between `:` and `end`.
+#[cycle(elements)]
+fn repeated_elements(
+    alloc: Global,
+    tokens: &[Spanned],
+    at: u32,
+    room: Room,
+) -> Result<(Items<Element>, u32), ParseFault>
+    requires short { length tokens.now < 2 ^ 32 }
+    requires inside { at ≤ length tokens.now }
+    ensures { Reads grammar table tokens.now repeated_elements_of room (sign Colon ▸ inner_block (part s.Elements) ▸ keyword EndWord) at result }
+{
+    let (_, from) = take(tokens, at, Class::Sign(Sign::Colon))?;
+    let inner = enter(tokens, from, room, Nesting::Block, &FIRST_OF_ELEMENTS)?;
+    let (elements, last) = elements(alloc, tokens, from, inner)?;
+    let (_, end) = take(tokens, last, Class::Word(Keyword::EndWord))?;
+    Ok((elements, end))
 }
 
 fn make(
@@ -135,7 +152,7 @@ fn made(
     requires inside { at ≤ length tokens.now }
     ensures { Reads grammar table tokens.now (made target) room (part s.Made) at result }
 {
-    if !begins(tokens, at, &[Class::Sign(Sign::LeftParen)]) {
+    if !is_next(tokens, at, &[Class::Sign(Sign::LeftParen)]) {
         return assigned_make(alloc, tokens, at, room, target);
     }
     let (arguments, end) = arguments(alloc, tokens, at, room)?;
@@ -192,10 +209,23 @@ pub fn last_ends(elements: &[Element]) -> bool
     }
 }
 
-fn launched(word: &Spanned, elements: Items<Element>) -> Statement
-    ensures { result ≡ (if is_run word.now.token then statement.Run word.now.place elements else statement.Start word.now.place elements) }
+/// Whether what is made is run, and not started.
+fn is_run(token: &Token) -> bool
+    requires { is_some (is_run token.now) ≡ true }
+    ensures { is_run token.now ≡ Some result }
 {
-    if matches!(word.token, Token::Word(Keyword::RunWord)) {
+    match token {
+        Token::Word(Keyword::RunWord) => true,
+        Token::Word(Keyword::StartWord) => false,
+        _ => unreachable!(),
+    }
+}
+
+fn launched(word: &Spanned, elements: Items<Element>) -> Statement
+    requires { is_some (is_run word.now.token) ≡ true }
+    ensures { result ≡ launched (leaf word.now) elements }
+{
+    if is_run(&word.token) {
         Statement::Run {
             place: word.place,
             elements,

@@ -10,6 +10,7 @@ mod formal;
 mod launches;
 mod offers;
 mod program;
+mod selects;
 mod semicolon;
 mod simple;
 mod targets;

@@ -1,8 +1,10 @@
 ghost use Rattle.std.specs.Prelude.{◌≡◌, ◌^◌, ◌<◌, ◌≤◌, true, IfOk, List, Some, length};
-ghost use Rattle.chi_grammar.specs.Rules.{part};
+ghost use Rattle.chi_grammar.specs.Rules.{part, ◌▸◌};
 ghost use Rattle.chi_grammar.specs.Reads.{Reads};
 ghost use Rattle.chi_tree.specs.Parts as s;
-ghost use Rattle.chi_tree.specs.Rules.{grammar};
+ghost use Rattle.chi_token.specs.declared.sign.Sign.TheVariants.{Comma};
+ghost use Rattle.chi_tree.specs.Rules.{grammar, sign};
+ghost use Rattle.chi_parse.specs.Rests.{guarded_of};
 ghost use Rattle.chi_tree.specs.Tables.{table};
 ghost use Rattle.chi_tree.specs.declared.expr.Expr.{out-Expr};
 ghost use Rattle.chi_tree.specs.declared.expr.Postfix.{Postfix, out-Postfix};
@@ -11,14 +13,14 @@ ghost use Rattle.chi_tree.specs.Statements.{as_target, is_some, is_step_in, name
 use crate::communications::{communication, communication_end, delay};
 use chi_base::{Items, NoMemory};
 use chi_grammar::{ParseFault, Room};
-use chi_look::{begins, take};
+use chi_look::{is_next, take};
 use chi_parse_expr::expr;
 use chi_token::{Keyword, Sign, Spanned};
 use chi_tree::{Class, Communication, Expr, Postfix, Target};
 use std::alloc::Global;
 
 /// A guard, where there is one, and a communication.
-type Offer = (Option<Expr>, Communication);
+pub type Offer = (Option<Expr>, Communication);
 
 /// Whether an expression is a name alone.
 fn is_named(e: &Expr) -> bool
@@ -79,9 +81,23 @@ fn guarded(
     requires inside { at ≤ length tokens.now }
     ensures { Reads grammar table tokens.now (offered guard) room (part s.Guarded) at result }
 {
-    let (_, start) = take(tokens, at, Class::Sign(Sign::Comma))?;
-    let (communication, end) = communication(alloc, tokens, start, room)?;
+    let (communication, end) = after_guard(alloc, tokens, at, room)?;
     Ok(((Some(guard), communication), end))
+}
+
+/// The communication after a guard and its comma.
+fn after_guard(
+    alloc: Global,
+    tokens: &[Spanned],
+    at: u32,
+    room: Room,
+) -> Result<(Communication, u32), ParseFault>
+    requires short { length tokens.now < 2 ^ 32 }
+    requires inside { at ≤ length tokens.now }
+    ensures { Reads grammar table tokens.now guarded_of room (sign Comma ▸ part s.Communication) at result }
+{
+    let (_, start) = take(tokens, at, Class::Sign(Sign::Comma))?;
+    communication(alloc, tokens, start, room)
 }
 
 /// What stands after an expression that is a target: it is a guard, or that of a communication.
@@ -97,7 +113,7 @@ fn offered(
     requires target { is_some (as_target first) ≡ true }
     ensures { Reads grammar table tokens.now (offered first) room (part s.Offered) at result }
 {
-    if begins(tokens, at, &[Class::Sign(Sign::Comma)]) {
+    if is_next(tokens, at, &[Class::Sign(Sign::Comma)]) {
         return guarded(alloc, tokens, at, room, first);
     }
     let target = into_target(alloc, first)?;
@@ -115,7 +131,7 @@ pub fn offer(
     requires inside { at ≤ length tokens.now }
     ensures { Reads grammar table tokens.now offer_of room (part s.Offer) at result }
 {
-    if begins(tokens, at, &[Class::Word(Keyword::DelayWord)]) {
+    if is_next(tokens, at, &[Class::Word(Keyword::DelayWord)]) {
         let (communication, end) = delay(alloc, tokens, at, room)?;
         return Ok(((None, communication), end));
     }

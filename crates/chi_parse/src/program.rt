@@ -11,8 +11,8 @@ ghost use Rattle.chi_tree.specs.Tables.{table};
 use crate::definitions::definition;
 use chi_base::Items;
 use chi_grammar::{ParseFault, Room};
-use chi_look::begins;
 use chi_look::classes::FIRST_OF_DEFINITION;
+use chi_look::is_next;
 use chi_token::{Place, Spanned};
 use chi_tree::{Item, Program, whole_room};
 use std::alloc::Global;
@@ -32,7 +32,7 @@ fn more_items(
     let mut items = Vec::new(alloc);
     items.push(first)?;
     let mut end = at;
-    'turn: while begins(tokens, end, &FIRST_OF_DEFINITION) {
+    'turn: while is_next(tokens, end, &FIRST_OF_DEFINITION) {
         let (next, stop) = definition(alloc, tokens, end, room)?;
         items.push(next)?;
         end = stop;

@@ -1,10 +1,10 @@
-ghost use Rattle.std.specs.Prelude.{◌≡◌, ◌^◌, ◌<◌, ◌≤◌, length, if◌then◌else◌};
+ghost use Rattle.std.specs.Prelude.{◌≡◌, ◌^◌, ◌<◌, ◌≤◌, true, length, Some};
 ghost use Rattle.chi_grammar.specs.Rules.{part};
 ghost use Rattle.chi_grammar.specs.Reads.{Reads};
 ghost use Rattle.chi_grammar.specs.declared.room.Room.{Room};
 ghost use Rattle.chi_tree.specs.Parts as s;
 ghost use Rattle.chi_tree.specs.Rules.{grammar};
-ghost use Rattle.chi_tree.specs.Statements.{led, statement_of};
+ghost use Rattle.chi_tree.specs.Statements.{is_some, led, statement_of};
 ghost use Rattle.chi_tree.specs.Tables.{table};
 ghost use Rattle.chi_tree.specs.Tokens.{ends_line, jump_of};
 
@@ -15,7 +15,7 @@ use chi_grammar::{Nesting, ParseFault, Room};
 use chi_look::classes::{
     FIRST_OF_BUILT_TYPE, FIRST_OF_COMMUNICATION_END, FIRST_OF_JUMP, FIRST_OF_WRITE,
 };
-use chi_look::{begins, bytes_of, enter, take, take_one_of};
+use chi_look::{bytes_of, enter, is_next, take, take_one_of};
 use chi_parse_expr::{built_type, expr, exprs, more_exprs};
 use chi_token::{Bytes, Keyword, Place, Sign, Spanned, Token};
 use chi_tree::{Class, Statement, Target, TypeTree};
@@ -67,7 +67,7 @@ fn after_name(
     requires inside { at ≤ length tokens.now }
     ensures { Reads grammar table tokens.now (led target) room (part s.AfterName) at result }
 {
-    if !begins(tokens, at, &[Class::Name]) {
+    if !is_next(tokens, at, &[Class::Name]) {
         return after_target(alloc, tokens, at, room, target);
     }
     let (variables, end) = variables(alloc, tokens, at, room)?;
@@ -88,7 +88,7 @@ fn after_target(
     requires inside { at ≤ length tokens.now }
     ensures { Reads grammar table tokens.now (led target) room (part s.AfterTarget) at result }
 {
-    if !begins(tokens, at, &FIRST_OF_COMMUNICATION_END) {
+    if !is_next(tokens, at, &FIRST_OF_COMMUNICATION_END) {
         return assignment(alloc, tokens, at, room, target);
     }
     let (communication, end) = communication_end(alloc, tokens, at, room, target)?;
@@ -135,12 +135,14 @@ fn timed(
 }
 
 fn jump_of(token: &Token, place: Place) -> Statement
-    ensures { result ≡ jump_of token.now place }
+    requires { is_some (jump_of token.now place) ≡ true }
+    ensures { jump_of token.now place ≡ Some result }
 {
     match token {
+        Token::Word(Keyword::PassWord) => Statement::Pass(place),
         Token::Word(Keyword::BreakWord) => Statement::Break(place),
         Token::Word(Keyword::ContinueWord) => Statement::Continue(place),
-        _ => Statement::Pass(place),
+        _ => unreachable!(),
     }
 }
 
@@ -216,10 +218,16 @@ fn finish(
     ))
 }
 
+/// Whether a write ends its line.
 fn ends_line(token: &Token) -> bool
-    ensures { result ≡ ends_line token.now }
+    requires { is_some (ends_line token.now) ≡ true }
+    ensures { ends_line token.now ≡ Some result }
 {
-    matches!(token, Token::Word(Keyword::WritelnWord))
+    match token {
+        Token::Word(Keyword::WriteWord) => false,
+        Token::Word(Keyword::WritelnWord) => true,
+        _ => unreachable!(),
+    }
 }
 
 fn write(
@@ -266,25 +274,25 @@ pub fn open(
     requires inside { at ≤ length tokens.now }
     ensures { Reads grammar table tokens.now statement_of room (part s.Open) at result }
 {
-    if begins(tokens, at, &FIRST_OF_BUILT_TYPE) {
+    if is_next(tokens, at, &FIRST_OF_BUILT_TYPE) {
         return declaration(alloc, tokens, at, room);
     }
-    if begins(tokens, at, &[Class::Name]) {
+    if is_next(tokens, at, &[Class::Name]) {
         return name_led(alloc, tokens, at, room);
     }
-    if begins(tokens, at, &[Class::Word(Keyword::DelayWord)]) {
+    if is_next(tokens, at, &[Class::Word(Keyword::DelayWord)]) {
         return timed(alloc, tokens, at, room);
     }
-    if begins(tokens, at, &FIRST_OF_JUMP) {
+    if is_next(tokens, at, &FIRST_OF_JUMP) {
         return jump(tokens, at);
     }
-    if begins(tokens, at, &[Class::Word(Keyword::ReturnWord)]) {
+    if is_next(tokens, at, &[Class::Word(Keyword::ReturnWord)]) {
         return returned(alloc, tokens, at, room);
     }
-    if begins(tokens, at, &[Class::Word(Keyword::ExitWord)]) {
+    if is_next(tokens, at, &[Class::Word(Keyword::ExitWord)]) {
         return exit(alloc, tokens, at, room);
     }
-    if begins(tokens, at, &[Class::Word(Keyword::FinishWord)]) {
+    if is_next(tokens, at, &[Class::Word(Keyword::FinishWord)]) {
         return finish(alloc, tokens, at, room);
     }
     write(alloc, tokens, at, room)

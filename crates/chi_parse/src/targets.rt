@@ -8,11 +8,11 @@ ghost use Rattle.chi_tree.specs.Tables.{table};
 ghost use Rattle.chi_tree.specs.Statements.{is_bare, more_targets_of, target_of};
 ghost use Rattle.chi_tree.specs.View.{postfix_of, postfixes_of};
 
-use chi_base::{Boxed, Items};
+use chi_base::Items;
 use chi_grammar::{Nesting, ParseFault, Room};
 use chi_look::classes::FIRST_OF_POSTFIX;
-use chi_look::{begins, enter, take, take_name};
-use chi_parse_expr::{expr, field};
+use chi_look::{enter, is_next, take, take_name};
+use chi_parse_expr::{boxed_expr, field};
 use chi_token::{Sign, Spanned};
 use chi_tree::{Class, Postfix, Target};
 use std::alloc::Global;
@@ -28,7 +28,7 @@ fn target_step(
     requires inside { at ≤ length tokens.now }
     ensures { Reads grammar table tokens.now postfix_of room (part s.TargetStep) at result }
 {
-    if !begins(tokens, at, &[Class::Sign(Sign::LeftBracket)]) {
+    if !is_next(tokens, at, &[Class::Sign(Sign::LeftBracket)]) {
         return field(alloc, tokens, at);
     }
     let inner = enter(
@@ -39,9 +39,8 @@ fn target_step(
         &[Class::Sign(Sign::LeftBracket)],
     )?;
     let (bracket, start) = take(tokens, at, Class::Sign(Sign::LeftBracket))?;
-    let (value, middle) = expr(alloc, tokens, start, inner)?;
+    let (index, middle) = boxed_expr(alloc, tokens, start, inner)?;
     let (_, end) = take(tokens, middle, Class::Sign(Sign::RightBracket))?;
-    let index = Boxed::new(alloc, value)?;
     Ok((
         Postfix::Index {
             place: bracket.place,
@@ -63,7 +62,7 @@ fn target_steps(
 {
     let mut steps = Vec::new(alloc);
     let mut end = at;
-    'turn: while begins(tokens, end, &FIRST_OF_POSTFIX) {
+    'turn: while is_next(tokens, end, &FIRST_OF_POSTFIX) {
         let (step, stop) = target_step(alloc, tokens, end, room)?;
         steps.push(step)?;
         end = stop;
@@ -101,7 +100,7 @@ pub fn more_targets(
     let mut targets = Vec::new(alloc);
     targets.push(first)?;
     let mut end = at;
-    'turn: while begins(tokens, end, &[Class::Sign(Sign::Comma)]) {
+    'turn: while is_next(tokens, end, &[Class::Sign(Sign::Comma)]) {
         let (_, after) = take(tokens, end, Class::Sign(Sign::Comma))?;
         let (next, stop) = target(alloc, tokens, after, room)?;
         targets.push(next)?;

@@ -11,7 +11,7 @@ ghost use Rattle.chi_tree.specs.View.{more_names_in, names_in};
 
 use chi_base::Items;
 use chi_grammar::{ParseFault, Room};
-use chi_look::{begins, take, take_name};
+use chi_look::{is_next, take, take_name};
 use chi_parse_expr::expr;
 use chi_token::{Keyword, Sign, Spanned};
 use chi_tree::{Class, Name, Walk};
@@ -31,7 +31,7 @@ fn more_names(
     let mut names = Vec::new(alloc);
     names.push(first)?;
     let mut end = at;
-    'turn: while begins(tokens, end, &[Class::Sign(Sign::Comma)]) {
+    'turn: while is_next(tokens, end, &[Class::Sign(Sign::Comma)]) {
         let (_, after) = take(tokens, end, Class::Sign(Sign::Comma))?;
         let (name, stop) = take_name(alloc, tokens, after)?;
         names.push(name)?;

@@ -1,3 +1,4 @@
 pub mod Shapes
 pub mod Loops
 pub mod Grouping
+pub mod Rows

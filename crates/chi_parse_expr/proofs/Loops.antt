@@ -6,7 +6,7 @@ use Rattle.chi_grammar.specs.declared.room.Room.{Room}
 use Rattle.chi_grammar.specs.Rules.{Rule, none, pair, part, many}
 use Rattle.chi_grammar.specs.Lookahead.{Next, first}
 use Rattle.chi_grammar.specs.Reads.{Along, ReadsTree, attach}
-use Rattle.chi_grammar.specs.Runs.{Done, Fail, Runs}
+use Rattle.chi_grammar.specs.RuleRuns.{Done, Fail, RuleRuns}
 use Rattle.chi_grammar.proofs.Exits.{read}
 use Rattle.chi_grammar.proofs.Decided.{decided}
 use Rattle.chi_grammar.proofs.Starts.{takes}
@@ -42,7 +42,7 @@ module _ {X : Type 0} {whole rest : Built → List X} {tokens : List Spanned} {r
   }
 
   pub gathered_more : {i j : ℕ} {values : List X} {t : Built} → Gathered whole rest tokens room a at i values
-      → Next grammar tokens i (first table a) true → Runs grammar table tokens room a i (Done t j) → (x : X)
+      → Next grammar tokens i (first table a) true → RuleRuns grammar table tokens room a i (Done t j) → (x : X)
       → ((u : Built) → rest (pair t u) ≡ x ∷ rest u) → j ≤ length tokens → (longer : List X) → longer ≡ values ++ x ∷ []
       → Gathered whole rest tokens room a at j longer
   gathered_more {i} {j} {values} {t} g next run x same inside longer e = record {
@@ -61,12 +61,12 @@ module _ {X : Type 0} {whole rest : Built → List X} {tokens : List Spanned} {r
       (g.shows none ∙ ap (λ xs. values ++ xs) end ∙ append-nil values ∙ sym e)
 
   pub gathered_fails : {i : ℕ} {values : List X} (fault : ParseFault) → Gathered whole rest tokens room a at i values
-      → Next grammar tokens i (first table a) true → Runs grammar table tokens room a i (Fail fault)
-      → Runs grammar table tokens room (many a) at (Fail fault)
+      → Next grammar tokens i (first table a) true → RuleRuns grammar table tokens room a i (Fail fault)
+      → RuleRuns grammar table tokens room (many a) at (Fail fault)
   gathered_fails {i} fault g next run = along_fails grammar table tokens room a at i g.trees fault g.along next run
 
 -- a part that was read has taken a token
-pub part_moves : {tokens : List Spanned} {room : Room} {p : Part} {i j : ℕ} {t : Built} → Runs grammar table tokens room (part p) i (Done t j) → i < j
+pub part_moves : {tokens : List Spanned} {room : Room} {p : Part} {i j : ℕ} {t : Built} → RuleRuns grammar table tokens room (part p) i (Done t j) → i < j
 part_moves {tokens = tokens} {p = p} run =
     let d = decided {A = Spanned} table (part p) refl in
     let longest = means grammar table grammar_fine tokens d run in

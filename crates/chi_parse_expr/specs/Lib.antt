@@ -1,3 +1,4 @@
 pub mod Passing
 pub mod Nested
 pub mod Grouping
+pub mod Values

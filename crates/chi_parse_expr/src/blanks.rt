@@ -14,7 +14,7 @@ use chi_grammar::{Nesting, ParseFault, Room};
 use chi_look::classes::{
     COLON, GREATER, LEFT_BRACE, LEFT_BRACKET, LESS, RIGHT_BRACE, RIGHT_BRACKET,
 };
-use chi_look::{begins, enter, take};
+use chi_look::{enter, is_next, take};
 use chi_token::{Place, Spanned};
 use chi_tree::{Expr, TypeTree};
 use std::alloc::Global;
@@ -48,7 +48,7 @@ fn blank_end(
     requires inside { at ≤ length tokens.now }
     ensures { Reads grammar table tokens.now (blank place of) room (part s.BlankEnd) at result }
 {
-    if begins(tokens, at, &[GREATER]) {
+    if is_next(tokens, at, &[GREATER]) {
         let (_, next) = take(tokens, at, GREATER)?;
         return blank_items(tokens, next, room, place, of);
     }
@@ -78,7 +78,7 @@ fn blank_items(
     requires inside { at ≤ length tokens.now }
     ensures { (w : Built) → Reads grammar table tokens.now (λ u. blank place of (pair w u)) room (nested (part s.BlankItems) ∣ nested (part s.BlankElements)) at result }
 {
-    if begins(tokens, at, &[LEFT_BRACKET]) {
+    if is_next(tokens, at, &[LEFT_BRACKET]) {
         let end = no_items(tokens, at, room)?;
         return Ok((Expr::EmptyList { place, element: of }, end));
     }

@@ -1,18 +1,20 @@
 //! Sets and dictionaries.
 ghost use Rattle.std.specs.Prelude.{◌^◌, ◌<◌, ◌≤◌, length, ◌++◌};
-ghost use Rattle.chi_grammar.specs.Rules.{part, many, maybe};
+ghost use Rattle.chi_grammar.specs.Rules.{part, many, maybe, ◌▸◌};
+ghost use Rattle.chi_token.specs.declared.sign.Sign.TheVariants.{Colon};
 ghost use Rattle.chi_grammar.specs.Reads.{Reads};
 ghost use Rattle.chi_tree.specs.Tables.{table};
-ghost use Rattle.chi_tree.specs.Rules.{grammar, nested};
+ghost use Rattle.chi_tree.specs.Rules.{grammar, nested, sign};
 ghost use Rattle.chi_tree.specs.View.{expr_of, braced, entries_of, entry_of};
 ghost use Rattle.chi_tree.specs.Parts as s;
+ghost use Rattle.chi_parse_expr.specs.Values.{value_of};
 
 use crate::levels::expr;
 use crate::sequences::exprs_after;
 use chi_base::Items;
 use chi_grammar::{Nesting, ParseFault, Room};
 use chi_look::classes::{COLON, COMMA, LEFT_BRACE, RIGHT_BRACE};
-use chi_look::{begins, enter, take};
+use chi_look::{enter, is_next, take};
 use chi_token::{Place, Spanned};
 use chi_tree::{Entry, Expr};
 use std::alloc::Global;
@@ -49,7 +51,7 @@ fn set_or_dict(
     requires inside { at ≤ length tokens.now }
     ensures { Reads grammar table tokens.now (braced place first) room (maybe (part s.Contents)) at result }
 {
-    if begins(tokens, at, &[COMMA, COLON]) {
+    if is_next(tokens, at, &[COMMA, COLON]) {
         return contents(alloc, tokens, at, room, place, first);
     }
     let found = vec![in alloc; first]?;
@@ -76,7 +78,7 @@ fn contents(
     requires inside { at ≤ length tokens.now }
     ensures { Reads grammar table tokens.now (braced place first) room (part s.Contents) at result }
 {
-    if begins(tokens, at, &[COMMA]) {
+    if is_next(tokens, at, &[COMMA]) {
         let (_, start) = take(tokens, at, COMMA)?;
         let found = vec![in alloc; first]?;
         let (values, end) = exprs_after(alloc, tokens, start, room, found)?;
@@ -130,7 +132,7 @@ fn more_entries(
     ensures { Reads grammar table tokens.now (λ t. found.items ++ entries_of t) room (many (part s.MoreEntry)) at result }
 {
     let mut end = at;
-    'turn: while begins(tokens, end, &[COMMA]) {
+    'turn: while is_next(tokens, end, &[COMMA]) {
         let (one, after) = more_entry(alloc, tokens, end, room)?;
         found.push(one)?;
         end = after;
@@ -152,7 +154,22 @@ fn more_entry(
 {
     let (_, start) = take(tokens, at, COMMA)?;
     let (key, middle) = expr(alloc, tokens, start, room)?;
-    let (_, next) = take(tokens, middle, COLON)?;
-    let (value, end) = expr(alloc, tokens, next, room)?;
+    let (value, end) = entry_value(alloc, tokens, middle, room)?;
     Ok((Entry { key, value }, end))
+}
+
+/// The value of an entry, after its key.
+#[cycle(expr)]
+fn entry_value(
+    alloc: Global,
+    tokens: &[Spanned],
+    at: u32,
+    room: Room,
+) -> Result<(Expr, u32), ParseFault>
+    requires short { length tokens.now < 2 ^ 32 }
+    requires inside { at ≤ length tokens.now }
+    ensures { Reads grammar table tokens.now value_of room (sign Colon ▸ part s.Expr) at result }
+{
+    let (_, start) = take(tokens, at, COLON)?;
+    expr(alloc, tokens, start, room)
 }

@@ -16,7 +16,7 @@ use chi_grammar::{Nesting, ParseFault, Room};
 use chi_look::classes::{
     CHAN, COLON, COMMA, DICT, LEFT_PAREN, RIGHT_PAREN, SEMICOLON, TUPLE, VOID, WAY_SIGNS,
 };
-use chi_look::{begins, enter, take, take_name, take_one_of};
+use chi_look::{enter, is_next, take, take_name, take_one_of};
 use chi_token::Spanned;
 use chi_tree::{Formal, TypeTree, Way};
 use std::alloc::Global;
@@ -106,7 +106,7 @@ fn more_fields(
     ensures { Reads grammar table tokens.now (λ t. found.items ++ more_formals_of t) room (many (part s.MoreField)) at result }
 {
     let mut end = at;
-    'turn: while begins(tokens, end, &[COMMA, SEMICOLON]) {
+    'turn: while is_next(tokens, end, &[COMMA, SEMICOLON]) {
         let (one, after) = more_field(alloc, tokens, end, room)?;
         found.push(one)?;
         end = after;
@@ -126,7 +126,7 @@ fn more_field(
     requires inside { at ≤ length tokens.now }
     ensures { Reads grammar table tokens.now formal_of room (part s.MoreField) at result }
 {
-    if begins(tokens, at, &[COMMA]) {
+    if is_next(tokens, at, &[COMMA]) {
         let (_, start) = take(tokens, at, COMMA)?;
         let (name, end) = take_name(alloc, tokens, start)?;
         return Ok((Formal { ty: None, name }, end));
@@ -166,7 +166,7 @@ fn channel_way(tokens: &[Spanned], at: u32) -> Result<(Way, u32), ParseFault>
     requires inside { at ≤ length tokens.now }
     ensures { (room : Room) → Reads grammar table tokens.now way_in room (maybe (sign Bang ∣ sign Question)) at result }
 {
-    if begins(tokens, at, &WAY_SIGNS) {
+    if is_next(tokens, at, &WAY_SIGNS) {
         let (word, end) = take_one_of(tokens, at, &WAY_SIGNS)?;
         return Ok((way_of(&word.token), end));
     }
@@ -184,7 +184,7 @@ fn carried(
     requires inside { at ≤ length tokens.now }
     ensures { Reads grammar table tokens.now carried_of room (part s.Carried) at result }
 {
-    if begins(tokens, at, &[VOID]) {
+    if is_next(tokens, at, &[VOID]) {
         let (_, end) = take(tokens, at, VOID)?;
         return Ok((None, end));
     }

@@ -8,23 +8,23 @@ use chi_tree::Class;
 
 /// A level of operators that group from the left, from the one that binds least on.
 #[derive(Clone, Copy)]
-pub enum Level {
+pub enum ChainLevel {
     Or,
     And,
     Sum,
     Product,
 }
 
-impl Level {
+impl ChainLevel {
     /// The operators of the level.
     pub fn signs(self) -> &'static [Class]
         ensures { result.now ≡ begins (link_part self) }
     {
         match self {
-            Level::Or => &[OR],
-            Level::And => &[AND],
-            Level::Sum => &SUM_SIGNS,
-            Level::Product => &PRODUCT_SIGNS,
+            ChainLevel::Or => &[OR],
+            ChainLevel::And => &[AND],
+            ChainLevel::Sum => &SUM_SIGNS,
+            ChainLevel::Product => &PRODUCT_SIGNS,
         }
     }
 }

@@ -8,13 +8,13 @@ ghost use Rattle.chi_tree.specs.View.{expr_of, links_of, link_of, related};
 ghost use Rattle.chi_tree.specs.Parts as s;
 ghost use Rattle.chi_parse_expr.specs.Grouping.{chain_part, link_part, operand_part};
 
-use crate::level::Level;
+use crate::level::ChainLevel;
 use crate::nodes::{chained, operator_of, relation_of};
 use crate::terms::unary;
 use chi_base::{Boxed, Items};
 use chi_grammar::{Nesting, ParseFault, Room};
 use chi_look::classes::{NOT, RELATION_SIGNS};
-use chi_look::{begins, enter, take, take_one_of};
+use chi_look::{enter, is_next, take, take_one_of};
 use chi_token::Spanned;
 use chi_tree::{Expr, Link, PrefixSign};
 use std::alloc::Global;
@@ -31,7 +31,7 @@ pub fn expr(
     requires inside { at ≤ length tokens.now }
     ensures { Reads grammar table tokens.now expr_of room (part s.Expr) at result }
 {
-    chain(alloc, tokens, at, room, Level::Or)
+    chain(alloc, tokens, at, room, ChainLevel::Or)
 }
 
 /// An operand of the level, with the links after it.
@@ -41,7 +41,7 @@ fn chain(
     tokens: &[Spanned],
     at: u32,
     room: Room,
-    level: Level,
+    level: ChainLevel,
 ) -> Result<(Expr, u32), ParseFault>
     requires short { length tokens.now < 2 ^ 32 }
     requires inside { at ≤ length tokens.now }
@@ -60,7 +60,7 @@ fn links(
     tokens: &[Spanned],
     at: u32,
     room: Room,
-    level: Level,
+    level: ChainLevel,
 ) -> Result<(Items<Link>, u32), ParseFault>
     requires short { length tokens.now < 2 ^ 32 }
     requires inside { at ≤ length tokens.now }
@@ -68,7 +68,7 @@ fn links(
 {
     let mut found = Vec::new(alloc);
     let mut end = at;
-    'turn: while begins(tokens, end, level.signs()) {
+    'turn: while is_next(tokens, end, level.signs()) {
         let (one, after) = link(alloc, tokens, end, room, level)?;
         found.push(one)?;
         end = after;
@@ -84,7 +84,7 @@ fn link(
     tokens: &[Spanned],
     at: u32,
     room: Room,
-    level: Level,
+    level: ChainLevel,
 ) -> Result<(Link, u32), ParseFault>
     requires short { length tokens.now < 2 ^ 32 }
     requires inside { at ≤ length tokens.now }
@@ -107,17 +107,17 @@ fn operand(
     tokens: &[Spanned],
     at: u32,
     room: Room,
-    level: Level,
+    level: ChainLevel,
 ) -> Result<(Expr, u32), ParseFault>
     requires short { length tokens.now < 2 ^ 32 }
     requires inside { at ≤ length tokens.now }
     ensures { Reads grammar table tokens.now expr_of room (part (operand_part level)) at result }
 {
     match level {
-        Level::Or => chain(alloc, tokens, at, room, Level::And),
-        Level::And => neg(alloc, tokens, at, room),
-        Level::Sum => chain(alloc, tokens, at, room, Level::Product),
-        Level::Product => unary(alloc, tokens, at, room),
+        ChainLevel::Or => chain(alloc, tokens, at, room, ChainLevel::And),
+        ChainLevel::And => neg(alloc, tokens, at, room),
+        ChainLevel::Sum => chain(alloc, tokens, at, room, ChainLevel::Product),
+        ChainLevel::Product => unary(alloc, tokens, at, room),
     }
 }
 
@@ -127,7 +127,7 @@ fn neg(alloc: Global, tokens: &[Spanned], at: u32, room: Room) -> Result<(Expr, 
     requires inside { at ≤ length tokens.now }
     ensures { Reads grammar table tokens.now expr_of room (part s.Neg) at result }
 {
-    if begins(tokens, at, &[NOT]) {
+    if is_next(tokens, at, &[NOT]) {
         return not_neg(alloc, tokens, at, room);
     }
     rel(alloc, tokens, at, room)
@@ -164,9 +164,10 @@ fn rel(alloc: Global, tokens: &[Spanned], at: u32, room: Room) -> Result<(Expr, 
     requires inside { at ≤ length tokens.now }
     ensures { Reads grammar table tokens.now expr_of room (part s.Rel) at result }
 {
-    let (left, middle) = chain(alloc, tokens, at, room, Level::Sum)?;
-    if begins(tokens, middle, &RELATION_SIGNS) {
-        return rel_link(alloc, tokens, middle, room, left);
+    let (left, middle) = chain(alloc, tokens, at, room, ChainLevel::Sum)?;
+    if is_next(tokens, middle, &RELATION_SIGNS) {
+        let boxed = Boxed::new(alloc, left)?;
+        return rel_link(alloc, tokens, middle, room, boxed);
     }
     Ok((left, middle))
 }
@@ -177,19 +178,18 @@ fn rel_link(
     tokens: &[Spanned],
     at: u32,
     room: Room,
-    left: Expr,
+    left: Boxed<Expr>,
 ) -> Result<(Expr, u32), ParseFault>
     requires short { length tokens.now < 2 ^ 32 }
     requires inside { at ≤ length tokens.now }
     ensures { Reads grammar table tokens.now (related left) room (part s.RelLink) at result }
 {
     let (word, start) = take_one_of(tokens, at, &RELATION_SIGNS)?;
-    let (right, end) = chain(alloc, tokens, start, room, Level::Sum)?;
-    let first = Boxed::new(alloc, left)?;
+    let (right, end) = chain(alloc, tokens, start, room, ChainLevel::Sum)?;
     let second = Boxed::new(alloc, right)?;
     Ok((
         Expr::Relation {
-            left: first,
+            left,
             sign: relation_of(&word.token),
             place: word.place,
             right: second,

@@ -16,6 +16,6 @@ mod types;
 
 pub use levels::expr;
 pub use parse::{parse_expr, parse_type};
-pub use postfixes::field;
+pub use postfixes::{boxed_expr, field};
 pub use sequences::{arguments, exprs, more_exprs};
-pub use types::{any_type, built_type};
+pub use types::{any_type, boxed_type, built_type};

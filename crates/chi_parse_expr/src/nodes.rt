@@ -1,69 +1,78 @@
 //! What single tokens stand for in the tree, and nodes with one or two expressions below them.
-ghost use Rattle.std.specs.Prelude.{◌≡◌, IfOk};
-ghost use Rattle.chi_tree.specs.Tokens.{bytes_of, operator_of, relation_of, prefix_of, cast_of, type_word_of, way_of, literal_of};
+ghost use Rattle.std.specs.Prelude.{◌≡◌, true, Some, IfOk};
+ghost use Rattle.chi_tree.specs.Statements.{is_some};
+ghost use Rattle.chi_tree.specs.Tokens.{operator_of, relation_of, prefix_of, cast_of, type_word_of, way_of, literal_of};
 ghost use Rattle.chi_tree.specs.View.{chained, parted};
 
 use chi_base::{Boxed, Items, NoMemory};
-use chi_look::bytes_of;
 use chi_token::{Bytes, Keyword, Place, Sign, Spanned, Token};
 use chi_tree::{CastWord, Expr, Link, Operator, Postfix, PrefixSign, RelationSign, TypeWord, Way};
 use std::alloc::Global;
 
 pub fn operator_of(token: &Token) -> Operator
-    ensures { result ≡ operator_of token.now }
+    requires { is_some (operator_of token.now) ≡ true }
+    ensures { operator_of token.now ≡ Some result }
 {
     match token {
         Token::Word(Keyword::OrWord) => Operator::Or,
         Token::Word(Keyword::AndWord) => Operator::And,
-        Token::Word(Keyword::DivWord) => Operator::DivideWhole,
         Token::Sign(Sign::Plus) => Operator::Add,
         Token::Sign(Sign::Minus) => Operator::Subtract,
         Token::Sign(Sign::Star) => Operator::Multiply,
         Token::Sign(Sign::Slash) => Operator::Divide,
-        _ => Operator::Remainder,
+        Token::Word(Keyword::DivWord) => Operator::DivideWhole,
+        Token::Word(Keyword::ModWord) => Operator::Remainder,
+        _ => unreachable!(),
     }
 }
 
 pub fn relation_of(token: &Token) -> RelationSign
-    ensures { result ≡ relation_of token.now }
+    requires { is_some (relation_of token.now) ≡ true }
+    ensures { relation_of token.now ≡ Some result }
 {
     match token {
-        Token::Word(Keyword::InWord) => RelationSign::In,
         Token::Sign(Sign::Less) => RelationSign::Less,
         Token::Sign(Sign::LessEqual) => RelationSign::LessEqual,
         Token::Sign(Sign::Equal) => RelationSign::Equal,
         Token::Sign(Sign::NotEqual) => RelationSign::NotEqual,
         Token::Sign(Sign::Greater) => RelationSign::Greater,
         Token::Sign(Sign::GreaterEqual) => RelationSign::GreaterEqual,
-        _ => RelationSign::Sub,
+        Token::Word(Keyword::InWord) => RelationSign::In,
+        Token::Word(Keyword::SubWord) => RelationSign::Sub,
+        _ => unreachable!(),
     }
 }
 
 pub fn prefix_of(token: &Token) -> PrefixSign
-    ensures { result ≡ prefix_of token.now }
+    requires { is_some (prefix_of token.now) ≡ true }
+    ensures { prefix_of token.now ≡ Some result }
 {
     match token {
+        Token::Word(Keyword::NotWord) => PrefixSign::Not,
         Token::Sign(Sign::Minus) => PrefixSign::Minus,
         Token::Sign(Sign::Plus) => PrefixSign::Plus,
         Token::Word(Keyword::SampleWord) => PrefixSign::Sample,
-        _ => PrefixSign::Not,
+        _ => unreachable!(),
     }
 }
 
 pub fn cast_of(token: &Token) -> CastWord
-    ensures { result ≡ cast_of token.now }
+    requires { is_some (cast_of token.now) ≡ true }
+    ensures { cast_of token.now ≡ Some result }
 {
     match token {
         Token::Word(Keyword::IntWord) => CastWord::Int,
         Token::Word(Keyword::RealWord) => CastWord::Real,
         Token::Word(Keyword::StringWord) => CastWord::Text,
         Token::Word(Keyword::BoolWord) => CastWord::Bool,
-        _ => CastWord::Timer,
+        Token::Word(Keyword::TimerWord) => CastWord::Timer,
+        _ => unreachable!(),
     }
 }
 
 pub fn type_word_of(token: &Token) -> TypeWord
-    ensures { result ≡ type_word_of token.now }
+    requires { is_some (type_word_of token.now) ≡ true }
+    ensures { type_word_of token.now ≡ Some result }
 {
     match token {
         Token::Word(Keyword::BoolWord) => TypeWord::Bool,
@@ -71,23 +80,26 @@ pub fn type_word_of(token: &Token) -> TypeWord
         Token::Word(Keyword::RealWord) => TypeWord::Real,
         Token::Word(Keyword::StringWord) => TypeWord::Text,
         Token::Word(Keyword::TimerWord) => TypeWord::Timer,
-        _ => TypeWord::Inst,
+        Token::Word(Keyword::InstWord) => TypeWord::Inst,
+        _ => unreachable!(),
     }
 }
 
 pub fn way_of(token: &Token) -> Way
-    ensures { result ≡ way_of token.now }
+    requires { is_some (way_of token.now) ≡ true }
+    ensures { way_of token.now ≡ Some result }
 {
     match token {
         Token::Sign(Sign::Bang) => Way::Send,
         Token::Sign(Sign::Question) => Way::Receive,
-        _ => Way::Both,
+        _ => unreachable!(),
     }
 }
 
 /// A literal of one token.
 pub fn literal_of(alloc: Global, spanned: &Spanned) -> Result<Expr, NoMemory>
-    ensures { IfOk result (λ e. e ≡ literal_of spanned.now.token spanned.now.place) }
+    requires { is_some (literal_of spanned.now.token spanned.now.place) ≡ true }
+    ensures { IfOk result (λ e. literal_of spanned.now.token spanned.now.place ≡ Some e) }
 {
     let place = spanned.place;
     match &spanned.token {
@@ -108,7 +120,8 @@ pub fn literal_of(alloc: Global, spanned: &Spanned) -> Result<Expr, NoMemory>
             truth: false,
             place,
         }),
-        _ => Ok(Expr::Time(place)),
+        Token::Word(Keyword::TimeWord) => Ok(Expr::Time(place)),
+        _ => unreachable!(),
     }
 }
 

@@ -14,7 +14,7 @@ use crate::primaries::primary;
 use chi_base::{Boxed, Items};
 use chi_grammar::{Nesting, ParseFault, Room};
 use chi_look::classes::{COLON, DOT, FIRST_OF_EXPR, FIRST_OF_POSTFIX, LEFT_BRACKET, RIGHT_BRACKET};
-use chi_look::{begins, enter, take, take_name};
+use chi_look::{enter, is_next, take, take_name};
 use chi_token::{Place, Spanned};
 use chi_tree::{Expr, Postfix};
 use std::alloc::Global;
@@ -49,7 +49,7 @@ fn postfixes(
 {
     let mut found = Vec::new(alloc);
     let mut end = at;
-    'turn: while begins(tokens, end, &FIRST_OF_POSTFIX) {
+    'turn: while is_next(tokens, end, &FIRST_OF_POSTFIX) {
         let (one, after) = postfix(alloc, tokens, end, room)?;
         found.push(one)?;
         end = after;
@@ -69,7 +69,7 @@ fn postfix(
     requires inside { at ≤ length tokens.now }
     ensures { Reads grammar table tokens.now postfix_of room (part s.Postfix) at result }
 {
-    if begins(tokens, at, &[LEFT_BRACKET]) {
+    if is_next(tokens, at, &[LEFT_BRACKET]) {
         return bracket(alloc, tokens, at, room);
     }
     field(alloc, tokens, at)
@@ -116,7 +116,7 @@ fn bracketed(
     requires inside { at ≤ length tokens.now }
     ensures { Reads grammar table tokens.now (inside place) room (part s.Inside) at result }
 {
-    if begins(tokens, at, &FIRST_OF_EXPR) {
+    if is_next(tokens, at, &FIRST_OF_EXPR) {
         let (from, middle) = boxed_expr(alloc, tokens, at, room)?;
         return indexed(alloc, tokens, middle, room, place, from);
     }
@@ -136,7 +136,7 @@ fn indexed(
     requires inside { at ≤ length tokens.now }
     ensures { Reads grammar table tokens.now (indexed place from) room (maybe (part s.Upto)) at result }
 {
-    if begins(tokens, at, &[COLON]) {
+    if is_next(tokens, at, &[COLON]) {
         return sliced(alloc, tokens, at, room, place, Some(from));
     }
     Ok((Postfix::Index { place, index: from }, at))
@@ -174,7 +174,7 @@ fn stepped(
     requires inside { at ≤ length tokens.now }
     ensures { Reads grammar table tokens.now (stepped place from upto) room (maybe (part s.ByStep)) at result }
 {
-    if begins(tokens, at, &[COLON]) {
+    if is_next(tokens, at, &[COLON]) {
         let (_, start) = take(tokens, at, COLON)?;
         let (step, end) = optional_expr(alloc, tokens, start, room)?;
         return Ok((
@@ -211,7 +211,7 @@ fn optional_expr(
     requires inside { at ≤ length tokens.now }
     ensures { Reads grammar table tokens.now (λ t. optional t (expr_of t)) room (maybe (part s.Expr)) at result }
 {
-    if begins(tokens, at, &FIRST_OF_EXPR) {
+    if is_next(tokens, at, &FIRST_OF_EXPR) {
         let (boxed, end) = boxed_expr(alloc, tokens, at, room)?;
         return Ok((Some(boxed), end));
     }

@@ -20,7 +20,7 @@ use chi_look::classes::{
     CAST_WORDS, COMMA, LEFT_BRACE, LEFT_BRACKET, LEFT_PAREN, LITERALS, NAME, RIGHT_BRACKET,
     RIGHT_PAREN,
 };
-use chi_look::{begins, enter, take, take_name, take_one_of};
+use chi_look::{enter, is_next, take, take_name, take_one_of};
 use chi_token::{Place, Spanned};
 use chi_tree::Expr;
 use std::alloc::Global;
@@ -36,22 +36,22 @@ pub fn primary(
     requires inside { at ≤ length tokens.now }
     ensures { Reads grammar table tokens.now expr_of room (part s.Primary) at result }
 {
-    if begins(tokens, at, &LITERALS) {
+    if is_next(tokens, at, &LITERALS) {
         return literal(alloc, tokens, at);
     }
-    if begins(tokens, at, &[NAME]) {
+    if is_next(tokens, at, &[NAME]) {
         return named(alloc, tokens, at, room);
     }
-    if begins(tokens, at, &CAST_WORDS) {
+    if is_next(tokens, at, &CAST_WORDS) {
         return cast(alloc, tokens, at, room);
     }
-    if begins(tokens, at, &[LEFT_PAREN]) {
+    if is_next(tokens, at, &[LEFT_PAREN]) {
         return round(alloc, tokens, at, room);
     }
-    if begins(tokens, at, &[LEFT_BRACKET]) {
+    if is_next(tokens, at, &[LEFT_BRACKET]) {
         return square(alloc, tokens, at, room);
     }
-    if begins(tokens, at, &[LEFT_BRACE]) {
+    if is_next(tokens, at, &[LEFT_BRACE]) {
         return curly(alloc, tokens, at, room);
     }
     blank(alloc, tokens, at, room)
@@ -74,7 +74,7 @@ fn named(alloc: Global, tokens: &[Spanned], at: u32, room: Room) -> Result<(Expr
     ensures { Reads grammar table tokens.now expr_of room (part s.Named) at result }
 {
     let (name, middle) = take_name(alloc, tokens, at)?;
-    if begins(tokens, middle, &[LEFT_PAREN]) {
+    if is_next(tokens, middle, &[LEFT_PAREN]) {
         let (values, end) = arguments(alloc, tokens, middle, room)?;
         return Ok((
             Expr::Call {
@@ -135,7 +135,7 @@ fn tuple_or_round(
     requires inside { at ≤ length tokens.now }
     ensures { Reads grammar table tokens.now (bracketed place first) room (maybe (part s.Others)) at result }
 {
-    if begins(tokens, at, &[COMMA]) {
+    if is_next(tokens, at, &[COMMA]) {
         let (_, start) = take(tokens, at, COMMA)?;
         let found = vec![in alloc; first]?;
         let (values, end) = exprs_after(alloc, tokens, start, room, found)?;

@@ -12,7 +12,7 @@ use crate::levels::expr;
 use chi_base::Items;
 use chi_grammar::{Nesting, ParseFault, Room};
 use chi_look::classes::{COMMA, FIRST_OF_EXPR, LEFT_PAREN, RIGHT_PAREN};
-use chi_look::{begins, enter, take};
+use chi_look::{enter, is_next, take};
 use chi_token::Spanned;
 use chi_tree::Expr;
 use std::alloc::Global;
@@ -47,7 +47,7 @@ fn optional_exprs(
     requires inside { at ≤ length tokens.now }
     ensures { Reads grammar table tokens.now exprs_of room (maybe (part s.Exprs)) at result }
 {
-    if begins(tokens, at, &FIRST_OF_EXPR) {
+    if is_next(tokens, at, &FIRST_OF_EXPR) {
         return exprs(alloc, tokens, at, room);
     }
     let items = Items::of(alloc, Vec::new(alloc))?;
@@ -100,7 +100,7 @@ pub fn more_exprs(
     ensures { Reads grammar table tokens.now (λ t. found.items ++ more_exprs_of t) room (many (sign Comma ▸ part s.Expr)) at result }
 {
     let mut end = at;
-    'turn: while begins(tokens, end, &[COMMA]) {
+    'turn: while is_next(tokens, end, &[COMMA]) {
         let (_, start) = take(tokens, end, COMMA)?;
         let (one, after) = expr(alloc, tokens, start, room)?;
         found.push(one)?;

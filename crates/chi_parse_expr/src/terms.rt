@@ -12,7 +12,7 @@ use crate::postfixes::post;
 use chi_base::Boxed;
 use chi_grammar::{Nesting, ParseFault, Room};
 use chi_look::classes::{CARET, FIRST_OF_UNARY, PREFIX_SIGNS};
-use chi_look::{begins, enter, take, take_one_of};
+use chi_look::{enter, is_next, take, take_one_of};
 use chi_token::Spanned;
 use chi_tree::Expr;
 use std::alloc::Global;
@@ -28,7 +28,7 @@ pub fn unary(
     requires inside { at ≤ length tokens.now }
     ensures { Reads grammar table tokens.now expr_of room (part s.Unary) at result }
 {
-    if begins(tokens, at, &PREFIX_SIGNS) {
+    if is_next(tokens, at, &PREFIX_SIGNS) {
         return prefixed(alloc, tokens, at, room);
     }
     power(alloc, tokens, at, room)
@@ -66,8 +66,9 @@ fn power(alloc: Global, tokens: &[Spanned], at: u32, room: Room) -> Result<(Expr
     ensures { Reads grammar table tokens.now expr_of room (part s.Power) at result }
 {
     let (base, middle) = post(alloc, tokens, at, room)?;
-    if begins(tokens, middle, &[CARET]) {
-        return power_link(alloc, tokens, middle, room, base);
+    if is_next(tokens, middle, &[CARET]) {
+        let boxed = Boxed::new(alloc, base)?;
+        return power_link(alloc, tokens, middle, room, boxed);
     }
     Ok((base, middle))
 }
@@ -78,7 +79,7 @@ fn power_link(
     tokens: &[Spanned],
     at: u32,
     room: Room,
-    base: Expr,
+    base: Boxed<Expr>,
 ) -> Result<(Expr, u32), ParseFault>
     requires short { length tokens.now < 2 ^ 32 }
     requires inside { at ≤ length tokens.now }
@@ -87,11 +88,10 @@ fn power_link(
     let (word, start) = take(tokens, at, CARET)?;
     let inner = enter(tokens, start, room, Nesting::Expression, &FIRST_OF_UNARY)?;
     let (right, end) = unary(alloc, tokens, start, inner)?;
-    let first = Boxed::new(alloc, base)?;
     let second = Boxed::new(alloc, right)?;
     Ok((
         Expr::Power {
-            base: first,
+            base,
             place: word.place,
             exponent: second,
         },

@@ -18,7 +18,7 @@ use chi_look::classes::{
     DICT, DIST, FIRST_OF_BUILT_TYPE, FIRST_OF_TYPE, LEFT_PAREN, LIST, RIGHT_PAREN, SET, TUPLE,
     TYPE_WORDS,
 };
-use chi_look::{begins, enter, take, take_name, take_one_of};
+use chi_look::{enter, is_next, take, take_name, take_one_of};
 use chi_token::Spanned;
 use chi_tree::{Expr, TypeTree};
 use std::alloc::Global;
@@ -35,7 +35,7 @@ pub fn any_type(
     requires inside { at ≤ length tokens.now }
     ensures { Reads grammar table tokens.now type_of room (part s.AnyType) at result }
 {
-    if begins(tokens, at, &FIRST_OF_BUILT_TYPE) {
+    if is_next(tokens, at, &FIRST_OF_BUILT_TYPE) {
         return built_type(alloc, tokens, at, room);
     }
     named_type(alloc, tokens, at)
@@ -93,22 +93,22 @@ pub fn built_type(
     requires inside { at ≤ length tokens.now }
     ensures { Reads grammar table tokens.now type_of room (part s.BuiltType) at result }
 {
-    if begins(tokens, at, &TYPE_WORDS) {
+    if is_next(tokens, at, &TYPE_WORDS) {
         return word_type(tokens, at);
     }
-    if begins(tokens, at, &[LIST]) {
+    if is_next(tokens, at, &[LIST]) {
         return list_type(alloc, tokens, at, room);
     }
-    if begins(tokens, at, &[SET]) {
+    if is_next(tokens, at, &[SET]) {
         return set_type(alloc, tokens, at, room);
     }
-    if begins(tokens, at, &[DIST]) {
+    if is_next(tokens, at, &[DIST]) {
         return dist_type(alloc, tokens, at, room);
     }
-    if begins(tokens, at, &[DICT]) {
+    if is_next(tokens, at, &[DICT]) {
         return dict_type(alloc, tokens, at, room);
     }
-    if begins(tokens, at, &[TUPLE]) {
+    if is_next(tokens, at, &[TUPLE]) {
         return tuple_type(alloc, tokens, at, room);
     }
     chan_type(alloc, tokens, at, room)
@@ -164,7 +164,7 @@ fn list_size(
     requires inside { at ≤ length tokens.now }
     ensures { Reads grammar table tokens.now size_of room (maybe (nested (sign LeftParen ▸ part s.Expr ▸ sign RightParen))) at result }
 {
-    if begins(tokens, at, &[LEFT_PAREN]) {
+    if is_next(tokens, at, &[LEFT_PAREN]) {
         let inner = enter(tokens, at, room, Nesting::Expression, &[LEFT_PAREN])?;
         let (_, start) = take(tokens, at, LEFT_PAREN)?;
         let (size, last) = boxed_expr(alloc, tokens, start, inner)?;

@@ -5,6 +5,7 @@ use chi_grammar::ParseFault;
 use chi_lex::{MOST_BYTES, lex};
 use chi_parse_expr::{parse_expr, parse_type};
 use chi_token::Spanned;
+use chi_tree::{Expr, TypeTree};
 use std::alloc::Global;
 use std::process::Abort;
 use std::test::Fail;
@@ -18,18 +19,43 @@ fn tokens_of(rt: &impl Abort, alloc: Global, source: &[u8]) -> Result<Vec<Spanne
     Ok(tokens)
 }
 
-/// How a source is grouped and how many of its tokens are read.
-fn grouped(rt: &impl Abort, alloc: Global, source: &[u8], nest: u32) -> Result<String, Fail> {
+/// What the parser answers of a source, inside levels of expressions.
+fn read(
+    rt: &impl Abort,
+    alloc: Global,
+    source: &[u8],
+    nest: u32,
+) -> Result<Result<(Expr, u32), ParseFault>, Fail> {
     let tokens = tokens_of(rt, alloc, source)?;
     assert!(rt; nest <= 200);
-    let (tree, end) = parse_expr(alloc, tokens.as_slice(), 0, nest)?;
-    let text = shape(alloc, &tree)?;
-    Ok(format!(in alloc; "{text} {end}")?)
+    Ok(parse_expr(alloc, tokens.as_slice(), 0, nest))
+}
+
+/// The same of a type.
+fn read_type(
+    rt: &impl Abort,
+    alloc: Global,
+    source: &[u8],
+) -> Result<Result<(TypeTree, u32), ParseFault>, Fail> {
+    let tokens = tokens_of(rt, alloc, source)?;
+    Ok(parse_type(alloc, tokens.as_slice(), 0, 0))
+}
+
+/// How a source is grouped and how many of its tokens are read.
+fn grouped(rt: &impl Abort, alloc: Global, source: &str) -> Result<String, Fail> {
+    let (tree, end) = read(rt, alloc, source.as_bytes(), 0)??;
+    shape(alloc, &tree, end)
+}
+
+/// The same of a type.
+fn grouped_type(rt: &impl Abort, alloc: Global, source: &str) -> Result<String, Fail> {
+    let (tree, end) = read_type(rt, alloc, source.as_bytes())??;
+    type_shape(alloc, &tree, end)
 }
 
 fn check(rt: &impl Abort, alloc: Global, rows: &[(&str, &str)]) -> Result<(), Fail> {
     for (source, want) in rows {
-        let got = grouped(rt, alloc, source.as_bytes(), 0)?;
+        let got = grouped(rt, alloc, source)?;
         assert_eq!(rt; got.as_str(), *want, "for {source}");
     }
     Ok(())
@@ -37,10 +63,7 @@ fn check(rt: &impl Abort, alloc: Global, rows: &[(&str, &str)]) -> Result<(), Fa
 
 fn check_types(rt: &impl Abort, alloc: Global, rows: &[(&str, &str)]) -> Result<(), Fail> {
     for (source, want) in rows {
-        let tokens = tokens_of(rt, alloc, source.as_bytes())?;
-        let (tree, end) = parse_type(alloc, tokens.as_slice(), 0, 0)?;
-        let text = type_shape(alloc, &tree)?;
-        let got = format!(in alloc; "{text} {end}")?;
+        let got = grouped_type(rt, alloc, source)?;
         assert_eq!(rt; got.as_str(), *want, "for {source}");
     }
     Ok(())
@@ -53,12 +76,7 @@ fn refused(
     source: &[u8],
     nest: u32,
 ) -> Result<Option<ParseFault>, Fail> {
-    let tokens = tokens_of(rt, alloc, source)?;
-    assert!(rt; nest <= 200);
-    match parse_expr(alloc, tokens.as_slice(), 0, nest) {
-        Ok(_) => Ok(None),
-        Err(fault) => Ok(Some(fault)),
-    }
+    Ok(read(rt, alloc, source, nest)?.err())
 }
 
 #[test]
@@ -195,45 +213,57 @@ fn repeated(
     Ok(all)
 }
 
+/// The fault with which a source is refused that has a front and a back so many times.
+fn refused_nest(
+    rt: &impl Abort,
+    alloc: Global,
+    front: &[u8],
+    times: u32,
+    back: &[u8],
+) -> Result<Option<ParseFault>, Fail> {
+    let source = repeated(alloc, front, times, b"a", back)?;
+    refused(rt, alloc, source.as_slice(), 0)
+}
+
 #[test]
 fn two_hundred_levels_are_read(rt: HostRuntime) -> Result<(), Fail> {
-    let rows: [(&[u8], &[u8], &[u8], u32); 6] = [
-        (b"(", b"a", b")", 200),
-        (b"[", b"a", b"]", 200),
-        (b"-", b"a", b"", 200),
-        (b"not ", b"a", b"", 200),
-        (b"a^", b"a", b"", 402),
-        (b"f(", b"a", b")", 401),
+    let rows: [(&[u8], &[u8], u32); 6] = [
+        (b"(", b")", 200),
+        (b"[", b"]", 200),
+        (b"-", b"", 200),
+        (b"not ", b"", 200),
+        (b"a^", b"", 402),
+        (b"f(", b")", 401),
     ];
-    for (front, middle, back, index) in rows {
-        let fits = repeated(rt.alloc(), front, 200, middle, back)?;
-        assert_eq!(rt; refused(&rt, rt.alloc(), fits.as_slice(), 0)?, None);
-        let deep = repeated(rt.alloc(), front, 201, middle, back)?;
-        assert_eq!(rt;
-            refused(&rt, rt.alloc(), deep.as_slice(), 0)?,
-            Some(ParseFault::TooDeep(index))
-        );
+    for (front, back, index) in rows {
+        let fits = refused_nest(&rt, rt.alloc(), front, 200, back)?;
+        assert_eq!(rt; fits, None);
+        let deep = refused_nest(&rt, rt.alloc(), front, 201, back)?;
+        assert_eq!(rt; deep, Some(ParseFault::TooDeep(index)));
     }
-    let fits = repeated(rt.alloc(), b"set ", 200, b"int", b"")?;
-    let tokens = tokens_of(&rt, rt.alloc(), fits.as_slice())?;
-    let (_, end) = parse_type(rt.alloc(), tokens.as_slice(), 0, 0)?;
-    assert_eq!(rt; end, 201);
-    let deep = repeated(rt.alloc(), b"set ", 201, b"int", b"")?;
-    let tokens = tokens_of(&rt, rt.alloc(), deep.as_slice())?;
-    match parse_type(rt.alloc(), tokens.as_slice(), 0, 0) {
-        Ok(_) => Err(Fail::from("read")),
-        Err(fault) => {
-            assert_eq!(rt; fault, ParseFault::TooDeep(201));
-            Ok(())
-        }
-    }
+    Ok(())
+}
+
+/// What the parser answers of a type inside others, without its tree.
+fn read_types(rt: &impl Abort, alloc: Global, times: u32) -> Result<Result<u32, ParseFault>, Fail> {
+    let source = repeated(alloc, b"set ", times, b"int", b"")?;
+    Ok(read_type(rt, alloc, source.as_slice())?.map(|(_, end)| end))
+}
+
+#[test]
+fn two_hundred_types_are_read(rt: HostRuntime) -> Result<(), Fail> {
+    assert_eq!(rt; read_types(&rt, rt.alloc(), 200)?, Ok(201));
+    assert_eq!(rt;
+        read_types(&rt, rt.alloc(), 201)?,
+        Err(ParseFault::TooDeep(201))
+    );
+    Ok(())
 }
 
 #[test]
 fn a_long_chain_is_read(rt: HostRuntime) -> Result<(), Fail> {
     let source = repeated(rt.alloc(), b"a+", 300_000, b"a", b"")?;
-    let tokens = tokens_of(&rt, rt.alloc(), source.as_slice())?;
-    let (_, end) = parse_expr(rt.alloc(), tokens.as_slice(), 0, 0)?;
+    let (_, end) = read(&rt, rt.alloc(), source.as_slice(), 0)??;
     assert_eq!(rt; end, 600_001);
     Ok(())
 }

@@ -12,32 +12,36 @@ struct Shaper {
     text: String,
 }
 
-/// An expression: each operation in brackets, with the words of its operators.
-pub fn shape(alloc: Global, e: &Expr) -> Result<String, Fail> {
+/// An expression, each operation in brackets with the words of its operators, and where it ends.
+pub fn shape(alloc: Global, e: &Expr, end: u32) -> Result<String, Fail> {
     let mut shaper = Shaper {
         alloc,
         text: String::new(alloc),
     };
     shaper.expr(e)?;
-    let Shaper { text, .. } = shaper;
-    Ok(text)
+    shaper.ended(end)
 }
 
-/// A type, with the words of its tree.
-pub fn type_shape(alloc: Global, ty: &TypeTree) -> Result<String, Fail> {
+/// A type, with the words of its tree, and where it ends.
+pub fn type_shape(alloc: Global, ty: &TypeTree, end: u32) -> Result<String, Fail> {
     let mut shaper = Shaper {
         alloc,
         text: String::new(alloc),
     };
     shaper.ty(ty)?;
-    let Shaper { text, .. } = shaper;
-    Ok(text)
+    shaper.ended(end)
 }
 
 impl Shaper {
     fn put(&mut self, text: &str) -> Result<(), Fail> {
         self.text.push_str(text)?;
         Ok(())
+    }
+
+    /// The text, with the index at which the tokens end.
+    fn ended(self, end: u32) -> Result<String, Fail> {
+        let Shaper { alloc, text } = self;
+        Ok(format!(in alloc; "{text} {end}")?)
     }
 
     fn bytes(&mut self, bytes: &[u8]) -> Result<(), Fail> {

@@ -1,7 +1,7 @@
 use chi_grammar::ParseFault;
 use chi_lex::{MOST_BYTES, lex};
 use chi_parse::parse;
-use chi_tree::{Alternative, Communication, Definition, Element, Program, Statement};
+use chi_tree::{Alternative, Communication, Definition, Element, Program, Statement, Step};
 use std::alloc::Global;
 use std::test::Fail;
 
@@ -100,14 +100,67 @@ fn each_production_is_read(rt: HostRuntime) -> Result<(), Fail> {
     Ok(())
 }
 
-#[test]
-fn a_tree_has_what_its_tokens_say(rt: HostRuntime) -> Result<(), Fail> {
-    let source =
-        "model M(): select x, a?y: pass alt b[1]! end; run unwind i in x: P() end exit end;";
-    let program = parsed(rt.alloc(), source.as_bytes())?.map_err(|_| "refused")?;
-    assert_eq!(rt; program.last.column, 82);
-    let item = program.items.as_slice().first().ok_or("no item")?;
-    assert!(rt; item.semicolon);
+/// Whether it is a run of one unwind.
+fn is_run_of_unwind(statement: &Statement) -> bool {
+    let Statement::Run { elements, .. } = statement else {
+        return false;
+    };
+    matches!(elements.as_slice(), [Element::Unwind { .. }])
+}
+
+/// Whether it is a guarded receive into a name.
+fn is_guarded_receive(alternative: &Alternative) -> bool {
+    matches!(
+        alternative,
+        Alternative::Guarded {
+            guard: Some(_),
+            communication: Communication::Receive { name: Some(_), .. },
+            ..
+        }
+    )
+}
+
+/// Whether it is a send of no value without a guard.
+fn is_bare_send(alternative: &Alternative) -> bool {
+    matches!(
+        alternative,
+        Alternative::Guarded {
+            guard: None,
+            communication: Communication::Send { value: None, .. },
+            ..
+        }
+    )
+}
+
+/// Whether it is a select of a guarded receive and a send.
+fn is_select_of_both(statement: &Statement) -> bool {
+    let Statement::Select { alternatives, .. } = statement else {
+        return false;
+    };
+    let [first, second] = alternatives.as_slice() else {
+        return false;
+    };
+    is_guarded_receive(first) && is_bare_send(second)
+}
+
+/// Whether they are a select, a run and an exit, of which only the first has a `;`.
+fn are_three(steps: &[Step]) -> bool {
+    let [select, run, exit] = steps else {
+        return false;
+    };
+    select.semicolon
+        && !run.semicolon
+        && !exit.semicolon
+        && is_select_of_both(&select.statement)
+        && is_run_of_unwind(&run.statement)
+        && matches!(exit.statement, Statement::Exit { value: None, .. })
+}
+
+/// Whether the program is one model without a type and without formals, of those three statements.
+fn is_model_of_three(program: &Program) -> bool {
+    let [item] = program.items.as_slice() else {
+        return false;
+    };
     let Definition::Model {
         exit_type: None,
         formals,
@@ -115,89 +168,55 @@ fn a_tree_has_what_its_tokens_say(rt: HostRuntime) -> Result<(), Fail> {
         ..
     } = &item.definition
     else {
-        return Err(Fail::from("no model"));
+        return false;
     };
-    assert!(rt; formals.as_slice().is_empty());
-    let [select, run, exit] = block.as_slice() else {
-        return Err(Fail::from("not three statements"));
-    };
-    assert!(rt; select.semicolon && !run.semicolon && !exit.semicolon);
-    assert!(rt; matches!(exit.statement, Statement::Exit { value: None, .. }));
-    let Statement::Run { elements, .. } = &run.statement else {
-        return Err(Fail::from("no run"));
-    };
-    assert!(rt; matches!(elements.as_slice(), [Element::Unwind { .. }]));
-    let Statement::Select { alternatives, .. } = &select.statement else {
-        return Err(Fail::from("no select"));
-    };
-    let [first, second] = alternatives.as_slice() else {
-        return Err(Fail::from("not two alternatives"));
-    };
-    assert!(rt;
-        matches!(
-            first,
-            Alternative::Guarded {
-                guard: Some(_),
-                communication: Communication::Receive { name: Some(_), .. },
-                ..
-            }
-        )
-    );
-    assert!(rt;
-        matches!(
-            second,
-            Alternative::Guarded {
-                guard: None,
-                communication: Communication::Send { value: None, .. },
-                ..
-            }
-        )
-    );
+    item.semicolon && formals.as_slice().is_empty() && are_three(block.as_slice())
+}
+
+#[test]
+fn a_tree_has_what_its_tokens_say(rt: HostRuntime) -> Result<(), Fail> {
+    let source =
+        "model M(): select x, a?y: pass alt b[1]! end; run unwind i in x: P() end exit end;";
+    let program = parsed(rt.alloc(), source.as_bytes())?.map_err(|_| "refused")?;
+    assert_eq!(rt; program.last.column, 82);
+    assert!(rt; is_model_of_three(&program));
     Ok(())
+}
+
+/// Parts that nest in a block: what stands before, what opens one and how many there are, what stands inside, and what closes one.
+type Nest<'a> = (&'a str, &'a str, usize, &'a str, &'a str);
+
+/// The fault of a source of parts that nest.
+fn fault_of_nest(alloc: Global, nest: Nest) -> Result<Option<ParseFault>, Fail> {
+    let (before, opens, times, inside, closes) = nest;
+    let parts = [
+        (before, 1),
+        (opens, times),
+        (inside, 1),
+        (closes, times),
+        (" end", 1),
+    ];
+    fault_of(alloc, &parts)
 }
 
 #[test]
 fn nesting_has_its_limits(rt: HostRuntime) -> Result<(), Fail> {
     let open = "model M(): int x = ";
-    let deep = Some(ParseFault::TooDeep(208));
-    let blocks = Some(ParseFault::TooDeep(197));
     let start = "model M(): ";
-    let rows: [(Parts, Option<ParseFault>); 9] = [
-        (
-            &[(open, 1), ("(", 201), ("1", 1), (")", 201), (" end", 1)],
-            deep,
-        ),
-        (
-            &[(open, 1), ("(", 200), ("1", 1), (")", 200), (" end", 1)],
-            None,
-        ),
-        (&[(open, 1), ("-", 201), ("1 end", 1)], deep),
-        (&[(open, 1), ("-", 200), ("1 end", 1)], None),
-        (
-            &[(start, 1), ("if true: ", 64), ("pass", 1), (" end", 65)],
-            blocks,
-        ),
-        (
-            &[(start, 1), ("if true: ", 63), ("pass", 1), (" end", 64)],
-            None,
-        ),
-        (
-            &[(start, 1), ("while x: ", 64), ("pass", 1), (" end", 65)],
-            blocks,
-        ),
-        (
-            &[
-                (start, 1),
-                ("if x: pass else: ", 64),
-                ("pass", 1),
-                (" end", 65),
-            ],
-            Some(ParseFault::TooDeep(386)),
-        ),
-        (&[(start, 1), ("list ", 32), ("int x end", 1)], None),
+    let rows: [(Nest, Option<u32>); 9] = [
+        ((open, "(", 201, "1", ")"), Some(208)),
+        ((open, "(", 200, "1", ")"), None),
+        ((open, "-", 201, "1", ""), Some(208)),
+        ((open, "-", 200, "1", ""), None),
+        ((start, "if true: ", 64, "pass", " end"), Some(197)),
+        ((start, "if true: ", 63, "pass", " end"), None),
+        ((start, "while x: ", 64, "pass", " end"), Some(197)),
+        ((start, "if x: pass else: ", 64, "pass", " end"), Some(386)),
+        ((start, "list ", 32, "int x", ""), None),
     ];
-    for (parts, fault) in rows {
-        assert_eq!(rt; fault_of(rt.alloc(), parts)?, fault);
+    for (nest, index) in rows {
+        let fault = fault_of_nest(rt.alloc(), nest)?;
+        assert_eq!(rt; fault, index.map(|at| ParseFault::TooDeep(at)));
     }
     Ok(())
 }

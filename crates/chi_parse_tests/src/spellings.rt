@@ -1,8 +1,11 @@
+ghost use Rattle.std.specs.Prelude.{◌<◌, ◌^◌, length, IfOk};
+
 use crate::programs::PRODUCTIONS;
 use chi_lex::{MOST_BYTES, lex};
 use chi_parse::parse;
 use chi_spell::spell;
-use chi_token::{Token, spelling};
+use chi_token::{Spanned, Token, spelling};
+use chi_tree::Program;
 use std::alloc::Global;
 use std::test::Fail;
 
@@ -41,34 +44,56 @@ fn put(alloc: Global, token: &Token, text: &mut Vec<u8>) -> Result<(), Fail> {
     Ok(())
 }
 
-/// The tokens of a source, and those of its tree.
-fn texts(alloc: Global, source: &[u8]) -> Result<(Vec<u8>, Vec<u8>), Fail> {
+/// The text of the tokens of a source.
+fn written(alloc: Global, tokens: &[Spanned]) -> Result<Vec<u8>, Fail> {
+    let mut text = Vec::new(alloc);
+    for spanned in tokens {
+        put(alloc, &spanned.token, &mut text)?;
+    }
+    Ok(text)
+}
+
+/// The text of the tokens of a tree.
+fn spelled(alloc: Global, program: &Program) -> Result<Vec<u8>, Fail> {
+    let mut text = Vec::new(alloc);
+    for token in spell(alloc, program)?.as_slice() {
+        put(alloc, token, &mut text)?;
+    }
+    Ok(text)
+}
+
+fn tokens_of(alloc: Global, source: &str) -> Result<Vec<Spanned>, Fail>
+    ensures { IfOk result (λ tokens. length tokens.items < 2 ^ 32) }
+{
     if source.len() > MOST_BYTES {
         return Err(Fail::from("too long"));
     }
-    let tokens = lex(alloc, source)?;
+    let tokens = lex(alloc, source.as_bytes())?;
     if tokens.len() > MOST_BYTES {
         return Err(Fail::from("too many tokens"));
     }
+    Ok(tokens)
+}
+
+/// Whether the tokens are those of the tree.
+fn are_of(alloc: Global, tokens: &[Spanned], program: &Program) -> Result<bool, Fail> {
+    let before = written(alloc, tokens)?;
+    let after = spelled(alloc, program)?;
+    Ok(before.as_slice() == after.as_slice())
+}
+
+/// Whether the tokens of a source are those of its tree.
+fn is_spelled_back(alloc: Global, source: &str) -> Result<bool, Fail> {
+    let tokens = tokens_of(alloc, source)?;
     let program = parse(alloc, tokens.as_slice()).map_err(|_| "refused")?;
-    let mut written = Vec::new(alloc);
-    for spanned in tokens.as_slice() {
-        put(alloc, &spanned.token, &mut written)?;
-    }
-    let mut spelled = Vec::new(alloc);
-    for token in spell(alloc, &program)?.as_slice() {
-        put(alloc, token, &mut spelled)?;
-    }
-    Ok((written, spelled))
+    are_of(alloc, tokens.as_slice(), &program)
 }
 
 #[test]
 fn a_tree_has_the_tokens_of_its_source(rt: HostRuntime) -> Result<(), Fail> {
     for source in PRODUCTIONS {
-        let (written, spelled) = texts(rt.alloc(), source.as_bytes())?;
-        assert_eq!(rt; spelled.as_slice(), written.as_slice(), "{source}");
+        assert!(rt; is_spelled_back(rt.alloc(), source)?, "{source}");
     }
-    let (written, spelled) = texts(rt.alloc(), LINE.as_bytes())?;
-    assert_eq!(rt; spelled.as_slice(), written.as_slice());
+    assert!(rt; is_spelled_back(rt.alloc(), LINE)?);
     Ok(())
 }

@@ -17,7 +17,7 @@ use Rattle.chi_spell.proofs.BuiltTokens.{Reading}
 use Rattle.chi_spell.proofs.ShownTokens.{Shown, M}
 use Rattle.chi_spell.proofs.ExprSpelling.{any_type, named_type, built_type, word_type, list_type, set_type, dist_type, dict_type, tuple_type, chan_type, carried, formals_shown, fields_shown, more_formal, more_field, expr_shown, or_link, conj, and_link, neg, not_neg, rel, rel_link, sum, sum_link, prod, prod_link, unary, prefixed, power, power_link, post, postfix_shown, target_step, target_index, field, bracket, inside_shown, upto_shown, by_step, primary, literal_shown, named, arguments, cast_shown, round_shown, others, square_shown, curly_shown, contents, entries, more_entry, blank_shown, blank_end, blank_items, blank_elements, exprs}
 use Rattle.chi_spell.proofs.TargetSpelling.{names, target, initial, variable, variables, walk, delay, sending, receiving, communication_end, communication_shown, elements, element_shown, unwound_elements, make, made_shown, assigned_make}
-use Rattle.chi_spell.proofs.StatementSpelling.{closed_shown, open_shown, declaration, name_led, after_name, after_target, assignment, timed, jump_shown, return_shown, exit_shown, finish_shown, write_shown, written_shown, branch, elif_shown, else_shown, if_shown, body, while_shown, for_shown, alternatives, select_shown, alternative_shown, unwound_alternatives, alternative_body, guarded_alternative, offer_shown, offered_shown, guarded, launch, block, after_end, after_open, inner}
+use Rattle.chi_spell.proofs.StatementSpelling.{closed_shown, open_shown, declaration, name_led, after_name, after_target, assignment, timed, jump_part_shown, return_shown, exit_shown, finish_shown, write_shown, written_shown, branch, elif_shown, else_shown, if_shown, body, while_shown, for_shown, alternatives, select_shown, alternative_shown, unwound_alternatives, alternative_body, guarded_alternative, offer_shown, offered_shown, guarded, launch, block, after_end, after_open, inner}
 use Rattle.chi_spell.proofs.DefinitionSpelling.{parameters, head, enum_def, const_def, type_def, func_def, proc_def, model_def, xper_def, defined, definition_shown, program}
 
 module _ (reading : Reading) where
@@ -104,7 +104,7 @@ module _ (reading : Reading) where
   step room s.AfterTarget t p = after_target reading p
   step room s.Assignment t p = assignment reading p
   step room s.Timed t p = timed reading p
-  step room s.Jump t p = jump_shown reading p
+  step room s.Jump t p = jump_part_shown reading p
   step room s.Return t p = return_shown reading p
   step room s.Exit t p = exit_shown reading p
   step room s.Finish t p = finish_shown reading p

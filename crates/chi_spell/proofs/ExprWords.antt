@@ -13,8 +13,8 @@ use Rattle.chi_tree.specs.Classes.{class_of, number_of}
 use Rattle.chi_tree.specs.Parts.{Part}
 use Rattle.chi_tree.specs.Parts as s
 use Rattle.chi_tree.specs.Rules.{sum_sign, product_sign, relation_sign, prefix_sign, type_word, cast_word, literal, sign}
-use Rattle.chi_tree.specs.Tokens.{bytes_of, operator_of, relation_of, prefix_of, cast_of, type_word_of, way_of, literal_of}
-use Rattle.chi_tree.specs.View.{Built, chained, parted, expr_of, link_in, related, type_of, way_in}
+use Rattle.chi_tree.specs.Tokens.{bytes_of}
+use Rattle.chi_tree.specs.View.{operator_shown, relation_shown, prefix_shown, cast_shown, type_word_shown, way_shown, literal_shown, Built, chained, parted, expr_of, link_in, related, type_of, way_in}
 use Rattle.chi_spell.specs.Words.{operator_token, relation_token, prefix_token, cast_token, type_token, all}
 use Rattle.chi_spell.specs.Expressions.{kept, put_round, put_way, put_expr, put_link, put_postfix, put_type}
 use Rattle.chi_tree.proofs.Made.{Made}
@@ -42,11 +42,11 @@ module _ (reading : Reading) where
   -- operators
 
   pub linked : (x : Spanned) {n : ℕ} {t : Built} → number_of (class_of x.token) ≡ n
-      → operator_token (operator_of (token_at n (bytes_of x.token))) ≡ token_at n (bytes_of x.token)
+      → operator_token (operator_shown (token_at n (bytes_of x.token))) ≡ token_at n (bytes_of x.token)
       → Spells reading t (put_expr reading.put (expr_of t)) → Spells reading (pair (leaf x) t) (put_link reading.put (link_in (pair (leaf x) t)))
   linked x {t = t} e back p =
-      also (beside (as_word (λ w. operator_token (operator_of w)) x e back) p)
-      (sym (link-tokens reading.put (record { operator = operator_of x.token; place = x.place; operand = expr_of t })))
+      also (beside (as_word (λ w. operator_token (operator_shown w)) x e back) p)
+      (sym (link-tokens reading.put (record { operator = operator_shown x.token; place = x.place; operand = expr_of t })))
 
   pub sum_link_tokens : {P : Room → Part → Built → Type 0} {room : Room} {u t : Built} → Made P room sum_sign u → Spells reading t (put_expr reading.put (expr_of t))
       → Spells reading (pair u t) (put_link reading.put (link_in (pair u t)))
@@ -61,12 +61,12 @@ module _ (reading : Reading) where
   product_link_tokens (made.right (made.right (made.right (made.word {x = x} e)))) p = linked x e refl p
 
   related_by : (e : Expr) (x : Spanned) {n : ℕ} {t u : Built} → number_of (class_of x.token) ≡ n
-      → relation_token (relation_of (token_at n (bytes_of x.token))) ≡ token_at n (bytes_of x.token)
+      → relation_token (relation_shown (token_at n (bytes_of x.token))) ≡ token_at n (bytes_of x.token)
       → Spells reading t (put_expr reading.put e) → Spells reading u (put_expr reading.put (expr_of u))
       → Spells reading (pair t (node s.RelLink (pair (leaf x) u))) (put_expr reading.put (related e (node s.RelLink (pair (leaf x) u))))
   related_by e x {u = u} h back p q =
-      also (beside p (within (beside (as_word (λ w. relation_token (relation_of w)) x h back) q)))
-      (sym (expr-Relation reading.put e (relation_of x.token) x.place (expr_of u)))
+      also (beside p (within (beside (as_word (λ w. relation_token (relation_shown w)) x h back) q)))
+      (sym (expr-Relation reading.put e (relation_shown x.token) x.place (expr_of u)))
 
   pub relation_tokens : {P : Room → Part → Built → Type 0} {room : Room} {w t u : Built} (e : Expr) → Made P room relation_sign w → Spells reading t (put_expr reading.put e)
       → Spells reading u (put_expr reading.put (expr_of u)) → Spells reading (pair t (node s.RelLink (pair w u))) (put_expr reading.put (related e (node s.RelLink (pair w u))))
@@ -80,11 +80,11 @@ module _ (reading : Reading) where
   relation_tokens f (made.right (made.right (made.right (made.right (made.right (made.right (made.right (made.word {x = x} e)))))))) p q = related_by f x e refl p q
 
   prefixed : (x : Spanned) {n : ℕ} {t : Built} → number_of (class_of x.token) ≡ n
-      → prefix_token (prefix_of (token_at n (bytes_of x.token))) ≡ token_at n (bytes_of x.token) → Spells reading t (put_expr reading.put (expr_of t))
+      → prefix_token (prefix_shown (token_at n (bytes_of x.token))) ≡ token_at n (bytes_of x.token) → Spells reading t (put_expr reading.put (expr_of t))
       → Spells reading (node s.Prefixed (pair (leaf x) t)) (put_expr reading.put (expr_of (node s.Prefixed (pair (leaf x) t))))
   prefixed x {t = t} e back p =
-      also (within (beside (as_word (λ w. prefix_token (prefix_of w)) x e back) p))
-      (sym (expr-Prefix reading.put (prefix_of x.token) x.place (expr_of t)))
+      also (within (beside (as_word (λ w. prefix_token (prefix_shown w)) x e back) p))
+      (sym (expr-Prefix reading.put (prefix_shown x.token) x.place (expr_of t)))
 
   pub prefix_tokens : {P : Room → Part → Built → Type 0} {room : Room} {w t : Built} → Made P room prefix_sign w → Spells reading t (put_expr reading.put (expr_of t))
       → Spells reading (node s.Prefixed (pair w t)) (put_expr reading.put (expr_of (node s.Prefixed (pair w t))))
@@ -93,11 +93,11 @@ module _ (reading : Reading) where
   prefix_tokens (made.right (made.right (made.word {x = x} e))) p = prefixed x e refl p
 
   cast : (x : Spanned) {n : ℕ} {l t u : Built} → number_of (class_of x.token) ≡ n
-      → cast_token (cast_of (token_at n (bytes_of x.token))) ≡ token_at n (bytes_of x.token)
+      → cast_token (cast_shown (token_at n (bytes_of x.token))) ≡ token_at n (bytes_of x.token)
       → Spells reading (pair l (pair t u)) (put_round reading.put (put_expr reading.put (expr_of t)))
       → Spells reading (node s.Cast (pair (leaf x) (pair l (pair t u)))) (put_expr reading.put (expr_of (node s.Cast (pair (leaf x) (pair l (pair t u))))))
   cast x {t = t} e back p =
-      also (within (beside (as_word (λ w. cast_token (cast_of w)) x e back) p)) (sym (expr-Cast reading.put (cast_of x.token) x.place (expr_of t)))
+      also (within (beside (as_word (λ w. cast_token (cast_shown w)) x e back) p)) (sym (expr-Cast reading.put (cast_shown x.token) x.place (expr_of t)))
 
   pub cast_tokens : {P : Room → Part → Built → Type 0} {room : Room} {w l t u : Built} → Made P room cast_word w
       → Spells reading (pair l (pair t u)) (put_round reading.put (put_expr reading.put (expr_of t)))
@@ -109,9 +109,9 @@ module _ (reading : Reading) where
   cast_tokens (made.right (made.right (made.right (made.right (made.word {x = x} e))))) p = cast x e refl p
 
   worded : (x : Spanned) {n : ℕ} → number_of (class_of x.token) ≡ n
-      → type_token (type_word_of (token_at n (bytes_of x.token))) ≡ token_at n (bytes_of x.token)
+      → type_token (type_word_shown (token_at n (bytes_of x.token))) ≡ token_at n (bytes_of x.token)
       → Spells reading (node s.WordType (leaf x)) (put_type reading.put (type_of (node s.WordType (leaf x))))
-  worded x e back = also (within (as_word (λ w. type_token (type_word_of w)) x e back)) (sym (type-Word reading.put (type_word_of x.token) x.place))
+  worded x e back = also (within (as_word (λ w. type_token (type_word_shown w)) x e back)) (sym (type-Word reading.put (type_word_shown x.token) x.place))
 
   pub word_type_tokens : {P : Room → Part → Built → Type 0} {room : Room} {t : Built} → Made P room type_word t
       → Spells reading (node s.WordType t) (put_type reading.put (type_of (node s.WordType t)))
@@ -124,11 +124,11 @@ module _ (reading : Reading) where
 
   -- a literal of a class, whose tokens are these
   literally : (x : Spanned) {n : ℕ} → number_of (class_of x.token) ≡ n
-      → put_expr reading.put (literal_of (token_at n (bytes_of x.token)) x.place) ≡ kept reading.put (token_at n (bytes_of x.token)) x.place ∷ []
+      → put_expr reading.put (literal_shown (token_at n (bytes_of x.token)) x.place) ≡ kept reading.put (token_at n (bytes_of x.token)) x.place ∷ []
       → Spells reading (node s.Literal (leaf x)) (put_expr reading.put (expr_of (node s.Literal (leaf x))))
   literally x e is =
       let h = token_is x.token e in
-      within (also (exactly_kept x e) (sym is ∙ sym (ap (λ t. put_expr reading.put (literal_of t x.place)) h)))
+      within (also (exactly_kept x e) (sym is ∙ sym (ap (λ t. put_expr reading.put (literal_shown t x.place)) h)))
 
   pub literal_tokens : {P : Room → Part → Built → Type 0} {room : Room} {t : Built} → Made P room literal t
       → Spells reading (node s.Literal t) (put_expr reading.put (expr_of (node s.Literal t)))
@@ -141,5 +141,5 @@ module _ (reading : Reading) where
 
   pub way_tokens_of : {P : Room → Part → Built → Type 0} {room : Room} {t : Built} → Made P room (maybe (sign Bang ∣ sign Question)) t → Spells reading t (put_way reading.put (way_in t))
   way_tokens_of made.never = nothing
-  way_tokens_of (made.once (made.left (made.word {x = x} e))) = also (exactly x e) (sym (ap (λ t. put_way reading.put (way_of t)) (token_is x.token e)))
-  way_tokens_of (made.once (made.right (made.word {x = x} e))) = also (exactly x e) (sym (ap (λ t. put_way reading.put (way_of t)) (token_is x.token e)))
+  way_tokens_of (made.once (made.left (made.word {x = x} e))) = also (exactly x e) (sym (ap (λ t. put_way reading.put (way_shown t)) (token_is x.token e)))
+  way_tokens_of (made.once (made.right (made.word {x = x} e))) = also (exactly x e) (sym (ap (λ t. put_way reading.put (way_shown t)) (token_is x.token e)))

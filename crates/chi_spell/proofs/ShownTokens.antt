@@ -20,8 +20,7 @@ use Rattle.chi_tree.specs.declared.statement.Step.{Step}
 use Rattle.chi_tree.specs.Parts.{Part}
 use Rattle.chi_tree.specs.Parts as s
 use Rattle.chi_tree.specs.View.{Built, type_of, carried_of, formals_of, formal_of, expr_of, link_of, related, powered, postfix_of, inside, indexed, stepped, arguments_of, exprs_of, bracketed, braced, entry_of, blank, names_in}
-use Rattle.chi_tree.specs.Tokens.{ends_line}
-use Rattle.chi_tree.specs.Statements.{target_of, initial_of, variable_of, variables_of, walk_of, communicated, communication_of, as_target, is_some, offered, offer_of, made, elements_of, element_of, led, written, statement_of, block_of, followed, inner_of, body_of, branch_of, elif_of, else_of, alternatives_of, alternative_of, alternative_body_of, head_of, parameters_of, definition_of, item_of, program_of, is_bare}
+use Rattle.chi_tree.specs.Statements.{ends_line_shown, target_of, initial_of, variable_of, variables_of, walk_of, communicated, communication_of, as_target, is_some, offered, offer_of, made, elements_of, element_of, led, written, statement_of, block_of, followed, inner_of, body_of, branch_of, elif_of, else_of, alternatives_of, alternative_of, alternative_body_of, head_of, parameters_of, definition_of, item_of, program_of, is_bare}
 use Rattle.chi_spell.specs.Words.{each_after, separated}
 use Rattle.chi_spell.specs.Expressions.{bare, kept, put_commas, put_further, put_round, put_square, put_curly, square_at, curly_at, put_carried, put_expr, put_link, put_postfix, put_entry, put_type, put_declared, put_formals}
 use Rattle.chi_spell.specs.Statements.{put_names, put_initial, put_variable, put_target, put_walk, put_communication, put_element, put_elements, put_guard, put_body, put_else, put_to_end, put_alternative, put_statement, put_branch, put_step, put_block, put_head, put_definition, put_item, put_program}
@@ -102,7 +101,7 @@ module _ (reading : Reading) where
     pub at : Place
     pub values : List Expr
     pub spells : Spells reading t (put_round reading.put (kept reading.put (Text text) at ∷ each_after (bare reading.put (Sign Comma)) (map (put_expr reading.put) values)))
-    pub shown : (x : Spanned) → written (leaf x) t ≡ statement.Write x.place (ends_line x.token) text at values
+    pub shown : (x : Spanned) → written (leaf x) t ≡ statement.Write x.place (ends_line_shown x.token) text at values
 
   -- statements, one at least
   pub record BlockTokens (block : List Step) (t : Built) : Type 0 where

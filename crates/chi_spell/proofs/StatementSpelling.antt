@@ -24,9 +24,9 @@ use Rattle.chi_tree.specs.Classes.{class_of, number_of}
 use Rattle.chi_tree.specs.Parts.{Part}
 use Rattle.chi_tree.specs.Parts as s
 use Rattle.chi_tree.specs.Rules.{rule_of, keyword}
-use Rattle.chi_tree.specs.Tokens.{bytes_of, jump_of, ends_line}
+use Rattle.chi_tree.specs.Tokens.{bytes_of}
 use Rattle.chi_tree.specs.View.{Built, expr_of, exprs_of, more_exprs_of}
-use Rattle.chi_tree.specs.Statements.{target_of, more_targets_of, variables_of, walk_of, communication_of, as_target, target_in, name_target, is_step_in, target_or_none, is_some, elements_of, launched, statement_of, block_of, followed, inner_of, elifs_of, else_of, alternatives_of, more_alternatives_of, step}
+use Rattle.chi_tree.specs.Statements.{jump_shown, ends_line_shown, target_of, more_targets_of, variables_of, walk_of, communication_of, as_target, target_in, name_target, is_step_in, target_or_none, is_some, elements_of, launched, statement_of, block_of, followed, inner_of, elifs_of, else_of, alternatives_of, more_alternatives_of, step}
 use Rattle.chi_spell.specs.Words.{write_word, all, each_after, separated}
 use Rattle.chi_spell.specs.Expressions.{bare, kept, put_commas, put_expr, put_postfix}
 use Rattle.chi_spell.specs.Statements.{put_semicolon, put_exprs, put_target, put_walk, put_communication, put_elements, put_body, put_else, put_alternative, put_statement, put_branch, put_step, put_block}
@@ -91,16 +91,16 @@ module _ (reading : Reading) where
 
   -- a word that is a statement
   jumping : (x : Spanned) {n : ℕ} → number_of (class_of x.token) ≡ n
-      → put_statement reading.put (jump_of (token_at n (bytes_of x.token)) x.place) ≡ kept reading.put (token_at n (bytes_of x.token)) x.place ∷ []
+      → put_statement reading.put (jump_shown (token_at n (bytes_of x.token)) x.place) ≡ kept reading.put (token_at n (bytes_of x.token)) x.place ∷ []
       → Spells reading (node s.Jump (leaf x)) (put_statement reading.put (statement_of (node s.Jump (leaf x))))
   jumping x e is =
       let h = token_is x.token e in
-      within (also (exactly_kept x e) (sym is ∙ sym (ap (λ t. put_statement reading.put (jump_of t x.place)) h)))
+      within (also (exactly_kept x e) (sym is ∙ sym (ap (λ t. put_statement reading.put (jump_shown t x.place)) h)))
 
-  pub jump_shown : {room : Room} {t : Built} → M reading room (rule_of s.Jump) t → Shown reading room s.Jump (node s.Jump t)
-  jump_shown (made.left (made.word {x = x} e)) = jumping x e (statement-Pass reading.put x.place)
-  jump_shown (made.right (made.left (made.word {x = x} e))) = jumping x e (statement-Break reading.put x.place)
-  jump_shown (made.right (made.right (made.word {x = x} e))) = jumping x e (statement-Continue reading.put x.place)
+  pub jump_part_shown : {room : Room} {t : Built} → M reading room (rule_of s.Jump) t → Shown reading room s.Jump (node s.Jump t)
+  jump_part_shown (made.left (made.word {x = x} e)) = jumping x e (statement-Pass reading.put x.place)
+  jump_part_shown (made.right (made.left (made.word {x = x} e))) = jumping x e (statement-Break reading.put x.place)
+  jump_part_shown (made.right (made.right (made.word {x = x} e))) = jumping x e (statement-Continue reading.put x.place)
 
   pub return_shown : {room : Room} {t : Built} → M reading room (rule_of s.Return) t → Shown reading room s.Return (node s.Return t)
   return_shown (made.both w (made.part p)) = also (within (beside (one_kept w) p)) (sym (statement-Return reading.put _ _))
@@ -112,11 +112,11 @@ module _ (reading : Reading) where
   finish_shown (made.both w (made.part p)) = also (within (beside (one_kept w) p.spells)) (sym (statement-Finish reading.put _ _))
 
   writing : (x : Spanned) {n : ℕ} {t : Built} → number_of (class_of x.token) ≡ n
-      → Word (write_word (ends_line (token_at n (bytes_of x.token)))) ≡ token_at n (bytes_of x.token)
+      → Word (write_word (ends_line_shown (token_at n (bytes_of x.token)))) ≡ token_at n (bytes_of x.token)
       → WrittenTokens reading t → Spells reading (node s.Write (pair (leaf x) t)) (put_statement reading.put (statement_of (node s.Write (pair (leaf x) t))))
   writing x e back p =
-      also (within (beside (as_word reading (λ w. Word (write_word (ends_line w))) x e back) p.spells))
-      (sym (ap (put_statement reading.put) (p.shown x) ∙ statement-Write reading.put x.place (ends_line x.token) p.text p.at p.values))
+      also (within (beside (as_word reading (λ w. Word (write_word (ends_line_shown w))) x e back) p.spells))
+      (sym (ap (put_statement reading.put) (p.shown x) ∙ statement-Write reading.put x.place (ends_line_shown x.token) p.text p.at p.values))
 
   pub write_shown : {room : Room} {t : Built} → M reading room (rule_of s.Write) t → Shown reading room s.Write (node s.Write t)
   write_shown (made.both (made.left (made.word {x = x} e)) (made.deeper i (made.part p))) = writing x e refl p

@@ -7,10 +7,10 @@ use Rattle.chi_token.specs.Signs.{mark_of}
 use Rattle.chi_token.specs.Texts.{quoted}
 
 -- the bytes that spell a token: the word, name, digits or mark as it is, a text in quotes with its escapes
-abbrev pub spelled : Token → List ℕ
-spelled (Word keyword) = word_of keyword
-spelled (Name bytes) = bytes
-spelled (Int bytes) = bytes
-spelled (Real bytes) = bytes
-spelled (Text bytes) = quoted bytes
-spelled (Sign sign) = mark_of sign
+abbrev pub canonical_spelling : Token → List ℕ
+canonical_spelling (Word keyword) = word_of keyword
+canonical_spelling (Name bytes) = bytes
+canonical_spelling (Int bytes) = bytes
+canonical_spelling (Real bytes) = bytes
+canonical_spelling (Text bytes) = quoted bytes
+canonical_spelling (Sign sign) = mark_of sign

@@ -13,9 +13,9 @@ abbrev pub letter_for : ℕ → Option ℕ
 letter_for byte = option_map (λ row. row.0) (find (λ row. row.1 == byte) ESCAPES)
 
 -- a byte before what the rest means, where both have a meaning
-abbrev pub before : Option ℕ → Option (List ℕ) → Option (List ℕ)
-before (Some c) rest = option_map (λ bytes. c ∷ bytes) rest
-before None rest = None
+abbrev pub byte_then : Option ℕ → Option (List ℕ) → Option (List ℕ)
+byte_then (Some c) rest = option_map (λ bytes. c ∷ bytes) rest
+byte_then None rest = None
 
 -- what a run of whole characters means: plain bytes and escapes
 unfoldable mutual
@@ -23,13 +23,13 @@ unfoldable mutual
   meaning [] = Some []
   meaning (c ∷ cs) =
       if c == backslash then escape_meaning cs
-      else if is_plain c then before (Some c) (meaning cs)
+      else if is_plain c then byte_then (Some c) (meaning cs)
       else None
 
   -- the same after a backslash
   pub escape_meaning : List ℕ → Option (List ℕ)
   escape_meaning [] = None
-  escape_meaning (letter ∷ cs) = before (escaped letter) (meaning cs)
+  escape_meaning (letter ∷ cs) = byte_then (escaped letter) (meaning cs)
 
 -- what a text means, told by the bytes after its opening quote: a run of characters and the closing quote
 abbrev pub text_of : List ℕ → Option (List ℕ)

@@ -35,9 +35,9 @@ number_of bytes =
     else None
 
 -- The token that the bytes spell as a whole. Its first byte tells its kind.
-unfoldable pub token_of : List ℕ → Option Token
-token_of [] = None
-token_of (c ∷ cs) =
+unfoldable pub token_spelled_by : List ℕ → Option Token
+token_spelled_by [] = None
+token_spelled_by (c ∷ cs) =
     if is_name_start c then (if list_all is_name_byte cs then Some (word_or_name (keyword_of (c ∷ cs)) (c ∷ cs)) else None)
     else if is_digit c then number_of (c ∷ cs)
     else if c == quote then option_map Text (text_of cs)
@@ -45,4 +45,4 @@ token_of (c ∷ cs) =
 
 -- some bytes spell the token
 abbrev pub IsToken : Token → Type 0
-IsToken token = (bytes : List ℕ) × (token_of bytes ≡ Some token)
+IsToken token = (bytes : List ℕ) × (token_spelled_by bytes ≡ Some token)

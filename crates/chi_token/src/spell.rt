@@ -1,5 +1,5 @@
 ghost use Rattle.std.specs.Prelude.{◌≡◌, ◌++◌, OnOk, OnErr};
-ghost use Rattle.chi_token.specs.Spelling.{spelled};
+ghost use Rattle.chi_token.specs.Spelling.{canonical_spelling};
 
 use crate::escape::quoted;
 use crate::token::Token;
@@ -9,7 +9,7 @@ use std::alloc::Global;
 /// Appends the canonical spelling of a token: the word, name, digits or mark as it is, and a text
 /// in quotes with its escapes.
 pub fn spelling(alloc: Global, token: &Token, out: &mut Vec<u8>) -> Result<(), NoMemory>
-    ensures ok { OnOk result (out.new.items ≡ out.old.items ++ spelled token.now) }
+    ensures ok { OnOk result (out.new.items ≡ out.old.items ++ canonical_spelling token.now) }
     ensures err { OnErr result (out.new.items ≡ out.old.items) }
 {
     match token {

@@ -1,12 +1,16 @@
 -- The token of a class and its bytes.
-use Rattle.std.proofs.Common.{◌≡◌, ℕ, zero, suc, ◌-◌, List, [], ◌∷◌, refl, ap, ◌∙◌}
+use Rattle.std.proofs.Common.{◌≡◌, ◌==◌, ℕ, zero, suc, ◌-◌, Bool, true, false, ◌||◌, Option, List, [], ◌∷◌, map, refl, sym, ap, ◌∙◌}
+use Rattle.std.proofs.lemmas.Bool.{eqb-true, false≢true}
+use Rattle.chi_grammar.specs.Lookahead.{holds}
 use Rattle.chi_token.specs.declared.keyword.Keyword.{Keyword}
 use Rattle.chi_token.specs.declared.keyword.Keyword.TheVariants as keyword
 use Rattle.chi_token.specs.declared.sign.Sign.{Sign}
 use Rattle.chi_token.specs.declared.sign.Sign.TheVariants as sign
 use Rattle.chi_token.specs.declared.token.Token.{Token}
 use Rattle.chi_token.specs.declared.token.Token.TheVariants as token
+use Rattle.chi_tree.specs.declared.class.Class.{Class}
 use Rattle.chi_tree.specs.Classes.{class_of, number_of}
+use Rattle.chi_tree.specs.Statements.{is_some}
 use Rattle.chi_tree.specs.Tokens.{bytes_of}
 
 abbrev keywords : List Keyword
@@ -127,3 +131,21 @@ at_its_class (token.Word keyword.XperWord) = refl
 
 pub token_is : (t : Token) {n : ℕ} → number_of (class_of t) ≡ n → t ≡ token_at n (bytes_of t)
 token_is t e = at_its_class t ∙ ap (λ n. token_at n (bytes_of t)) e
+
+-- a table has a row for the token of each of the classes
+abbrev pub HasRows : {T : Type 0} → (Token → Option T) → List Class → Type 0
+HasRows table [] = Unit {0}
+HasRows table (c ∷ cs) = ((bytes : List ℕ) → is_some (table (token_at (number_of c) bytes)) ≡ true) × HasRows table cs
+
+-- so it has one for each token that is of one of them
+pub row_of : {T : Type 0} (table : Token → Option T) (cs : List Class) → HasRows table cs
+    → (t : Token) → holds (map number_of cs) (number_of (class_of t)) ≡ true → is_some (table t) ≡ true
+row_of table [] rows t h = absurd (false≢true h)
+row_of table (c ∷ cs) rows t h = by (number_of c == number_of (class_of t)) refl h (row_of table cs rows.1 t)
+  where
+    by : (b : Bool) → (number_of c == number_of (class_of t)) ≡ b → (b || holds (map number_of cs) (number_of (class_of t))) ≡ true
+        → (holds (map number_of cs) (number_of (class_of t)) ≡ true → is_some (table t) ≡ true) → is_some (table t) ≡ true
+    by true is h others =
+        let same : t ≡ token_at (number_of c) (bytes_of t) = token_is t (sym (eqb-true (number_of c) (number_of (class_of t)) is)) in
+        ap (λ u. is_some (table u)) same ∙ rows.0 (bytes_of t)
+    by false is h others = others h

@@ -4,6 +4,7 @@ use Rattle.std.specs.List.{list_all}
 use Rattle.chi_grammar.specs.Rules.{leaf, node, pair, none, spelling}
 use Rattle.chi_token.specs.declared.place.Place.{Place}
 use Rattle.chi_token.specs.declared.place.Spanned.{Spanned}
+use Rattle.chi_token.specs.declared.token.Token.{Token}
 use Rattle.chi_tree.specs.declared.type_tree.Name.{Name}
 use Rattle.chi_tree.specs.declared.type_tree.TypeTree.{TypeTree}
 use Rattle.chi_tree.specs.declared.type_tree.TypeTree.TheVariants as type
@@ -31,7 +32,7 @@ use Rattle.chi_tree.specs.declared.definition.Program.{Program}
 use Rattle.chi_tree.specs.Tokens.{bytes_of, jump_of, ends_line, is_run}
 use Rattle.chi_tree.specs.Parts.{Part}
 use Rattle.chi_tree.specs.Parts as s
-use Rattle.chi_tree.specs.View.{Built, nowhere, place_in, name_in, names_in, no_expr, optional, type_of, formals_of, expr_of, exprs_of, more_exprs_of, arguments_of, postfixes_of}
+use Rattle.chi_tree.specs.View.{Built, nowhere, given_or, place_in, name_in, names_in, no_expr, optional, type_of, formals_of, expr_of, exprs_of, more_exprs_of, arguments_of, postfixes_of}
 
 -- targets, walks and variables
 
@@ -150,6 +151,15 @@ last_ends (e ∷ f ∷ es) = last_ends (f ∷ es)
 
 -- statements
 
+abbrev pub jump_shown : Token → Place → Statement
+jump_shown token place = given_or (statement.Pass nowhere) (jump_of token place)
+
+abbrev pub ends_line_shown : Token → Bool
+ends_line_shown token = given_or false (ends_line token)
+
+abbrev pub is_run_shown : Token → Bool
+is_run_shown token = given_or false (is_run token)
+
 -- a statement that begins with a target
 abbrev pub led : Target → Built → Statement
 led target (node s.AfterName t) = led target t
@@ -160,12 +170,12 @@ led target (node s.Assignment (pair ts (pair eq es))) = statement.Assign (target
 led target _ = statement.Pass nowhere
 
 abbrev pub launched : Built → List Element → Statement
-launched (leaf x) elements = if is_run x.token then statement.Run x.place elements else statement.Start x.place elements
+launched (leaf x) elements = if is_run_shown x.token then statement.Run x.place elements else statement.Start x.place elements
 launched _ elements = statement.Pass nowhere
 
 abbrev pub written : Built → Built → Statement
 written (leaf x) (node s.Written (pair l (pair (leaf y) (pair es r)))) =
-    statement.Write x.place (ends_line x.token) (bytes_of y.token) y.place (more_exprs_of es)
+    statement.Write x.place (ends_line_shown x.token) (bytes_of y.token) y.place (more_exprs_of es)
 written _ _ = statement.Pass nowhere
 
 abbrev pub step : Statement → Bool → Step
@@ -183,7 +193,7 @@ abbrev mutual
   statement_of (node s.Declaration (pair t vs)) = statement.Declare (type_of t) (variables_of vs)
   statement_of (node s.NameLed (pair t rest)) = led (target_of t) rest
   statement_of (node s.Timed t) = statement.Communicate (communication_of t)
-  statement_of (node s.Jump (leaf x)) = jump_of x.token x.place
+  statement_of (node s.Jump (leaf x)) = jump_shown x.token x.place
   statement_of (node s.Return (pair w e)) = statement.Return (place_in w) (expr_of e)
   statement_of (node s.Exit (pair w e)) = statement.Exit (place_in w) (optional e (expr_of e))
   statement_of (node s.Finish (pair w es)) = statement.Finish (place_in w) (exprs_of es)
@@ -302,7 +312,8 @@ is_name t = let target : Target = target_of t in is_bare target.steps
 abbrev pub is_target : Built → Bool
 is_target t = is_some (as_target (expr_of t))
 
--- a launch whose last token is "end"
+-- a statement whose last token is "end"
 abbrev pub ends_in_end : Built → Bool
+ends_in_end (node s.Closed t) = true
 ends_in_end (node s.Launch (pair w es)) = last_ends (elements_of es)
 ends_in_end _ = false

@@ -1,5 +1,6 @@
--- What single tokens stand for in the tree. A token of another class stands for whatever comes last.
-use Rattle.std.specs.Prelude.{ℕ, Bool, true, false, List, []}
+-- What single tokens stand for in the tree: of each kind a table with a row for each token that stands for such a thing, and none
+-- for exactly the others.
+use Rattle.std.specs.Prelude.{ℕ, Bool, true, false, Option, Some, None, List, []}
 use Rattle.chi_token.specs.declared.keyword.Keyword.TheVariants as keyword
 use Rattle.chi_token.specs.declared.sign.Sign.TheVariants as sign
 use Rattle.chi_token.specs.declared.token.Token.{Token}
@@ -30,76 +31,87 @@ bytes_of (token.Name bytes) = bytes
 bytes_of (token.Int bytes) = bytes
 bytes_of (token.Real bytes) = bytes
 bytes_of (token.Text bytes) = bytes
-bytes_of _ = []
+bytes_of (token.Word _) = []
+bytes_of (token.Sign _) = []
 
 abbrev pub name_of : Spanned → Name
 name_of x = record { text = bytes_of x.token; place = x.place }
 
-abbrev pub operator_of : Token → Operator
-operator_of (token.Word keyword.OrWord) = operator.Or
-operator_of (token.Word keyword.AndWord) = operator.And
-operator_of (token.Word keyword.DivWord) = operator.DivideWhole
-operator_of (token.Sign sign.Plus) = operator.Add
-operator_of (token.Sign sign.Minus) = operator.Subtract
-operator_of (token.Sign sign.Star) = operator.Multiply
-operator_of (token.Sign sign.Slash) = operator.Divide
-operator_of _ = operator.Remainder
+-- the operators of chains
+abbrev pub operator_of : Token → Option Operator
+operator_of (token.Word keyword.OrWord) = Some operator.Or
+operator_of (token.Word keyword.AndWord) = Some operator.And
+operator_of (token.Sign sign.Plus) = Some operator.Add
+operator_of (token.Sign sign.Minus) = Some operator.Subtract
+operator_of (token.Sign sign.Star) = Some operator.Multiply
+operator_of (token.Sign sign.Slash) = Some operator.Divide
+operator_of (token.Word keyword.DivWord) = Some operator.DivideWhole
+operator_of (token.Word keyword.ModWord) = Some operator.Remainder
+operator_of _ = None
 
-abbrev pub relation_of : Token → RelationSign
-relation_of (token.Word keyword.InWord) = relation.In
-relation_of (token.Sign sign.Less) = relation.Less
-relation_of (token.Sign sign.LessEqual) = relation.LessEqual
-relation_of (token.Sign sign.Equal) = relation.Equal
-relation_of (token.Sign sign.NotEqual) = relation.NotEqual
-relation_of (token.Sign sign.Greater) = relation.Greater
-relation_of (token.Sign sign.GreaterEqual) = relation.GreaterEqual
-relation_of _ = relation.Sub
+abbrev pub relation_of : Token → Option RelationSign
+relation_of (token.Sign sign.Less) = Some relation.Less
+relation_of (token.Sign sign.LessEqual) = Some relation.LessEqual
+relation_of (token.Sign sign.Equal) = Some relation.Equal
+relation_of (token.Sign sign.NotEqual) = Some relation.NotEqual
+relation_of (token.Sign sign.Greater) = Some relation.Greater
+relation_of (token.Sign sign.GreaterEqual) = Some relation.GreaterEqual
+relation_of (token.Word keyword.InWord) = Some relation.In
+relation_of (token.Word keyword.SubWord) = Some relation.Sub
+relation_of _ = None
 
-abbrev pub prefix_of : Token → PrefixSign
-prefix_of (token.Sign sign.Minus) = prefix.Minus
-prefix_of (token.Sign sign.Plus) = prefix.Plus
-prefix_of (token.Word keyword.SampleWord) = prefix.Sample
-prefix_of _ = prefix.Not
+abbrev pub prefix_of : Token → Option PrefixSign
+prefix_of (token.Word keyword.NotWord) = Some prefix.Not
+prefix_of (token.Sign sign.Minus) = Some prefix.Minus
+prefix_of (token.Sign sign.Plus) = Some prefix.Plus
+prefix_of (token.Word keyword.SampleWord) = Some prefix.Sample
+prefix_of _ = None
 
-abbrev pub cast_of : Token → CastWord
-cast_of (token.Word keyword.IntWord) = cast.Int
-cast_of (token.Word keyword.RealWord) = cast.Real
-cast_of (token.Word keyword.StringWord) = cast.Text
-cast_of (token.Word keyword.BoolWord) = cast.Bool
-cast_of _ = cast.Timer
+abbrev pub cast_of : Token → Option CastWord
+cast_of (token.Word keyword.IntWord) = Some cast.Int
+cast_of (token.Word keyword.RealWord) = Some cast.Real
+cast_of (token.Word keyword.StringWord) = Some cast.Text
+cast_of (token.Word keyword.BoolWord) = Some cast.Bool
+cast_of (token.Word keyword.TimerWord) = Some cast.Timer
+cast_of _ = None
 
-abbrev pub type_word_of : Token → TypeWord
-type_word_of (token.Word keyword.BoolWord) = type_word.Bool
-type_word_of (token.Word keyword.IntWord) = type_word.Int
-type_word_of (token.Word keyword.RealWord) = type_word.Real
-type_word_of (token.Word keyword.StringWord) = type_word.Text
-type_word_of (token.Word keyword.TimerWord) = type_word.Timer
-type_word_of _ = type_word.Inst
+abbrev pub type_word_of : Token → Option TypeWord
+type_word_of (token.Word keyword.BoolWord) = Some type_word.Bool
+type_word_of (token.Word keyword.IntWord) = Some type_word.Int
+type_word_of (token.Word keyword.RealWord) = Some type_word.Real
+type_word_of (token.Word keyword.StringWord) = Some type_word.Text
+type_word_of (token.Word keyword.TimerWord) = Some type_word.Timer
+type_word_of (token.Word keyword.InstWord) = Some type_word.Inst
+type_word_of _ = None
 
-abbrev pub way_of : Token → Way
-way_of (token.Sign sign.Bang) = way.Send
-way_of (token.Sign sign.Question) = way.Receive
-way_of _ = way.Both
+abbrev pub way_of : Token → Option Way
+way_of (token.Sign sign.Bang) = Some way.Send
+way_of (token.Sign sign.Question) = Some way.Receive
+way_of _ = None
 
-abbrev pub literal_of : Token → Place → Expr
-literal_of (token.Int digits) place = expr.Int digits place
-literal_of (token.Real digits) place = expr.Real digits place
-literal_of (token.Text text) place = expr.Text text place
-literal_of (token.Word keyword.TrueWord) place = expr.Bool true place
-literal_of (token.Word keyword.FalseWord) place = expr.Bool false place
-literal_of _ place = expr.Time place
+abbrev pub literal_of : Token → Place → Option Expr
+literal_of (token.Int digits) place = Some (expr.Int digits place)
+literal_of (token.Real digits) place = Some (expr.Real digits place)
+literal_of (token.Text text) place = Some (expr.Text text place)
+literal_of (token.Word keyword.TrueWord) place = Some (expr.Bool true place)
+literal_of (token.Word keyword.FalseWord) place = Some (expr.Bool false place)
+literal_of (token.Word keyword.TimeWord) place = Some (expr.Time place)
+literal_of _ place = None
 
-abbrev pub jump_of : Token → Place → Statement
-jump_of (token.Word keyword.BreakWord) place = statement.Break place
-jump_of (token.Word keyword.ContinueWord) place = statement.Continue place
-jump_of _ place = statement.Pass place
+abbrev pub jump_of : Token → Place → Option Statement
+jump_of (token.Word keyword.PassWord) place = Some (statement.Pass place)
+jump_of (token.Word keyword.BreakWord) place = Some (statement.Break place)
+jump_of (token.Word keyword.ContinueWord) place = Some (statement.Continue place)
+jump_of _ place = None
 
 -- whether a write ends its line
-abbrev pub ends_line : Token → Bool
-ends_line (token.Word keyword.WritelnWord) = true
-ends_line _ = false
+abbrev pub ends_line : Token → Option Bool
+ends_line (token.Word keyword.WriteWord) = Some false
+ends_line (token.Word keyword.WritelnWord) = Some true
+ends_line _ = None
 
 -- whether what is made is run, and not started
-abbrev pub is_run : Token → Bool
-is_run (token.Word keyword.RunWord) = true
-is_run _ = false
+abbrev pub is_run : Token → Option Bool
+is_run (token.Word keyword.RunWord) = Some true
+is_run (token.Word keyword.StartWord) = Some false
+is_run _ = None

@@ -4,14 +4,23 @@ use Rattle.std.specs.Prelude.{true, false, List, [], ◌∷◌, Option, Some, No
 use Rattle.chi_grammar.specs.Rules.{Tree, leaf, node, pair, none}
 use Rattle.chi_token.specs.declared.place.Place.{Place}
 use Rattle.chi_token.specs.declared.place.Spanned.{Spanned}
+use Rattle.chi_token.specs.declared.token.Token.{Token}
 use Rattle.chi_tree.specs.declared.type_tree.Name.{Name}
 use Rattle.chi_tree.specs.declared.type_tree.TypeTree.{TypeTree}
 use Rattle.chi_tree.specs.declared.type_tree.TypeTree.TheVariants as type
+use Rattle.chi_tree.specs.declared.type_tree.TypeWord.{TypeWord}
+use Rattle.chi_tree.specs.declared.type_tree.TypeWord.TheVariants as type_word
 use Rattle.chi_tree.specs.declared.type_tree.Way.{Way}
 use Rattle.chi_tree.specs.declared.type_tree.Way.TheVariants as way
 use Rattle.chi_tree.specs.declared.type_tree.Formal.{Formal}
+use Rattle.chi_tree.specs.declared.operator.Operator.{Operator}
 use Rattle.chi_tree.specs.declared.operator.Operator.TheVariants as operator
+use Rattle.chi_tree.specs.declared.operator.RelationSign.{RelationSign}
+use Rattle.chi_tree.specs.declared.operator.RelationSign.TheVariants as relation
+use Rattle.chi_tree.specs.declared.operator.PrefixSign.{PrefixSign}
 use Rattle.chi_tree.specs.declared.operator.PrefixSign.TheVariants as prefix
+use Rattle.chi_tree.specs.declared.operator.CastWord.{CastWord}
+use Rattle.chi_tree.specs.declared.operator.CastWord.TheVariants as cast
 use Rattle.chi_tree.specs.declared.expr.Expr.{Expr}
 use Rattle.chi_tree.specs.declared.expr.Expr.TheVariants as expr
 use Rattle.chi_tree.specs.declared.expr.Link.{Link}
@@ -30,6 +39,33 @@ Built = Tree Spanned Part
 abbrev pub nowhere : Place
 nowhere = record { line = 0; column = 0 }
 
+-- A token is shown by its row in the table of what it stands for. No rule builds a token without a row; it is shown as some value.
+
+abbrev pub given_or : {T : Type 0} → T → Option T → T
+given_or other (Some x) = x
+given_or other None = other
+
+abbrev pub operator_shown : Token → Operator
+operator_shown token = given_or operator.Or (operator_of token)
+
+abbrev pub relation_shown : Token → RelationSign
+relation_shown token = given_or relation.Less (relation_of token)
+
+abbrev pub prefix_shown : Token → PrefixSign
+prefix_shown token = given_or prefix.Not (prefix_of token)
+
+abbrev pub cast_shown : Token → CastWord
+cast_shown token = given_or cast.Int (cast_of token)
+
+abbrev pub type_word_shown : Token → TypeWord
+type_word_shown token = given_or type_word.Bool (type_word_of token)
+
+abbrev pub way_shown : Token → Way
+way_shown token = given_or way.Both (way_of token)
+
+abbrev pub literal_shown : Token → Place → Expr
+literal_shown token place = given_or (expr.Time nowhere) (literal_of token place)
+
 abbrev pub place_in : Built → Place
 place_in (leaf x) = x.place
 place_in _ = nowhere
@@ -47,7 +83,7 @@ names_in (node s.Names (pair n ns)) = name_in n ∷ more_names_in ns
 names_in _ = []
 
 abbrev pub way_in : Built → Way
-way_in (leaf x) = way_of x.token
+way_in (leaf x) = way_shown x.token
 way_in _ = way.Both
 
 -- an expression with what stands after it, where anything does
@@ -86,7 +122,7 @@ abbrev mutual
   type_of (node s.AnyType t) = type_of t
   type_of (node s.BuiltType t) = type_of t
   type_of (node s.NamedType t) = type.Defined (name_in t)
-  type_of (node s.WordType (leaf x)) = type.Word (type_word_of x.token) x.place
+  type_of (node s.WordType (leaf x)) = type.Word (type_word_shown x.token) x.place
   type_of (node s.ListType (pair w (pair size t))) = type.List (place_in w) (size_of size) (type_of t)
   type_of (node s.SetType (pair w t)) = type.Set (place_in w) (type_of t)
   type_of (node s.DistType (pair w t)) = type.Dist (place_in w) (type_of t)
@@ -134,13 +170,13 @@ abbrev mutual
   expr_of (node s.Sum (pair e ls)) = chained (expr_of e) (links_of ls)
   expr_of (node s.Prod (pair e ls)) = chained (expr_of e) (links_of ls)
   expr_of (node s.Unary t) = expr_of t
-  expr_of (node s.Prefixed (pair (leaf x) e)) = expr.Prefix (prefix_of x.token) x.place (expr_of e)
+  expr_of (node s.Prefixed (pair (leaf x) e)) = expr.Prefix (prefix_shown x.token) x.place (expr_of e)
   expr_of (node s.Power (pair e more)) = powered (expr_of e) more
   expr_of (node s.Post (pair e ps)) = parted (expr_of e) (postfixes_of ps)
   expr_of (node s.Primary t) = expr_of t
-  expr_of (node s.Literal (leaf x)) = literal_of x.token x.place
+  expr_of (node s.Literal (leaf x)) = literal_shown x.token x.place
   expr_of (node s.Named (pair n more)) = called (name_in n) more (arguments_of more)
-  expr_of (node s.Cast (pair (leaf x) (pair l (pair e r)))) = expr.Cast (cast_of x.token) x.place (expr_of e)
+  expr_of (node s.Cast (pair (leaf x) (pair l (pair e r)))) = expr.Cast (cast_shown x.token) x.place (expr_of e)
   expr_of (node s.Round (pair l (pair e (pair more r)))) = bracketed (place_in l) (expr_of e) more
   expr_of (node s.Square (pair l (pair es r))) = expr.ListOf (place_in l) (exprs_of es)
   expr_of (node s.Curly (pair l (pair e (pair more r)))) = braced (place_in l) (expr_of e) more
@@ -159,11 +195,11 @@ abbrev mutual
   link_of _ = no_link
 
   pub link_in : Built → Link
-  link_in (pair (leaf x) e) = record { operator = operator_of x.token; place = x.place; operand = expr_of e }
+  link_in (pair (leaf x) e) = record { operator = operator_shown x.token; place = x.place; operand = expr_of e }
   link_in _ = no_link
 
   pub related : Expr → Built → Expr
-  related e (node s.RelLink (pair (leaf x) f)) = expr.Relation e (relation_of x.token) x.place (expr_of f)
+  related e (node s.RelLink (pair (leaf x) f)) = expr.Relation e (relation_shown x.token) x.place (expr_of f)
   related e _ = e
 
   pub powered : Expr → Built → Expr

@@ -5,7 +5,7 @@ use chi_base::Items;
 use chi_token::Place;
 
 /// A source as it is written.
-#[derive(Debug, Drop)]
+#[derive(Drop)]
 pub struct Program {
     pub items: Items<Item>,
     /// That of the last token.
@@ -13,14 +13,14 @@ pub struct Program {
 }
 
 /// A definition, and whether a `;` stands after it.
-#[derive(Debug, Drop)]
+#[derive(Drop)]
 pub struct Item {
     pub definition: Definition,
     pub semicolon: bool,
 }
 
 /// A definition as it is written. The place is that of its first token.
-#[derive(Debug, Drop)]
+#[derive(Drop)]
 pub enum Definition {
     Enum {
         place: Place,

@@ -5,7 +5,7 @@ use chi_token::{Bytes, Place};
 
 /// An expression as it is written. Where a place stands it is that of the expression's first token, or of the
 /// operator; an expression that begins with another has its first place there.
-#[derive(Debug, Drop)]
+#[derive(Drop)]
 #[cycle(expr)]
 pub enum Expr {
     /// Operands with operators of one level between them.
@@ -105,7 +105,7 @@ pub enum Expr {
 }
 
 /// A further operand of a chain, after its operator.
-#[derive(Debug, Drop)]
+#[derive(Drop)]
 #[cycle(expr)]
 pub struct Link {
     pub operator: Operator,
@@ -115,7 +115,7 @@ pub struct Link {
 }
 
 /// What stands after an expression and takes a part of it. The place is that of `[`.
-#[derive(Debug, Drop)]
+#[derive(Drop)]
 #[cycle(expr)]
 pub enum Postfix {
     Index {
@@ -135,7 +135,7 @@ pub enum Postfix {
 }
 
 /// An entry of a dictionary.
-#[derive(Debug, Drop)]
+#[derive(Drop)]
 #[cycle(expr)]
 pub struct Entry {
     pub key: Expr,

@@ -7,7 +7,7 @@ use chi_token::{Bytes, Place};
 pub type Block = Items<Step>;
 
 /// A statement, and whether a `;` stands after it.
-#[derive(Debug, Drop)]
+#[derive(Drop)]
 #[cycle(statement)]
 pub struct Step {
     pub statement: Statement,
@@ -16,7 +16,7 @@ pub struct Step {
 
 /// A statement as it is written. The first place is that of its first token; a statement that begins with a type or a
 /// target has its first place there.
-#[derive(Debug, Drop)]
+#[derive(Drop)]
 #[cycle(statement)]
 pub enum Statement {
     Declare {
@@ -85,14 +85,14 @@ pub enum Statement {
 }
 
 /// A declared variable.
-#[derive(Debug, Drop)]
+#[derive(Drop)]
 pub struct Variable {
     pub name: Name,
     pub initial: Option<Initial>,
 }
 
 /// An initial value.
-#[derive(Debug, Drop)]
+#[derive(Drop)]
 pub struct Initial {
     /// That of `=`.
     pub equals: Place,
@@ -100,14 +100,14 @@ pub struct Initial {
 }
 
 /// A variable, or a part of one: each step is an index or a field.
-#[derive(Debug, Drop)]
+#[derive(Drop)]
 pub struct Target {
     pub name: Name,
     pub steps: Items<Postfix>,
 }
 
 /// What an instance may do with another, or wait for. The place is that of `!`, `?` or `delay`.
-#[derive(Debug, Drop)]
+#[derive(Drop)]
 pub enum Communication {
     Send {
         target: Target,
@@ -126,7 +126,7 @@ pub enum Communication {
 }
 
 /// A condition and what is done where it holds.
-#[derive(Debug, Drop)]
+#[derive(Drop)]
 #[cycle(statement)]
 pub struct Branch {
     pub condition: Expr,
@@ -134,14 +134,14 @@ pub struct Branch {
 }
 
 /// Names for the elements of a container in turn.
-#[derive(Debug, Drop)]
+#[derive(Drop)]
 pub struct Walk {
     pub names: Items<Name>,
     pub container: Expr,
 }
 
 /// An alternative of a select.
-#[derive(Debug, Drop)]
+#[derive(Drop)]
 #[cycle(statement)]
 pub enum Alternative {
     Guarded {
@@ -160,7 +160,7 @@ pub enum Alternative {
 }
 
 /// What is run or started.
-#[derive(Debug, Drop)]
+#[derive(Drop)]
 pub enum Element {
     Make {
         target: Option<Target>,

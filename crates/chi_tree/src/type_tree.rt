@@ -3,7 +3,7 @@ use chi_base::{Boxed, Items};
 use chi_token::{Bytes, Place};
 
 /// A name where it stands.
-#[derive(Debug, Drop)]
+#[derive(Drop)]
 pub struct Name {
     pub text: Bytes,
     pub place: Place,
@@ -31,7 +31,7 @@ pub enum Way {
 }
 
 /// A type as it is written. The place is that of its first token.
-#[derive(Debug, Drop)]
+#[derive(Drop)]
 #[cycle(expr)]
 pub enum TypeTree {
     Word {
@@ -73,7 +73,7 @@ pub enum TypeTree {
 }
 
 /// A formal or a field. Its type stands before it, or it stands after a comma and has the type of the one before it.
-#[derive(Debug, Drop)]
+#[derive(Drop)]
 #[cycle(expr)]
 pub struct Formal {
     pub ty: Option<Boxed<TypeTree>>,

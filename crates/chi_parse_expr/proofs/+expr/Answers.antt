@@ -1,26 +1,32 @@
-use Rattle.std.proofs.Common.{true, Some, None, [], ◌∷◌, ◌++◌, refl, sym, ◌∙◌, append_assoc, arith, rules, List}
+use Rattle.std.proofs.Common.{true, ap, Some, None, [], ◌∷◌, ◌++◌, refl, sym, ◌∙◌, append_assoc, arith, rules, List}
 use Rattle.chi_tree.specs.declared.expr.Expr.{Expr}
 use Rattle.chi_grammar.specs.declared.room.Nesting.TheVariants.{Expression}
 use Rattle.chi_grammar.specs.Rules.{leaf, part, many, maybe, ◌▸◌, ◌∣◌}
 use Rattle.chi_grammar.specs.Rules as rule
-use Rattle.chi_grammar.specs.Runs as runs
+use Rattle.chi_grammar.specs.RuleRuns as runs
 use Rattle.chi_grammar.proofs.Exits.{read, run_word, run_no_word, run_refused, reads_part, reads_left, reads_right, reads_once, reads_deeper, reads_then, failed, no_memory}
 use Rattle.chi_token.specs.declared.keyword.Keyword.TheVariants.{BoolWord, InWord, IntWord, RealWord, SampleWord, StringWord, SubWord, TimerWord}
 use Rattle.chi_token.specs.declared.sign.Sign.TheVariants.{LeftParen, RightParen, Less, LessEqual, Equal, NotEqual, Greater, GreaterEqual, Plus, Minus, Comma, Colon}
 use Rattle.chi_tree.specs.declared.class.Class.TheVariants as class
 use Rattle.chi_tree.specs.declared.expr.Expr.TheVariants as expr
 use Rattle.chi_tree.specs.declared.expr.Postfix.TheVariants as postfix
+use Rattle.chi_tree.specs.declared.operator.CastWord.TheVariants as cast
+use Rattle.chi_tree.specs.declared.operator.Operator.TheVariants as operator
 use Rattle.chi_tree.specs.declared.operator.PrefixSign.TheVariants as prefix
+use Rattle.chi_tree.specs.declared.operator.RelationSign.TheVariants as relation
 use Rattle.chi_tree.specs.declared.type_tree.TypeTree.TheVariants as type
 use Rattle.chi_tree.specs.Classes.{number_of}
 use Rattle.chi_tree.specs.Parts as s
 use Rattle.chi_tree.specs.Rules.{grammar, nested, sign}
 use Rattle.chi_tree.specs.Tables.{table}
-use Rattle.chi_tree.specs.View.{type_of, size_of, carried_of, formals_of, more_formals_of, formal_of, expr_of, links_of, link_of, related, powered, postfixes_of, postfix_of, inside, indexed, sliced, stepped, arguments_of, exprs_of, more_exprs_of, bracketed, braced, entries_of, entry_of, blank, optional, chained, parted}
+use Rattle.chi_tree.specs.Words.{prefix_signs, relation_signs, cast_words}
+use Rattle.chi_tree.specs.View.{given_or, type_of, size_of, carried_of, formals_of, more_formals_of, formal_of, expr_of, links_of, link_of, related, powered, postfixes_of, postfix_of, inside, indexed, sliced, stepped, arguments_of, exprs_of, more_exprs_of, bracketed, braced, entries_of, entry_of, blank, optional, chained, parted}
 use Rattle.chi_parse_expr.specs.Grouping.{chain_part, link_part}
 use Rattle.chi_look.proofs.Words.{run_one_of, run_none_of}
 use Rattle.chi_parse_expr.proofs.Grouping.{chain_rule, chain_shows, link_rule, link_shows, link_next, run_by, run_operator, run_no_operator}
-use Rattle.chi_parse_expr.proofs.Shapes.{optional_part, called_part, carried_type, formal_name, reads_same}
+use Rattle.chi_parse_expr.proofs.Shapes.{entry_shows, optional_part, called_part, carried_type, formal_name, reads_same}
+use Rattle.chi_parse_expr.specs.Values.{value_of}
+use Rattle.chi_parse_expr.proofs.Rows.{operator_row, relation_row, prefix_row, cast_row}
 use Rattle.chi_parse_expr.proofs.Loops.{gathered_start, gathered_more, gathered_fails, gathered_stop, part_moves}
 use Rattle.chi_parse_expr.proofs.+expr.Goals as goal
 
@@ -58,7 +64,7 @@ pub levels::links-returns-in_err-one : goal.levels::links-returns-in_err-one
 levels::links-returns-in_err-one t c =
     let level = c.args.level in
     failed grammar table _ links_of _ (many (part (link_part level))) _ _ _ c.from_residual.ensures.1
-    (gathered_fails _ c.turn.invariant (link_next c.args.tokens.now c.turn.end level c.signs.ensures c.begins.ensures c.turn-test.true) c.in_err-one.ensures)
+    (gathered_fails _ c.turn.invariant (link_next c.args.tokens.now c.turn.end level c.signs.ensures c.is_next.ensures c.turn-test.true) c.in_err-one.ensures)
 
 pub levels::links-returns-in_err-push : goal.levels::links-returns-in_err-push
 levels::links-returns-in_err-push t c =
@@ -68,7 +74,7 @@ pub levels::links-turn-preserved : goal.levels::links-turn-preserved
 levels::links-turn-preserved t c =
     let level = c.args.level in
     let one = c.in_ok-one.ensures in
-    gathered_more c.turn.invariant (link_next c.args.tokens.now c.turn.end level c.signs.ensures c.begins.ensures c.turn-test.true) one.runs _ (λ u i. one.shows i ∷ links_of u) one.inside _ c.in_ok-push.ensures.items
+    gathered_more c.turn.invariant (link_next c.args.tokens.now c.turn.end level c.signs.ensures c.is_next.ensures c.turn-test.true) one.runs _ (λ u i. one.shows i ∷ links_of u) one.inside _ c.in_ok-push.ensures.items
 
 pub levels::links-turn-smaller : goal.levels::links-turn-smaller
 levels::links-turn-smaller t c =
@@ -82,7 +88,7 @@ levels::links-returns-in_err-items t c =
 pub levels::links-returns : goal.levels::links-returns
 levels::links-returns t c =
     let level = c.args.level in
-    gathered_stop c.turn.invariant (link_next c.args.tokens.now c.turn.end level c.signs.ensures c.begins.ensures c.turn-test.false) refl c.requires.inside _ c.in_ok-items.ensures.same
+    gathered_stop c.turn.invariant (link_next c.args.tokens.now c.turn.end level c.signs.ensures c.is_next.ensures c.turn-test.false) refl c.requires.inside _ c.in_ok-items.ensures.same
 
 pub levels::link-returns-in_err-word : goal.levels::link-returns-in_err-word
 levels::link-returns-in_err-word t c =
@@ -104,23 +110,26 @@ levels::link-returns t c =
     let right = c.in_ok-right.ensures in
     read grammar table _ link_of c.requires.inside
     (runs.part (run_by (link_rule level) (runs.both (run_operator level c.signs.ensures word) right.runs)))
-    (link_shows level c.in_ok-word.word.now right.tree ∙ (λ i. record { operator = sym c.operator_of.ensures i; place = c.in_ok-word.word.now.place; operand = right.shows i }))
+    (link_shows level c.in_ok-word.word.now right.tree ∙ (λ i. record { operator = ap (given_or operator.Or) c.operator_of.ensures i; place = c.in_ok-word.word.now.place; operand = right.shows i }))
 
-pub levels::neg-returns-then-begins : goal.levels::neg-returns-then-begins
-levels::neg-returns-then-begins t c =
-    reads_part grammar table _ _ _ s.Neg _ _ (reads_left grammar table _ _ _ (nested (part s.NotNeg)) (part s.Rel) _ _ (c.begins.ensures ∙ c.if-begins.true) c.not_neg.ensures)
+pub levels::link-operator_of-requires : goal.levels::link-operator_of-requires
+levels::link-operator_of-requires t c = operator_row c.args.level c.signs.ensures c.in_ok-word.word.now.token c.in_ok-word.ensures.of_classes
+
+pub levels::neg-returns-then-is_next : goal.levels::neg-returns-then-is_next
+levels::neg-returns-then-is_next t c =
+    reads_part grammar table _ _ _ s.Neg _ _ (reads_left grammar table _ _ _ (nested (part s.NotNeg)) (part s.Rel) _ _ (c.is_next.ensures ∙ c.if-is_next.true) c.not_neg.ensures)
 
 pub levels::neg-returns : goal.levels::neg-returns
 levels::neg-returns t c =
-    reads_part grammar table _ _ _ s.Neg _ _ (reads_right grammar table _ _ _ (nested (part s.NotNeg)) (part s.Rel) _ _ (c.begins.ensures ∙ c.if-begins.false) c.rel.ensures)
+    reads_part grammar table _ _ _ s.Neg _ _ (reads_right grammar table _ _ _ (nested (part s.NotNeg)) (part s.Rel) _ _ (c.is_next.ensures ∙ c.if-is_next.false) c.rel.ensures)
 
-pub terms::unary-returns-then-begins : goal.terms::unary-returns-then-begins
-terms::unary-returns-then-begins t c =
-    reads_part grammar table _ _ _ s.Unary _ _ (reads_left grammar table _ _ _ (nested (part s.Prefixed)) (part s.Power) _ _ (c.begins.ensures ∙ c.if-begins.true) c.prefixed.ensures)
+pub terms::unary-returns-then-is_next : goal.terms::unary-returns-then-is_next
+terms::unary-returns-then-is_next t c =
+    reads_part grammar table _ _ _ s.Unary _ _ (reads_left grammar table _ _ _ (nested (part s.Prefixed)) (part s.Power) _ _ (c.is_next.ensures ∙ c.if-is_next.true) c.prefixed.ensures)
 
 pub terms::unary-returns : goal.terms::unary-returns
 terms::unary-returns t c =
-    reads_part grammar table _ _ _ s.Unary _ _ (reads_right grammar table _ _ _ (nested (part s.Prefixed)) (part s.Power) _ _ (c.begins.ensures ∙ c.if-begins.false) c.power.ensures)
+    reads_part grammar table _ _ _ s.Unary _ _ (reads_right grammar table _ _ _ (nested (part s.Prefixed)) (part s.Power) _ _ (c.is_next.ensures ∙ c.if-is_next.false) c.power.ensures)
 
 pub levels::not_neg-returns-in_err-inner : goal.levels::not_neg-returns-in_err-inner
 levels::not_neg-returns-in_err-inner t c =
@@ -158,13 +167,13 @@ terms::prefixed-returns-in_err-inner t c =
 pub terms::prefixed-returns-in_err-word : goal.terms::prefixed-returns-in_err-word
 terms::prefixed-returns-in_err-word t c =
     failed grammar table _ expr_of _ (nested (part s.Prefixed)) _ _ _ c.from_residual-in_err-word.ensures.1
-    (runs.deeper c.in_ok-inner.ensures (runs.part_fails (runs.first_fails (run_none_of (class.Sign Minus) (class.Sign Plus ∷ class.Word SampleWord ∷ []) c.in_err-word.ensures))))
+    (runs.deeper c.in_ok-inner.ensures (runs.part_fails (runs.first_fails (run_none_of prefix_signs.first prefix_signs.more c.in_err-word.ensures))))
 
 pub terms::prefixed-returns-in_err-operand : goal.terms::prefixed-returns-in_err-operand
 terms::prefixed-returns-in_err-operand t c =
     let word = c.in_ok-word.ensures in
     failed grammar table _ expr_of _ (nested (part s.Prefixed)) _ _ _ c.from_residual-in_err-operand.ensures.1
-    (runs.deeper c.in_ok-inner.ensures (runs.part_fails (runs.next_fails (run_one_of (class.Sign Minus) (class.Sign Plus ∷ class.Word SampleWord ∷ []) word) c.in_err-operand.ensures)))
+    (runs.deeper c.in_ok-inner.ensures (runs.part_fails (runs.next_fails (run_one_of prefix_signs.first prefix_signs.more word) c.in_err-operand.ensures)))
 
 pub terms::prefixed-returns-in_err-boxed : goal.terms::prefixed-returns-in_err-boxed
 terms::prefixed-returns-in_err-boxed t c =
@@ -175,24 +184,31 @@ terms::prefixed-returns t c =
     let word = c.in_ok-word.ensures in
     let operand = c.in_ok-operand.ensures in
     read grammar table _ expr_of c.requires.inside
-    (runs.deeper c.in_ok-inner.ensures (runs.part (runs.both (run_one_of (class.Sign Minus) (class.Sign Plus ∷ class.Word SampleWord ∷ []) word) operand.runs)))
-    (λ i. expr.Prefix (sym c.prefix_of.ensures i) c.in_ok-word.word.now.place ((operand.shows ∙ sym c.in_ok-boxed.ensures.same) i))
+    (runs.deeper c.in_ok-inner.ensures (runs.part (runs.both (run_one_of prefix_signs.first prefix_signs.more word) operand.runs)))
+    (λ i. expr.Prefix (ap (given_or prefix.Not) c.prefix_of.ensures i) c.in_ok-word.word.now.place ((operand.shows ∙ sym c.in_ok-boxed.ensures.same) i))
+
+pub terms::prefixed-prefix_of-requires : goal.terms::prefixed-prefix_of-requires
+terms::prefixed-prefix_of-requires t c = prefix_row c.in_ok-word.word.now.token c.in_ok-word.ensures.of_classes
 
 pub levels::rel-returns-in_err-left : goal.levels::rel-returns-in_err-left
 levels::rel-returns-in_err-left t c =
     failed grammar table _ expr_of _ (part s.Rel) _ _ _ c.from_residual.ensures.1
     (runs.part_fails (runs.first_fails c.in_err-left.ensures))
 
-pub levels::rel-returns-then-begins : goal.levels::rel-returns-then-begins
-levels::rel-returns-then-begins t c =
+pub levels::rel-returns-in_err-boxed : goal.levels::rel-returns-in_err-boxed
+levels::rel-returns-in_err-boxed t c =
+    no_memory grammar table _ expr_of _ (part s.Rel) _ _ c.from_residual-in_err-boxed.ensures.1
+
+pub levels::rel-returns-then-is_next : goal.levels::rel-returns-then-is_next
+levels::rel-returns-then-is_next t c =
     let left = c.in_ok-left.ensures in
-    reads_part grammar table _ _ _ s.Rel _ _ (reads_then grammar table _ _ _ (part s.Sum) (maybe (part s.RelLink)) _ _ _ _ left.runs (reads_same _ _ _ _ (maybe (part s.RelLink)) _ _ (λ u i. related (left.shows i) u) (reads_once grammar table _ _ _ (part s.RelLink) _ _ (c.begins.ensures ∙ c.if-begins.true) c.rel_link.ensures)))
+    reads_part grammar table _ _ _ s.Rel _ _ (reads_then grammar table _ _ _ (part s.Sum) (maybe (part s.RelLink)) _ _ _ _ left.runs (reads_same _ _ _ _ (maybe (part s.RelLink)) _ _ (λ u i. related ((left.shows ∙ sym c.in_ok-boxed.ensures.same) i) u) (reads_once grammar table _ _ _ (part s.RelLink) _ _ (c.is_next.ensures ∙ c.if-is_next.true) c.rel_link.ensures)))
 
 pub levels::rel-returns : goal.levels::rel-returns
 levels::rel-returns t c =
     let left = c.in_ok-left.ensures in
     read grammar table _ expr_of c.requires.inside
-    (runs.part (runs.both left.runs (runs.never (c.begins.ensures ∙ c.if-begins.false))))
+    (runs.part (runs.both left.runs (runs.never (c.is_next.ensures ∙ c.if-is_next.false))))
     left.shows
 
 pub terms::power-returns-in_err-base : goal.terms::power-returns-in_err-base
@@ -200,32 +216,32 @@ terms::power-returns-in_err-base t c =
     failed grammar table _ expr_of _ (part s.Power) _ _ _ c.from_residual.ensures.1
     (runs.part_fails (runs.first_fails c.in_err-base.ensures))
 
-pub terms::power-returns-then-begins : goal.terms::power-returns-then-begins
-terms::power-returns-then-begins t c =
+pub terms::power-returns-in_err-boxed : goal.terms::power-returns-in_err-boxed
+terms::power-returns-in_err-boxed t c =
+    no_memory grammar table _ expr_of _ (part s.Power) _ _ c.from_residual-in_err-boxed.ensures.1
+
+pub terms::power-returns-then-is_next : goal.terms::power-returns-then-is_next
+terms::power-returns-then-is_next t c =
     let base = c.in_ok-base.ensures in
-    reads_part grammar table _ _ _ s.Power _ _ (reads_then grammar table _ _ _ (part s.Post) (maybe (part s.PowerLink)) _ _ _ _ base.runs (reads_same _ _ _ _ (maybe (part s.PowerLink)) _ _ (λ u i. powered (base.shows i) u) (reads_once grammar table _ _ _ (part s.PowerLink) _ _ (c.begins.ensures ∙ c.if-begins.true) c.power_link.ensures)))
+    reads_part grammar table _ _ _ s.Power _ _ (reads_then grammar table _ _ _ (part s.Post) (maybe (part s.PowerLink)) _ _ _ _ base.runs (reads_same _ _ _ _ (maybe (part s.PowerLink)) _ _ (λ u i. powered ((base.shows ∙ sym c.in_ok-boxed.ensures.same) i) u) (reads_once grammar table _ _ _ (part s.PowerLink) _ _ (c.is_next.ensures ∙ c.if-is_next.true) c.power_link.ensures)))
 
 pub terms::power-returns : goal.terms::power-returns
 terms::power-returns t c =
     let base = c.in_ok-base.ensures in
     read grammar table _ expr_of c.requires.inside
-    (runs.part (runs.both base.runs (runs.never (c.begins.ensures ∙ c.if-begins.false))))
+    (runs.part (runs.both base.runs (runs.never (c.is_next.ensures ∙ c.if-is_next.false))))
     base.shows
 
 pub levels::rel_link-returns-in_err-word : goal.levels::rel_link-returns-in_err-word
 levels::rel_link-returns-in_err-word t c =
     failed grammar table _ (related c.args.left) _ (part s.RelLink) _ _ _ c.from_residual.ensures.1
-    (runs.part_fails (runs.first_fails (run_none_of (class.Sign Less) (class.Sign LessEqual ∷ class.Sign Equal ∷ class.Sign NotEqual ∷ class.Sign Greater ∷ class.Sign GreaterEqual ∷ class.Word InWord ∷ class.Word SubWord ∷ []) c.in_err-word.ensures)))
+    (runs.part_fails (runs.first_fails (run_none_of relation_signs.first relation_signs.more c.in_err-word.ensures)))
 
 pub levels::rel_link-returns-in_err-right : goal.levels::rel_link-returns-in_err-right
 levels::rel_link-returns-in_err-right t c =
     let word = c.in_ok-word.ensures in
     failed grammar table _ (related c.args.left) _ (part s.RelLink) _ _ _ c.from_residual-in_err-right.ensures.1
-    (runs.part_fails (runs.next_fails (run_one_of (class.Sign Less) (class.Sign LessEqual ∷ class.Sign Equal ∷ class.Sign NotEqual ∷ class.Sign Greater ∷ class.Sign GreaterEqual ∷ class.Word InWord ∷ class.Word SubWord ∷ []) word) c.in_err-right.ensures))
-
-pub levels::rel_link-returns-in_err-first : goal.levels::rel_link-returns-in_err-first
-levels::rel_link-returns-in_err-first t c =
-    no_memory grammar table _ (related c.args.left) _ (part s.RelLink) _ _ c.from_residual-in_err-first.ensures.1
+    (runs.part_fails (runs.next_fails (run_one_of relation_signs.first relation_signs.more word) c.in_err-right.ensures))
 
 pub levels::rel_link-returns-in_err-second : goal.levels::rel_link-returns-in_err-second
 levels::rel_link-returns-in_err-second t c =
@@ -236,8 +252,11 @@ levels::rel_link-returns t c =
     let word = c.in_ok-word.ensures in
     let right = c.in_ok-right.ensures in
     read grammar table _ (related c.args.left) c.requires.inside
-    (runs.part (runs.both (run_one_of (class.Sign Less) (class.Sign LessEqual ∷ class.Sign Equal ∷ class.Sign NotEqual ∷ class.Sign Greater ∷ class.Sign GreaterEqual ∷ class.Word InWord ∷ class.Word SubWord ∷ []) word) right.runs))
-    (λ i. expr.Relation (sym c.in_ok-first.ensures.same i) (sym c.relation_of.ensures i) c.in_ok-word.word.now.place ((right.shows ∙ sym c.in_ok-second.ensures.same) i))
+    (runs.part (runs.both (run_one_of relation_signs.first relation_signs.more word) right.runs))
+    (λ i. expr.Relation c.args.left (ap (given_or relation.Less) c.relation_of.ensures i) c.in_ok-word.word.now.place ((right.shows ∙ sym c.in_ok-second.ensures.same) i))
+
+pub levels::rel_link-relation_of-requires : goal.levels::rel_link-relation_of-requires
+levels::rel_link-relation_of-requires t c = relation_row c.in_ok-word.word.now.token c.in_ok-word.ensures.of_classes
 
 pub terms::power_link-returns-in_err-word : goal.terms::power_link-returns-in_err-word
 terms::power_link-returns-in_err-word t c =
@@ -256,10 +275,6 @@ terms::power_link-returns-in_err-right t c =
     failed grammar table _ (powered c.args.base) _ (part s.PowerLink) _ _ _ c.from_residual-in_err-right.ensures.1
     (runs.part_fails (runs.next_fails (run_word grammar table _ word) (runs.deeper c.in_ok-inner.ensures c.in_err-right.ensures)))
 
-pub terms::power_link-returns-in_err-first : goal.terms::power_link-returns-in_err-first
-terms::power_link-returns-in_err-first t c =
-    no_memory grammar table _ (powered c.args.base) _ (part s.PowerLink) _ _ c.from_residual-in_err-first.ensures.1
-
 pub terms::power_link-returns-in_err-second : goal.terms::power_link-returns-in_err-second
 terms::power_link-returns-in_err-second t c =
     no_memory grammar table _ (powered c.args.base) _ (part s.PowerLink) _ _ c.from_residual-in_err-second.ensures.1
@@ -270,7 +285,7 @@ terms::power_link-returns t c =
     let right = c.in_ok-right.ensures in
     read grammar table _ (powered c.args.base) c.requires.inside
     (runs.part (runs.both (run_word grammar table _ word) (runs.deeper c.in_ok-inner.ensures right.runs)))
-    (λ i. expr.Power (sym c.in_ok-first.ensures.same i) c.in_ok-word.word.now.place ((right.shows ∙ sym c.in_ok-second.ensures.same) i))
+    (λ i. expr.Power c.args.base c.in_ok-word.word.now.place ((right.shows ∙ sym c.in_ok-second.ensures.same) i))
 
 pub postfixes::post-returns-in_err-whole : goal.postfixes::post-returns-in_err-whole
 postfixes::post-returns-in_err-whole t c =
@@ -302,7 +317,7 @@ postfixes::postfixes-turn-init t c =
 pub postfixes::postfixes-returns-in_err-one : goal.postfixes::postfixes-returns-in_err-one
 postfixes::postfixes-returns-in_err-one t c =
     failed grammar table _ postfixes_of _ (many (part s.Postfix)) _ _ _ c.from_residual.ensures.1
-    (gathered_fails _ c.turn.invariant (c.begins.ensures ∙ c.turn-test.true) c.in_err-one.ensures)
+    (gathered_fails _ c.turn.invariant (c.is_next.ensures ∙ c.turn-test.true) c.in_err-one.ensures)
 
 pub postfixes::postfixes-returns-in_err-push : goal.postfixes::postfixes-returns-in_err-push
 postfixes::postfixes-returns-in_err-push t c =
@@ -311,7 +326,7 @@ postfixes::postfixes-returns-in_err-push t c =
 pub postfixes::postfixes-turn-preserved : goal.postfixes::postfixes-turn-preserved
 postfixes::postfixes-turn-preserved t c =
     let one = c.in_ok-one.ensures in
-    gathered_more c.turn.invariant (c.begins.ensures ∙ c.turn-test.true) one.runs _ (λ u i. one.shows i ∷ postfixes_of u) one.inside _ c.in_ok-push.ensures.items
+    gathered_more c.turn.invariant (c.is_next.ensures ∙ c.turn-test.true) one.runs _ (λ u i. one.shows i ∷ postfixes_of u) one.inside _ c.in_ok-push.ensures.items
 
 pub postfixes::postfixes-turn-smaller : goal.postfixes::postfixes-turn-smaller
 postfixes::postfixes-turn-smaller t c =
@@ -324,15 +339,15 @@ postfixes::postfixes-returns-in_err-items t c =
 
 pub postfixes::postfixes-returns : goal.postfixes::postfixes-returns
 postfixes::postfixes-returns t c =
-    gathered_stop c.turn.invariant (c.begins.ensures ∙ c.turn-test.false) refl c.requires.inside _ c.in_ok-items.ensures.same
+    gathered_stop c.turn.invariant (c.is_next.ensures ∙ c.turn-test.false) refl c.requires.inside _ c.in_ok-items.ensures.same
 
-pub postfixes::postfix-returns-then-begins : goal.postfixes::postfix-returns-then-begins
-postfixes::postfix-returns-then-begins t c =
-    reads_part grammar table _ _ _ s.Postfix _ _ (reads_left grammar table _ _ _ (nested (part s.Bracket)) (part s.Field) _ _ (c.begins.ensures ∙ c.if-begins.true) c.bracket.ensures)
+pub postfixes::postfix-returns-then-is_next : goal.postfixes::postfix-returns-then-is_next
+postfixes::postfix-returns-then-is_next t c =
+    reads_part grammar table _ _ _ s.Postfix _ _ (reads_left grammar table _ _ _ (nested (part s.Bracket)) (part s.Field) _ _ (c.is_next.ensures ∙ c.if-is_next.true) c.bracket.ensures)
 
 pub postfixes::postfix-returns : goal.postfixes::postfix-returns
 postfixes::postfix-returns t c =
-    reads_part grammar table _ _ _ s.Postfix _ _ (reads_right grammar table _ _ _ (nested (part s.Bracket)) (part s.Field) _ _ (c.begins.ensures ∙ c.if-begins.false) (c.field.ensures c.args.room))
+    reads_part grammar table _ _ _ s.Postfix _ _ (reads_right grammar table _ _ _ (nested (part s.Bracket)) (part s.Field) _ _ (c.is_next.ensures ∙ c.if-is_next.false) (c.field.ensures c.args.room))
 
 pub postfixes::bracket-returns-in_err-inner : goal.postfixes::bracket-returns-in_err-inner
 postfixes::bracket-returns-in_err-inner t c =
@@ -369,25 +384,25 @@ postfixes::bracket-returns t c =
 pub postfixes::bracketed-returns-in_err-from : goal.postfixes::bracketed-returns-in_err-from
 postfixes::bracketed-returns-in_err-from t c =
     failed grammar table _ (inside c.args.place) _ (part s.Inside) _ _ _ c.from_residual.ensures.1
-    (runs.part_fails (runs.left (c.begins.ensures ∙ c.if-begins.true) (runs.first_fails c.in_err-from.ensures)))
+    (runs.part_fails (runs.left (c.is_next.ensures ∙ c.if-is_next.true) (runs.first_fails c.in_err-from.ensures)))
 
-pub postfixes::bracketed-returns-then-begins : goal.postfixes::bracketed-returns-then-begins
-postfixes::bracketed-returns-then-begins t c =
+pub postfixes::bracketed-returns-then-is_next : goal.postfixes::bracketed-returns-then-is_next
+postfixes::bracketed-returns-then-is_next t c =
     let from = c.in_ok-from.ensures in
-    reads_part grammar table _ _ _ s.Inside _ _ (reads_left grammar table _ _ _ (part s.Expr ▸ maybe (part s.Upto)) (part s.Upto) _ _ (c.begins.ensures ∙ c.if-begins.true) (reads_then grammar table _ _ _ (part s.Expr) (maybe (part s.Upto)) _ _ _ _ from.runs (reads_same _ _ _ _ (maybe (part s.Upto)) _ _ (λ u i. indexed c.args.place (from.shows i) u) c.indexed.ensures)))
+    reads_part grammar table _ _ _ s.Inside _ _ (reads_left grammar table _ _ _ (part s.Expr ▸ maybe (part s.Upto)) (part s.Upto) _ _ (c.is_next.ensures ∙ c.if-is_next.true) (reads_then grammar table _ _ _ (part s.Expr) (maybe (part s.Upto)) _ _ _ _ from.runs (reads_same _ _ _ _ (maybe (part s.Upto)) _ _ (λ u i. indexed c.args.place (from.shows i) u) c.indexed.ensures)))
 
 pub postfixes::bracketed-returns : goal.postfixes::bracketed-returns
 postfixes::bracketed-returns t c =
-    reads_part grammar table _ _ _ s.Inside _ _ (reads_right grammar table _ _ _ (part s.Expr ▸ maybe (part s.Upto)) (part s.Upto) _ _ (c.begins.ensures ∙ c.if-begins.false) (reads_part grammar table _ _ _ s.Upto _ _ c.sliced.ensures))
+    reads_part grammar table _ _ _ s.Inside _ _ (reads_right grammar table _ _ _ (part s.Expr ▸ maybe (part s.Upto)) (part s.Upto) _ _ (c.is_next.ensures ∙ c.if-is_next.false) (reads_part grammar table _ _ _ s.Upto _ _ c.sliced.ensures))
 
-pub postfixes::indexed-returns-then-begins : goal.postfixes::indexed-returns-then-begins
-postfixes::indexed-returns-then-begins t c =
-    reads_once grammar table _ _ _ (part s.Upto) _ _ (c.begins.ensures ∙ c.if-begins.true) (reads_part grammar table _ _ _ s.Upto _ _ c.sliced.ensures)
+pub postfixes::indexed-returns-then-is_next : goal.postfixes::indexed-returns-then-is_next
+postfixes::indexed-returns-then-is_next t c =
+    reads_once grammar table _ _ _ (part s.Upto) _ _ (c.is_next.ensures ∙ c.if-is_next.true) (reads_part grammar table _ _ _ s.Upto _ _ c.sliced.ensures)
 
 pub postfixes::indexed-returns : goal.postfixes::indexed-returns
 postfixes::indexed-returns t c =
     read grammar table _ (indexed c.args.place c.args.from) c.requires.inside
-    (runs.never (c.begins.ensures ∙ c.if-begins.false))
+    (runs.never (c.is_next.ensures ∙ c.if-is_next.false))
     refl
 
 pub postfixes::sliced-returns-in_err-start : goal.postfixes::sliced-returns-in_err-start
@@ -410,44 +425,44 @@ postfixes::sliced-returns t c =
 pub postfixes::stepped-returns-in_err-start : goal.postfixes::stepped-returns-in_err-start
 postfixes::stepped-returns-in_err-start t c =
     failed grammar table _ (stepped c.args.place c.args.from c.args.upto) _ (maybe (part s.ByStep)) _ _ _ c.from_residual.ensures.1
-    (runs.once (c.begins.ensures ∙ c.if-begins.true) (runs.part_fails (runs.first_fails (run_no_word grammar table _ c.in_err-start.ensures))))
+    (runs.once (c.is_next.ensures ∙ c.if-is_next.true) (runs.part_fails (runs.first_fails (run_no_word grammar table _ c.in_err-start.ensures))))
 
 pub postfixes::stepped-returns-in_err-step : goal.postfixes::stepped-returns-in_err-step
 postfixes::stepped-returns-in_err-step t c =
     let start = c.in_ok-start.ensures in
     failed grammar table _ (stepped c.args.place c.args.from c.args.upto) _ (maybe (part s.ByStep)) _ _ _ c.from_residual-in_err-step.ensures.1
-    (runs.once (c.begins.ensures ∙ c.if-begins.true) (runs.part_fails (runs.next_fails (run_word grammar table _ start) c.in_err-step.ensures)))
+    (runs.once (c.is_next.ensures ∙ c.if-is_next.true) (runs.part_fails (runs.next_fails (run_word grammar table _ start) c.in_err-step.ensures)))
 
-pub postfixes::stepped-returns-then-begins : goal.postfixes::stepped-returns-then-begins
-postfixes::stepped-returns-then-begins t c =
+pub postfixes::stepped-returns-then-is_next : goal.postfixes::stepped-returns-then-is_next
+postfixes::stepped-returns-then-is_next t c =
     let start = c.in_ok-start.ensures in
     let step = c.in_ok-step.ensures in
     read grammar table _ (stepped c.args.place c.args.from c.args.upto) c.requires.inside
-    (runs.once (c.begins.ensures ∙ c.if-begins.true) (runs.part (runs.both (run_word grammar table _ start) step.runs)))
+    (runs.once (c.is_next.ensures ∙ c.if-is_next.true) (runs.part (runs.both (run_word grammar table _ start) step.runs)))
     (λ i. postfix.Slice c.args.place c.args.from c.args.upto true (step.shows i))
 
 pub postfixes::stepped-returns : goal.postfixes::stepped-returns
 postfixes::stepped-returns t c =
     read grammar table _ (stepped c.args.place c.args.from c.args.upto) c.requires.inside
-    (runs.never (c.begins.ensures ∙ c.if-begins.false))
+    (runs.never (c.is_next.ensures ∙ c.if-is_next.false))
     refl
 
 pub postfixes::optional_expr-returns-in_err-boxed : goal.postfixes::optional_expr-returns-in_err-boxed
 postfixes::optional_expr-returns-in_err-boxed t c =
     failed grammar table _ (λ t. optional t (expr_of t)) _ (maybe (part s.Expr)) _ _ _ c.from_residual.ensures.1
-    (runs.once (c.begins.ensures ∙ c.if-begins.true) c.in_err-boxed.ensures)
+    (runs.once (c.is_next.ensures ∙ c.if-is_next.true) c.in_err-boxed.ensures)
 
-pub postfixes::optional_expr-returns-then-begins : goal.postfixes::optional_expr-returns-then-begins
-postfixes::optional_expr-returns-then-begins t c =
+pub postfixes::optional_expr-returns-then-is_next : goal.postfixes::optional_expr-returns-then-is_next
+postfixes::optional_expr-returns-then-is_next t c =
     let boxed = c.in_ok-boxed.ensures in
     read grammar table _ (λ t. optional t (expr_of t)) c.requires.inside
-    (runs.once (c.begins.ensures ∙ c.if-begins.true) boxed.runs)
+    (runs.once (c.is_next.ensures ∙ c.if-is_next.true) boxed.runs)
     (optional_part boxed.runs (expr_of boxed.tree) ∙ (λ i. Some (boxed.shows i)))
 
 pub postfixes::optional_expr-returns : goal.postfixes::optional_expr-returns
 postfixes::optional_expr-returns t c =
     read grammar table _ (λ t. optional t (expr_of t)) c.requires.inside
-    (runs.never (c.begins.ensures ∙ c.if-begins.false))
+    (runs.never (c.is_next.ensures ∙ c.if-is_next.false))
     refl
 
 pub postfixes::boxed_expr-returns-in_err-value : goal.postfixes::boxed_expr-returns-in_err-value
@@ -466,33 +481,33 @@ postfixes::boxed_expr-returns t c =
     (value.runs)
     (value.shows ∙ sym c.in_ok-boxed.ensures.same)
 
-pub primaries::primary-returns-then-begins : goal.primaries::primary-returns-then-begins
-primaries::primary-returns-then-begins t c =
-    reads_part grammar table _ _ _ s.Primary _ _ (reads_left grammar table _ _ _ (part s.Literal) (part s.Named ∣ part s.Cast ∣ nested (part s.Round) ∣ nested (part s.Square) ∣ nested (part s.Curly) ∣ part s.Blank) _ _ (c.begins.ensures ∙ c.if-begins.true) (c.literal.ensures c.args.room))
+pub primaries::primary-returns-then-is_next : goal.primaries::primary-returns-then-is_next
+primaries::primary-returns-then-is_next t c =
+    reads_part grammar table _ _ _ s.Primary _ _ (reads_left grammar table _ _ _ (part s.Literal) (part s.Named ∣ part s.Cast ∣ nested (part s.Round) ∣ nested (part s.Square) ∣ nested (part s.Curly) ∣ part s.Blank) _ _ (c.is_next.ensures ∙ c.if-is_next.true) (c.literal.ensures c.args.room))
 
-pub primaries::primary-returns-then-begins-2 : goal.primaries::primary-returns-then-begins-2
-primaries::primary-returns-then-begins-2 t c =
-    reads_part grammar table _ _ _ s.Primary _ _ (reads_right grammar table _ _ _ (part s.Literal) (part s.Named ∣ part s.Cast ∣ nested (part s.Round) ∣ nested (part s.Square) ∣ nested (part s.Curly) ∣ part s.Blank) _ _ (c.begins.ensures ∙ c.if-begins.false) (reads_left grammar table _ _ _ (part s.Named) (part s.Cast ∣ nested (part s.Round) ∣ nested (part s.Square) ∣ nested (part s.Curly) ∣ part s.Blank) _ _ (c.begins-2.ensures ∙ c.if-begins-2.true) c.named.ensures))
+pub primaries::primary-returns-then-is_next-2 : goal.primaries::primary-returns-then-is_next-2
+primaries::primary-returns-then-is_next-2 t c =
+    reads_part grammar table _ _ _ s.Primary _ _ (reads_right grammar table _ _ _ (part s.Literal) (part s.Named ∣ part s.Cast ∣ nested (part s.Round) ∣ nested (part s.Square) ∣ nested (part s.Curly) ∣ part s.Blank) _ _ (c.is_next.ensures ∙ c.if-is_next.false) (reads_left grammar table _ _ _ (part s.Named) (part s.Cast ∣ nested (part s.Round) ∣ nested (part s.Square) ∣ nested (part s.Curly) ∣ part s.Blank) _ _ (c.is_next-2.ensures ∙ c.if-is_next-2.true) c.named.ensures))
 
-pub primaries::primary-returns-then-begins-3 : goal.primaries::primary-returns-then-begins-3
-primaries::primary-returns-then-begins-3 t c =
-    reads_part grammar table _ _ _ s.Primary _ _ (reads_right grammar table _ _ _ (part s.Literal) (part s.Named ∣ part s.Cast ∣ nested (part s.Round) ∣ nested (part s.Square) ∣ nested (part s.Curly) ∣ part s.Blank) _ _ (c.begins.ensures ∙ c.if-begins.false) (reads_right grammar table _ _ _ (part s.Named) (part s.Cast ∣ nested (part s.Round) ∣ nested (part s.Square) ∣ nested (part s.Curly) ∣ part s.Blank) _ _ (c.begins-2.ensures ∙ c.if-begins-2.false) (reads_left grammar table _ _ _ (part s.Cast) (nested (part s.Round) ∣ nested (part s.Square) ∣ nested (part s.Curly) ∣ part s.Blank) _ _ (c.begins-3.ensures ∙ c.if-begins-3.true) c.cast.ensures)))
+pub primaries::primary-returns-then-is_next-3 : goal.primaries::primary-returns-then-is_next-3
+primaries::primary-returns-then-is_next-3 t c =
+    reads_part grammar table _ _ _ s.Primary _ _ (reads_right grammar table _ _ _ (part s.Literal) (part s.Named ∣ part s.Cast ∣ nested (part s.Round) ∣ nested (part s.Square) ∣ nested (part s.Curly) ∣ part s.Blank) _ _ (c.is_next.ensures ∙ c.if-is_next.false) (reads_right grammar table _ _ _ (part s.Named) (part s.Cast ∣ nested (part s.Round) ∣ nested (part s.Square) ∣ nested (part s.Curly) ∣ part s.Blank) _ _ (c.is_next-2.ensures ∙ c.if-is_next-2.false) (reads_left grammar table _ _ _ (part s.Cast) (nested (part s.Round) ∣ nested (part s.Square) ∣ nested (part s.Curly) ∣ part s.Blank) _ _ (c.is_next-3.ensures ∙ c.if-is_next-3.true) c.cast.ensures)))
 
-pub primaries::primary-returns-then-begins-4 : goal.primaries::primary-returns-then-begins-4
-primaries::primary-returns-then-begins-4 t c =
-    reads_part grammar table _ _ _ s.Primary _ _ (reads_right grammar table _ _ _ (part s.Literal) (part s.Named ∣ part s.Cast ∣ nested (part s.Round) ∣ nested (part s.Square) ∣ nested (part s.Curly) ∣ part s.Blank) _ _ (c.begins.ensures ∙ c.if-begins.false) (reads_right grammar table _ _ _ (part s.Named) (part s.Cast ∣ nested (part s.Round) ∣ nested (part s.Square) ∣ nested (part s.Curly) ∣ part s.Blank) _ _ (c.begins-2.ensures ∙ c.if-begins-2.false) (reads_right grammar table _ _ _ (part s.Cast) (nested (part s.Round) ∣ nested (part s.Square) ∣ nested (part s.Curly) ∣ part s.Blank) _ _ (c.begins-3.ensures ∙ c.if-begins-3.false) (reads_left grammar table _ _ _ (nested (part s.Round)) (nested (part s.Square) ∣ nested (part s.Curly) ∣ part s.Blank) _ _ (c.begins-4.ensures ∙ c.if-begins-4.true) c.round.ensures))))
+pub primaries::primary-returns-then-is_next-4 : goal.primaries::primary-returns-then-is_next-4
+primaries::primary-returns-then-is_next-4 t c =
+    reads_part grammar table _ _ _ s.Primary _ _ (reads_right grammar table _ _ _ (part s.Literal) (part s.Named ∣ part s.Cast ∣ nested (part s.Round) ∣ nested (part s.Square) ∣ nested (part s.Curly) ∣ part s.Blank) _ _ (c.is_next.ensures ∙ c.if-is_next.false) (reads_right grammar table _ _ _ (part s.Named) (part s.Cast ∣ nested (part s.Round) ∣ nested (part s.Square) ∣ nested (part s.Curly) ∣ part s.Blank) _ _ (c.is_next-2.ensures ∙ c.if-is_next-2.false) (reads_right grammar table _ _ _ (part s.Cast) (nested (part s.Round) ∣ nested (part s.Square) ∣ nested (part s.Curly) ∣ part s.Blank) _ _ (c.is_next-3.ensures ∙ c.if-is_next-3.false) (reads_left grammar table _ _ _ (nested (part s.Round)) (nested (part s.Square) ∣ nested (part s.Curly) ∣ part s.Blank) _ _ (c.is_next-4.ensures ∙ c.if-is_next-4.true) c.round.ensures))))
 
-pub primaries::primary-returns-then-begins-5 : goal.primaries::primary-returns-then-begins-5
-primaries::primary-returns-then-begins-5 t c =
-    reads_part grammar table _ _ _ s.Primary _ _ (reads_right grammar table _ _ _ (part s.Literal) (part s.Named ∣ part s.Cast ∣ nested (part s.Round) ∣ nested (part s.Square) ∣ nested (part s.Curly) ∣ part s.Blank) _ _ (c.begins.ensures ∙ c.if-begins.false) (reads_right grammar table _ _ _ (part s.Named) (part s.Cast ∣ nested (part s.Round) ∣ nested (part s.Square) ∣ nested (part s.Curly) ∣ part s.Blank) _ _ (c.begins-2.ensures ∙ c.if-begins-2.false) (reads_right grammar table _ _ _ (part s.Cast) (nested (part s.Round) ∣ nested (part s.Square) ∣ nested (part s.Curly) ∣ part s.Blank) _ _ (c.begins-3.ensures ∙ c.if-begins-3.false) (reads_right grammar table _ _ _ (nested (part s.Round)) (nested (part s.Square) ∣ nested (part s.Curly) ∣ part s.Blank) _ _ (c.begins-4.ensures ∙ c.if-begins-4.false) (reads_left grammar table _ _ _ (nested (part s.Square)) (nested (part s.Curly) ∣ part s.Blank) _ _ (c.begins-5.ensures ∙ c.if-begins-5.true) c.square.ensures)))))
+pub primaries::primary-returns-then-is_next-5 : goal.primaries::primary-returns-then-is_next-5
+primaries::primary-returns-then-is_next-5 t c =
+    reads_part grammar table _ _ _ s.Primary _ _ (reads_right grammar table _ _ _ (part s.Literal) (part s.Named ∣ part s.Cast ∣ nested (part s.Round) ∣ nested (part s.Square) ∣ nested (part s.Curly) ∣ part s.Blank) _ _ (c.is_next.ensures ∙ c.if-is_next.false) (reads_right grammar table _ _ _ (part s.Named) (part s.Cast ∣ nested (part s.Round) ∣ nested (part s.Square) ∣ nested (part s.Curly) ∣ part s.Blank) _ _ (c.is_next-2.ensures ∙ c.if-is_next-2.false) (reads_right grammar table _ _ _ (part s.Cast) (nested (part s.Round) ∣ nested (part s.Square) ∣ nested (part s.Curly) ∣ part s.Blank) _ _ (c.is_next-3.ensures ∙ c.if-is_next-3.false) (reads_right grammar table _ _ _ (nested (part s.Round)) (nested (part s.Square) ∣ nested (part s.Curly) ∣ part s.Blank) _ _ (c.is_next-4.ensures ∙ c.if-is_next-4.false) (reads_left grammar table _ _ _ (nested (part s.Square)) (nested (part s.Curly) ∣ part s.Blank) _ _ (c.is_next-5.ensures ∙ c.if-is_next-5.true) c.square.ensures)))))
 
-pub primaries::primary-returns-then-begins-6 : goal.primaries::primary-returns-then-begins-6
-primaries::primary-returns-then-begins-6 t c =
-    reads_part grammar table _ _ _ s.Primary _ _ (reads_right grammar table _ _ _ (part s.Literal) (part s.Named ∣ part s.Cast ∣ nested (part s.Round) ∣ nested (part s.Square) ∣ nested (part s.Curly) ∣ part s.Blank) _ _ (c.begins.ensures ∙ c.if-begins.false) (reads_right grammar table _ _ _ (part s.Named) (part s.Cast ∣ nested (part s.Round) ∣ nested (part s.Square) ∣ nested (part s.Curly) ∣ part s.Blank) _ _ (c.begins-2.ensures ∙ c.if-begins-2.false) (reads_right grammar table _ _ _ (part s.Cast) (nested (part s.Round) ∣ nested (part s.Square) ∣ nested (part s.Curly) ∣ part s.Blank) _ _ (c.begins-3.ensures ∙ c.if-begins-3.false) (reads_right grammar table _ _ _ (nested (part s.Round)) (nested (part s.Square) ∣ nested (part s.Curly) ∣ part s.Blank) _ _ (c.begins-4.ensures ∙ c.if-begins-4.false) (reads_right grammar table _ _ _ (nested (part s.Square)) (nested (part s.Curly) ∣ part s.Blank) _ _ (c.begins-5.ensures ∙ c.if-begins-5.false) (reads_left grammar table _ _ _ (nested (part s.Curly)) (part s.Blank) _ _ (c.begins-6.ensures ∙ c.if-begins-6.true) c.curly.ensures))))))
+pub primaries::primary-returns-then-is_next-6 : goal.primaries::primary-returns-then-is_next-6
+primaries::primary-returns-then-is_next-6 t c =
+    reads_part grammar table _ _ _ s.Primary _ _ (reads_right grammar table _ _ _ (part s.Literal) (part s.Named ∣ part s.Cast ∣ nested (part s.Round) ∣ nested (part s.Square) ∣ nested (part s.Curly) ∣ part s.Blank) _ _ (c.is_next.ensures ∙ c.if-is_next.false) (reads_right grammar table _ _ _ (part s.Named) (part s.Cast ∣ nested (part s.Round) ∣ nested (part s.Square) ∣ nested (part s.Curly) ∣ part s.Blank) _ _ (c.is_next-2.ensures ∙ c.if-is_next-2.false) (reads_right grammar table _ _ _ (part s.Cast) (nested (part s.Round) ∣ nested (part s.Square) ∣ nested (part s.Curly) ∣ part s.Blank) _ _ (c.is_next-3.ensures ∙ c.if-is_next-3.false) (reads_right grammar table _ _ _ (nested (part s.Round)) (nested (part s.Square) ∣ nested (part s.Curly) ∣ part s.Blank) _ _ (c.is_next-4.ensures ∙ c.if-is_next-4.false) (reads_right grammar table _ _ _ (nested (part s.Square)) (nested (part s.Curly) ∣ part s.Blank) _ _ (c.is_next-5.ensures ∙ c.if-is_next-5.false) (reads_left grammar table _ _ _ (nested (part s.Curly)) (part s.Blank) _ _ (c.is_next-6.ensures ∙ c.if-is_next-6.true) c.curly.ensures))))))
 
 pub primaries::primary-returns : goal.primaries::primary-returns
 primaries::primary-returns t c =
-    reads_part grammar table _ _ _ s.Primary _ _ (reads_right grammar table _ _ _ (part s.Literal) (part s.Named ∣ part s.Cast ∣ nested (part s.Round) ∣ nested (part s.Square) ∣ nested (part s.Curly) ∣ part s.Blank) _ _ (c.begins.ensures ∙ c.if-begins.false) (reads_right grammar table _ _ _ (part s.Named) (part s.Cast ∣ nested (part s.Round) ∣ nested (part s.Square) ∣ nested (part s.Curly) ∣ part s.Blank) _ _ (c.begins-2.ensures ∙ c.if-begins-2.false) (reads_right grammar table _ _ _ (part s.Cast) (nested (part s.Round) ∣ nested (part s.Square) ∣ nested (part s.Curly) ∣ part s.Blank) _ _ (c.begins-3.ensures ∙ c.if-begins-3.false) (reads_right grammar table _ _ _ (nested (part s.Round)) (nested (part s.Square) ∣ nested (part s.Curly) ∣ part s.Blank) _ _ (c.begins-4.ensures ∙ c.if-begins-4.false) (reads_right grammar table _ _ _ (nested (part s.Square)) (nested (part s.Curly) ∣ part s.Blank) _ _ (c.begins-5.ensures ∙ c.if-begins-5.false) (reads_right grammar table _ _ _ (nested (part s.Curly)) (part s.Blank) _ _ (c.begins-6.ensures ∙ c.if-begins-6.false) c.blank.ensures))))))
+    reads_part grammar table _ _ _ s.Primary _ _ (reads_right grammar table _ _ _ (part s.Literal) (part s.Named ∣ part s.Cast ∣ nested (part s.Round) ∣ nested (part s.Square) ∣ nested (part s.Curly) ∣ part s.Blank) _ _ (c.is_next.ensures ∙ c.if-is_next.false) (reads_right grammar table _ _ _ (part s.Named) (part s.Cast ∣ nested (part s.Round) ∣ nested (part s.Square) ∣ nested (part s.Curly) ∣ part s.Blank) _ _ (c.is_next-2.ensures ∙ c.if-is_next-2.false) (reads_right grammar table _ _ _ (part s.Cast) (nested (part s.Round) ∣ nested (part s.Square) ∣ nested (part s.Curly) ∣ part s.Blank) _ _ (c.is_next-3.ensures ∙ c.if-is_next-3.false) (reads_right grammar table _ _ _ (nested (part s.Round)) (nested (part s.Square) ∣ nested (part s.Curly) ∣ part s.Blank) _ _ (c.is_next-4.ensures ∙ c.if-is_next-4.false) (reads_right grammar table _ _ _ (nested (part s.Square)) (nested (part s.Curly) ∣ part s.Blank) _ _ (c.is_next-5.ensures ∙ c.if-is_next-5.false) (reads_right grammar table _ _ _ (nested (part s.Curly)) (part s.Blank) _ _ (c.is_next-6.ensures ∙ c.if-is_next-6.false) c.blank.ensures))))))
 
 pub primaries::named-returns-in_err-name : goal.primaries::named-returns-in_err-name
 primaries::named-returns-in_err-name t c =
@@ -503,46 +518,46 @@ pub primaries::named-returns-in_err-values : goal.primaries::named-returns-in_er
 primaries::named-returns-in_err-values t c =
     let name = c.in_ok-name.ensures c.args.room in
     failed grammar table _ expr_of _ (part s.Named) _ _ _ c.from_residual-in_err-values.ensures.1
-    (runs.part_fails (runs.next_fails name.runs (runs.once (c.begins.ensures ∙ c.if-begins.true) c.in_err-values.ensures)))
+    (runs.part_fails (runs.next_fails name.runs (runs.once (c.is_next.ensures ∙ c.if-is_next.true) c.in_err-values.ensures)))
 
-pub primaries::named-returns-then-begins : goal.primaries::named-returns-then-begins
-primaries::named-returns-then-begins t c =
+pub primaries::named-returns-then-is_next : goal.primaries::named-returns-then-is_next
+primaries::named-returns-then-is_next t c =
     let name = c.in_ok-name.ensures c.args.room in
     let values = c.in_ok-values.ensures in
     read grammar table _ expr_of c.requires.inside
-    (runs.part (runs.both name.runs (runs.once (c.begins.ensures ∙ c.if-begins.true) values.runs)))
+    (runs.part (runs.both name.runs (runs.once (c.is_next.ensures ∙ c.if-is_next.true) values.runs)))
     (called_part values.runs _ _ ∙ (λ i. expr.Call (name.shows i) (values.shows i)))
 
 pub primaries::named-returns : goal.primaries::named-returns
 primaries::named-returns t c =
     let name = c.in_ok-name.ensures c.args.room in
     read grammar table _ expr_of c.requires.inside
-    (runs.part (runs.both name.runs (runs.never (c.begins.ensures ∙ c.if-begins.false))))
+    (runs.part (runs.both name.runs (runs.never (c.is_next.ensures ∙ c.if-is_next.false))))
     (λ i. expr.Named (name.shows i))
 
 pub primaries::cast-returns-in_err-word : goal.primaries::cast-returns-in_err-word
 primaries::cast-returns-in_err-word t c =
     failed grammar table _ expr_of _ (part s.Cast) _ _ _ c.from_residual.ensures.1
-    (runs.part_fails (runs.first_fails (run_none_of (class.Word IntWord) (class.Word RealWord ∷ class.Word StringWord ∷ class.Word BoolWord ∷ class.Word TimerWord ∷ []) c.in_err-word.ensures)))
+    (runs.part_fails (runs.first_fails (run_none_of cast_words.first cast_words.more c.in_err-word.ensures)))
 
 pub primaries::cast-returns-in_err-inner : goal.primaries::cast-returns-in_err-inner
 primaries::cast-returns-in_err-inner t c =
     let word = c.in_ok-word.ensures in
     failed grammar table _ expr_of _ (part s.Cast) _ _ _ c.from_residual-in_err-inner.ensures.1
-    (runs.part_fails (runs.next_fails (run_one_of (class.Word IntWord) (class.Word RealWord ∷ class.Word StringWord ∷ class.Word BoolWord ∷ class.Word TimerWord ∷ []) word) (run_refused grammar table _ _ Expression (sign LeftParen ▸ part s.Expr ▸ sign RightParen) _ _ c.in_err-inner.ensures.0 c.in_err-inner.ensures.1)))
+    (runs.part_fails (runs.next_fails (run_one_of cast_words.first cast_words.more word) (run_refused grammar table _ _ Expression (sign LeftParen ▸ part s.Expr ▸ sign RightParen) _ _ c.in_err-inner.ensures.0 c.in_err-inner.ensures.1)))
 
 pub primaries::cast-returns-in_err-left : goal.primaries::cast-returns-in_err-left
 primaries::cast-returns-in_err-left t c =
     let word = c.in_ok-word.ensures in
     failed grammar table _ expr_of _ (part s.Cast) _ _ _ c.from_residual-in_err-left.ensures.1
-    (runs.part_fails (runs.next_fails (run_one_of (class.Word IntWord) (class.Word RealWord ∷ class.Word StringWord ∷ class.Word BoolWord ∷ class.Word TimerWord ∷ []) word) (runs.deeper c.in_ok-inner.ensures (runs.first_fails (run_no_word grammar table _ c.in_err-left.ensures)))))
+    (runs.part_fails (runs.next_fails (run_one_of cast_words.first cast_words.more word) (runs.deeper c.in_ok-inner.ensures (runs.first_fails (run_no_word grammar table _ c.in_err-left.ensures)))))
 
 pub primaries::cast-returns-in_err-operand : goal.primaries::cast-returns-in_err-operand
 primaries::cast-returns-in_err-operand t c =
     let word = c.in_ok-word.ensures in
     let left = c.in_ok-left.ensures in
     failed grammar table _ expr_of _ (part s.Cast) _ _ _ c.from_residual-in_err-operand.ensures.1
-    (runs.part_fails (runs.next_fails (run_one_of (class.Word IntWord) (class.Word RealWord ∷ class.Word StringWord ∷ class.Word BoolWord ∷ class.Word TimerWord ∷ []) word) (runs.deeper c.in_ok-inner.ensures (runs.next_fails (run_word grammar table _ left) (runs.first_fails c.in_err-operand.ensures)))))
+    (runs.part_fails (runs.next_fails (run_one_of cast_words.first cast_words.more word) (runs.deeper c.in_ok-inner.ensures (runs.next_fails (run_word grammar table _ left) (runs.first_fails c.in_err-operand.ensures)))))
 
 pub primaries::cast-returns-in_err-end : goal.primaries::cast-returns-in_err-end
 primaries::cast-returns-in_err-end t c =
@@ -550,7 +565,7 @@ primaries::cast-returns-in_err-end t c =
     let left = c.in_ok-left.ensures in
     let operand = c.in_ok-operand.ensures in
     failed grammar table _ expr_of _ (part s.Cast) _ _ _ c.from_residual-in_err-end.ensures.1
-    (runs.part_fails (runs.next_fails (run_one_of (class.Word IntWord) (class.Word RealWord ∷ class.Word StringWord ∷ class.Word BoolWord ∷ class.Word TimerWord ∷ []) word) (runs.deeper c.in_ok-inner.ensures (runs.next_fails (run_word grammar table _ left) (runs.next_fails operand.runs (run_no_word grammar table _ c.in_err-end.ensures))))))
+    (runs.part_fails (runs.next_fails (run_one_of cast_words.first cast_words.more word) (runs.deeper c.in_ok-inner.ensures (runs.next_fails (run_word grammar table _ left) (runs.next_fails operand.runs (run_no_word grammar table _ c.in_err-end.ensures))))))
 
 pub primaries::cast-returns : goal.primaries::cast-returns
 primaries::cast-returns t c =
@@ -559,8 +574,11 @@ primaries::cast-returns t c =
     let operand = c.in_ok-operand.ensures in
     let end = c.in_ok-end.ensures in
     read grammar table _ expr_of c.requires.inside
-    (runs.part (runs.both (run_one_of (class.Word IntWord) (class.Word RealWord ∷ class.Word StringWord ∷ class.Word BoolWord ∷ class.Word TimerWord ∷ []) word) (runs.deeper c.in_ok-inner.ensures (runs.both (run_word grammar table _ left) (runs.both operand.runs (run_word grammar table _ end))))))
-    (λ i. expr.Cast (sym c.cast_of.ensures i) c.in_ok-word.word.now.place (operand.shows i))
+    (runs.part (runs.both (run_one_of cast_words.first cast_words.more word) (runs.deeper c.in_ok-inner.ensures (runs.both (run_word grammar table _ left) (runs.both operand.runs (run_word grammar table _ end))))))
+    (λ i. expr.Cast (ap (given_or cast.Int) c.cast_of.ensures i) c.in_ok-word.word.now.place (operand.shows i))
+
+pub primaries::cast-cast_of-requires : goal.primaries::cast-cast_of-requires
+primaries::cast-cast_of-requires t c = cast_row c.in_ok-word.word.now.token c.in_ok-word.ensures.of_classes
 
 pub primaries::round-returns-in_err-inner : goal.primaries::round-returns-in_err-inner
 primaries::round-returns-in_err-inner t c =
@@ -606,7 +624,7 @@ primaries::round-returns t c =
 pub primaries::tuple_or_round-returns-in_err-start : goal.primaries::tuple_or_round-returns-in_err-start
 primaries::tuple_or_round-returns-in_err-start t c =
     failed grammar table _ (bracketed c.args.place c.args.first) _ (maybe (part s.Others)) _ _ _ c.from_residual.ensures.1
-    (runs.once (c.begins.ensures ∙ c.if-begins.true) (runs.part_fails (runs.first_fails (run_no_word grammar table _ c.in_err-start.ensures))))
+    (runs.once (c.is_next.ensures ∙ c.if-is_next.true) (runs.part_fails (runs.first_fails (run_no_word grammar table _ c.in_err-start.ensures))))
 
 pub primaries::tuple_or_round-returns-in_err-found : goal.primaries::tuple_or_round-returns-in_err-found
 primaries::tuple_or_round-returns-in_err-found t c =
@@ -616,24 +634,24 @@ pub primaries::tuple_or_round-returns-in_err-values : goal.primaries::tuple_or_r
 primaries::tuple_or_round-returns-in_err-values t c =
     let start = c.in_ok-start.ensures in
     failed grammar table _ (bracketed c.args.place c.args.first) _ (maybe (part s.Others)) _ _ _ c.from_residual-in_err-values.ensures.1
-    (runs.once (c.begins.ensures ∙ c.if-begins.true) (runs.part_fails (runs.next_fails (run_word grammar table _ start) c.in_err-values.ensures)))
+    (runs.once (c.is_next.ensures ∙ c.if-is_next.true) (runs.part_fails (runs.next_fails (run_word grammar table _ start) c.in_err-values.ensures)))
 
 pub primaries::tuple_or_round-returns-in_err-boxed : goal.primaries::tuple_or_round-returns-in_err-boxed
 primaries::tuple_or_round-returns-in_err-boxed t c =
     no_memory grammar table _ (bracketed c.args.place c.args.first) _ (maybe (part s.Others)) _ _ c.from_residual-in_err-boxed.ensures.1
 
-pub primaries::tuple_or_round-returns-then-begins : goal.primaries::tuple_or_round-returns-then-begins
-primaries::tuple_or_round-returns-then-begins t c =
+pub primaries::tuple_or_round-returns-then-is_next : goal.primaries::tuple_or_round-returns-then-is_next
+primaries::tuple_or_round-returns-then-is_next t c =
     let start = c.in_ok-start.ensures in
     let values = c.in_ok-values.ensures in
     read grammar table _ (bracketed c.args.place c.args.first) c.requires.inside
-    (runs.once (c.begins.ensures ∙ c.if-begins.true) (runs.part (runs.both (run_word grammar table _ start) values.runs)))
+    (runs.once (c.is_next.ensures ∙ c.if-is_next.true) (runs.part (runs.both (run_word grammar table _ start) values.runs)))
     ((λ i. expr.TupleOf c.args.place (sym c.in_ok-found.ensures.items i ++ exprs_of values.tree)) ∙ (λ i. expr.TupleOf c.args.place (values.shows i)))
 
 pub primaries::tuple_or_round-returns : goal.primaries::tuple_or_round-returns
 primaries::tuple_or_round-returns t c =
     read grammar table _ (bracketed c.args.place c.args.first) c.requires.inside
-    (runs.never (c.begins.ensures ∙ c.if-begins.false))
+    (runs.never (c.is_next.ensures ∙ c.if-is_next.false))
     (λ i. expr.Round c.args.place (sym c.in_ok-boxed.ensures.same i))
 
 pub primaries::square-returns-in_err-inner : goal.primaries::square-returns-in_err-inner
@@ -700,9 +718,9 @@ sequences::arguments-returns t c =
     (runs.part (runs.deeper c.in_ok-inner.ensures (runs.both (run_word grammar table _ start) (runs.both values.runs (run_word grammar table _ end)))))
     values.shows
 
-pub sequences::optional_exprs-returns-then-begins : goal.sequences::optional_exprs-returns-then-begins
-sequences::optional_exprs-returns-then-begins t c =
-    reads_once grammar table _ _ _ (part s.Exprs) _ _ (c.begins.ensures ∙ c.if-begins.true) c.exprs.ensures
+pub sequences::optional_exprs-returns-then-is_next : goal.sequences::optional_exprs-returns-then-is_next
+sequences::optional_exprs-returns-then-is_next t c =
+    reads_once grammar table _ _ _ (part s.Exprs) _ _ (c.is_next.ensures ∙ c.if-is_next.true) c.exprs.ensures
 
 pub sequences::optional_exprs-returns-in_err-items : goal.sequences::optional_exprs-returns-in_err-items
 sequences::optional_exprs-returns-in_err-items t c =
@@ -711,7 +729,7 @@ sequences::optional_exprs-returns-in_err-items t c =
 pub sequences::optional_exprs-returns : goal.sequences::optional_exprs-returns
 sequences::optional_exprs-returns t c =
     read grammar table _ exprs_of c.requires.inside
-    (runs.never (c.begins.ensures ∙ c.if-begins.false))
+    (runs.never (c.is_next.ensures ∙ c.if-is_next.false))
     (sym (c.in_ok-items.ensures.same ∙ c.new.ensures.items))
 
 pub sequences::exprs-returns : goal.sequences::exprs-returns
@@ -741,12 +759,12 @@ sequences::more_exprs-turn-init t c =
 pub sequences::more_exprs-returns-in_err-start : goal.sequences::more_exprs-returns-in_err-start
 sequences::more_exprs-returns-in_err-start t c =
     failed grammar table _ (λ t. c.args.found.items ++ more_exprs_of t) _ (many (sign Comma ▸ part s.Expr)) _ _ _ c.from_residual.ensures.1
-    (gathered_fails _ c.turn.invariant (c.begins.ensures ∙ c.turn-test.true) (runs.first_fails (run_no_word grammar table _ c.in_err-start.ensures)))
+    (gathered_fails _ c.turn.invariant (c.is_next.ensures ∙ c.turn-test.true) (runs.first_fails (run_no_word grammar table _ c.in_err-start.ensures)))
 
 pub sequences::more_exprs-returns-in_err-one : goal.sequences::more_exprs-returns-in_err-one
 sequences::more_exprs-returns-in_err-one t c =
     failed grammar table _ (λ t. c.args.found.items ++ more_exprs_of t) _ (many (sign Comma ▸ part s.Expr)) _ _ _ c.from_residual-in_err-one.ensures.1
-    (gathered_fails _ c.turn.invariant (c.begins.ensures ∙ c.turn-test.true) (runs.next_fails (run_word grammar table _ c.in_ok-start.ensures) c.in_err-one.ensures))
+    (gathered_fails _ c.turn.invariant (c.is_next.ensures ∙ c.turn-test.true) (runs.next_fails (run_word grammar table _ c.in_ok-start.ensures) c.in_err-one.ensures))
 
 pub sequences::more_exprs-returns-in_err-push : goal.sequences::more_exprs-returns-in_err-push
 sequences::more_exprs-returns-in_err-push t c =
@@ -755,7 +773,7 @@ sequences::more_exprs-returns-in_err-push t c =
 pub sequences::more_exprs-turn-preserved : goal.sequences::more_exprs-turn-preserved
 sequences::more_exprs-turn-preserved t c =
     let one = c.in_ok-one.ensures in
-    gathered_more c.turn.invariant (c.begins.ensures ∙ c.turn-test.true) (runs.both (run_word grammar table _ c.in_ok-start.ensures) one.runs) _ (λ u i. one.shows i ∷ more_exprs_of u) one.inside _ c.in_ok-push.ensures.items
+    gathered_more c.turn.invariant (c.is_next.ensures ∙ c.turn-test.true) (runs.both (run_word grammar table _ c.in_ok-start.ensures) one.runs) _ (λ u i. one.shows i ∷ more_exprs_of u) one.inside _ c.in_ok-push.ensures.items
 
 pub sequences::more_exprs-returns-in_err-items : goal.sequences::more_exprs-returns-in_err-items
 sequences::more_exprs-returns-in_err-items t c =
@@ -763,7 +781,7 @@ sequences::more_exprs-returns-in_err-items t c =
 
 pub sequences::more_exprs-returns : goal.sequences::more_exprs-returns
 sequences::more_exprs-returns t c =
-    gathered_stop c.turn.invariant (c.begins.ensures ∙ c.turn-test.false) refl c.requires.inside _ c.in_ok-items.ensures.same
+    gathered_stop c.turn.invariant (c.is_next.ensures ∙ c.turn-test.false) refl c.requires.inside _ c.in_ok-items.ensures.same
 
 pub braces::curly-returns-in_err-inner : goal.braces::curly-returns-in_err-inner
 braces::curly-returns-in_err-inner t c =
@@ -806,9 +824,9 @@ braces::curly-returns t c =
     (runs.deeper c.in_ok-inner.ensures (runs.part (runs.both (run_word grammar table _ word) (runs.both first.runs (runs.both value.runs (run_word grammar table _ end))))))
     ((λ i. braced c.in_ok-word.word.now.place (first.shows i) value.tree) ∙ value.shows)
 
-pub braces::set_or_dict-returns-then-begins : goal.braces::set_or_dict-returns-then-begins
-braces::set_or_dict-returns-then-begins t c =
-    reads_once grammar table _ _ _ (part s.Contents) _ _ (c.begins.ensures ∙ c.if-begins.true) c.contents.ensures
+pub braces::set_or_dict-returns-then-is_next : goal.braces::set_or_dict-returns-then-is_next
+braces::set_or_dict-returns-then-is_next t c =
+    reads_once grammar table _ _ _ (part s.Contents) _ _ (c.is_next.ensures ∙ c.if-is_next.true) c.contents.ensures
 
 pub braces::set_or_dict-returns-in_err-found : goal.braces::set_or_dict-returns-in_err-found
 braces::set_or_dict-returns-in_err-found t c =
@@ -821,13 +839,13 @@ braces::set_or_dict-returns-in_err-values t c =
 pub braces::set_or_dict-returns : goal.braces::set_or_dict-returns
 braces::set_or_dict-returns t c =
     read grammar table _ (braced c.args.place c.args.first) c.requires.inside
-    (runs.never (c.begins.ensures ∙ c.if-begins.false))
+    (runs.never (c.is_next.ensures ∙ c.if-is_next.false))
     (λ i. expr.SetOf c.args.place (sym (c.in_ok-values.ensures.same ∙ c.in_ok-found.ensures.items) i))
 
 pub braces::contents-returns-in_err-start : goal.braces::contents-returns-in_err-start
 braces::contents-returns-in_err-start t c =
     failed grammar table _ (braced c.args.place c.args.first) _ (part s.Contents) _ _ _ c.from_residual.ensures.1
-    (runs.part_fails (runs.left (c.begins.ensures ∙ c.if-begins.true) (runs.part_fails (runs.first_fails (run_no_word grammar table _ c.in_err-start.ensures)))))
+    (runs.part_fails (runs.left (c.is_next.ensures ∙ c.if-is_next.true) (runs.part_fails (runs.first_fails (run_no_word grammar table _ c.in_err-start.ensures)))))
 
 pub braces::contents-returns-in_err-found : goal.braces::contents-returns-in_err-found
 braces::contents-returns-in_err-found t c =
@@ -837,19 +855,19 @@ pub braces::contents-returns-in_err-values : goal.braces::contents-returns-in_er
 braces::contents-returns-in_err-values t c =
     let start = c.in_ok-start.ensures in
     failed grammar table _ (braced c.args.place c.args.first) _ (part s.Contents) _ _ _ c.from_residual-in_err-values.ensures.1
-    (runs.part_fails (runs.left (c.begins.ensures ∙ c.if-begins.true) (runs.part_fails (runs.next_fails (run_word grammar table _ start) c.in_err-values.ensures))))
+    (runs.part_fails (runs.left (c.is_next.ensures ∙ c.if-is_next.true) (runs.part_fails (runs.next_fails (run_word grammar table _ start) c.in_err-values.ensures))))
 
-pub braces::contents-returns-then-begins : goal.braces::contents-returns-then-begins
-braces::contents-returns-then-begins t c =
+pub braces::contents-returns-then-is_next : goal.braces::contents-returns-then-is_next
+braces::contents-returns-then-is_next t c =
     let start = c.in_ok-start.ensures in
     let values = c.in_ok-values.ensures in
     read grammar table _ (braced c.args.place c.args.first) c.requires.inside
-    (runs.part (runs.left (c.begins.ensures ∙ c.if-begins.true) (runs.part (runs.both (run_word grammar table _ start) values.runs))))
+    (runs.part (runs.left (c.is_next.ensures ∙ c.if-is_next.true) (runs.part (runs.both (run_word grammar table _ start) values.runs))))
     ((λ i. expr.SetOf c.args.place (sym c.in_ok-found.ensures.items i ++ exprs_of values.tree)) ∙ (λ i. expr.SetOf c.args.place (values.shows i)))
 
 pub braces::contents-returns : goal.braces::contents-returns
 braces::contents-returns t c =
-    reads_part grammar table _ _ _ s.Contents _ _ (reads_right grammar table _ _ _ (part s.Others) (part s.Entries) _ _ (c.begins.ensures ∙ c.if-begins.false) c.entries.ensures)
+    reads_part grammar table _ _ _ s.Contents _ _ (reads_right grammar table _ _ _ (part s.Others) (part s.Entries) _ _ (c.is_next.ensures ∙ c.if-is_next.false) c.entries.ensures)
 
 pub braces::entries-returns-in_err-start : goal.braces::entries-returns-in_err-start
 braces::entries-returns-in_err-start t c =
@@ -890,7 +908,7 @@ braces::more_entries-turn-init t c =
 pub braces::more_entries-returns-in_err-one : goal.braces::more_entries-returns-in_err-one
 braces::more_entries-returns-in_err-one t c =
     failed grammar table _ (λ t. c.args.found.items ++ entries_of t) _ (many (part s.MoreEntry)) _ _ _ c.from_residual.ensures.1
-    (gathered_fails _ c.turn.invariant (c.begins.ensures ∙ c.turn-test.true) c.in_err-one.ensures)
+    (gathered_fails _ c.turn.invariant (c.is_next.ensures ∙ c.turn-test.true) c.in_err-one.ensures)
 
 pub braces::more_entries-returns-in_err-push : goal.braces::more_entries-returns-in_err-push
 braces::more_entries-returns-in_err-push t c =
@@ -899,7 +917,7 @@ braces::more_entries-returns-in_err-push t c =
 pub braces::more_entries-turn-preserved : goal.braces::more_entries-turn-preserved
 braces::more_entries-turn-preserved t c =
     let one = c.in_ok-one.ensures in
-    gathered_more c.turn.invariant (c.begins.ensures ∙ c.turn-test.true) one.runs _ (λ u i. one.shows i ∷ entries_of u) one.inside _ c.in_ok-push.ensures.items
+    gathered_more c.turn.invariant (c.is_next.ensures ∙ c.turn-test.true) one.runs _ (λ u i. one.shows i ∷ entries_of u) one.inside _ c.in_ok-push.ensures.items
 
 pub braces::more_entries-turn-smaller : goal.braces::more_entries-turn-smaller
 braces::more_entries-turn-smaller t c =
@@ -912,7 +930,7 @@ braces::more_entries-returns-in_err-items t c =
 
 pub braces::more_entries-returns : goal.braces::more_entries-returns
 braces::more_entries-returns t c =
-    gathered_stop c.turn.invariant (c.begins.ensures ∙ c.turn-test.false) refl c.requires.inside _ c.in_ok-items.ensures.same
+    gathered_stop c.turn.invariant (c.is_next.ensures ∙ c.turn-test.false) refl c.requires.inside _ c.in_ok-items.ensures.same
 
 pub braces::more_entry-returns-in_err-start : goal.braces::more_entry-returns-in_err-start
 braces::more_entry-returns-in_err-start t c =
@@ -925,30 +943,30 @@ braces::more_entry-returns-in_err-key t c =
     failed grammar table _ entry_of _ (part s.MoreEntry) _ _ _ c.from_residual-in_err-key.ensures.1
     (runs.part_fails (runs.next_fails (run_word grammar table _ start) (runs.first_fails c.in_err-key.ensures)))
 
-pub braces::more_entry-returns-in_err-next : goal.braces::more_entry-returns-in_err-next
-braces::more_entry-returns-in_err-next t c =
-    let start = c.in_ok-start.ensures in
-    let key = c.in_ok-key.ensures in
-    failed grammar table _ entry_of _ (part s.MoreEntry) _ _ _ c.from_residual-in_err-next.ensures.1
-    (runs.part_fails (runs.next_fails (run_word grammar table _ start) (runs.next_fails key.runs (runs.first_fails (run_no_word grammar table _ c.in_err-next.ensures)))))
-
 pub braces::more_entry-returns-in_err-value : goal.braces::more_entry-returns-in_err-value
 braces::more_entry-returns-in_err-value t c =
     let start = c.in_ok-start.ensures in
     let key = c.in_ok-key.ensures in
-    let next = c.in_ok-next.ensures in
     failed grammar table _ entry_of _ (part s.MoreEntry) _ _ _ c.from_residual-in_err-value.ensures.1
-    (runs.part_fails (runs.next_fails (run_word grammar table _ start) (runs.next_fails key.runs (runs.next_fails (run_word grammar table _ next) c.in_err-value.ensures))))
+    (runs.part_fails (runs.next_fails (run_word grammar table _ start) (runs.next_fails key.runs c.in_err-value.ensures)))
 
 pub braces::more_entry-returns : goal.braces::more_entry-returns
 braces::more_entry-returns t c =
     let start = c.in_ok-start.ensures in
     let key = c.in_ok-key.ensures in
-    let next = c.in_ok-next.ensures in
     let value = c.in_ok-value.ensures in
     read grammar table _ entry_of c.requires.inside
-    (runs.part (runs.both (run_word grammar table _ start) (runs.both key.runs (runs.both (run_word grammar table _ next) value.runs))))
-    (λ i. record { key = key.shows i; value = value.shows i })
+    (runs.part (runs.both (run_word grammar table _ start) (runs.both key.runs value.runs)))
+    (entry_shows (run_word grammar table _ start) value.runs key.tree ∙ (λ i. record { key = key.shows i; value = value.shows i }))
+
+pub braces::entry_value-returns-in_err-start : goal.braces::entry_value-returns-in_err-start
+braces::entry_value-returns-in_err-start t c =
+    failed grammar table _ value_of _ (sign Colon ▸ part s.Expr) _ _ _ c.from_residual.ensures.1
+    (runs.first_fails (run_no_word grammar table _ c.in_err-start.ensures))
+
+pub braces::entry_value-returns : goal.braces::entry_value-returns
+braces::entry_value-returns t c =
+    reads_then grammar table _ _ _ (sign Colon) (part s.Expr) _ _ _ _ (run_word grammar table _ c.in_ok-start.ensures) c.expr.ensures
 
 pub blanks::blank-returns-in_err-word : goal.blanks::blank-returns-in_err-word
 blanks::blank-returns-in_err-word t c =
@@ -970,25 +988,25 @@ blanks::blank-returns t c =
 pub blanks::blank_end-returns-in_err-next : goal.blanks::blank_end-returns-in_err-next
 blanks::blank_end-returns-in_err-next t c =
     failed grammar table _ (blank c.args.place c.args.of) _ (part s.BlankEnd) _ _ _ c.from_residual.ensures.1
-    (runs.part_fails (runs.left (c.begins.ensures ∙ c.if-begins.true) (runs.first_fails (run_no_word grammar table _ c.in_err-next.ensures))))
+    (runs.part_fails (runs.left (c.is_next.ensures ∙ c.if-is_next.true) (runs.first_fails (run_no_word grammar table _ c.in_err-next.ensures))))
 
 pub blanks::blank_end-returns-in_err-start : goal.blanks::blank_end-returns-in_err-start
 blanks::blank_end-returns-in_err-start t c =
     failed grammar table _ (blank c.args.place c.args.of) _ (part s.BlankEnd) _ _ _ c.from_residual-in_err-start.ensures.1
-    (runs.part_fails (runs.right (c.begins.ensures ∙ c.if-begins.false) (runs.first_fails (run_no_word grammar table _ c.in_err-start.ensures))))
+    (runs.part_fails (runs.right (c.is_next.ensures ∙ c.if-is_next.false) (runs.first_fails (run_no_word grammar table _ c.in_err-start.ensures))))
 
 pub blanks::blank_end-returns-in_err-value : goal.blanks::blank_end-returns-in_err-value
 blanks::blank_end-returns-in_err-value t c =
     let start = c.in_ok-start.ensures in
     failed grammar table _ (blank c.args.place c.args.of) _ (part s.BlankEnd) _ _ _ c.from_residual-in_err-value.ensures.1
-    (runs.part_fails (runs.right (c.begins.ensures ∙ c.if-begins.false) (runs.next_fails (run_word grammar table _ start) (runs.first_fails c.in_err-value.ensures))))
+    (runs.part_fails (runs.right (c.is_next.ensures ∙ c.if-is_next.false) (runs.next_fails (run_word grammar table _ start) (runs.first_fails c.in_err-value.ensures))))
 
 pub blanks::blank_end-returns-in_err-last : goal.blanks::blank_end-returns-in_err-last
 blanks::blank_end-returns-in_err-last t c =
     let start = c.in_ok-start.ensures in
     let value = c.in_ok-value.ensures in
     failed grammar table _ (blank c.args.place c.args.of) _ (part s.BlankEnd) _ _ _ c.from_residual-in_err-last.ensures.1
-    (runs.part_fails (runs.right (c.begins.ensures ∙ c.if-begins.false) (runs.next_fails (run_word grammar table _ start) (runs.next_fails value.runs (runs.first_fails (run_no_word grammar table _ c.in_err-last.ensures))))))
+    (runs.part_fails (runs.right (c.is_next.ensures ∙ c.if-is_next.false) (runs.next_fails (run_word grammar table _ start) (runs.next_fails value.runs (runs.first_fails (run_no_word grammar table _ c.in_err-last.ensures))))))
 
 pub blanks::blank_end-returns-in_err-end : goal.blanks::blank_end-returns-in_err-end
 blanks::blank_end-returns-in_err-end t c =
@@ -996,12 +1014,12 @@ blanks::blank_end-returns-in_err-end t c =
     let value = c.in_ok-value.ensures in
     let last = c.in_ok-last.ensures in
     failed grammar table _ (blank c.args.place c.args.of) _ (part s.BlankEnd) _ _ _ c.from_residual-in_err-end.ensures.1
-    (runs.part_fails (runs.right (c.begins.ensures ∙ c.if-begins.false) (runs.next_fails (run_word grammar table _ start) (runs.next_fails value.runs (runs.next_fails (run_word grammar table _ last) c.in_err-end.ensures)))))
+    (runs.part_fails (runs.right (c.is_next.ensures ∙ c.if-is_next.false) (runs.next_fails (run_word grammar table _ start) (runs.next_fails value.runs (runs.next_fails (run_word grammar table _ last) c.in_err-end.ensures)))))
 
-pub blanks::blank_end-returns-then-begins : goal.blanks::blank_end-returns-then-begins
-blanks::blank_end-returns-then-begins t c =
+pub blanks::blank_end-returns-then-is_next : goal.blanks::blank_end-returns-then-is_next
+blanks::blank_end-returns-then-is_next t c =
     let next = c.in_ok-next.ensures in
-    reads_part grammar table _ _ _ s.BlankEnd _ _ (reads_left grammar table _ _ _ (sign Greater ▸ (nested (part s.BlankItems) ∣ nested (part s.BlankElements))) (sign Colon ▸ part s.AnyType ▸ sign Greater ▸ nested (part s.BlankElements)) _ _ (c.begins.ensures ∙ c.if-begins.true) (reads_then grammar table _ _ _ (sign Greater) (nested (part s.BlankItems) ∣ nested (part s.BlankElements)) _ _ _ _ (run_word grammar table _ next) (c.blank_items.ensures (leaf c.in_ok-next.field-0-0.now))))
+    reads_part grammar table _ _ _ s.BlankEnd _ _ (reads_left grammar table _ _ _ (sign Greater ▸ (nested (part s.BlankItems) ∣ nested (part s.BlankElements))) (sign Colon ▸ part s.AnyType ▸ sign Greater ▸ nested (part s.BlankElements)) _ _ (c.is_next.ensures ∙ c.if-is_next.true) (reads_then grammar table _ _ _ (sign Greater) (nested (part s.BlankItems) ∣ nested (part s.BlankElements)) _ _ _ _ (run_word grammar table _ next) (c.blank_items.ensures (leaf c.in_ok-next.field-0-0.now))))
 
 pub blanks::blank_end-returns : goal.blanks::blank_end-returns
 blanks::blank_end-returns t c =
@@ -1010,16 +1028,16 @@ blanks::blank_end-returns t c =
     let last = c.in_ok-last.ensures in
     let end = c.in_ok-end.ensures in
     read grammar table _ (blank c.args.place c.args.of) c.requires.inside
-    (runs.part (runs.right (c.begins.ensures ∙ c.if-begins.false) (runs.both (run_word grammar table _ start) (runs.both value.runs (runs.both (run_word grammar table _ last) end.runs)))))
+    (runs.part (runs.right (c.is_next.ensures ∙ c.if-is_next.false) (runs.both (run_word grammar table _ start) (runs.both value.runs (runs.both (run_word grammar table _ last) end.runs)))))
     (λ i. expr.EmptyDict c.args.place c.args.of (value.shows i))
 
-pub types::any_type-returns-then-begins : goal.types::any_type-returns-then-begins
-types::any_type-returns-then-begins t c =
-    reads_part grammar table _ _ _ s.AnyType _ _ (reads_left grammar table _ _ _ (part s.BuiltType) (part s.NamedType) _ _ (c.begins.ensures ∙ c.if-begins.true) c.built_type.ensures)
+pub types::any_type-returns-then-is_next : goal.types::any_type-returns-then-is_next
+types::any_type-returns-then-is_next t c =
+    reads_part grammar table _ _ _ s.AnyType _ _ (reads_left grammar table _ _ _ (part s.BuiltType) (part s.NamedType) _ _ (c.is_next.ensures ∙ c.if-is_next.true) c.built_type.ensures)
 
 pub types::any_type-returns : goal.types::any_type-returns
 types::any_type-returns t c =
-    reads_part grammar table _ _ _ s.AnyType _ _ (reads_right grammar table _ _ _ (part s.BuiltType) (part s.NamedType) _ _ (c.begins.ensures ∙ c.if-begins.false) (c.named_type.ensures c.args.room))
+    reads_part grammar table _ _ _ s.AnyType _ _ (reads_right grammar table _ _ _ (part s.BuiltType) (part s.NamedType) _ _ (c.is_next.ensures ∙ c.if-is_next.false) (c.named_type.ensures c.args.room))
 
 pub types::boxed_type-returns-in_err-ty : goal.types::boxed_type-returns-in_err-ty
 types::boxed_type-returns-in_err-ty t c =
@@ -1046,33 +1064,33 @@ pub types::nested_type-returns : goal.types::nested_type-returns
 types::nested_type-returns t c =
     reads_deeper grammar table _ _ _ _ Expression (part s.AnyType) _ _ c.in_ok-inner.ensures c.boxed_type.ensures
 
-pub types::built_type-returns-then-begins : goal.types::built_type-returns-then-begins
-types::built_type-returns-then-begins t c =
-    reads_part grammar table _ _ _ s.BuiltType _ _ (reads_left grammar table _ _ _ (part s.WordType) (part s.ListType ∣ part s.SetType ∣ part s.DistType ∣ part s.DictType ∣ part s.TupleType ∣ part s.ChanType) _ _ (c.begins.ensures ∙ c.if-begins.true) (c.word_type.ensures c.args.room))
+pub types::built_type-returns-then-is_next : goal.types::built_type-returns-then-is_next
+types::built_type-returns-then-is_next t c =
+    reads_part grammar table _ _ _ s.BuiltType _ _ (reads_left grammar table _ _ _ (part s.WordType) (part s.ListType ∣ part s.SetType ∣ part s.DistType ∣ part s.DictType ∣ part s.TupleType ∣ part s.ChanType) _ _ (c.is_next.ensures ∙ c.if-is_next.true) (c.word_type.ensures c.args.room))
 
-pub types::built_type-returns-then-begins-2 : goal.types::built_type-returns-then-begins-2
-types::built_type-returns-then-begins-2 t c =
-    reads_part grammar table _ _ _ s.BuiltType _ _ (reads_right grammar table _ _ _ (part s.WordType) (part s.ListType ∣ part s.SetType ∣ part s.DistType ∣ part s.DictType ∣ part s.TupleType ∣ part s.ChanType) _ _ (c.begins.ensures ∙ c.if-begins.false) (reads_left grammar table _ _ _ (part s.ListType) (part s.SetType ∣ part s.DistType ∣ part s.DictType ∣ part s.TupleType ∣ part s.ChanType) _ _ (c.begins-2.ensures ∙ c.if-begins-2.true) c.list_type.ensures))
+pub types::built_type-returns-then-is_next-2 : goal.types::built_type-returns-then-is_next-2
+types::built_type-returns-then-is_next-2 t c =
+    reads_part grammar table _ _ _ s.BuiltType _ _ (reads_right grammar table _ _ _ (part s.WordType) (part s.ListType ∣ part s.SetType ∣ part s.DistType ∣ part s.DictType ∣ part s.TupleType ∣ part s.ChanType) _ _ (c.is_next.ensures ∙ c.if-is_next.false) (reads_left grammar table _ _ _ (part s.ListType) (part s.SetType ∣ part s.DistType ∣ part s.DictType ∣ part s.TupleType ∣ part s.ChanType) _ _ (c.is_next-2.ensures ∙ c.if-is_next-2.true) c.list_type.ensures))
 
-pub types::built_type-returns-then-begins-3 : goal.types::built_type-returns-then-begins-3
-types::built_type-returns-then-begins-3 t c =
-    reads_part grammar table _ _ _ s.BuiltType _ _ (reads_right grammar table _ _ _ (part s.WordType) (part s.ListType ∣ part s.SetType ∣ part s.DistType ∣ part s.DictType ∣ part s.TupleType ∣ part s.ChanType) _ _ (c.begins.ensures ∙ c.if-begins.false) (reads_right grammar table _ _ _ (part s.ListType) (part s.SetType ∣ part s.DistType ∣ part s.DictType ∣ part s.TupleType ∣ part s.ChanType) _ _ (c.begins-2.ensures ∙ c.if-begins-2.false) (reads_left grammar table _ _ _ (part s.SetType) (part s.DistType ∣ part s.DictType ∣ part s.TupleType ∣ part s.ChanType) _ _ (c.begins-3.ensures ∙ c.if-begins-3.true) c.set_type.ensures)))
+pub types::built_type-returns-then-is_next-3 : goal.types::built_type-returns-then-is_next-3
+types::built_type-returns-then-is_next-3 t c =
+    reads_part grammar table _ _ _ s.BuiltType _ _ (reads_right grammar table _ _ _ (part s.WordType) (part s.ListType ∣ part s.SetType ∣ part s.DistType ∣ part s.DictType ∣ part s.TupleType ∣ part s.ChanType) _ _ (c.is_next.ensures ∙ c.if-is_next.false) (reads_right grammar table _ _ _ (part s.ListType) (part s.SetType ∣ part s.DistType ∣ part s.DictType ∣ part s.TupleType ∣ part s.ChanType) _ _ (c.is_next-2.ensures ∙ c.if-is_next-2.false) (reads_left grammar table _ _ _ (part s.SetType) (part s.DistType ∣ part s.DictType ∣ part s.TupleType ∣ part s.ChanType) _ _ (c.is_next-3.ensures ∙ c.if-is_next-3.true) c.set_type.ensures)))
 
-pub types::built_type-returns-then-begins-4 : goal.types::built_type-returns-then-begins-4
-types::built_type-returns-then-begins-4 t c =
-    reads_part grammar table _ _ _ s.BuiltType _ _ (reads_right grammar table _ _ _ (part s.WordType) (part s.ListType ∣ part s.SetType ∣ part s.DistType ∣ part s.DictType ∣ part s.TupleType ∣ part s.ChanType) _ _ (c.begins.ensures ∙ c.if-begins.false) (reads_right grammar table _ _ _ (part s.ListType) (part s.SetType ∣ part s.DistType ∣ part s.DictType ∣ part s.TupleType ∣ part s.ChanType) _ _ (c.begins-2.ensures ∙ c.if-begins-2.false) (reads_right grammar table _ _ _ (part s.SetType) (part s.DistType ∣ part s.DictType ∣ part s.TupleType ∣ part s.ChanType) _ _ (c.begins-3.ensures ∙ c.if-begins-3.false) (reads_left grammar table _ _ _ (part s.DistType) (part s.DictType ∣ part s.TupleType ∣ part s.ChanType) _ _ (c.begins-4.ensures ∙ c.if-begins-4.true) c.dist_type.ensures))))
+pub types::built_type-returns-then-is_next-4 : goal.types::built_type-returns-then-is_next-4
+types::built_type-returns-then-is_next-4 t c =
+    reads_part grammar table _ _ _ s.BuiltType _ _ (reads_right grammar table _ _ _ (part s.WordType) (part s.ListType ∣ part s.SetType ∣ part s.DistType ∣ part s.DictType ∣ part s.TupleType ∣ part s.ChanType) _ _ (c.is_next.ensures ∙ c.if-is_next.false) (reads_right grammar table _ _ _ (part s.ListType) (part s.SetType ∣ part s.DistType ∣ part s.DictType ∣ part s.TupleType ∣ part s.ChanType) _ _ (c.is_next-2.ensures ∙ c.if-is_next-2.false) (reads_right grammar table _ _ _ (part s.SetType) (part s.DistType ∣ part s.DictType ∣ part s.TupleType ∣ part s.ChanType) _ _ (c.is_next-3.ensures ∙ c.if-is_next-3.false) (reads_left grammar table _ _ _ (part s.DistType) (part s.DictType ∣ part s.TupleType ∣ part s.ChanType) _ _ (c.is_next-4.ensures ∙ c.if-is_next-4.true) c.dist_type.ensures))))
 
-pub types::built_type-returns-then-begins-5 : goal.types::built_type-returns-then-begins-5
-types::built_type-returns-then-begins-5 t c =
-    reads_part grammar table _ _ _ s.BuiltType _ _ (reads_right grammar table _ _ _ (part s.WordType) (part s.ListType ∣ part s.SetType ∣ part s.DistType ∣ part s.DictType ∣ part s.TupleType ∣ part s.ChanType) _ _ (c.begins.ensures ∙ c.if-begins.false) (reads_right grammar table _ _ _ (part s.ListType) (part s.SetType ∣ part s.DistType ∣ part s.DictType ∣ part s.TupleType ∣ part s.ChanType) _ _ (c.begins-2.ensures ∙ c.if-begins-2.false) (reads_right grammar table _ _ _ (part s.SetType) (part s.DistType ∣ part s.DictType ∣ part s.TupleType ∣ part s.ChanType) _ _ (c.begins-3.ensures ∙ c.if-begins-3.false) (reads_right grammar table _ _ _ (part s.DistType) (part s.DictType ∣ part s.TupleType ∣ part s.ChanType) _ _ (c.begins-4.ensures ∙ c.if-begins-4.false) (reads_left grammar table _ _ _ (part s.DictType) (part s.TupleType ∣ part s.ChanType) _ _ (c.begins-5.ensures ∙ c.if-begins-5.true) c.dict_type.ensures)))))
+pub types::built_type-returns-then-is_next-5 : goal.types::built_type-returns-then-is_next-5
+types::built_type-returns-then-is_next-5 t c =
+    reads_part grammar table _ _ _ s.BuiltType _ _ (reads_right grammar table _ _ _ (part s.WordType) (part s.ListType ∣ part s.SetType ∣ part s.DistType ∣ part s.DictType ∣ part s.TupleType ∣ part s.ChanType) _ _ (c.is_next.ensures ∙ c.if-is_next.false) (reads_right grammar table _ _ _ (part s.ListType) (part s.SetType ∣ part s.DistType ∣ part s.DictType ∣ part s.TupleType ∣ part s.ChanType) _ _ (c.is_next-2.ensures ∙ c.if-is_next-2.false) (reads_right grammar table _ _ _ (part s.SetType) (part s.DistType ∣ part s.DictType ∣ part s.TupleType ∣ part s.ChanType) _ _ (c.is_next-3.ensures ∙ c.if-is_next-3.false) (reads_right grammar table _ _ _ (part s.DistType) (part s.DictType ∣ part s.TupleType ∣ part s.ChanType) _ _ (c.is_next-4.ensures ∙ c.if-is_next-4.false) (reads_left grammar table _ _ _ (part s.DictType) (part s.TupleType ∣ part s.ChanType) _ _ (c.is_next-5.ensures ∙ c.if-is_next-5.true) c.dict_type.ensures)))))
 
-pub types::built_type-returns-then-begins-6 : goal.types::built_type-returns-then-begins-6
-types::built_type-returns-then-begins-6 t c =
-    reads_part grammar table _ _ _ s.BuiltType _ _ (reads_right grammar table _ _ _ (part s.WordType) (part s.ListType ∣ part s.SetType ∣ part s.DistType ∣ part s.DictType ∣ part s.TupleType ∣ part s.ChanType) _ _ (c.begins.ensures ∙ c.if-begins.false) (reads_right grammar table _ _ _ (part s.ListType) (part s.SetType ∣ part s.DistType ∣ part s.DictType ∣ part s.TupleType ∣ part s.ChanType) _ _ (c.begins-2.ensures ∙ c.if-begins-2.false) (reads_right grammar table _ _ _ (part s.SetType) (part s.DistType ∣ part s.DictType ∣ part s.TupleType ∣ part s.ChanType) _ _ (c.begins-3.ensures ∙ c.if-begins-3.false) (reads_right grammar table _ _ _ (part s.DistType) (part s.DictType ∣ part s.TupleType ∣ part s.ChanType) _ _ (c.begins-4.ensures ∙ c.if-begins-4.false) (reads_right grammar table _ _ _ (part s.DictType) (part s.TupleType ∣ part s.ChanType) _ _ (c.begins-5.ensures ∙ c.if-begins-5.false) (reads_left grammar table _ _ _ (part s.TupleType) (part s.ChanType) _ _ (c.begins-6.ensures ∙ c.if-begins-6.true) c.tuple_type.ensures))))))
+pub types::built_type-returns-then-is_next-6 : goal.types::built_type-returns-then-is_next-6
+types::built_type-returns-then-is_next-6 t c =
+    reads_part grammar table _ _ _ s.BuiltType _ _ (reads_right grammar table _ _ _ (part s.WordType) (part s.ListType ∣ part s.SetType ∣ part s.DistType ∣ part s.DictType ∣ part s.TupleType ∣ part s.ChanType) _ _ (c.is_next.ensures ∙ c.if-is_next.false) (reads_right grammar table _ _ _ (part s.ListType) (part s.SetType ∣ part s.DistType ∣ part s.DictType ∣ part s.TupleType ∣ part s.ChanType) _ _ (c.is_next-2.ensures ∙ c.if-is_next-2.false) (reads_right grammar table _ _ _ (part s.SetType) (part s.DistType ∣ part s.DictType ∣ part s.TupleType ∣ part s.ChanType) _ _ (c.is_next-3.ensures ∙ c.if-is_next-3.false) (reads_right grammar table _ _ _ (part s.DistType) (part s.DictType ∣ part s.TupleType ∣ part s.ChanType) _ _ (c.is_next-4.ensures ∙ c.if-is_next-4.false) (reads_right grammar table _ _ _ (part s.DictType) (part s.TupleType ∣ part s.ChanType) _ _ (c.is_next-5.ensures ∙ c.if-is_next-5.false) (reads_left grammar table _ _ _ (part s.TupleType) (part s.ChanType) _ _ (c.is_next-6.ensures ∙ c.if-is_next-6.true) c.tuple_type.ensures))))))
 
 pub types::built_type-returns : goal.types::built_type-returns
 types::built_type-returns t c =
-    reads_part grammar table _ _ _ s.BuiltType _ _ (reads_right grammar table _ _ _ (part s.WordType) (part s.ListType ∣ part s.SetType ∣ part s.DistType ∣ part s.DictType ∣ part s.TupleType ∣ part s.ChanType) _ _ (c.begins.ensures ∙ c.if-begins.false) (reads_right grammar table _ _ _ (part s.ListType) (part s.SetType ∣ part s.DistType ∣ part s.DictType ∣ part s.TupleType ∣ part s.ChanType) _ _ (c.begins-2.ensures ∙ c.if-begins-2.false) (reads_right grammar table _ _ _ (part s.SetType) (part s.DistType ∣ part s.DictType ∣ part s.TupleType ∣ part s.ChanType) _ _ (c.begins-3.ensures ∙ c.if-begins-3.false) (reads_right grammar table _ _ _ (part s.DistType) (part s.DictType ∣ part s.TupleType ∣ part s.ChanType) _ _ (c.begins-4.ensures ∙ c.if-begins-4.false) (reads_right grammar table _ _ _ (part s.DictType) (part s.TupleType ∣ part s.ChanType) _ _ (c.begins-5.ensures ∙ c.if-begins-5.false) (reads_right grammar table _ _ _ (part s.TupleType) (part s.ChanType) _ _ (c.begins-6.ensures ∙ c.if-begins-6.false) c.chan_type.ensures))))))
+    reads_part grammar table _ _ _ s.BuiltType _ _ (reads_right grammar table _ _ _ (part s.WordType) (part s.ListType ∣ part s.SetType ∣ part s.DistType ∣ part s.DictType ∣ part s.TupleType ∣ part s.ChanType) _ _ (c.is_next.ensures ∙ c.if-is_next.false) (reads_right grammar table _ _ _ (part s.ListType) (part s.SetType ∣ part s.DistType ∣ part s.DictType ∣ part s.TupleType ∣ part s.ChanType) _ _ (c.is_next-2.ensures ∙ c.if-is_next-2.false) (reads_right grammar table _ _ _ (part s.SetType) (part s.DistType ∣ part s.DictType ∣ part s.TupleType ∣ part s.ChanType) _ _ (c.is_next-3.ensures ∙ c.if-is_next-3.false) (reads_right grammar table _ _ _ (part s.DistType) (part s.DictType ∣ part s.TupleType ∣ part s.ChanType) _ _ (c.is_next-4.ensures ∙ c.if-is_next-4.false) (reads_right grammar table _ _ _ (part s.DictType) (part s.TupleType ∣ part s.ChanType) _ _ (c.is_next-5.ensures ∙ c.if-is_next-5.false) (reads_right grammar table _ _ _ (part s.TupleType) (part s.ChanType) _ _ (c.is_next-6.ensures ∙ c.if-is_next-6.false) c.chan_type.ensures))))))
 
 pub types::list_type-returns-in_err-word : goal.types::list_type-returns-in_err-word
 types::list_type-returns-in_err-word t c =
@@ -1104,39 +1122,39 @@ types::list_type-returns t c =
 pub types::list_size-returns-in_err-inner : goal.types::list_size-returns-in_err-inner
 types::list_size-returns-in_err-inner t c =
     failed grammar table _ size_of _ (maybe (nested (sign LeftParen ▸ part s.Expr ▸ sign RightParen))) _ _ _ c.from_residual.ensures.1
-    (runs.once (c.begins.ensures ∙ c.if-begins.true) (run_refused grammar table _ _ Expression (sign LeftParen ▸ part s.Expr ▸ sign RightParen) _ _ c.in_err-inner.ensures.0 c.in_err-inner.ensures.1))
+    (runs.once (c.is_next.ensures ∙ c.if-is_next.true) (run_refused grammar table _ _ Expression (sign LeftParen ▸ part s.Expr ▸ sign RightParen) _ _ c.in_err-inner.ensures.0 c.in_err-inner.ensures.1))
 
 pub types::list_size-returns-in_err-start : goal.types::list_size-returns-in_err-start
 types::list_size-returns-in_err-start t c =
     failed grammar table _ size_of _ (maybe (nested (sign LeftParen ▸ part s.Expr ▸ sign RightParen))) _ _ _ c.from_residual-in_err-start.ensures.1
-    (runs.once (c.begins.ensures ∙ c.if-begins.true) (runs.deeper c.in_ok-inner.ensures (runs.first_fails (run_no_word grammar table _ c.in_err-start.ensures))))
+    (runs.once (c.is_next.ensures ∙ c.if-is_next.true) (runs.deeper c.in_ok-inner.ensures (runs.first_fails (run_no_word grammar table _ c.in_err-start.ensures))))
 
 pub types::list_size-returns-in_err-size : goal.types::list_size-returns-in_err-size
 types::list_size-returns-in_err-size t c =
     let start = c.in_ok-start.ensures in
     failed grammar table _ size_of _ (maybe (nested (sign LeftParen ▸ part s.Expr ▸ sign RightParen))) _ _ _ c.from_residual-in_err-size.ensures.1
-    (runs.once (c.begins.ensures ∙ c.if-begins.true) (runs.deeper c.in_ok-inner.ensures (runs.next_fails (run_word grammar table _ start) (runs.first_fails c.in_err-size.ensures))))
+    (runs.once (c.is_next.ensures ∙ c.if-is_next.true) (runs.deeper c.in_ok-inner.ensures (runs.next_fails (run_word grammar table _ start) (runs.first_fails c.in_err-size.ensures))))
 
 pub types::list_size-returns-in_err-end : goal.types::list_size-returns-in_err-end
 types::list_size-returns-in_err-end t c =
     let start = c.in_ok-start.ensures in
     let size = c.in_ok-size.ensures in
     failed grammar table _ size_of _ (maybe (nested (sign LeftParen ▸ part s.Expr ▸ sign RightParen))) _ _ _ c.from_residual-in_err-end.ensures.1
-    (runs.once (c.begins.ensures ∙ c.if-begins.true) (runs.deeper c.in_ok-inner.ensures (runs.next_fails (run_word grammar table _ start) (runs.next_fails size.runs (run_no_word grammar table _ c.in_err-end.ensures)))))
+    (runs.once (c.is_next.ensures ∙ c.if-is_next.true) (runs.deeper c.in_ok-inner.ensures (runs.next_fails (run_word grammar table _ start) (runs.next_fails size.runs (run_no_word grammar table _ c.in_err-end.ensures)))))
 
-pub types::list_size-returns-then-begins : goal.types::list_size-returns-then-begins
-types::list_size-returns-then-begins t c =
+pub types::list_size-returns-then-is_next : goal.types::list_size-returns-then-is_next
+types::list_size-returns-then-is_next t c =
     let start = c.in_ok-start.ensures in
     let size = c.in_ok-size.ensures in
     let end = c.in_ok-end.ensures in
     read grammar table _ size_of c.requires.inside
-    (runs.once (c.begins.ensures ∙ c.if-begins.true) (runs.deeper c.in_ok-inner.ensures (runs.both (run_word grammar table _ start) (runs.both size.runs (run_word grammar table _ end)))))
+    (runs.once (c.is_next.ensures ∙ c.if-is_next.true) (runs.deeper c.in_ok-inner.ensures (runs.both (run_word grammar table _ start) (runs.both size.runs (run_word grammar table _ end)))))
     (λ i. Some (size.shows i))
 
 pub types::list_size-returns : goal.types::list_size-returns
 types::list_size-returns t c =
     read grammar table _ size_of c.requires.inside
-    (runs.never (c.begins.ensures ∙ c.if-begins.false))
+    (runs.never (c.is_next.ensures ∙ c.if-is_next.false))
     refl
 
 pub types::set_type-returns-in_err-word : goal.types::set_type-returns-in_err-word
@@ -1324,7 +1342,7 @@ compounds::more_fields-turn-init t c =
 pub compounds::more_fields-returns-in_err-one : goal.compounds::more_fields-returns-in_err-one
 compounds::more_fields-returns-in_err-one t c =
     failed grammar table _ (λ t. c.args.found.items ++ more_formals_of t) _ (many (part s.MoreField)) _ _ _ c.from_residual.ensures.1
-    (gathered_fails _ c.turn.invariant (c.begins.ensures ∙ c.turn-test.true) c.in_err-one.ensures)
+    (gathered_fails _ c.turn.invariant (c.is_next.ensures ∙ c.turn-test.true) c.in_err-one.ensures)
 
 pub compounds::more_fields-returns-in_err-push : goal.compounds::more_fields-returns-in_err-push
 compounds::more_fields-returns-in_err-push t c =
@@ -1333,7 +1351,7 @@ compounds::more_fields-returns-in_err-push t c =
 pub compounds::more_fields-turn-preserved : goal.compounds::more_fields-turn-preserved
 compounds::more_fields-turn-preserved t c =
     let one = c.in_ok-one.ensures in
-    gathered_more c.turn.invariant (c.begins.ensures ∙ c.turn-test.true) one.runs _ (λ u i. one.shows i ∷ more_formals_of u) one.inside _ c.in_ok-push.ensures.items
+    gathered_more c.turn.invariant (c.is_next.ensures ∙ c.turn-test.true) one.runs _ (λ u i. one.shows i ∷ more_formals_of u) one.inside _ c.in_ok-push.ensures.items
 
 pub compounds::more_fields-turn-smaller : goal.compounds::more_fields-turn-smaller
 compounds::more_fields-turn-smaller t c =
@@ -1346,43 +1364,43 @@ compounds::more_fields-returns-in_err-items t c =
 
 pub compounds::more_fields-returns : goal.compounds::more_fields-returns
 compounds::more_fields-returns t c =
-    gathered_stop c.turn.invariant (c.begins.ensures ∙ c.turn-test.false) refl c.requires.inside _ c.in_ok-items.ensures.same
+    gathered_stop c.turn.invariant (c.is_next.ensures ∙ c.turn-test.false) refl c.requires.inside _ c.in_ok-items.ensures.same
 
 pub compounds::more_field-returns-in_err-start : goal.compounds::more_field-returns-in_err-start
 compounds::more_field-returns-in_err-start t c =
     failed grammar table _ formal_of _ (part s.MoreField) _ _ _ c.from_residual.ensures.1
-    (runs.part_fails (runs.left (c.begins.ensures ∙ c.if-begins.true) (runs.first_fails (run_no_word grammar table _ c.in_err-start.ensures))))
+    (runs.part_fails (runs.left (c.is_next.ensures ∙ c.if-is_next.true) (runs.first_fails (run_no_word grammar table _ c.in_err-start.ensures))))
 
 pub compounds::more_field-returns-in_err-name : goal.compounds::more_field-returns-in_err-name
 compounds::more_field-returns-in_err-name t c =
     let start = c.in_ok-start.ensures in
     failed grammar table _ formal_of _ (part s.MoreField) _ _ _ c.from_residual-in_err-name.ensures.1
-    (runs.part_fails (runs.left (c.begins.ensures ∙ c.if-begins.true) (runs.next_fails (run_word grammar table _ start) (c.in_err-name.ensures c.args.room))))
+    (runs.part_fails (runs.left (c.is_next.ensures ∙ c.if-is_next.true) (runs.next_fails (run_word grammar table _ start) (c.in_err-name.ensures c.args.room))))
 
 pub compounds::more_field-returns-in_err-next : goal.compounds::more_field-returns-in_err-next
 compounds::more_field-returns-in_err-next t c =
     failed grammar table _ formal_of _ (part s.MoreField) _ _ _ c.from_residual-in_err-next.ensures.1
-    (runs.part_fails (runs.right (c.begins.ensures ∙ c.if-begins.false) (runs.first_fails (run_no_word grammar table _ c.in_err-next.ensures))))
+    (runs.part_fails (runs.right (c.is_next.ensures ∙ c.if-is_next.false) (runs.first_fails (run_no_word grammar table _ c.in_err-next.ensures))))
 
 pub compounds::more_field-returns-in_err-ty : goal.compounds::more_field-returns-in_err-ty
 compounds::more_field-returns-in_err-ty t c =
     let next = c.in_ok-next.ensures in
     failed grammar table _ formal_of _ (part s.MoreField) _ _ _ c.from_residual-in_err-ty.ensures.1
-    (runs.part_fails (runs.right (c.begins.ensures ∙ c.if-begins.false) (runs.next_fails (run_word grammar table _ next) (runs.first_fails c.in_err-ty.ensures))))
+    (runs.part_fails (runs.right (c.is_next.ensures ∙ c.if-is_next.false) (runs.next_fails (run_word grammar table _ next) (runs.first_fails c.in_err-ty.ensures))))
 
 pub compounds::more_field-returns-in_err-name-2 : goal.compounds::more_field-returns-in_err-name-2
 compounds::more_field-returns-in_err-name-2 t c =
     let next = c.in_ok-next.ensures in
     let ty = c.in_ok-ty.ensures in
     failed grammar table _ formal_of _ (part s.MoreField) _ _ _ c.from_residual-in_err-name-2.ensures.1
-    (runs.part_fails (runs.right (c.begins.ensures ∙ c.if-begins.false) (runs.next_fails (run_word grammar table _ next) (runs.next_fails ty.runs (c.in_err-name-2.ensures c.args.room)))))
+    (runs.part_fails (runs.right (c.is_next.ensures ∙ c.if-is_next.false) (runs.next_fails (run_word grammar table _ next) (runs.next_fails ty.runs (c.in_err-name-2.ensures c.args.room)))))
 
-pub compounds::more_field-returns-then-begins : goal.compounds::more_field-returns-then-begins
-compounds::more_field-returns-then-begins t c =
+pub compounds::more_field-returns-then-is_next : goal.compounds::more_field-returns-then-is_next
+compounds::more_field-returns-then-is_next t c =
     let start = c.in_ok-start.ensures in
     let name = c.in_ok-name.ensures c.args.room in
     read grammar table _ formal_of c.requires.inside
-    (runs.part (runs.left (c.begins.ensures ∙ c.if-begins.true) (runs.both (run_word grammar table _ start) name.runs)))
+    (runs.part (runs.left (c.is_next.ensures ∙ c.if-is_next.true) (runs.both (run_word grammar table _ start) name.runs)))
     (formal_name name.runs (leaf c.in_ok-start.field-0-0.now) ∙ (λ i. record { ty = None; name = name.shows i }))
 
 pub compounds::more_field-returns : goal.compounds::more_field-returns
@@ -1391,7 +1409,7 @@ compounds::more_field-returns t c =
     let ty = c.in_ok-ty.ensures in
     let name-2 = c.in_ok-name-2.ensures c.args.room in
     read grammar table _ formal_of c.requires.inside
-    (runs.part (runs.right (c.begins.ensures ∙ c.if-begins.false) (runs.both (run_word grammar table _ next) (runs.both ty.runs name-2.runs))))
+    (runs.part (runs.right (c.is_next.ensures ∙ c.if-is_next.false) (runs.both (run_word grammar table _ next) (runs.both ty.runs name-2.runs))))
     (λ i. record { ty = Some (ty.shows i); name = name-2.shows i })
 
 pub compounds::chan_type-carried-requires : goal.compounds::chan_type-carried-requires
@@ -1429,23 +1447,23 @@ compounds::chan_type-returns t c =
 pub compounds::carried-returns-in_err-end : goal.compounds::carried-returns-in_err-end
 compounds::carried-returns-in_err-end t c =
     failed grammar table _ carried_of _ (part s.Carried) _ _ _ c.from_residual.ensures.1
-    (runs.part_fails (runs.left (c.begins.ensures ∙ c.if-begins.true) (run_no_word grammar table _ c.in_err-end.ensures)))
+    (runs.part_fails (runs.left (c.is_next.ensures ∙ c.if-is_next.true) (run_no_word grammar table _ c.in_err-end.ensures)))
 
 pub compounds::carried-returns-in_err-sent : goal.compounds::carried-returns-in_err-sent
 compounds::carried-returns-in_err-sent t c =
     failed grammar table _ carried_of _ (part s.Carried) _ _ _ c.from_residual-in_err-sent.ensures.1
-    (runs.part_fails (runs.right (c.begins.ensures ∙ c.if-begins.false) c.in_err-sent.ensures))
+    (runs.part_fails (runs.right (c.is_next.ensures ∙ c.if-is_next.false) c.in_err-sent.ensures))
 
-pub compounds::carried-returns-then-begins : goal.compounds::carried-returns-then-begins
-compounds::carried-returns-then-begins t c =
+pub compounds::carried-returns-then-is_next : goal.compounds::carried-returns-then-is_next
+compounds::carried-returns-then-is_next t c =
     let end = c.in_ok-end.ensures in
     read grammar table _ carried_of c.requires.inside
-    (runs.part (runs.left (c.begins.ensures ∙ c.if-begins.true) (run_word grammar table _ end)))
+    (runs.part (runs.left (c.is_next.ensures ∙ c.if-is_next.true) (run_word grammar table _ end)))
     refl
 
 pub compounds::carried-returns : goal.compounds::carried-returns
 compounds::carried-returns t c =
     let sent = c.in_ok-sent.ensures in
     read grammar table _ carried_of c.requires.inside
-    (runs.part (runs.right (c.begins.ensures ∙ c.if-begins.false) sent.runs))
+    (runs.part (runs.right (c.is_next.ensures ∙ c.if-is_next.false) sent.runs))
     (carried_type sent.runs ∙ (λ i. Some (sent.shows i)))

@@ -16,22 +16,25 @@ abbrev pub decreases-blanks::blank_end : goal.decreases-blanks::blank_end
 decreases-blanks::blank_end l = 38 * l.room.expressions + 6
 
 abbrev pub decreases-braces::contents : goal.decreases-braces::contents
-decreases-braces::contents l = 38 * l.room.expressions + 35
+decreases-braces::contents l = 38 * l.room.expressions + 36
 
 abbrev pub decreases-braces::curly : goal.decreases-braces::curly
 decreases-braces::curly l = 38 * l.room.expressions + 0
 
 abbrev pub decreases-braces::entries : goal.decreases-braces::entries
-decreases-braces::entries l = 38 * l.room.expressions + 34
+decreases-braces::entries l = 38 * l.room.expressions + 35
 
 abbrev pub decreases-braces::more_entries : goal.decreases-braces::more_entries
-decreases-braces::more_entries l = 38 * l.room.expressions + 33
+decreases-braces::more_entries l = 38 * l.room.expressions + 34
 
 abbrev pub decreases-braces::more_entry : goal.decreases-braces::more_entry
-decreases-braces::more_entry l = 38 * l.room.expressions + 32
+decreases-braces::more_entry l = 38 * l.room.expressions + 33
+
+abbrev pub decreases-braces::entry_value : goal.decreases-braces::entry_value
+decreases-braces::entry_value l = 38 * l.room.expressions + 32
 
 abbrev pub decreases-braces::set_or_dict : goal.decreases-braces::set_or_dict
-decreases-braces::set_or_dict l = 38 * l.room.expressions + 36
+decreases-braces::set_or_dict l = 38 * l.room.expressions + 37
 
 abbrev pub decreases-compounds::carried : goal.decreases-compounds::carried
 decreases-compounds::carried l = 38 * l.room.expressions + 1

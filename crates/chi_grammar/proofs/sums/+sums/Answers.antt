@@ -1,7 +1,7 @@
 use Rattle.std.proofs.Common.{◌∷◌, [], ◌++◌, ◌||◌, ◌==◌, refl, sym, ◌∙◌}
 use Rattle.chi_grammar.specs.declared.room.Nesting.TheVariants.{Expression}
 use Rattle.chi_grammar.specs.Rules.{pair, leaf, none, part, many, word, deeper, ◌▸◌}
-use Rattle.chi_grammar.specs.Runs as runs
+use Rattle.chi_grammar.specs.RuleRuns as runs
 use Rattle.chi_grammar.specs.Reads.{attach}
 use Rattle.chi_grammar.specs.Sample.{Sum, Term, Round, sample, sample_table, has_round, plus, digit, open_round}
 use Rattle.chi_grammar.proofs.Exits.{read, run_word, run_no_word, run_refused, reads_part, reads_right, reads_deeper, failed}

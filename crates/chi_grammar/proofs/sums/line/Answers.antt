@@ -1,6 +1,6 @@
 use Rattle.std.proofs.Common.{◌==◌, ◌||◌, ◌∙◌}
 use Rattle.chi_grammar.specs.Rules.{part}
-use Rattle.chi_grammar.specs.Runs as runs
+use Rattle.chi_grammar.specs.RuleRuns as runs
 use Rattle.chi_grammar.specs.Sample.{Line, sample, sample_table, has_round, open_round}
 use Rattle.chi_grammar.proofs.Exits.{read, run_word, run_no_word, failed}
 use Rattle.chi_grammar.proofs.SampleLemmas.{or_false}

@@ -1,5 +1,5 @@
 use Rattle.std.proofs.Common.{◌==◌, refl, sym, ap, ◌∙◌}
-use Rattle.chi_grammar.specs.Runs as runs
+use Rattle.chi_grammar.specs.RuleRuns as runs
 use Rattle.chi_grammar.specs.Sample.{sample, sample_table, has_round, open_round}
 use Rattle.chi_grammar.proofs.Exits.{read, run_word}
 use Rattle.chi_grammar.proofs.sums.take_if.Goals as goal

@@ -7,51 +7,51 @@ use Rattle.chi_tree.specs.Tables.{table}
 use Rattle.chi_tree.specs.Statements.{definition_of}
 use Rattle.chi_parse.proofs.definitions.defined.Goals as goal
 
-pub returns-then-begins : goal.returns-then-begins
-returns-then-begins c = reads_part grammar table _ definition_of _ s.Defined _ _
-    (reads_left grammar table _ _ _ (part s.EnumDef) (part s.ConstDef ∣ part s.TypeDef ∣ part s.FuncDef ∣ part s.ProcDef ∣ part s.ModelDef ∣ part s.XperDef) _ _ (c.begins.ensures ∙ c.if-begins.true) c.enumeration.ensures)
+pub returns-then-is_next : goal.returns-then-is_next
+returns-then-is_next c = reads_part grammar table _ definition_of _ s.Defined _ _
+    (reads_left grammar table _ _ _ (part s.EnumDef) (part s.ConstDef ∣ part s.TypeDef ∣ part s.FuncDef ∣ part s.ProcDef ∣ part s.ModelDef ∣ part s.XperDef) _ _ (c.is_next.ensures ∙ c.if-is_next.true) c.enumeration.ensures)
 
-pub returns-then-begins-2 : goal.returns-then-begins-2
-returns-then-begins-2 c = reads_part grammar table _ definition_of _ s.Defined _ _
-    (reads_right grammar table _ _ _ (part s.EnumDef) (part s.ConstDef ∣ part s.TypeDef ∣ part s.FuncDef ∣ part s.ProcDef ∣ part s.ModelDef ∣ part s.XperDef) _ _ (c.begins.ensures ∙ c.if-begins.false)
-    (reads_left grammar table _ _ _ (part s.ConstDef) (part s.TypeDef ∣ part s.FuncDef ∣ part s.ProcDef ∣ part s.ModelDef ∣ part s.XperDef) _ _ (c.begins-2.ensures ∙ c.if-begins-2.true) c.constant.ensures))
+pub returns-then-is_next-2 : goal.returns-then-is_next-2
+returns-then-is_next-2 c = reads_part grammar table _ definition_of _ s.Defined _ _
+    (reads_right grammar table _ _ _ (part s.EnumDef) (part s.ConstDef ∣ part s.TypeDef ∣ part s.FuncDef ∣ part s.ProcDef ∣ part s.ModelDef ∣ part s.XperDef) _ _ (c.is_next.ensures ∙ c.if-is_next.false)
+    (reads_left grammar table _ _ _ (part s.ConstDef) (part s.TypeDef ∣ part s.FuncDef ∣ part s.ProcDef ∣ part s.ModelDef ∣ part s.XperDef) _ _ (c.is_next-2.ensures ∙ c.if-is_next-2.true) c.constant.ensures))
 
-pub returns-then-begins-3 : goal.returns-then-begins-3
-returns-then-begins-3 c = reads_part grammar table _ definition_of _ s.Defined _ _
-    (reads_right grammar table _ _ _ (part s.EnumDef) (part s.ConstDef ∣ part s.TypeDef ∣ part s.FuncDef ∣ part s.ProcDef ∣ part s.ModelDef ∣ part s.XperDef) _ _ (c.begins.ensures ∙ c.if-begins.false)
-    (reads_right grammar table _ _ _ (part s.ConstDef) (part s.TypeDef ∣ part s.FuncDef ∣ part s.ProcDef ∣ part s.ModelDef ∣ part s.XperDef) _ _ (c.begins-2.ensures ∙ c.if-begins-2.false)
-    (reads_left grammar table _ _ _ (part s.TypeDef) (part s.FuncDef ∣ part s.ProcDef ∣ part s.ModelDef ∣ part s.XperDef) _ _ (c.begins-3.ensures ∙ c.if-begins-3.true) c.type_name.ensures)))
+pub returns-then-is_next-3 : goal.returns-then-is_next-3
+returns-then-is_next-3 c = reads_part grammar table _ definition_of _ s.Defined _ _
+    (reads_right grammar table _ _ _ (part s.EnumDef) (part s.ConstDef ∣ part s.TypeDef ∣ part s.FuncDef ∣ part s.ProcDef ∣ part s.ModelDef ∣ part s.XperDef) _ _ (c.is_next.ensures ∙ c.if-is_next.false)
+    (reads_right grammar table _ _ _ (part s.ConstDef) (part s.TypeDef ∣ part s.FuncDef ∣ part s.ProcDef ∣ part s.ModelDef ∣ part s.XperDef) _ _ (c.is_next-2.ensures ∙ c.if-is_next-2.false)
+    (reads_left grammar table _ _ _ (part s.TypeDef) (part s.FuncDef ∣ part s.ProcDef ∣ part s.ModelDef ∣ part s.XperDef) _ _ (c.is_next-3.ensures ∙ c.if-is_next-3.true) c.type_name.ensures)))
 
-pub returns-then-begins-4 : goal.returns-then-begins-4
-returns-then-begins-4 c = reads_part grammar table _ definition_of _ s.Defined _ _
-    (reads_right grammar table _ _ _ (part s.EnumDef) (part s.ConstDef ∣ part s.TypeDef ∣ part s.FuncDef ∣ part s.ProcDef ∣ part s.ModelDef ∣ part s.XperDef) _ _ (c.begins.ensures ∙ c.if-begins.false)
-    (reads_right grammar table _ _ _ (part s.ConstDef) (part s.TypeDef ∣ part s.FuncDef ∣ part s.ProcDef ∣ part s.ModelDef ∣ part s.XperDef) _ _ (c.begins-2.ensures ∙ c.if-begins-2.false)
-    (reads_right grammar table _ _ _ (part s.TypeDef) (part s.FuncDef ∣ part s.ProcDef ∣ part s.ModelDef ∣ part s.XperDef) _ _ (c.begins-3.ensures ∙ c.if-begins-3.false)
-    (reads_left grammar table _ _ _ (part s.FuncDef) (part s.ProcDef ∣ part s.ModelDef ∣ part s.XperDef) _ _ (c.begins-4.ensures ∙ c.if-begins-4.true) c.function.ensures))))
+pub returns-then-is_next-4 : goal.returns-then-is_next-4
+returns-then-is_next-4 c = reads_part grammar table _ definition_of _ s.Defined _ _
+    (reads_right grammar table _ _ _ (part s.EnumDef) (part s.ConstDef ∣ part s.TypeDef ∣ part s.FuncDef ∣ part s.ProcDef ∣ part s.ModelDef ∣ part s.XperDef) _ _ (c.is_next.ensures ∙ c.if-is_next.false)
+    (reads_right grammar table _ _ _ (part s.ConstDef) (part s.TypeDef ∣ part s.FuncDef ∣ part s.ProcDef ∣ part s.ModelDef ∣ part s.XperDef) _ _ (c.is_next-2.ensures ∙ c.if-is_next-2.false)
+    (reads_right grammar table _ _ _ (part s.TypeDef) (part s.FuncDef ∣ part s.ProcDef ∣ part s.ModelDef ∣ part s.XperDef) _ _ (c.is_next-3.ensures ∙ c.if-is_next-3.false)
+    (reads_left grammar table _ _ _ (part s.FuncDef) (part s.ProcDef ∣ part s.ModelDef ∣ part s.XperDef) _ _ (c.is_next-4.ensures ∙ c.if-is_next-4.true) c.function.ensures))))
 
-pub returns-then-begins-5 : goal.returns-then-begins-5
-returns-then-begins-5 c = reads_part grammar table _ definition_of _ s.Defined _ _
-    (reads_right grammar table _ _ _ (part s.EnumDef) (part s.ConstDef ∣ part s.TypeDef ∣ part s.FuncDef ∣ part s.ProcDef ∣ part s.ModelDef ∣ part s.XperDef) _ _ (c.begins.ensures ∙ c.if-begins.false)
-    (reads_right grammar table _ _ _ (part s.ConstDef) (part s.TypeDef ∣ part s.FuncDef ∣ part s.ProcDef ∣ part s.ModelDef ∣ part s.XperDef) _ _ (c.begins-2.ensures ∙ c.if-begins-2.false)
-    (reads_right grammar table _ _ _ (part s.TypeDef) (part s.FuncDef ∣ part s.ProcDef ∣ part s.ModelDef ∣ part s.XperDef) _ _ (c.begins-3.ensures ∙ c.if-begins-3.false)
-    (reads_right grammar table _ _ _ (part s.FuncDef) (part s.ProcDef ∣ part s.ModelDef ∣ part s.XperDef) _ _ (c.begins-4.ensures ∙ c.if-begins-4.false)
-    (reads_left grammar table _ _ _ (part s.ProcDef) (part s.ModelDef ∣ part s.XperDef) _ _ (c.begins-5.ensures ∙ c.if-begins-5.true) c.process.ensures)))))
+pub returns-then-is_next-5 : goal.returns-then-is_next-5
+returns-then-is_next-5 c = reads_part grammar table _ definition_of _ s.Defined _ _
+    (reads_right grammar table _ _ _ (part s.EnumDef) (part s.ConstDef ∣ part s.TypeDef ∣ part s.FuncDef ∣ part s.ProcDef ∣ part s.ModelDef ∣ part s.XperDef) _ _ (c.is_next.ensures ∙ c.if-is_next.false)
+    (reads_right grammar table _ _ _ (part s.ConstDef) (part s.TypeDef ∣ part s.FuncDef ∣ part s.ProcDef ∣ part s.ModelDef ∣ part s.XperDef) _ _ (c.is_next-2.ensures ∙ c.if-is_next-2.false)
+    (reads_right grammar table _ _ _ (part s.TypeDef) (part s.FuncDef ∣ part s.ProcDef ∣ part s.ModelDef ∣ part s.XperDef) _ _ (c.is_next-3.ensures ∙ c.if-is_next-3.false)
+    (reads_right grammar table _ _ _ (part s.FuncDef) (part s.ProcDef ∣ part s.ModelDef ∣ part s.XperDef) _ _ (c.is_next-4.ensures ∙ c.if-is_next-4.false)
+    (reads_left grammar table _ _ _ (part s.ProcDef) (part s.ModelDef ∣ part s.XperDef) _ _ (c.is_next-5.ensures ∙ c.if-is_next-5.true) c.process.ensures)))))
 
-pub returns-then-begins-6 : goal.returns-then-begins-6
-returns-then-begins-6 c = reads_part grammar table _ definition_of _ s.Defined _ _
-    (reads_right grammar table _ _ _ (part s.EnumDef) (part s.ConstDef ∣ part s.TypeDef ∣ part s.FuncDef ∣ part s.ProcDef ∣ part s.ModelDef ∣ part s.XperDef) _ _ (c.begins.ensures ∙ c.if-begins.false)
-    (reads_right grammar table _ _ _ (part s.ConstDef) (part s.TypeDef ∣ part s.FuncDef ∣ part s.ProcDef ∣ part s.ModelDef ∣ part s.XperDef) _ _ (c.begins-2.ensures ∙ c.if-begins-2.false)
-    (reads_right grammar table _ _ _ (part s.TypeDef) (part s.FuncDef ∣ part s.ProcDef ∣ part s.ModelDef ∣ part s.XperDef) _ _ (c.begins-3.ensures ∙ c.if-begins-3.false)
-    (reads_right grammar table _ _ _ (part s.FuncDef) (part s.ProcDef ∣ part s.ModelDef ∣ part s.XperDef) _ _ (c.begins-4.ensures ∙ c.if-begins-4.false)
-    (reads_right grammar table _ _ _ (part s.ProcDef) (part s.ModelDef ∣ part s.XperDef) _ _ (c.begins-5.ensures ∙ c.if-begins-5.false)
-    (reads_left grammar table _ _ _ (part s.ModelDef) (part s.XperDef) _ _ (c.begins-6.ensures ∙ c.if-begins-6.true) c.model.ensures))))))
+pub returns-then-is_next-6 : goal.returns-then-is_next-6
+returns-then-is_next-6 c = reads_part grammar table _ definition_of _ s.Defined _ _
+    (reads_right grammar table _ _ _ (part s.EnumDef) (part s.ConstDef ∣ part s.TypeDef ∣ part s.FuncDef ∣ part s.ProcDef ∣ part s.ModelDef ∣ part s.XperDef) _ _ (c.is_next.ensures ∙ c.if-is_next.false)
+    (reads_right grammar table _ _ _ (part s.ConstDef) (part s.TypeDef ∣ part s.FuncDef ∣ part s.ProcDef ∣ part s.ModelDef ∣ part s.XperDef) _ _ (c.is_next-2.ensures ∙ c.if-is_next-2.false)
+    (reads_right grammar table _ _ _ (part s.TypeDef) (part s.FuncDef ∣ part s.ProcDef ∣ part s.ModelDef ∣ part s.XperDef) _ _ (c.is_next-3.ensures ∙ c.if-is_next-3.false)
+    (reads_right grammar table _ _ _ (part s.FuncDef) (part s.ProcDef ∣ part s.ModelDef ∣ part s.XperDef) _ _ (c.is_next-4.ensures ∙ c.if-is_next-4.false)
+    (reads_right grammar table _ _ _ (part s.ProcDef) (part s.ModelDef ∣ part s.XperDef) _ _ (c.is_next-5.ensures ∙ c.if-is_next-5.false)
+    (reads_left grammar table _ _ _ (part s.ModelDef) (part s.XperDef) _ _ (c.is_next-6.ensures ∙ c.if-is_next-6.true) c.model.ensures))))))
 
 pub returns : goal.returns
 returns c = reads_part grammar table _ definition_of _ s.Defined _ _
-    (reads_right grammar table _ _ _ (part s.EnumDef) (part s.ConstDef ∣ part s.TypeDef ∣ part s.FuncDef ∣ part s.ProcDef ∣ part s.ModelDef ∣ part s.XperDef) _ _ (c.begins.ensures ∙ c.if-begins.false)
-    (reads_right grammar table _ _ _ (part s.ConstDef) (part s.TypeDef ∣ part s.FuncDef ∣ part s.ProcDef ∣ part s.ModelDef ∣ part s.XperDef) _ _ (c.begins-2.ensures ∙ c.if-begins-2.false)
-    (reads_right grammar table _ _ _ (part s.TypeDef) (part s.FuncDef ∣ part s.ProcDef ∣ part s.ModelDef ∣ part s.XperDef) _ _ (c.begins-3.ensures ∙ c.if-begins-3.false)
-    (reads_right grammar table _ _ _ (part s.FuncDef) (part s.ProcDef ∣ part s.ModelDef ∣ part s.XperDef) _ _ (c.begins-4.ensures ∙ c.if-begins-4.false)
-    (reads_right grammar table _ _ _ (part s.ProcDef) (part s.ModelDef ∣ part s.XperDef) _ _ (c.begins-5.ensures ∙ c.if-begins-5.false)
-    (reads_right grammar table _ _ _ (part s.ModelDef) (part s.XperDef) _ _ (c.begins-6.ensures ∙ c.if-begins-6.false)
+    (reads_right grammar table _ _ _ (part s.EnumDef) (part s.ConstDef ∣ part s.TypeDef ∣ part s.FuncDef ∣ part s.ProcDef ∣ part s.ModelDef ∣ part s.XperDef) _ _ (c.is_next.ensures ∙ c.if-is_next.false)
+    (reads_right grammar table _ _ _ (part s.ConstDef) (part s.TypeDef ∣ part s.FuncDef ∣ part s.ProcDef ∣ part s.ModelDef ∣ part s.XperDef) _ _ (c.is_next-2.ensures ∙ c.if-is_next-2.false)
+    (reads_right grammar table _ _ _ (part s.TypeDef) (part s.FuncDef ∣ part s.ProcDef ∣ part s.ModelDef ∣ part s.XperDef) _ _ (c.is_next-3.ensures ∙ c.if-is_next-3.false)
+    (reads_right grammar table _ _ _ (part s.FuncDef) (part s.ProcDef ∣ part s.ModelDef ∣ part s.XperDef) _ _ (c.is_next-4.ensures ∙ c.if-is_next-4.false)
+    (reads_right grammar table _ _ _ (part s.ProcDef) (part s.ModelDef ∣ part s.XperDef) _ _ (c.is_next-5.ensures ∙ c.if-is_next-5.false)
+    (reads_right grammar table _ _ _ (part s.ModelDef) (part s.XperDef) _ _ (c.is_next-6.ensures ∙ c.if-is_next-6.false)
     c.experiment.ensures))))))

@@ -1,14 +1,17 @@
-use Rattle.chi_token.specs.declared.sign.Sign.TheVariants as sign_of
-use Rattle.chi_grammar.specs.declared.room.Nesting.TheVariants.{Expression}
-use Rattle.chi_grammar.specs.Rules.{part, ◌▸◌}
-use Rattle.chi_grammar.specs.Runs as runs
-use Rattle.chi_grammar.proofs.Exits.{read, run_word, run_no_word, run_refused, failed}
+use Rattle.std.proofs.Common.{◌∙◌}
+use Rattle.chi_grammar.specs.Rules.{leaf, part}
+use Rattle.chi_grammar.specs.RuleRuns as runs
+use Rattle.chi_grammar.proofs.Exits.{read, run_word, run_no_word, failed}
 use Rattle.chi_tree.specs.declared.definition.Definition.TheVariants as definition
 use Rattle.chi_tree.specs.Parts as s
-use Rattle.chi_tree.specs.Rules.{grammar, sign}
+use Rattle.chi_tree.specs.Rules.{grammar}
 use Rattle.chi_tree.specs.Tables.{table}
 use Rattle.chi_tree.specs.Statements.{definition_of}
+use Rattle.chi_parse.proofs.Shapes.{enumeration_shows}
 use Rattle.chi_parse.proofs.definitions.enumeration.Goals as goal
+
+pub values-requires-clause-inside : goal.values-requires-clause-inside
+values-requires-clause-inside c = (c.in_ok-name.ensures c.args.room).inside
 
 pub returns-in_err-word : goal.returns-in_err-word
 returns-in_err-word c = failed grammar table _ definition_of _ (part s.EnumDef) _ _ _ c.from_residual.ensures.1
@@ -18,27 +21,12 @@ pub returns-in_err-name : goal.returns-in_err-name
 returns-in_err-name c = failed grammar table _ definition_of _ (part s.EnumDef) _ _ _ c.from_residual-in_err-name.ensures.1
     (runs.part_fails (runs.next_fails (run_word grammar table _ c.in_ok-word.ensures) (runs.first_fails (c.in_err-name.ensures c.args.room))))
 
-pub returns-in_err-from : goal.returns-in_err-from
-returns-in_err-from c = failed grammar table _ definition_of _ (part s.EnumDef) _ _ _ c.from_residual-in_err-from.ensures.1
-    (runs.part_fails (runs.next_fails (run_word grammar table _ c.in_ok-word.ensures) (runs.next_fails (c.in_ok-name.ensures c.args.room).runs (runs.first_fails (run_no_word grammar table _ c.in_err-from.ensures)))))
-
-pub returns-in_err-inner : goal.returns-in_err-inner
-returns-in_err-inner c = failed grammar table _ definition_of _ (part s.EnumDef) _ _ _ c.from_residual-in_err-inner.ensures.1
-    (runs.part_fails (runs.next_fails (run_word grammar table _ c.in_ok-word.ensures) (runs.next_fails (c.in_ok-name.ensures c.args.room).runs (runs.next_fails (run_word grammar table _ c.in_ok-from.ensures) (run_refused grammar table _ _ Expression (sign sign_of.LeftBrace ▸ part s.Names ▸ sign sign_of.RightBrace) _ _ c.in_err-inner.ensures.0 c.in_err-inner.ensures.1)))))
-
-pub returns-in_err-next : goal.returns-in_err-next
-returns-in_err-next c = failed grammar table _ definition_of _ (part s.EnumDef) _ _ _ c.from_residual-in_err-next.ensures.1
-    (runs.part_fails (runs.next_fails (run_word grammar table _ c.in_ok-word.ensures) (runs.next_fails (c.in_ok-name.ensures c.args.room).runs (runs.next_fails (run_word grammar table _ c.in_ok-from.ensures) (runs.deeper c.in_ok-inner.ensures (runs.first_fails (run_no_word grammar table _ c.in_err-next.ensures)))))))
-
-pub returns-in_err-names : goal.returns-in_err-names
-returns-in_err-names c = failed grammar table _ definition_of _ (part s.EnumDef) _ _ _ c.from_residual-in_err-names.ensures.1
-    (runs.part_fails (runs.next_fails (run_word grammar table _ c.in_ok-word.ensures) (runs.next_fails (c.in_ok-name.ensures c.args.room).runs (runs.next_fails (run_word grammar table _ c.in_ok-from.ensures) (runs.deeper c.in_ok-inner.ensures (runs.next_fails (run_word grammar table _ c.in_ok-next.ensures) (runs.first_fails (c.in_err-names.ensures c.in_ok-inner.inner))))))))
-
-pub returns-in_err-end : goal.returns-in_err-end
-returns-in_err-end c = failed grammar table _ definition_of _ (part s.EnumDef) _ _ _ c.from_residual-in_err-end.ensures.1
-    (runs.part_fails (runs.next_fails (run_word grammar table _ c.in_ok-word.ensures) (runs.next_fails (c.in_ok-name.ensures c.args.room).runs (runs.next_fails (run_word grammar table _ c.in_ok-from.ensures) (runs.deeper c.in_ok-inner.ensures (runs.next_fails (run_word grammar table _ c.in_ok-next.ensures) (runs.next_fails (c.in_ok-names.ensures c.in_ok-inner.inner).runs (run_no_word grammar table _ c.in_err-end.ensures))))))))
+pub returns-in_err-values : goal.returns-in_err-values
+returns-in_err-values c = failed grammar table _ definition_of _ (part s.EnumDef) _ _ _ c.from_residual-in_err-values.ensures.1
+    (runs.part_fails (runs.next_fails (run_word grammar table _ c.in_ok-word.ensures) (runs.next_fails (c.in_ok-name.ensures c.args.room).runs c.in_err-values.ensures)))
 
 pub returns : goal.returns
 returns c = read grammar table _ (definition_of) c.requires.inside
-    (runs.part (runs.both (run_word grammar table _ c.in_ok-word.ensures) (runs.both (c.in_ok-name.ensures c.args.room).runs (runs.both (run_word grammar table _ c.in_ok-from.ensures) (runs.deeper c.in_ok-inner.ensures (runs.both (run_word grammar table _ c.in_ok-next.ensures) (runs.both (c.in_ok-names.ensures c.in_ok-inner.inner).runs (run_word grammar table _ c.in_ok-end.ensures))))))))
-    (λ i. definition.Enum c.in_ok-word.word.now.place ((c.in_ok-name.ensures c.args.room).shows i) ((c.in_ok-names.ensures c.in_ok-inner.inner).shows i))
+    (runs.part (runs.both (run_word grammar table _ c.in_ok-word.ensures) (runs.both (c.in_ok-name.ensures c.args.room).runs c.in_ok-values.ensures.runs)))
+    (enumeration_shows c.in_ok-values.ensures.runs (leaf c.in_ok-word.word.now) (c.in_ok-name.ensures c.args.room).tree
+    ∙ (λ i. definition.Enum c.in_ok-word.word.now.place ((c.in_ok-name.ensures c.args.room).shows i) (c.in_ok-values.ensures.shows i)))

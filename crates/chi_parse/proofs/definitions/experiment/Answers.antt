@@ -1,7 +1,7 @@
 use Rattle.chi_token.specs.declared.sign.Sign.TheVariants as sign_of
 use Rattle.chi_grammar.specs.declared.room.Nesting.TheVariants.{Expression}
 use Rattle.chi_grammar.specs.Rules.{part, ◌▸◌}
-use Rattle.chi_grammar.specs.Runs as runs
+use Rattle.chi_grammar.specs.RuleRuns as runs
 use Rattle.chi_grammar.proofs.Exits.{read, run_word, run_no_word, run_refused, failed}
 use Rattle.chi_tree.specs.declared.definition.Definition.TheVariants as definition
 use Rattle.chi_tree.specs.Parts as s

@@ -1,11 +1,13 @@
-use Rattle.chi_grammar.specs.Rules.{part}
-use Rattle.chi_grammar.specs.Runs as runs
+use Rattle.std.proofs.Common.{◌∙◌}
+use Rattle.chi_grammar.specs.Rules.{leaf, part}
+use Rattle.chi_grammar.specs.RuleRuns as runs
 use Rattle.chi_grammar.proofs.Exits.{read, run_word, run_no_word, failed}
 use Rattle.chi_tree.specs.declared.definition.Definition.TheVariants as definition
 use Rattle.chi_tree.specs.Parts as s
 use Rattle.chi_tree.specs.Rules.{grammar}
 use Rattle.chi_tree.specs.Tables.{table}
 use Rattle.chi_tree.specs.Statements.{definition_of}
+use Rattle.chi_parse.proofs.Shapes.{process_shows}
 use Rattle.chi_parse.proofs.definitions.process.Goals as goal
 
 pub returns-in_err-word : goal.returns-in_err-word
@@ -18,13 +20,11 @@ returns-in_err-ty c = failed grammar table _ definition_of _ (part s.ProcDef) _ 
 
 pub returns-in_err-formals : goal.returns-in_err-formals
 returns-in_err-formals c = failed grammar table _ definition_of _ (part s.ProcDef) _ _ _ c.from_residual-in_err-formals.ensures.1
-    (runs.part_fails (runs.next_fails (run_word grammar table _ c.in_ok-word.ensures) (runs.next_fails c.in_ok-ty.ensures.runs (runs.first_fails c.in_err-formals.ensures))))
-
-pub returns-in_err-block : goal.returns-in_err-block
-returns-in_err-block c = failed grammar table _ definition_of _ (part s.ProcDef) _ _ _ c.from_residual-in_err-block.ensures.1
-    (runs.part_fails (runs.next_fails (run_word grammar table _ c.in_ok-word.ensures) (runs.next_fails c.in_ok-ty.ensures.runs (runs.next_fails c.in_ok-formals.ensures.runs c.in_err-block.ensures))))
+    (runs.part_fails (runs.next_fails (run_word grammar table _ c.in_ok-word.ensures) (runs.next_fails c.in_ok-ty.ensures.runs c.in_err-formals.ensures)))
 
 pub returns : goal.returns
 returns c = read grammar table _ (definition_of) c.requires.inside
-    (runs.part (runs.both (run_word grammar table _ c.in_ok-word.ensures) (runs.both c.in_ok-ty.ensures.runs (runs.both c.in_ok-formals.ensures.runs c.in_ok-block.ensures.runs))))
-    (λ i. definition.Proc c.in_ok-word.word.now.place (c.in_ok-ty.ensures.shows i).0 (c.in_ok-ty.ensures.shows i).1 (c.in_ok-formals.ensures.shows i) (c.in_ok-block.ensures.shows i))
+    (runs.part (runs.both (run_word grammar table _ c.in_ok-word.ensures) (runs.both c.in_ok-ty.ensures.runs c.in_ok-formals.ensures.runs)))
+    (process_shows c.in_ok-formals.ensures.runs (leaf c.in_ok-word.word.now) c.in_ok-ty.ensures.tree
+    ∙ (λ i. definition.Proc c.in_ok-word.word.now.place (c.in_ok-ty.ensures.shows i).0 (c.in_ok-ty.ensures.shows i).1
+    (c.in_ok-formals.ensures.shows i).0 (c.in_ok-formals.ensures.shows i).1))

@@ -1,6 +1,6 @@
 use Rattle.std.proofs.Common.{◌≡◌, refl, ◌∙◌, Some, None}
 use Rattle.chi_grammar.specs.Rules.{leaf, node, pair, none, part}
-use Rattle.chi_grammar.specs.Runs as runs
+use Rattle.chi_grammar.specs.RuleRuns as runs
 use Rattle.chi_grammar.proofs.Exits.{read, failed}
 use Rattle.chi_tree.specs.declared.type_tree.TypeTree.TheVariants as type
 use Rattle.chi_tree.specs.Parts as s
@@ -13,34 +13,34 @@ use Rattle.chi_parse.proofs.formal.head.Goals as goal
 
 pub returns-in_err-ty : goal.returns-in_err-ty
 returns-in_err-ty c = failed grammar table _ head_of _ (part s.Head) _ _ _ c.from_residual.ensures.1
-    (runs.part_fails (runs.left (c.begins.ensures ∙ c.if-begins.true) (runs.first_fails c.in_err-ty.ensures)))
+    (runs.part_fails (runs.left (c.is_next.ensures ∙ c.if-is_next.true) (runs.first_fails c.in_err-ty.ensures)))
 
 pub returns-in_err-name : goal.returns-in_err-name
 returns-in_err-name c = failed grammar table _ head_of _ (part s.Head) _ _ _ c.from_residual-in_err-name.ensures.1
-    (runs.part_fails (runs.left (c.begins.ensures ∙ c.if-begins.true) (runs.next_fails c.in_ok-ty.ensures.runs (c.in_err-name.ensures c.args.room))))
+    (runs.part_fails (runs.left (c.is_next.ensures ∙ c.if-is_next.true) (runs.next_fails c.in_ok-ty.ensures.runs (c.in_err-name.ensures c.args.room))))
 
-pub returns-then-begins : goal.returns-then-begins
-returns-then-begins c = read grammar table _ (head_of) c.requires.inside (runs.part (runs.left (c.begins.ensures ∙ c.if-begins.true) (runs.both c.in_ok-ty.ensures.runs (c.in_ok-name.ensures c.args.room).runs)))
+pub returns-then-is_next : goal.returns-then-is_next
+returns-then-is_next c = read grammar table _ (head_of) c.requires.inside (runs.part (runs.left (c.is_next.ensures ∙ c.if-is_next.true) (runs.both c.in_ok-ty.ensures.runs (c.in_ok-name.ensures c.args.room).runs)))
     (by_part (λ t. head_of (node s.Head (pair t (c.in_ok-name.ensures c.args.room).tree)) ≡ (Some (type_of t), name_in (c.in_ok-name.ensures c.args.room).tree)) (λ u. refl) c.in_ok-ty.ensures.runs
     ∙ (λ i. (Some (c.in_ok-ty.ensures.shows i), (c.in_ok-name.ensures c.args.room).shows i)))
 
 pub returns-in_err-first : goal.returns-in_err-first
 returns-in_err-first c = failed grammar table _ head_of _ (part s.Head) _ _ _ c.from_residual-in_err-first.ensures.1
-    (runs.part_fails (runs.right (c.begins.ensures ∙ c.if-begins.false) (runs.first_fails (c.in_err-first.ensures c.args.room))))
+    (runs.part_fails (runs.right (c.is_next.ensures ∙ c.if-is_next.false) (runs.first_fails (c.in_err-first.ensures c.args.room))))
 
-pub returns-then-not-begins : goal.returns-then-not-begins
-returns-then-not-begins c = read grammar table _ (head_of) c.requires.inside (runs.part (runs.right (c.begins.ensures ∙ c.if-begins.false) (runs.both (c.in_ok-first.ensures c.args.room).runs (runs.never (c.begins-2.ensures ∙ c.if-not-begins.true)))))
+pub returns-then-not-is_next : goal.returns-then-not-is_next
+returns-then-not-is_next c = read grammar table _ (head_of) c.requires.inside (runs.part (runs.right (c.is_next.ensures ∙ c.if-is_next.false) (runs.both (c.in_ok-first.ensures c.args.room).runs (runs.never (c.is_next-2.ensures ∙ c.if-not-is_next.true)))))
     (by_word (λ t. head_of (node s.Head (pair t none)) ≡ (None, name_in t)) (λ x. refl) (c.in_ok-first.ensures c.args.room).runs ∙ (λ i. (None, (c.in_ok-first.ensures c.args.room).shows i)))
 
 pub returns-in_err-second : goal.returns-in_err-second
 returns-in_err-second c = failed grammar table _ head_of _ (part s.Head) _ _ _ c.from_residual-in_err-second.ensures.1
-    (runs.part_fails (runs.right (c.begins.ensures ∙ c.if-begins.false) (runs.next_fails (c.in_ok-first.ensures c.args.room).runs (runs.once (c.begins-2.ensures ∙ c.if-not-begins.false) (c.in_err-second.ensures c.args.room)))))
+    (runs.part_fails (runs.right (c.is_next.ensures ∙ c.if-is_next.false) (runs.next_fails (c.in_ok-first.ensures c.args.room).runs (runs.once (c.is_next-2.ensures ∙ c.if-not-is_next.false) (c.in_err-second.ensures c.args.room)))))
 
 pub take_name-requires-3-clause-inside : goal.take_name-requires-3-clause-inside
 take_name-requires-3-clause-inside c = (c.in_ok-first.ensures c.args.room).inside
 
 pub returns : goal.returns
-returns c = read grammar table _ (head_of) c.requires.inside (runs.part (runs.right (c.begins.ensures ∙ c.if-begins.false) (runs.both (c.in_ok-first.ensures c.args.room).runs (runs.once (c.begins-2.ensures ∙ c.if-not-begins.false) (c.in_ok-second.ensures c.args.room).runs))))
+returns c = read grammar table _ (head_of) c.requires.inside (runs.part (runs.right (c.is_next.ensures ∙ c.if-is_next.false) (runs.both (c.in_ok-first.ensures c.args.room).runs (runs.once (c.is_next-2.ensures ∙ c.if-not-is_next.false) (c.in_ok-second.ensures c.args.room).runs))))
     (by_word (λ t. head_of (node s.Head (pair t (c.in_ok-second.ensures c.args.room).tree)) ≡ (Some (type.Defined (name_in t)), name_in (c.in_ok-second.ensures c.args.room).tree))
     (λ x. by_word (λ n. head_of (node s.Head (pair (leaf x) n)) ≡ (Some (type.Defined (name_in (leaf x))), name_in n)) (λ y. refl) (c.in_ok-second.ensures c.args.room).runs) (c.in_ok-first.ensures c.args.room).runs
     ∙ (λ i. (Some (type.Defined ((c.in_ok-first.ensures c.args.room).shows i)), (c.in_ok-second.ensures c.args.room).shows i)))

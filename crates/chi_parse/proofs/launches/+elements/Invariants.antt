@@ -19,6 +19,9 @@ decreases-element l = 5 * l.room.blocks + 2
 abbrev pub decreases-unwound_elements : goal.decreases-unwound_elements
 decreases-unwound_elements l = 5 * l.room.blocks + 1
 
+abbrev pub decreases-repeated_elements : goal.decreases-repeated_elements
+decreases-repeated_elements l = 5 * l.room.blocks + 0
+
 abbrev pub decreases-more_elements : goal.decreases-more_elements
 decreases-more_elements l = 5 * l.room.blocks + 3
 

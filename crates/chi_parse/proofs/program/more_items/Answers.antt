@@ -17,13 +17,13 @@ turn-init c = gathered_start _ (c.args.first ∷ []) (c.in_ok-push.ensures.items
 
 pub returns-in_err-next : goal.returns-in_err-next
 returns-in_err-next c = failed grammar table _ (λ ts. c.args.first ∷ items_of ts) _ (many (part s.Definition)) _ _ _ c.from_residual-in_err-next.ensures.1
-    (gathered_fails _ c.turn.invariant (c.begins.ensures ∙ c.turn-test.true) c.in_err-next.ensures)
+    (gathered_fails _ c.turn.invariant (c.is_next.ensures ∙ c.turn-test.true) c.in_err-next.ensures)
 
 pub returns-in_err-push-2 : goal.returns-in_err-push-2
 returns-in_err-push-2 c = no_memory grammar table _ (λ ts. c.args.first ∷ items_of ts) _ (many (part s.Definition)) _ _ c.from_residual-in_err-push-2.ensures.1
 
 pub turn-preserved : goal.turn-preserved
-turn-preserved c = gathered_more c.turn.invariant (c.begins.ensures ∙ c.turn-test.true) c.in_ok-next.ensures.runs _ (λ u i. c.in_ok-next.ensures.shows i ∷ items_of u) c.in_ok-next.ensures.inside _ c.in_ok-push-2.ensures.items
+turn-preserved c = gathered_more c.turn.invariant (c.is_next.ensures ∙ c.turn-test.true) c.in_ok-next.ensures.runs _ (λ u i. c.in_ok-next.ensures.shows i ∷ items_of u) c.in_ok-next.ensures.inside _ c.in_ok-push-2.ensures.items
 
 pub turn-smaller : goal.turn-smaller
 turn-smaller c = omega (arith, run_ahead c.in_ok-next.ensures.runs, c.in_ok-next.ensures.inside)
@@ -32,4 +32,4 @@ pub returns-in_err-of : goal.returns-in_err-of
 returns-in_err-of c = no_memory grammar table _ (λ ts. c.args.first ∷ items_of ts) _ (many (part s.Definition)) _ _ c.from_residual-in_err-of.ensures.1
 
 pub returns : goal.returns
-returns c = gathered_stop c.turn.invariant (c.begins.ensures ∙ c.turn-test.false) refl c.requires.inside _ c.in_ok-of.ensures.same
+returns c = gathered_stop c.turn.invariant (c.is_next.ensures ∙ c.turn-test.false) refl c.requires.inside _ c.in_ok-of.ensures.same

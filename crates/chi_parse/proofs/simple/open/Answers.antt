@@ -7,62 +7,62 @@ use Rattle.chi_tree.specs.Tables.{table}
 use Rattle.chi_tree.specs.Statements.{statement_of}
 use Rattle.chi_parse.proofs.simple.open.Goals as goal
 
-pub returns-then-begins : goal.returns-then-begins
-returns-then-begins c = reads_part grammar table _ statement_of _ s.Open _ _
-    (reads_left grammar table _ _ _ (part s.Declaration) (part s.NameLed ∣ part s.Timed ∣ part s.Jump ∣ part s.Return ∣ part s.Exit ∣ part s.Finish ∣ part s.Write) _ _ (c.begins.ensures ∙ c.if-begins.true) c.declaration.ensures)
+pub returns-then-is_next : goal.returns-then-is_next
+returns-then-is_next c = reads_part grammar table _ statement_of _ s.Open _ _
+    (reads_left grammar table _ _ _ (part s.Declaration) (part s.NameLed ∣ part s.Timed ∣ part s.Jump ∣ part s.Return ∣ part s.Exit ∣ part s.Finish ∣ part s.Write) _ _ (c.is_next.ensures ∙ c.if-is_next.true) c.declaration.ensures)
 
-pub returns-then-begins-2 : goal.returns-then-begins-2
-returns-then-begins-2 c = reads_part grammar table _ statement_of _ s.Open _ _
-    (reads_right grammar table _ _ _ (part s.Declaration) (part s.NameLed ∣ part s.Timed ∣ part s.Jump ∣ part s.Return ∣ part s.Exit ∣ part s.Finish ∣ part s.Write) _ _ (c.begins.ensures ∙ c.if-begins.false)
-    (reads_left grammar table _ _ _ (part s.NameLed) (part s.Timed ∣ part s.Jump ∣ part s.Return ∣ part s.Exit ∣ part s.Finish ∣ part s.Write) _ _ (c.begins-2.ensures ∙ c.if-begins-2.true) c.name_led.ensures))
+pub returns-then-is_next-2 : goal.returns-then-is_next-2
+returns-then-is_next-2 c = reads_part grammar table _ statement_of _ s.Open _ _
+    (reads_right grammar table _ _ _ (part s.Declaration) (part s.NameLed ∣ part s.Timed ∣ part s.Jump ∣ part s.Return ∣ part s.Exit ∣ part s.Finish ∣ part s.Write) _ _ (c.is_next.ensures ∙ c.if-is_next.false)
+    (reads_left grammar table _ _ _ (part s.NameLed) (part s.Timed ∣ part s.Jump ∣ part s.Return ∣ part s.Exit ∣ part s.Finish ∣ part s.Write) _ _ (c.is_next-2.ensures ∙ c.if-is_next-2.true) c.name_led.ensures))
 
-pub returns-then-begins-3 : goal.returns-then-begins-3
-returns-then-begins-3 c = reads_part grammar table _ statement_of _ s.Open _ _
-    (reads_right grammar table _ _ _ (part s.Declaration) (part s.NameLed ∣ part s.Timed ∣ part s.Jump ∣ part s.Return ∣ part s.Exit ∣ part s.Finish ∣ part s.Write) _ _ (c.begins.ensures ∙ c.if-begins.false)
-    (reads_right grammar table _ _ _ (part s.NameLed) (part s.Timed ∣ part s.Jump ∣ part s.Return ∣ part s.Exit ∣ part s.Finish ∣ part s.Write) _ _ (c.begins-2.ensures ∙ c.if-begins-2.false)
-    (reads_left grammar table _ _ _ (part s.Timed) (part s.Jump ∣ part s.Return ∣ part s.Exit ∣ part s.Finish ∣ part s.Write) _ _ (c.begins-3.ensures ∙ c.if-begins-3.true) c.timed.ensures)))
+pub returns-then-is_next-3 : goal.returns-then-is_next-3
+returns-then-is_next-3 c = reads_part grammar table _ statement_of _ s.Open _ _
+    (reads_right grammar table _ _ _ (part s.Declaration) (part s.NameLed ∣ part s.Timed ∣ part s.Jump ∣ part s.Return ∣ part s.Exit ∣ part s.Finish ∣ part s.Write) _ _ (c.is_next.ensures ∙ c.if-is_next.false)
+    (reads_right grammar table _ _ _ (part s.NameLed) (part s.Timed ∣ part s.Jump ∣ part s.Return ∣ part s.Exit ∣ part s.Finish ∣ part s.Write) _ _ (c.is_next-2.ensures ∙ c.if-is_next-2.false)
+    (reads_left grammar table _ _ _ (part s.Timed) (part s.Jump ∣ part s.Return ∣ part s.Exit ∣ part s.Finish ∣ part s.Write) _ _ (c.is_next-3.ensures ∙ c.if-is_next-3.true) c.timed.ensures)))
 
-pub returns-then-begins-4 : goal.returns-then-begins-4
-returns-then-begins-4 c = reads_part grammar table _ statement_of _ s.Open _ _
-    (reads_right grammar table _ _ _ (part s.Declaration) (part s.NameLed ∣ part s.Timed ∣ part s.Jump ∣ part s.Return ∣ part s.Exit ∣ part s.Finish ∣ part s.Write) _ _ (c.begins.ensures ∙ c.if-begins.false)
-    (reads_right grammar table _ _ _ (part s.NameLed) (part s.Timed ∣ part s.Jump ∣ part s.Return ∣ part s.Exit ∣ part s.Finish ∣ part s.Write) _ _ (c.begins-2.ensures ∙ c.if-begins-2.false)
-    (reads_right grammar table _ _ _ (part s.Timed) (part s.Jump ∣ part s.Return ∣ part s.Exit ∣ part s.Finish ∣ part s.Write) _ _ (c.begins-3.ensures ∙ c.if-begins-3.false)
-    (reads_left grammar table _ _ _ (part s.Jump) (part s.Return ∣ part s.Exit ∣ part s.Finish ∣ part s.Write) _ _ (c.begins-4.ensures ∙ c.if-begins-4.true) (c.jump.ensures c.args.room)))))
+pub returns-then-is_next-4 : goal.returns-then-is_next-4
+returns-then-is_next-4 c = reads_part grammar table _ statement_of _ s.Open _ _
+    (reads_right grammar table _ _ _ (part s.Declaration) (part s.NameLed ∣ part s.Timed ∣ part s.Jump ∣ part s.Return ∣ part s.Exit ∣ part s.Finish ∣ part s.Write) _ _ (c.is_next.ensures ∙ c.if-is_next.false)
+    (reads_right grammar table _ _ _ (part s.NameLed) (part s.Timed ∣ part s.Jump ∣ part s.Return ∣ part s.Exit ∣ part s.Finish ∣ part s.Write) _ _ (c.is_next-2.ensures ∙ c.if-is_next-2.false)
+    (reads_right grammar table _ _ _ (part s.Timed) (part s.Jump ∣ part s.Return ∣ part s.Exit ∣ part s.Finish ∣ part s.Write) _ _ (c.is_next-3.ensures ∙ c.if-is_next-3.false)
+    (reads_left grammar table _ _ _ (part s.Jump) (part s.Return ∣ part s.Exit ∣ part s.Finish ∣ part s.Write) _ _ (c.is_next-4.ensures ∙ c.if-is_next-4.true) (c.jump.ensures c.args.room)))))
 
-pub returns-then-begins-5 : goal.returns-then-begins-5
-returns-then-begins-5 c = reads_part grammar table _ statement_of _ s.Open _ _
-    (reads_right grammar table _ _ _ (part s.Declaration) (part s.NameLed ∣ part s.Timed ∣ part s.Jump ∣ part s.Return ∣ part s.Exit ∣ part s.Finish ∣ part s.Write) _ _ (c.begins.ensures ∙ c.if-begins.false)
-    (reads_right grammar table _ _ _ (part s.NameLed) (part s.Timed ∣ part s.Jump ∣ part s.Return ∣ part s.Exit ∣ part s.Finish ∣ part s.Write) _ _ (c.begins-2.ensures ∙ c.if-begins-2.false)
-    (reads_right grammar table _ _ _ (part s.Timed) (part s.Jump ∣ part s.Return ∣ part s.Exit ∣ part s.Finish ∣ part s.Write) _ _ (c.begins-3.ensures ∙ c.if-begins-3.false)
-    (reads_right grammar table _ _ _ (part s.Jump) (part s.Return ∣ part s.Exit ∣ part s.Finish ∣ part s.Write) _ _ (c.begins-4.ensures ∙ c.if-begins-4.false)
-    (reads_left grammar table _ _ _ (part s.Return) (part s.Exit ∣ part s.Finish ∣ part s.Write) _ _ (c.begins-5.ensures ∙ c.if-begins-5.true) c.returned.ensures)))))
+pub returns-then-is_next-5 : goal.returns-then-is_next-5
+returns-then-is_next-5 c = reads_part grammar table _ statement_of _ s.Open _ _
+    (reads_right grammar table _ _ _ (part s.Declaration) (part s.NameLed ∣ part s.Timed ∣ part s.Jump ∣ part s.Return ∣ part s.Exit ∣ part s.Finish ∣ part s.Write) _ _ (c.is_next.ensures ∙ c.if-is_next.false)
+    (reads_right grammar table _ _ _ (part s.NameLed) (part s.Timed ∣ part s.Jump ∣ part s.Return ∣ part s.Exit ∣ part s.Finish ∣ part s.Write) _ _ (c.is_next-2.ensures ∙ c.if-is_next-2.false)
+    (reads_right grammar table _ _ _ (part s.Timed) (part s.Jump ∣ part s.Return ∣ part s.Exit ∣ part s.Finish ∣ part s.Write) _ _ (c.is_next-3.ensures ∙ c.if-is_next-3.false)
+    (reads_right grammar table _ _ _ (part s.Jump) (part s.Return ∣ part s.Exit ∣ part s.Finish ∣ part s.Write) _ _ (c.is_next-4.ensures ∙ c.if-is_next-4.false)
+    (reads_left grammar table _ _ _ (part s.Return) (part s.Exit ∣ part s.Finish ∣ part s.Write) _ _ (c.is_next-5.ensures ∙ c.if-is_next-5.true) c.returned.ensures)))))
 
-pub returns-then-begins-6 : goal.returns-then-begins-6
-returns-then-begins-6 c = reads_part grammar table _ statement_of _ s.Open _ _
-    (reads_right grammar table _ _ _ (part s.Declaration) (part s.NameLed ∣ part s.Timed ∣ part s.Jump ∣ part s.Return ∣ part s.Exit ∣ part s.Finish ∣ part s.Write) _ _ (c.begins.ensures ∙ c.if-begins.false)
-    (reads_right grammar table _ _ _ (part s.NameLed) (part s.Timed ∣ part s.Jump ∣ part s.Return ∣ part s.Exit ∣ part s.Finish ∣ part s.Write) _ _ (c.begins-2.ensures ∙ c.if-begins-2.false)
-    (reads_right grammar table _ _ _ (part s.Timed) (part s.Jump ∣ part s.Return ∣ part s.Exit ∣ part s.Finish ∣ part s.Write) _ _ (c.begins-3.ensures ∙ c.if-begins-3.false)
-    (reads_right grammar table _ _ _ (part s.Jump) (part s.Return ∣ part s.Exit ∣ part s.Finish ∣ part s.Write) _ _ (c.begins-4.ensures ∙ c.if-begins-4.false)
-    (reads_right grammar table _ _ _ (part s.Return) (part s.Exit ∣ part s.Finish ∣ part s.Write) _ _ (c.begins-5.ensures ∙ c.if-begins-5.false)
-    (reads_left grammar table _ _ _ (part s.Exit) (part s.Finish ∣ part s.Write) _ _ (c.begins-6.ensures ∙ c.if-begins-6.true) c.exit.ensures))))))
+pub returns-then-is_next-6 : goal.returns-then-is_next-6
+returns-then-is_next-6 c = reads_part grammar table _ statement_of _ s.Open _ _
+    (reads_right grammar table _ _ _ (part s.Declaration) (part s.NameLed ∣ part s.Timed ∣ part s.Jump ∣ part s.Return ∣ part s.Exit ∣ part s.Finish ∣ part s.Write) _ _ (c.is_next.ensures ∙ c.if-is_next.false)
+    (reads_right grammar table _ _ _ (part s.NameLed) (part s.Timed ∣ part s.Jump ∣ part s.Return ∣ part s.Exit ∣ part s.Finish ∣ part s.Write) _ _ (c.is_next-2.ensures ∙ c.if-is_next-2.false)
+    (reads_right grammar table _ _ _ (part s.Timed) (part s.Jump ∣ part s.Return ∣ part s.Exit ∣ part s.Finish ∣ part s.Write) _ _ (c.is_next-3.ensures ∙ c.if-is_next-3.false)
+    (reads_right grammar table _ _ _ (part s.Jump) (part s.Return ∣ part s.Exit ∣ part s.Finish ∣ part s.Write) _ _ (c.is_next-4.ensures ∙ c.if-is_next-4.false)
+    (reads_right grammar table _ _ _ (part s.Return) (part s.Exit ∣ part s.Finish ∣ part s.Write) _ _ (c.is_next-5.ensures ∙ c.if-is_next-5.false)
+    (reads_left grammar table _ _ _ (part s.Exit) (part s.Finish ∣ part s.Write) _ _ (c.is_next-6.ensures ∙ c.if-is_next-6.true) c.exit.ensures))))))
 
-pub returns-then-begins-7 : goal.returns-then-begins-7
-returns-then-begins-7 c = reads_part grammar table _ statement_of _ s.Open _ _
-    (reads_right grammar table _ _ _ (part s.Declaration) (part s.NameLed ∣ part s.Timed ∣ part s.Jump ∣ part s.Return ∣ part s.Exit ∣ part s.Finish ∣ part s.Write) _ _ (c.begins.ensures ∙ c.if-begins.false)
-    (reads_right grammar table _ _ _ (part s.NameLed) (part s.Timed ∣ part s.Jump ∣ part s.Return ∣ part s.Exit ∣ part s.Finish ∣ part s.Write) _ _ (c.begins-2.ensures ∙ c.if-begins-2.false)
-    (reads_right grammar table _ _ _ (part s.Timed) (part s.Jump ∣ part s.Return ∣ part s.Exit ∣ part s.Finish ∣ part s.Write) _ _ (c.begins-3.ensures ∙ c.if-begins-3.false)
-    (reads_right grammar table _ _ _ (part s.Jump) (part s.Return ∣ part s.Exit ∣ part s.Finish ∣ part s.Write) _ _ (c.begins-4.ensures ∙ c.if-begins-4.false)
-    (reads_right grammar table _ _ _ (part s.Return) (part s.Exit ∣ part s.Finish ∣ part s.Write) _ _ (c.begins-5.ensures ∙ c.if-begins-5.false)
-    (reads_right grammar table _ _ _ (part s.Exit) (part s.Finish ∣ part s.Write) _ _ (c.begins-6.ensures ∙ c.if-begins-6.false)
-    (reads_left grammar table _ _ _ (part s.Finish) (part s.Write) _ _ (c.begins-7.ensures ∙ c.if-begins-7.true) c.finish.ensures)))))))
+pub returns-then-is_next-7 : goal.returns-then-is_next-7
+returns-then-is_next-7 c = reads_part grammar table _ statement_of _ s.Open _ _
+    (reads_right grammar table _ _ _ (part s.Declaration) (part s.NameLed ∣ part s.Timed ∣ part s.Jump ∣ part s.Return ∣ part s.Exit ∣ part s.Finish ∣ part s.Write) _ _ (c.is_next.ensures ∙ c.if-is_next.false)
+    (reads_right grammar table _ _ _ (part s.NameLed) (part s.Timed ∣ part s.Jump ∣ part s.Return ∣ part s.Exit ∣ part s.Finish ∣ part s.Write) _ _ (c.is_next-2.ensures ∙ c.if-is_next-2.false)
+    (reads_right grammar table _ _ _ (part s.Timed) (part s.Jump ∣ part s.Return ∣ part s.Exit ∣ part s.Finish ∣ part s.Write) _ _ (c.is_next-3.ensures ∙ c.if-is_next-3.false)
+    (reads_right grammar table _ _ _ (part s.Jump) (part s.Return ∣ part s.Exit ∣ part s.Finish ∣ part s.Write) _ _ (c.is_next-4.ensures ∙ c.if-is_next-4.false)
+    (reads_right grammar table _ _ _ (part s.Return) (part s.Exit ∣ part s.Finish ∣ part s.Write) _ _ (c.is_next-5.ensures ∙ c.if-is_next-5.false)
+    (reads_right grammar table _ _ _ (part s.Exit) (part s.Finish ∣ part s.Write) _ _ (c.is_next-6.ensures ∙ c.if-is_next-6.false)
+    (reads_left grammar table _ _ _ (part s.Finish) (part s.Write) _ _ (c.is_next-7.ensures ∙ c.if-is_next-7.true) c.finish.ensures)))))))
 
 pub returns : goal.returns
 returns c = reads_part grammar table _ statement_of _ s.Open _ _
-    (reads_right grammar table _ _ _ (part s.Declaration) (part s.NameLed ∣ part s.Timed ∣ part s.Jump ∣ part s.Return ∣ part s.Exit ∣ part s.Finish ∣ part s.Write) _ _ (c.begins.ensures ∙ c.if-begins.false)
-    (reads_right grammar table _ _ _ (part s.NameLed) (part s.Timed ∣ part s.Jump ∣ part s.Return ∣ part s.Exit ∣ part s.Finish ∣ part s.Write) _ _ (c.begins-2.ensures ∙ c.if-begins-2.false)
-    (reads_right grammar table _ _ _ (part s.Timed) (part s.Jump ∣ part s.Return ∣ part s.Exit ∣ part s.Finish ∣ part s.Write) _ _ (c.begins-3.ensures ∙ c.if-begins-3.false)
-    (reads_right grammar table _ _ _ (part s.Jump) (part s.Return ∣ part s.Exit ∣ part s.Finish ∣ part s.Write) _ _ (c.begins-4.ensures ∙ c.if-begins-4.false)
-    (reads_right grammar table _ _ _ (part s.Return) (part s.Exit ∣ part s.Finish ∣ part s.Write) _ _ (c.begins-5.ensures ∙ c.if-begins-5.false)
-    (reads_right grammar table _ _ _ (part s.Exit) (part s.Finish ∣ part s.Write) _ _ (c.begins-6.ensures ∙ c.if-begins-6.false)
-    (reads_right grammar table _ _ _ (part s.Finish) (part s.Write) _ _ (c.begins-7.ensures ∙ c.if-begins-7.false)
+    (reads_right grammar table _ _ _ (part s.Declaration) (part s.NameLed ∣ part s.Timed ∣ part s.Jump ∣ part s.Return ∣ part s.Exit ∣ part s.Finish ∣ part s.Write) _ _ (c.is_next.ensures ∙ c.if-is_next.false)
+    (reads_right grammar table _ _ _ (part s.NameLed) (part s.Timed ∣ part s.Jump ∣ part s.Return ∣ part s.Exit ∣ part s.Finish ∣ part s.Write) _ _ (c.is_next-2.ensures ∙ c.if-is_next-2.false)
+    (reads_right grammar table _ _ _ (part s.Timed) (part s.Jump ∣ part s.Return ∣ part s.Exit ∣ part s.Finish ∣ part s.Write) _ _ (c.is_next-3.ensures ∙ c.if-is_next-3.false)
+    (reads_right grammar table _ _ _ (part s.Jump) (part s.Return ∣ part s.Exit ∣ part s.Finish ∣ part s.Write) _ _ (c.is_next-4.ensures ∙ c.if-is_next-4.false)
+    (reads_right grammar table _ _ _ (part s.Return) (part s.Exit ∣ part s.Finish ∣ part s.Write) _ _ (c.is_next-5.ensures ∙ c.if-is_next-5.false)
+    (reads_right grammar table _ _ _ (part s.Exit) (part s.Finish ∣ part s.Write) _ _ (c.is_next-6.ensures ∙ c.if-is_next-6.false)
+    (reads_right grammar table _ _ _ (part s.Finish) (part s.Write) _ _ (c.is_next-7.ensures ∙ c.if-is_next-7.false)
     c.write.ensures)))))))

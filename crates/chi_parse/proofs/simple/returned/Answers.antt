@@ -1,5 +1,5 @@
 use Rattle.chi_grammar.specs.Rules.{part}
-use Rattle.chi_grammar.specs.Runs as runs
+use Rattle.chi_grammar.specs.RuleRuns as runs
 use Rattle.chi_grammar.proofs.Exits.{read, run_word, run_no_word, failed}
 use Rattle.chi_tree.specs.declared.statement.Statement.TheVariants as statement
 use Rattle.chi_tree.specs.Parts as s

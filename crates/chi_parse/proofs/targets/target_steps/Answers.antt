@@ -14,13 +14,13 @@ turn-init c = gathered_start _ [] c.new-steps.ensures.items (λ u. refl) c.requi
 
 pub returns-in_err-step : goal.returns-in_err-step
 returns-in_err-step c = failed grammar table _ postfixes_of _ (many (part s.TargetStep)) _ _ _ c.from_residual.ensures.1
-    (gathered_fails _ c.turn.invariant (c.begins.ensures ∙ c.turn-test.true) c.in_err-step.ensures)
+    (gathered_fails _ c.turn.invariant (c.is_next.ensures ∙ c.turn-test.true) c.in_err-step.ensures)
 
 pub returns-in_err-push : goal.returns-in_err-push
 returns-in_err-push c = no_memory grammar table _ postfixes_of _ (many (part s.TargetStep)) _ _ c.from_residual-in_err-push.ensures.1
 
 pub turn-preserved : goal.turn-preserved
-turn-preserved c = gathered_more c.turn.invariant (c.begins.ensures ∙ c.turn-test.true) c.in_ok-step.ensures.runs _ (λ u i. c.in_ok-step.ensures.shows i ∷ postfixes_of u) c.in_ok-step.ensures.inside _ c.in_ok-push.ensures.items
+turn-preserved c = gathered_more c.turn.invariant (c.is_next.ensures ∙ c.turn-test.true) c.in_ok-step.ensures.runs _ (λ u i. c.in_ok-step.ensures.shows i ∷ postfixes_of u) c.in_ok-step.ensures.inside _ c.in_ok-push.ensures.items
 
 pub turn-smaller : goal.turn-smaller
 turn-smaller c = omega (arith, run_ahead c.in_ok-step.ensures.runs, c.in_ok-step.ensures.inside)
@@ -29,4 +29,4 @@ pub returns-in_err-of : goal.returns-in_err-of
 returns-in_err-of c = no_memory grammar table _ postfixes_of _ (many (part s.TargetStep)) _ _ c.from_residual-in_err-of.ensures.1
 
 pub returns : goal.returns
-returns c = gathered_stop c.turn.invariant (c.begins.ensures ∙ c.turn-test.false) refl c.requires.inside _ c.in_ok-of.ensures.same
+returns c = gathered_stop c.turn.invariant (c.is_next.ensures ∙ c.turn-test.false) refl c.requires.inside _ c.in_ok-of.ensures.same

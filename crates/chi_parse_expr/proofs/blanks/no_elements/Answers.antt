@@ -1,6 +1,6 @@
 use Rattle.chi_grammar.specs.declared.room.Nesting.TheVariants.{Expression}
 use Rattle.chi_grammar.specs.Rules.{part}
-use Rattle.chi_grammar.specs.Runs as runs
+use Rattle.chi_grammar.specs.RuleRuns as runs
 use Rattle.chi_grammar.proofs.Exits.{run_word, run_no_word, run_refused}
 use Rattle.chi_tree.specs.Parts as s
 use Rattle.chi_tree.specs.Rules.{grammar, nested}
