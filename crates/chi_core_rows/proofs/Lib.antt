@@ -1,4 +1,5 @@
 mod Beginnings
+mod Bounds
 mod Calls
 pub mod Closed
 mod Expressions

@@ -21,17 +21,17 @@ use Rattle.chi_core_rows.proofs.Closed.{operations}
 use Rattle.chi_core_rows.proofs.Small.{int}
 
 -- the clock is at 3 units, and of two instances the first is finished
-abbrev scene : Scene
+abbrev pub scene : Scene
 scene = record { names = record { kinds = [] }; seed = 0; clock = pos 3; constants = []; finished = true ∷ false ∷ [] }
 
 -- a third instance was made in this step
-abbrev view : View
+abbrev pub view : View
 view = record { left = 5; draws = no_draws; channels = 0; instances = 3 }
 
-abbrev of : OpName → List Value → Answer Value
+abbrev pub of : OpName → List Value → Answer Value
 of name values = applied scene name values view
 
-abbrev gives : Value → Answer Value
+abbrev pub gives : Value → Answer Value
 gives v = Gives v view
 
 not_row : of op.Not ((value.Bool true) ∷ []) ≡ gives (value.Bool false)

@@ -1,7 +1,8 @@
 -- One step of each statement that only processes have.
-use Rattle.std.proofs.Common.{◌≡◌, ℕ, ◌*◌, pos, List, [], ◌∷◌, Some, None, false}
+use Rattle.std.proofs.Common.{◌≡◌, ℕ, ◌*◌, pos, List, [], ◌∷◌, Some, None, true, false}
 use Rattle.std.specs.Prelude.{codes}
 use Rattle.std.specs.Fmt.{digits}
+use Rattle.chi_num.specs.Decimal.{last_digits}
 use Rattle.chi_value.specs.declared.value.Value.{Value}
 use Rattle.chi_value.specs.declared.value.Value.TheVariants as value
 use Rattle.chi_value.specs.declared.format.Piece.TheVariants as piece
@@ -52,6 +53,13 @@ goes variables state others text = Next (config_of (pos 0) 0 (instance 0 variabl
 writes : does [] (s.Write 1 (piece.Whole (record { left = false; width = 0 }) ∷ piece.Plain (10 ∷ []) ∷ []) (number 42 ∷ [])) ≡ goes [] Running [] (codes "42\n")
 unfolding step denote.Hole.Carrier.out digits
 writes = simp (s.outs-Write, eval_lit, layers)
+
+-- writeln("%-3d|%.1f", 4, 2.25)
+writes_fields : does [] (s.Write 1 (piece.Whole (record { left = true; width = 3 }) ∷ piece.Plain (codes "|") ∷ piece.Fixed (record { left = false; width = 0 }) 1 ∷ piece.Plain (10 ∷ []) ∷ [])
+    (number 4 ∷ e.Lit (value.Real (pos 2_250_000_000)) ∷ []))
+    ≡ goes [] Running [] (codes "4  |2.3\n")
+unfolding step denote.Hole.Carrier.out digits last_digits
+writes_fields = simp (s.outs-Write, eval_lit, layers)
 
 -- exit 7, and exit
 exits : does [] (s.Exit 1 (Some (number 7))) ≡ Over (Exit (Some (int 7)))

@@ -1,5 +1,5 @@
 -- One step of each statement that functions and processes share.
-use Rattle.std.proofs.Common.{◌≡◌, ℕ, pos, List, [], ◌∷◌, Some, None, map, true, false, refl}
+use Rattle.std.proofs.Common.{◌≡◌, ℕ, pos, negsuc, List, [], ◌∷◌, Some, None, map, true, false, refl}
 use Rattle.std.specs.Prelude.{codes}
 use Rattle.chi_value.specs.declared.value.Value.{Value}
 use Rattle.chi_value.specs.declared.value.Value.TheVariants as value
@@ -62,6 +62,13 @@ list ns = value.ListOf (map int ns)
 stores : does (Some (list (7 ∷ 8 ∷ [])) ∷ []) (Do (s.Assign 1 (record { slot = 0; steps = Index (number 1) ∷ [] } ∷ []) (number 9 ∷ [])) ∷ rest ∷ []) ≡ goes (Some (list (7 ∷ 9 ∷ [])) ∷ []) (rest ∷ [])
 unfolding step denote.Hole.Carrier.out
 stores = simp (s.outs-Assign, eval_lit, containers)
+
+-- xss[-1][0] = 9
+stores_deeper : does (Some (value.ListOf (list (7 ∷ []) ∷ list (8 ∷ 5 ∷ []) ∷ [])) ∷ [])
+    (Do (s.Assign 1 (record { slot = 0; steps = Index (e.Lit (value.Int (negsuc 0))) ∷ Index (number 0) ∷ [] } ∷ []) (number 9 ∷ [])) ∷ rest ∷ [])
+    ≡ goes (Some (value.ListOf (list (7 ∷ []) ∷ list (9 ∷ 5 ∷ []) ∷ [])) ∷ []) (rest ∷ [])
+unfolding step denote.Hole.Carrier.out
+stores_deeper = simp (s.outs-Assign, eval_lit, containers)
 
 -- xs[2] = 9, of which the fault has the name of the process and the line of the statement
 faults : does (Some (list (7 ∷ 8 ∷ [])) ∷ []) (Do (s.Assign 5 (record { slot = 0; steps = Index (number 2) ∷ [] } ∷ []) (number 9 ∷ [])) ∷ rest ∷ []) ≡ Over (Fault IndexRange (codes "P") 5)

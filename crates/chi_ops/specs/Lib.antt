@@ -1,3 +1,4 @@
+pub mod Along
 pub mod Conditions
 pub mod Kinds
 pub mod Operations

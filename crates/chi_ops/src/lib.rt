@@ -4,6 +4,7 @@
 mod building;
 mod copies;
 mod fault;
+mod laws;
 mod made;
 mod path;
 mod place;
@@ -21,6 +22,10 @@ mod walk;
 pub use building::build;
 pub use chi_value::Kind;
 pub use fault::OpFault;
+pub use laws::{
+    operations_on_more_have_outcomes, operations_on_one_have_outcomes, slices_at_one_bound_join,
+    what_is_stored_is_read,
+};
 pub use path::Path;
 pub use popping::pop;
 pub use ranges::range;

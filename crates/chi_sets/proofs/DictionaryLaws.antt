@@ -2,6 +2,7 @@
 use Rattle.std.proofs.Common.{◌≡◌, Bool, true, false, not, ◌&&◌, ◌||◌, List, [], ◌∷◌, ◌++◌, map, reverse, filter, find, Option, Some, None, is_some, option_and_then, Ordering, Less, Equal, Greater, is_eq, is_lt, refl, sym, ap, ap₂, ◌∙◌}
 use Rattle.std.proofs.lemmas.Bool.{false≢true, and_parts, and_from}
 use Rattle.std.proofs.lemmas.Cmp.{eq_by_cmp_equiv}
+use Rattle.std.proofs.lemmas.List.Folds.{list_all-append}
 use Rattle.std.specs.List.{list_any, list_all, cons_option}
 use Rattle.std.specs.Option.{option_cmp, option_or}
 use Rattle.chi_value.specs.Order.{order}
@@ -56,6 +57,9 @@ dictionary_of_values es key =
 pub with_entry_ascends : (es : List Value) (e : Value) → ascending_by_key es ≡ true → ascending_by_key (with_entry es e) ≡ true
 with_entry_ascends = ascends_placed by_key by_key_total
 
+pub with_entry_entries : (es : List Value) (e : Value) → are_entries es ≡ true → is_entry e ≡ true → are_entries (with_entry es e) ≡ true
+with_entry_entries = all_placed by_key by_key_total is_entry
+
 pub with_entry_value : (es : List Value) (key x : Value) → value_at (with_entry es (entry key x)) key ≡ Some x
 with_entry_value es key x =
     ap (option_and_then value_of) (find_key key x (with_entry es (entry key x)) ∙ find_placed by_key by_key_total es (entry key x)) ∙ entry_value key x
@@ -70,6 +74,9 @@ with_entry_others es key x other apart =
     sym (find_key other other es))
 
 -- the union
+
+pub union_entries : (a b : List Value) → are_entries a ≡ true → are_entries b ≡ true → are_entries (dictionary_union a b) ≡ true
+union_entries a b left right = dictionary_of_entries (a ++ b) (list_all-append is_entry a b ∙ and_from _ _ left right)
 
 pub union_keys : (a b : List Value) (key : Value) → has (dictionary_union a b) key ≡ (has a key || has b key)
 union_keys a b key =

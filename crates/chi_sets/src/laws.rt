@@ -4,7 +4,7 @@ ghost use Rattle.std.specs.Prelude.{◌≡◌, Some, ◌&&◌, ◌||◌, not, De
 ghost use Rattle.std.specs.Option.{option_or};
 ghost use Rattle.chi_value.specs.declared.value.Value.{Value};
 ghost use Rattle.chi_value.specs.Plain.{is_plain};
-ghost use Rattle.chi_sets.specs.Dictionaries.{are_entries, ascending_by_key, dictionary_of, dictionary_union, entry, has, keys, minus_keys, value_at, with_entry};
+ghost use Rattle.chi_sets.specs.Dictionaries.{are_entries, ascending_by_key, dictionary_of, dictionary_union, entry, has, is_entry, keys, minus_keys, value_at, with_entry};
 ghost use Rattle.chi_sets.specs.Sets.{among, is_ascending, meet, minus, set_of, ties, union};
 
 /// The set of some elements has them and no others. Only the last law asks that a value is plain:
@@ -54,4 +54,11 @@ pub fn dictionaries_are_combined()
     ensures of_union { (a b : List Value) (key : Value) → IsTrue (ascending_by_key a) → IsTrue (ascending_by_key b) → value_at (dictionary_union a b) key ≡ option_or (value_at b key) (value_at a key) }
     ensures rest { (es removed : List Value) → IsTrue (ascending_by_key es) → IsTrue (ascending_by_key (minus_keys es removed)) }
     ensures in_rest { (es removed : List Value) (key : Value) → has (minus_keys es removed) key ≡ (has es key && not (among removed key)) }
+{}
+
+/// Entries are all that comes of adding an entry to entries, and of two dictionaries of entries.
+#[tactic(auto, using(crate::proofs::DictionaryLaws::with_entry_entries, crate::proofs::DictionaryLaws::union_entries))]
+pub fn entries_stay_entries()
+    ensures with_entry { (es : List Value) (e : Value) → IsTrue (are_entries es) → IsTrue (is_entry e) → IsTrue (are_entries (with_entry es e)) }
+    ensures union { (a b : List Value) → IsTrue (are_entries a) → IsTrue (are_entries b) → IsTrue (are_entries (dictionary_union a b)) }
 {}

@@ -1,0 +1,158 @@
+//! Operations at the greatest sizes. Of ints the conditions are tested in linear time.
+
+ghost use Rattle.std.specs.Prelude.{◌≡◌, ◌&&◌, ℤ, IsTrue};
+ghost use Rattle.std.specs.List.{list_all};
+ghost use Rattle.chi_value.specs.declared.format.Kind.TheVariants.{SetOf};
+ghost use Rattle.chi_value.specs.declared.value.Value.TheVariants.{Int};
+ghost use Rattle.chi_ops.specs.Conditions.{may_build, may_has, may_join, may_union};
+ghost use Rattle.chi_ops.specs.Kinds.{is_int, is_sequence};
+ghost use Rattle.chi_ops.specs.Tidy.{tidy};
+
+use crate::conditions::is_int;
+use crate::tidiness::is_ascending;
+use chi_base::NoMemory;
+use chi_ops::{Kind, OpFault, build, has, join, slice, union};
+use chi_value::{Items, Value};
+use std::alloc::Global;
+use std::test::Fail;
+
+fn are_ints(values: &[Value]) -> bool
+    ensures { result ≡ list_all is_int values.now }
+{
+    for value in values {
+        if !is_int(value) {
+            return false;
+        }
+    }
+    true
+}
+
+#[tactic(auto, using(crate::proofs::Ints::build_ints))]
+fn may_build_ints(parts: &[Value]) -> bool
+    ensures { IsTrue result → IsTrue (may_build SetOf parts.now) }
+{
+    are_ints(parts)
+}
+
+#[tactic(auto, using(crate::proofs::Ints::has_ints))]
+fn may_has_ints(v: &Value) -> bool
+    ensures { IsTrue result → (n : ℤ) → IsTrue (may_has v.now (Int n)) }
+{
+    match v {
+        Value::SetOf(items) => are_ints(items.as_slice()) && is_ascending(items.as_slice()),
+        _ => false,
+    }
+}
+
+#[tactic(auto, using(crate::proofs::Ints::union_ints))]
+fn may_union_ints(a: &Value, b: &Value) -> bool
+    ensures { IsTrue result → IsTrue (may_union a.now b.now) }
+{
+    match (a, b) {
+        (Value::SetOf(a), Value::SetOf(b)) => {
+            are_ints(a.as_slice())
+                && are_ints(b.as_slice())
+                && is_ascending(a.as_slice())
+                && is_ascending(b.as_slice())
+        }
+        (_, _) => false,
+    }
+}
+
+#[tactic(auto, using(crate::proofs::Ints::join_ints))]
+fn may_join_ints(a: &Value, b: &Value) -> bool
+    ensures { IsTrue result → IsTrue (may_join a.now b.now) }
+{
+    match (a, b) {
+        (Value::ListOf(a), Value::ListOf(b)) => are_ints(a.as_slice()) && are_ints(b.as_slice()),
+        (_, _) => false,
+    }
+}
+
+#[tactic(auto, using(crate::proofs::Ints::sequence_ints))]
+fn is_sequence_of_ints(v: &Value) -> bool
+    ensures { IsTrue result → IsTrue (tidy v.now && is_sequence v.now) }
+{
+    match v {
+        Value::ListOf(items) => are_ints(items.as_slice()),
+        _ => false,
+    }
+}
+
+/// So many ints from the greatest down to 1.
+fn falling(alloc: Global, count: u32) -> Result<Vec<Value>, NoMemory> {
+    let mut numbers = Vec::new(alloc);
+    for smaller in 0..count {
+        numbers.push(Value::Int(i64::from(count - smaller)))?;
+    }
+    Ok(numbers)
+}
+
+#[test]
+fn the_largest_set_is_built_from_falling_ints(rt: HostRuntime) -> Result<(), Fail> {
+    let alloc = rt.alloc();
+    let parts = falling(alloc, 1_048_576)?;
+    assert!(rt; may_build_ints(parts.as_slice()));
+    let all = build(alloc, Kind::SetOf, parts)?;
+    assert!(rt; may_has_ints(&all));
+    for number in 0..1_048_578i64 {
+        let inside = number != 0 && number <= 1_048_576;
+        assert!(rt; has(&all, &Value::Int(number)) == inside, "{number}");
+    }
+    let parts = falling(alloc, 1_048_577)?;
+    assert!(rt; may_build_ints(parts.as_slice()));
+    assert!(rt; matches!(build(alloc, Kind::SetOf, parts), Err(OpFault::Limit)));
+    Ok(())
+}
+
+/// The set of so many odd or even ints from 0 on.
+fn every_second(alloc: Global, first: u32) -> Result<Value, NoMemory> {
+    let mut numbers = Vec::new(alloc);
+    for half in 0..524_288u32 {
+        numbers.push(Value::Int(i64::from(2 * half) + i64::from(first)))?;
+    }
+    Ok(Value::SetOf(Items::of(alloc, numbers)?))
+}
+
+#[test]
+fn the_largest_sets_are_united(rt: HostRuntime) -> Result<(), Fail> {
+    let alloc = rt.alloc();
+    let evens = every_second(alloc, 0)?;
+    let odds = every_second(alloc, 1)?;
+    assert!(rt; may_union_ints(&evens, &odds));
+    let both = union(alloc, &evens, &odds)?;
+    let Value::SetOf(items) = &both else {
+        return Err(Fail::new("no set"));
+    };
+    assert_eq!(rt; items.as_slice().len(), 1_048_576);
+    let mut more = Vec::new(alloc);
+    more.push(Value::Int(-1))?;
+    let more = Value::SetOf(Items::of(alloc, more)?);
+    assert!(rt; may_union_ints(&both, &more));
+    assert!(rt; matches!(union(alloc, &both, &more), Err(OpFault::Limit)));
+    Ok(())
+}
+
+fn list(alloc: Global, count: u32) -> Result<Value, NoMemory> {
+    Ok(Value::ListOf(Items::of(alloc, falling(alloc, count)?)?))
+}
+
+#[test]
+fn the_largest_lists_are_joined_and_cut(rt: HostRuntime) -> Result<(), Fail> {
+    let alloc = rt.alloc();
+    let half = list(alloc, 524_288)?;
+    assert!(rt; may_join_ints(&half, &half));
+    let whole = join(alloc, &half, &half)?;
+    assert!(rt; is_sequence_of_ints(&whole));
+    let backwards = slice(alloc, &whole, None, None, Some(-1))?;
+    let Value::ListOf(items) = &backwards else {
+        return Err(Fail::new("no list"));
+    };
+    assert_eq!(rt; items.as_slice().len(), 1_048_576);
+    assert!(rt; matches!(items.as_slice().first(), Some(Value::Int(1))));
+    assert!(rt; matches!(items.as_slice().last(), Some(Value::Int(524_288))));
+    let one = list(alloc, 1)?;
+    assert!(rt; may_join_ints(&whole, &one));
+    assert!(rt; matches!(join(alloc, &whole, &one), Err(OpFault::Limit)));
+    Ok(())
+}
