@@ -33,3 +33,5 @@ module _ (core : Core) (config : Config) (label : Label) where
       → step core config label left ≡ Next last [] (left - 1)
   move_gives left view m new last some e is gives same =
       step_some left view some e ∙ is ∙ ap (after_step no_fault) gives ∙ (λ k. Next (sym same k) [] (ap (λ (v : View). v.left) e k))
+
+pub ruleset moving = (step_none, step_some, move_well, move_gives)
