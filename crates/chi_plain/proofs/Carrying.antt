@@ -1,17 +1,15 @@
 -- How a plan is carried out.
-use Rattle.std.proofs.Common.{◌≡◌, ◌≢◌, ℕ, ◌+◌, ◌≤◌, List, [], ◌∷◌, ◌++◌, Option, Some, None, length, map, sym, ◌∙◌, ap, subst, refl, arith, length-append}
+use Rattle.std.proofs.Common.{◌≡◌, ℕ, ◌+◌, ◌≤◌, List, [], ◌++◌, Option, Some, None, length, map, sym, ◌∙◌, ap, arith, length-append}
 use Rattle.std.specs.Prelude.{slice_set, unwrap_or, IfSome}
-use Rattle.std.specs.List.{slice_get, range_with_len}
+use Rattle.std.specs.List.{range_with_len}
 use Rattle.std.proofs.Math.ListN.{length-set}
 use Rattle.std.proofs.lemmas.List.{length-map}
-use Rattle.chi_value.specs.declared.value.Value.{Value}
 use Rattle.chi_core.specs.declared.limits.TheConstants.{MOST_INSTANCES}
 use Rattle.chi_core.specs.declared.program.Core.{Core}
 use Rattle.chi_core.specs.declared.view.View.{View}
-use Rattle.chi_core.specs.Answer.{Answer, Gives}
-use Rattle.chi_core.specs.Config as config
+use Rattle.chi_core.specs.Answer.{Gives}
 use Rattle.chi_core.specs.Config.{Config, Instance, Offer, State, Running, Waiting, Joining, settled, with_instance}
-use Rattle.chi_core.specs.Performing.{Change, Goes, Exits, quietly}
+use Rattle.chi_core.specs.Performing.{Goes}
 use Rattle.chi_core.specs.Variables.{Variables}
 use Rattle.chi_plain.specs.declared.deed.Deed.{Deed}
 use Rattle.chi_plain.specs.declared.deed.Deed.TheVariants as deed

@@ -1,6 +1,6 @@
 -- A runner of a sound program stays in kinded configurations, and what it tells can be told.
 use Rattle.std.proofs.Common.{◌≡◌, ◌≢◌, ℕ, ◌-◌, ◌<◌, ◌≤◌, List, [], ◌∷◌, ◌++◌, Option, Some, None, pos, Bool, true, false, cond, sym, ◌∙◌, ap, subst, refl, arith}
-use Rattle.std.specs.Prelude.{IsTrue, ◌&&◌, Contains, codes, length}
+use Rattle.std.specs.Prelude.{IsTrue, ◌&&◌, codes, length}
 use Rattle.chi_value.specs.declared.value.Value.{Value}
 use Rattle.chi_core.specs.declared.label.Label.{Label}
 use Rattle.chi_core.specs.declared.program.ConstDef.{ConstDef}
@@ -18,7 +18,7 @@ use Rattle.chi_core.specs.Options.{Ending, all_finished, stopped_at, at_rest, en
 use Rattle.chi_core.specs.Meeting.{next_due}
 use Rattle.chi_core.specs.Starting.{started_by}
 use Rattle.chi_core.specs.Step.{Outcome, Next, Over, Spent, Amiss, step}
-use Rattle.chi_kinded.specs.Keeps.{SoundVerdict, CanBeTold, GoesKinded, BeginsKinded}
+use Rattle.chi_kinded.specs.Keeps.{SoundVerdict, GoesKinded, BeginsKinded}
 use Rattle.chi_runs.specs.Time.{EachCosts}
 use Rattle.chi_plain.specs.declared.beginning.Begun.{Begun}
 use Rattle.chi_plain.specs.declared.beginning.Begun.TheVariants as begun
@@ -29,7 +29,7 @@ use Rattle.chi_plain.specs.declared.stepping.Went.TheVariants as went
 use Rattle.chi_plain.specs.Begun.{begun_of}
 use Rattle.chi_plain.specs.Stage as stage
 use Rattle.chi_plain.specs.Stage.{MayTell}
-use Rattle.chi_plain.specs.Standings.{stage_of, standing_at, IsAt, Stands}
+use Rattle.chi_plain.specs.Standings.{stage_of, standing_at, Stands}
 use Rattle.chi_plain.specs.Takings.{IsRight, Takes}
 use Rattle.std.proofs.lemmas.List.{append-nil}
 use Rattle.std.proofs.Common.{ℤ}

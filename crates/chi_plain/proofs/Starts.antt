@@ -1,5 +1,5 @@
 -- The constants, one after another, and then the model.
-use Rattle.std.proofs.Common.{◌≡◌, ◌≢◌, ℕ, ◌+◌, ◌<◌, ◌≤◌, ℤ, pos, List, [], ◌∷◌, ◌++◌, Option, Some, None, length, get_or, drop, sym, ◌∙◌, ap, subst, refl, arith}
+use Rattle.std.proofs.Common.{◌≡◌, ◌≢◌, ℕ, ◌+◌, ◌<◌, ◌≤◌, ℤ, pos, List, [], ◌∷◌, ◌++◌, Option, Some, None, length, drop, sym, ◌∙◌, ap}
 use Rattle.std.specs.Prelude.{codes, MatchOption}
 use Rattle.std.specs.List.{slice_get}
 use Rattle.std.proofs.lemmas.List.{drop_more, drop_all}
@@ -14,8 +14,7 @@ use Rattle.chi_core.specs.declared.view.View.{View}
 use Rattle.chi_core.specs.Answer as answer
 use Rattle.chi_core.specs.Answer.{Answer, Gives, Fails}
 use Rattle.chi_core.specs.Config.{Config}
-use Rattle.chi_core.specs.Beginning.{Beginning, Begins, Breaks, Amiss, constant_value, constant_fault, with_constant, model_begins, first_config, begins_after, start}
-use Rattle.chi_core.specs.Options.{Ending}
+use Rattle.chi_core.specs.Beginning.{Beginning, Begins, Breaks, Amiss, constant_value, with_constant, model_begins, first_config, begins_after}
 use Rattle.chi_core.specs.Starting.{started_by}
 
 drop_at : {A : Type 0} (xs : List A) (k : ℕ) (x : A) → slice_get xs k ≡ Some x → drop k xs ≡ x ∷ drop (k + 1) xs

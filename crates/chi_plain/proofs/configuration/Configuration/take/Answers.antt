@@ -1,4 +1,4 @@
-use Rattle.std.proofs.Common.{◌≡◌, ◌∙◌, [], ap, sym, refl}
+use Rattle.std.proofs.Common.{◌∙◌, [], ap, sym, refl}
 use Rattle.std.specs.List.{slice_get}
 use Rattle.std.proofs.lemmas.List.{append-nil}
 use Rattle.chi_core.specs.declared.label.Label.{Label}

@@ -1,4 +1,4 @@
-use Rattle.std.proofs.Common.{◌≡◌, ◌∙◌, ap, sym, subst}
+use Rattle.std.proofs.Common.{◌∙◌, ap, sym, subst}
 use Rattle.std.specs.Prelude.{◌↔◌, IsTrue, Contains}
 use Rattle.chi_core.specs.declared.label.Label.TheVariants.{Advance}
 use Rattle.chi_plain.specs.Stage.{Stage, Runner, enabled_at}

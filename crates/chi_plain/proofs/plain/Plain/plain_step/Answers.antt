@@ -1,4 +1,4 @@
-use Rattle.std.proofs.Common.{◌≡◌, subst}
+use Rattle.std.proofs.Common.{subst}
 use Rattle.chi_plain.specs.declared.standing.Standing.{Standing}
 use Rattle.chi_plain.specs.Stage.{Appends, Runner, Steps}
 use Rattle.chi_plain.specs.Standings.{stage_of}
