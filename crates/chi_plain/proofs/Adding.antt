@@ -1,8 +1,8 @@
 -- Instances that are added.
-use Rattle.std.proofs.Common.{◌≡◌, ℕ, zero, suc, ◌+◌, ◌≤◌, List, [], ◌∷◌, ◌++◌, Option, Some, None, Bool, length, take, sym, ◌∙◌, ap, refl, arith, length-append}
+use Rattle.std.proofs.Common.{◌≡◌, ℕ, zero, suc, ◌+◌, ◌≤◌, List, [], ◌∷◌, ◌++◌, Bool, length, sym, ◌∙◌, ap, refl, arith, length-append}
 use Rattle.std.specs.Prelude.{map}
 use Rattle.std.specs.List.{range_with_len}
-use Rattle.std.proofs.lemmas.List.{append-nil, append_assoc, map-append, length-map}
+use Rattle.std.proofs.lemmas.List.{append-nil, append_assoc, map-append}
 use Rattle.chi_core.specs.declared.limits.TheConstants.{MOST_INSTANCES}
 use Rattle.chi_core.specs.Config.{Instance, has_finished, settled}
 use Rattle.chi_plain.specs.Configurations.{IsKept}

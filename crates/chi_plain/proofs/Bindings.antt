@@ -1,5 +1,5 @@
 -- Slots that are bound, one after another.
-use Rattle.std.proofs.Common.{◌≡◌, ◌≢◌, ℕ, ◌<◌, List, [], ◌∷◌, Option, Some, None, Bool, true, false, cond, length, sym, ◌∙◌, ap, refl, arith}
+use Rattle.std.proofs.Common.{◌≡◌, ◌≢◌, ℕ, ◌<◌, [], ◌∷◌, Some, None, Bool, true, false, cond, length, ◌∙◌, ap, refl, arith}
 use Rattle.std.specs.Prelude.{nat_lt, slice_set}
 use Rattle.std.specs.Option.{option_and_then}
 use Rattle.chi_value.specs.declared.value.Value.{Value}

@@ -1,17 +1,15 @@
 -- How a plan is carried out.
-use Rattle.std.proofs.Common.{◌≡◌, ◌≢◌, ℕ, ◌+◌, ◌≤◌, List, [], ◌∷◌, ◌++◌, Option, Some, None, length, map, sym, ◌∙◌, ap, subst, refl, arith, length-append}
+use Rattle.std.proofs.Common.{◌≡◌, ℕ, ◌+◌, ◌≤◌, List, [], ◌++◌, Option, Some, None, length, map, sym, ◌∙◌, ap, arith, length-append}
 use Rattle.std.specs.Prelude.{slice_set, unwrap_or, IfSome}
-use Rattle.std.specs.List.{slice_get, range_with_len}
+use Rattle.std.specs.List.{range_with_len}
 use Rattle.std.proofs.Math.ListN.{length-set}
 use Rattle.std.proofs.lemmas.List.{length-map}
-use Rattle.chi_value.specs.declared.value.Value.{Value}
 use Rattle.chi_core.specs.declared.limits.TheConstants.{MOST_INSTANCES}
 use Rattle.chi_core.specs.declared.program.Core.{Core}
 use Rattle.chi_core.specs.declared.view.View.{View}
-use Rattle.chi_core.specs.Answer.{Answer, Gives}
-use Rattle.chi_core.specs.Config as config
+use Rattle.chi_core.specs.Answer.{Gives}
 use Rattle.chi_core.specs.Config.{Config, Instance, Offer, State, Running, Waiting, Joining, settled, with_instance}
-use Rattle.chi_core.specs.Performing.{Change, Goes, Exits, quietly}
+use Rattle.chi_core.specs.Performing.{Goes}
 use Rattle.chi_core.specs.Variables.{Variables}
 use Rattle.chi_plain.specs.declared.deed.Deed.{Deed}
 use Rattle.chi_plain.specs.declared.deed.Deed.TheVariants as deed
@@ -24,8 +22,12 @@ length-started config p i made =
 
 pub few_made : (core : Core) (config : Config) (p : ℕ) (i : Instance) (variables : Variables) (d : Deed) (view : View) → length config.instances ≤ MOST_INSTANCES
     → IsFew (Gives (change_of core config p i (plan_of variables d)) view) → length config.instances + length (made_in d) ≤ MOST_INSTANCES
-few_made core config p i variables (deed.Runs changed made) view few h = omega (arith, h, length-started config p _ made.items)
-few_made core config p i variables (deed.Starts changed made) view few h = omega (arith, h, length-started config p _ made.items)
+few_made core config p i variables (deed.Runs changed made) view few h =
+    let now : Instance = record i { variables = unwrap_or changed variables; state = Joining (range_with_len (length config.instances) (length made.items)) } in
+    omega (arith, h, length-started config p (settled now) made.items)
+few_made core config p i variables (deed.Starts changed made) view few h =
+    let now : Instance = record i { variables = unwrap_or changed variables; state = Running } in
+    omega (arith, h, length-started config p (settled now) made.items)
 few_made core config p i variables (deed.Writes text) view few h = omega (arith, few)
 few_made core config p i variables (deed.Exits v) view few h = omega (arith, few)
 few_made core config p i variables (deed.Waits changed offers) view few h = omega (arith, few)
@@ -58,3 +60,7 @@ module _ (core : Core) (config : Config) (p : ℕ) (i : Instance) (plan : Plan) 
 pub if_some_all : {A : Type 0} (o : Option A) (P : A → Type 0) → ((x : A) → P x) → IfSome o P
 if_some_all None P f = tt
 if_some_all (Some x) P f = f x
+
+pub if_some_then : {A : Type 0} (o : Option A) (P Q : A → Type 0) → IfSome o P → ((x : A) → P x → Q x) → IfSome o Q
+if_some_then None P Q p f = tt
+if_some_then (Some x) P Q p f = f x p

@@ -1,10 +1,10 @@
 -- One instance that is changed.
-use Rattle.std.proofs.Common.{◌≡◌, ◌≢◌, ℕ, zero, suc, ◌<◌, ◌≤◌, List, [], ◌∷◌, Option, Some, None, Bool, length, get_or, sym, ◌∙◌, ap, refl, arith}
+use Rattle.std.proofs.Common.{◌≡◌, ◌≢◌, ℕ, zero, suc, ◌<◌, List, [], ◌∷◌, Some, Bool, length, sym, ◌∙◌, ap, refl, arith}
 use Rattle.std.specs.Prelude.{map, slice_set}
 use Rattle.std.specs.List.{slice_get}
 use Rattle.std.proofs.Math.ListN.{length-set}
 use Rattle.std.proofs.lemmas.List.{length-map}
-use Rattle.chi_core.specs.Config.{Config, Instance, has_finished}
+use Rattle.chi_core.specs.Config.{Instance, has_finished}
 use Rattle.chi_plain.specs.Configurations.{IsKept}
 
 pub map-set : {A B : Type 0} (f : A → B) (xs : List A) (k : ℕ) (x : A) → map f (slice_set xs k x) ≡ slice_set (map f xs) k (f x)

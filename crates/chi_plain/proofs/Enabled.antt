@@ -1,6 +1,6 @@
 -- Whether something is enabled, and how a run ends where nothing is.
 use Rattle.std.proofs.Common.{◌≡◌, ℕ, zero, suc, ◌<◌, ◌≤◌, ℤ, List, [], ◌∷◌, ◌++◌, Option, Some, None, Bool, true, false, cond, length, sym, ◌∙◌, ap, subst, refl, arith}
-use Rattle.std.specs.Prelude.{map, filter, not, nat_eq, nat_lt, int_lt, IsTrue, is_some, ◌↔◌, ◌&&◌, ◌||◌}
+use Rattle.std.specs.Prelude.{map, filter, not, nat_eq, nat_lt, int_lt, IsTrue, is_some, ◌↔◌, ◌||◌}
 use Rattle.std.specs.List.{slice_get, Contains, flat_map, list_any}
 use Rattle.std.specs.Option.{option_to_list}
 use Rattle.std.proofs.lemmas.Bool.{false≢true}
@@ -8,10 +8,10 @@ use Rattle.std.proofs.lemmas.Option.{slice_get_read}
 use Rattle.chi_core.specs.declared.act.Act.{Act}
 use Rattle.chi_core.specs.declared.act.Act.TheVariants.{Send, Receive, Delay}
 use Rattle.chi_core.specs.declared.label.Label.{Label}
-use Rattle.chi_core.specs.declared.label.Label.TheVariants.{Local, Pair, Wake, Join, Advance}
+use Rattle.chi_core.specs.declared.label.Label.TheVariants.{Pair, Wake, Join, Advance}
 use Rattle.chi_core.specs.Config.{Config, Instance, Offer, State, Running, Waiting, Joining, Finished, offers_in}
 use Rattle.chi_core.specs.Meeting.{may_reach, next_due}
-use Rattle.chi_core.specs.Options.{numbers, receivers, pairs_with, pairs, options_by, options_for, none_under_way, options_in, options_of, options, actors, advance_to, advance, enabled, enabled_of, Ending, at_rest, ending, ending_of}
+use Rattle.chi_core.specs.Options.{numbers, receivers, pairs_with, options_by, options_for, none_under_way, options_in, options_of, options, actors, advance_to, advance, enabled, enabled_of, Ending, at_rest, ending, ending_of}
 use Rattle.chi_plain.specs.Scanning.{is_advance}
 
 -- what a filter keeps passes its test

@@ -1,5 +1,5 @@
 -- Offers that are kept, and what their names are bound to.
-use Rattle.std.proofs.Common.{◌≡◌, ◌≢◌, ℕ, ◌+◌, ◌<◌, ◌≤◌, List, [], ◌∷◌, ◌++◌, Option, Some, None, Bool, true, false, cond, length, get_or, drop, sym, ◌∙◌, ap, subst, refl, arith}
+use Rattle.std.proofs.Common.{◌≡◌, ◌≢◌, ℕ, ◌+◌, ◌<◌, ◌≤◌, List, [], ◌∷◌, ◌++◌, Option, Some, None, true, false, cond, length, get_or, drop, sym, ◌∙◌, ap, refl, arith}
 use Rattle.std.specs.Prelude.{nat_lt}
 use Rattle.std.specs.Option.{option_map, option_and_then}
 use Rattle.std.proofs.lemmas.List.{append-nil, append_assoc, drop_more, drop_all}
@@ -9,8 +9,7 @@ use Rattle.chi_core.specs.declared.fault.FaultKind.TheVariants.{TooLarge}
 use Rattle.chi_core.specs.declared.limits.TheConstants.{MOST_OFFERS}
 use Rattle.chi_core.specs.declared.statement.CStat.{CStat}
 use Rattle.chi_core.specs.declared.view.View.{View}
-use Rattle.chi_core.specs.Answer.{Answer, Gives, Fails, Amiss, giving, wanted}
-use Rattle.chi_core.specs.Config.{Offer}
+use Rattle.chi_core.specs.Answer.{Gives, Fails, Amiss, giving, wanted}
 use Rattle.chi_core.specs.Opening.{Opening, kept}
 use Rattle.chi_core.specs.Variables.{Variables, Bindings, value_at, bindings_at}
 

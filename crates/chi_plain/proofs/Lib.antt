@@ -20,3 +20,5 @@ pub mod Steps
 pub mod Finishing
 pub mod Moves
 pub mod Carrying
+pub mod Starts
+pub mod Running

@@ -1,21 +1,17 @@
 -- Instances that are made.
-use Rattle.std.proofs.Common.{◌≡◌, ◌≢◌, ℕ, ◌+◌, ◌<◌, ◌≤◌, List, [], ◌∷◌, ◌++◌, Option, Some, None, Bool, true, false, cond, length, sym, ◌∙◌, ap, subst, refl, arith}
-use Rattle.std.specs.Prelude.{nat_lt, nat_eq, map}
+use Rattle.std.proofs.Common.{◌≡◌, ◌≢◌, ℕ, ◌+◌, ◌<◌, ◌≤◌, List, Option, Some, None, Bool, true, false, cond, length, ◌∙◌, ap, refl, arith}
+use Rattle.std.specs.Prelude.{nat_lt, nat_eq}
 use Rattle.std.specs.List.{slice_get}
 use Rattle.std.specs.Option.{option_and_then}
 use Rattle.std.proofs.lemmas.Option.{slice_get_within}
-use Rattle.chi_value.specs.declared.value.Value.{Value}
-use Rattle.chi_value.specs.declared.value.Value.TheVariants as value
 use Rattle.chi_core.specs.declared.fault.FaultKind.TheVariants.{TooManyInstances}
 use Rattle.chi_core.specs.declared.limits.TheConstants.{MOST_INSTANCES}
 use Rattle.chi_core.specs.declared.program.ProcDef.{ProcDef}
 use Rattle.chi_core.specs.declared.target.CTarget.{CTarget}
 use Rattle.chi_core.specs.declared.view.View.{View}
-use Rattle.chi_core.specs.Answer.{Answer, Gives, Fails, Amiss, Does, then_do, giving, wanted}
-use Rattle.chi_core.specs.Config.{Instance, new_instance}
+use Rattle.chi_core.specs.Answer.{Gives, Fails}
 use Rattle.chi_core.specs.Evaluation.{Evaluates}
-use Rattle.chi_core.specs.Spots.{Spot, store}
-use Rattle.chi_core.specs.Starting.{Started, numbered, told, made_by, taking, started_by, told_at}
+use Rattle.chi_core.specs.Starting.{numbered, taking, started_by, told_at}
 use Rattle.chi_core.specs.Variables.{Variables}
 use Rattle.chi_plain.specs.Drafts.{spot_told}
 

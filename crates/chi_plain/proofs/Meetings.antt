@@ -1,5 +1,5 @@
 -- Two offers that are taken together.
-use Rattle.std.proofs.Common.{◌≡◌, ◌≢◌, ◌<◌, length, ℕ, Option, Some, None, Bool, true, false, cond, sym, ◌∙◌, ap, subst, refl, arith}
+use Rattle.std.proofs.Common.{◌≡◌, ◌≢◌, ◌<◌, length, ℕ, Option, Some, None, Bool, true, false, cond, sym, ◌∙◌, ap, refl, arith}
 use Rattle.std.specs.Prelude.{nat_eq, int_lt, slice_set}
 use Rattle.std.specs.List.{slice_get}
 use Rattle.std.proofs.lemmas.Option.{slice_get_within}

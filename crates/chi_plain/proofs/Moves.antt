@@ -1,5 +1,5 @@
 -- Labels other than Local, by what they did.
-use Rattle.std.proofs.Common.{◌≡◌, ◌≢◌, ℕ, zero, suc, ◌-◌, List, [], Option, sym, ◌∙◌, ap, subst, refl, arith}
+use Rattle.std.proofs.Common.{◌≡◌, ◌≢◌, ℕ, zero, suc, ◌-◌, [], sym, ◌∙◌, ap, subst, refl, arith}
 use Rattle.chi_core.specs.declared.label.Label.{Label}
 use Rattle.chi_core.specs.declared.program.Core.{Core}
 use Rattle.chi_core.specs.declared.view.View.{View}
@@ -7,7 +7,7 @@ use Rattle.chi_core.specs.Answer as answer
 use Rattle.chi_core.specs.Answer.{Answer, Gives}
 use Rattle.chi_core.specs.Config.{Config, view_of, with_view}
 use Rattle.chi_core.specs.Performing.{Change, quietly}
-use Rattle.chi_core.specs.Step.{Outcome, Next, Spent, no_fault, after_step, taken, step}
+use Rattle.chi_core.specs.Step.{Next, Spent, no_fault, after_step, taken, step}
 use Rattle.chi_plain.specs.Takings.{IsRight}
 use Rattle.chi_plain.proofs.Steps.{few_of, not_amiss}
 
@@ -33,3 +33,5 @@ module _ (core : Core) (config : Config) (label : Label) where
       → step core config label left ≡ Next last [] (left - 1)
   move_gives left view m new last some e is gives same =
       step_some left view some e ∙ is ∙ ap (after_step no_fault) gives ∙ (λ k. Next (sym same k) [] (ap (λ (v : View). v.left) e k))
+
+pub ruleset moving = (step_none, step_some, move_well, move_gives)

@@ -1,5 +1,5 @@
 -- The statement that comes first, where functions don't have it.
-use Rattle.std.proofs.Common.{◌≡◌, ℕ, List, [], ◌∷◌, Option, Some, None, Bool, true, false, sym, ◌∙◌, ap, refl}
+use Rattle.std.proofs.Common.{◌≡◌, ℕ, List, [], ◌∷◌, Option, Some, None, true, false, ◌∙◌, ap, refl}
 use Rattle.chi_value.specs.declared.value.Value.{Value}
 use Rattle.chi_core.specs.declared.expression.CExpr.{CExpr}
 use Rattle.chi_core.specs.declared.statement.CStat.{CStat, out-CStat}

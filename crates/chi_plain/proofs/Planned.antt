@@ -1,5 +1,5 @@
 -- What an own statement of a process comes to, and what an item does that functions have too.
-use Rattle.std.proofs.Common.{◌≡◌, ◌≢◌, ℕ, ℤ, List, [], ◌∷◌, Option, Some, None, Bool, true, false, map, sym, ◌∙◌, ap, refl}
+use Rattle.std.proofs.Common.{◌≡◌, ℕ, ℤ, List, [], ◌∷◌, Option, Some, None, Bool, true, false, map, sym, ◌∙◌, ap, refl}
 use Rattle.std.specs.Prelude.{drop, slice_set}
 use Rattle.std.specs.List.{slice_get}
 use Rattle.chi_value.specs.declared.format.Piece.{Piece}
@@ -18,11 +18,11 @@ use Rattle.chi_core.specs.Config.{Config, Instance, settled, has_finished, with_
 use Rattle.chi_core.specs.declared.scene.Scene.{Scene}
 use Rattle.chi_core.specs.Evaluation.{Evaluates, eval}
 use Rattle.chi_core.specs.Functions.{calls}
-use Rattle.chi_core.specs.Opening.{Opening, opened}
-use Rattle.chi_core.specs.Performing.{Change, Goes, Exits, quietly, written, within_text, exits_with, exited, all_named, waits, joins_started, with_started, joins, came_to, performed_stat, performed}
+use Rattle.chi_core.specs.Opening.{opened}
+use Rattle.chi_core.specs.Performing.{Exits, quietly, written, within_text, exits_with, exited, all_named, came_to, performed_stat, performed}
 use Rattle.chi_core.specs.Reading.{quoted_in}
-use Rattle.chi_core.specs.Starting.{Started, all_started}
-use Rattle.chi_core.specs.Terms.{Item, Do, Loop, Walk, Term, Did, On, Returns, act_stat, act}
+use Rattle.chi_core.specs.Starting.{all_started}
+use Rattle.chi_core.specs.Terms.{Do, Loop, Walk, Term, Did, On, Returns, act_stat, act}
 use Rattle.chi_core.specs.Variables.{Variables}
 use Rattle.chi_eval.specs.declared.surroundings.Surroundings.{Surroundings}
 use Rattle.chi_eval.specs.Surroundings as surroundings

@@ -1,9 +1,8 @@
 -- A label that is taken, by what its instance did.
-use Rattle.std.proofs.Common.{◌≡◌, ◌≢◌, ℕ, zero, suc, ◌+◌, ◌-◌, ◌<◌, ◌≤◌, List, [], ◌∷◌, ◌++◌, Option, Some, None, length, sym, ◌∙◌, ap, subst, refl, arith}
+use Rattle.std.proofs.Common.{◌≡◌, ◌≢◌, ℕ, List, [], ◌∷◌, Option, Some, None, sym, ◌∙◌, ap, subst, refl}
 use Rattle.std.specs.Prelude.{IsSomeAnd, IfSome, drop, MatchOption}
 use Rattle.std.specs.List.{slice_get}
 use Rattle.std.specs.Option.{option_map}
-use Rattle.std.proofs.lemmas.List.{append-nil}
 use Rattle.chi_value.specs.declared.value.Value.{Value}
 use Rattle.chi_core.specs.declared.fault.FaultKind.{FaultKind}
 use Rattle.chi_core.specs.declared.program.Core.{Core}
@@ -14,7 +13,7 @@ use Rattle.chi_core.specs.Answer as answer
 use Rattle.chi_core.specs.Answer.{Answer, Gives, Fails, then_do, wanted}
 use Rattle.chi_core.specs.Config.{Config, Instance, State, Running, Waiting, Joining, Finished, with_view}
 use Rattle.chi_core.specs.Performing.{Change, Goes, Exits, performed}
-use Rattle.chi_core.specs.Step.{Outcome, Next, Over, Spent, Amiss, line_of, name_of, fault_in, after_step, first_done, local_in, local}
+use Rattle.chi_core.specs.Step.{Outcome, Next, Over, Spent, line_of, name_of, fault_in, after_step, first_done, local_in, local}
 use Rattle.chi_core.specs.Terms.{Item, Term}
 use Rattle.chi_eval.specs.Terms.{first_of}
 use Rattle.chi_plain.specs.Instances.{rest_of}

@@ -1,11 +1,7 @@
 -- Private to proofs: what an instance stands for.
-use Rattle.std.specs.Prelude.{◌≡◌, ◌≢◌, ◌∷◌, drop, List, None, Some, Option, length, slice_get, unwrap_or}
-use Rattle.chi_value.specs.declared.value.Value.{Value}
+use Rattle.std.specs.Prelude.{drop}
 use Rattle.chi_core.specs.Config as config
 use Rattle.chi_core.specs.Config.{Instance, Offer}
-use Rattle.chi_core.specs.Meeting.{filled}
-use Rattle.chi_core.specs.Terms.{first_the}
-use Rattle.chi_core.specs.Variables.{Variables, bind}
 use Rattle.chi_plain.specs.declared.instance.State.{State}
 use Rattle.chi_plain.specs.declared.instance.State.TheVariants.{Running, Waiting, Joining, Finished}
 

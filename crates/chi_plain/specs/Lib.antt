@@ -6,3 +6,5 @@ pub mod Configurations
 pub mod Meetings
 pub mod Plans
 pub mod Takings
+pub mod Begun
+pub mod Standings

@@ -1,5 +1,5 @@
 -- Private to proofs: what an own statement of a process comes to, before it is carried out.
-use Rattle.std.specs.Prelude.{◌≡◌, ℕ, ℤ, ◌≤◌, List, [], ◌∷◌, ◌++◌, drop, length, map, Option, Some, None, Bool, true, false, slice_get, unwrap_or, slice_set}
+use Rattle.std.specs.Prelude.{◌≡◌, ℕ, ℤ, ◌≤◌, List, [], ◌∷◌, length, map, Option, Some, None, Bool, true, false, slice_get, unwrap_or}
 use Rattle.chi_value.specs.declared.value.Value.{Value}
 use Rattle.chi_core.specs.declared.expression.CExpr.{CExpr}
 use Rattle.chi_core.specs.declared.limits.TheConstants.{MOST_INSTANCES}
@@ -7,7 +7,6 @@ use Rattle.chi_core.specs.declared.program.Core.{Core}
 use Rattle.chi_core.specs.declared.statement.Branch.{Branch}
 use Rattle.chi_core.specs.declared.statement.CAlt.{CAlt}
 use Rattle.chi_core.specs.declared.statement.CStat.{CStat, CStat-F, out-CStat}
-use Rattle.chi_core.specs.Answer as answer
 use Rattle.chi_core.specs.Answer.{Answer, Gives, Fails, Spent, Amiss, Does, then_do, gives, amiss, wanted, giving, in_turn}
 use Rattle.chi_core.specs.Config.{Config, Instance, Offer, Running, with_instance}
 use Rattle.chi_core.specs.Evaluation.{Evaluates}
@@ -15,7 +14,7 @@ use Rattle.chi_core.specs.Opening.{Opening, opened}
 use Rattle.chi_core.specs.Performing.{Change, Goes, Exits, quietly, written, within_text, all_named, waits, with_started, joins_started, joins, performed}
 use Rattle.chi_core.specs.Reading.{quoted_in}
 use Rattle.chi_core.specs.Starting.{Started, all_started}
-use Rattle.chi_core.specs.Terms.{Item, Do, Loop, Walk, Term, Did, On, Returns}
+use Rattle.chi_core.specs.Terms.{Do, Loop, Walk, Term, Did, On, Returns}
 use Rattle.chi_core.specs.Variables.{Variables}
 use Rattle.chi_eval.specs.Terms.{first_of, act_first}
 use Rattle.chi_plain.specs.declared.deed.Deed.{Deed}

@@ -17,7 +17,7 @@ use chi_value::Value;
 use std::alloc::Global;
 
 /// The process of a number, which takes so many arguments.
-fn started_by<'a>(procs: &'a [ProcDef], number: u32, count: usize) -> &'a ProcDef
+pub(crate) fn started_by<'a>(procs: &'a [ProcDef], number: u32, count: usize) -> &'a ProcDef
     requires { started_by procs.now number count ≢ None }
     ensures { started_by procs.now number count ≡ Some result.now }
 {

@@ -3,6 +3,7 @@
 #![tactic(auto)]
 
 mod alternatives;
+mod beginning;
 mod choices;
 mod configuration;
 mod deed;
@@ -16,6 +17,7 @@ mod opening;
 mod performing;
 mod plain;
 mod planning;
+mod standing;
 mod starting;
 mod stepped;
 mod stepping;

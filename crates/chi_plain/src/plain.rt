@@ -8,21 +8,23 @@ ghost use Rattle.chi_core.specs.Of.{at_start, AreOf};
 ghost use Rattle.chi_core.specs.Sound.{Sound};
 ghost use Rattle.chi_plain.specs.Stage.{Begun, actors_at, options_at, enabled_at, verdict_at, clock_at, MayTell, MayStep, Steps, Appends};
 
+use crate::beginning::begin;
+use crate::standing::{Standing, standing_of, step};
 use crate::stepped::Stepped;
 use chi_base::NoMemory;
 use chi_core::{Core, Label, Verdict};
+use chi_kinded::kinded_law;
 use chi_value::Value;
 use std::alloc::Global;
 use std::marker::Model;
-
-#[derive(Debug, Drop)]
-enum Never {}
+use std::mem;
 
 /// A run of a core. Contracts see the configuration in which it stands.
 #[derive(Debug, Drop)]
 pub struct Plain<'a> {
+    alloc: Global,
     core: &'a Core,
-    never: Never,
+    standing: Standing<'a>,
 }
 
 impl<'a> Model for Plain<'a> {
@@ -32,13 +34,17 @@ impl<'a> Model for Plain<'a> {
     ghost use Rattle.chi_core.specs.contracts.element.CElem as elements;
     ghost use Rattle.chi_value.specs.contracts.value.Value as values;
     ghost use Rattle.chi_types.specs.contracts.ty.Ty as types;
-    ghost use Rattle.chi_plain.specs.Stage.{Runner, Lost};
+    ghost use Rattle.chi_plain.specs.Stage.{Runner};
 
     ghost Value = { Runner };
 
     ghost coded = { Prim.hlevel (codes, statements.the_row.coded, expressions.the_row.coded, elements.the_row.coded, values.the_row.coded, types.the_row.coded) };
 
-    ghost view = { λ p. record { core = p.core.now; stage = Lost } };
+    ghost use Rattle.chi_plain.specs.Standings.{stage_of, IsRunner};
+
+    ghost view = { λ p. record { core = p.core.now; stage = stage_of p.standing } };
+
+    ghost invariant = { λ p. IsRunner p.core.now p.standing };
 }
 
 impl<'a> Plain<'a> {
@@ -56,14 +62,24 @@ impl<'a> Plain<'a> {
         ensures core { IfOk result (λ plain. plain.core ≡ core.now) }
         ensures start { IfOk result (λ plain. Begun (start core.now args.items seed until) plain.stage) }
     {
-        Err(NoMemory)
+        kinded_law();
+        let standing = standing_of(begin(alloc, core, args, seed, until)?);
+        Ok(Plain {
+            alloc,
+            core,
+            standing,
+        })
     }
 
     /// How many instances have an option.
     pub fn actor_count(&self) -> u32
         ensures count { result ≡ length (actors_at self.now.stage) }
     {
-        match self.never {}
+        match &self.standing {
+            Standing::At(configuration, _) => configuration.actor_count(),
+            Standing::Ended(_) => 0,
+            Standing::Lost => 0,
+        }
     }
 
     /// Number `i` of the instances that have an option, ascending.
@@ -71,14 +87,22 @@ impl<'a> Plain<'a> {
         requires { i < length (actors_at self.now.stage) }
         ensures actor { slice_get (actors_at self.now.stage) i ≡ Some result }
     {
-        match self.never {}
+        match &self.standing {
+            Standing::At(configuration, _) => configuration.actor_at(i),
+            Standing::Ended(_) => unreachable!(),
+            Standing::Lost => unreachable!(),
+        }
     }
 
     /// How many options instance `pid` has.
     pub fn option_count(&self, pid: u32) -> u64
         ensures count { result ≡ length (options_at self.now.stage pid) }
     {
-        match self.never {}
+        match &self.standing {
+            Standing::At(configuration, _) => configuration.option_count(pid),
+            Standing::Ended(_) => 0,
+            Standing::Lost => 0,
+        }
     }
 
     /// Option number `i` of instance `pid`.
@@ -86,14 +110,22 @@ impl<'a> Plain<'a> {
         requires { i < length (options_at self.now.stage pid) }
         ensures option { slice_get (options_at self.now.stage pid) i ≡ Some result }
     {
-        match self.never {}
+        match &self.standing {
+            Standing::At(configuration, _) => configuration.option_at(pid, i),
+            Standing::Ended(_) => unreachable!(),
+            Standing::Lost => unreachable!(),
+        }
     }
 
     /// Whether the time may go on.
     pub fn can_advance(&self) -> bool
         ensures advance { IsTrue result ↔ Contains (enabled_at self.now.stage) Advance }
     {
-        match self.never {}
+        match &self.standing {
+            Standing::At(configuration, _) => configuration.can_advance(),
+            Standing::Ended(_) => false,
+            Standing::Lost => false,
+        }
     }
 
     /// The verdict, where the run is over or nothing can happen.
@@ -101,14 +133,24 @@ impl<'a> Plain<'a> {
         ensures verdict { option_copied result ≡ verdict_at self.now.stage }
         ensures told { IfSome result (λ verdict. MayTell self.now.core verdict.now) }
     {
-        match self.never {}
+        match &self.standing {
+            Standing::At(_, Some(ending)) => Some(ending.verdict()),
+            Standing::At(_, None) => None,
+            Standing::Ended(ending) => Some(ending.verdict()),
+            Standing::Lost => None,
+        }
     }
 
     /// The time, in units of a real: that of the ending, where there is one.
     pub fn clock(&self) -> i64
         ensures time { IfSome (clock_at self.now.stage) (λ time. result ≡ time) }
     {
-        match self.never {}
+        match &self.standing {
+            Standing::At(_, Some(ending)) => ending.clock(),
+            Standing::At(configuration, None) => configuration.clock(),
+            Standing::Ended(ending) => ending.clock(),
+            Standing::Lost => 0,
+        }
     }
 
     /// Takes a label, where its cost is within what is left of the bound, and appends what it writes to
@@ -118,6 +160,9 @@ impl<'a> Plain<'a> {
         ensures same_core { self.new.core ≡ self.old.core }
         ensures steps { Appends out.old.items out.new.items (λ text. Steps self.old.core self.old.stage self.new.stage label.now left text result) }
     {
-        match self.never {}
+        let standing = mem::replace(&mut self.standing, Standing::Lost);
+        let (standing, stepped) = step(self.alloc, self.core, standing, label, left, out);
+        self.standing = standing;
+        stepped
     }
 }

@@ -135,7 +135,7 @@ impl<'a> Configuration<'a> {
     }
 
     /// Takes a label, where so much is left of the bound. What costs too much changes nothing.
-    #[tactic(auto, unfolding(chi_core::specs::Step::step))]
+    #[tactic(auto, using(crate::proofs::Moves::moving))]
     pub fn take(
         &mut self,
         alloc: Global,

@@ -1,6 +1,6 @@
-use Rattle.std.proofs.Common.{◌≡◌, ◌∙◌, refl, sym, subst, map, rules, arith}
+use Rattle.std.proofs.Common.{◌∙◌, refl, sym, subst, rules, arith}
 use Rattle.chi_core.specs.Answer.{Answer}
-use Rattle.chi_core.specs.Opening.{Opening, opens, guarded, unwinds}
+use Rattle.chi_core.specs.Opening.{Opening, opens}
 use Rattle.chi_eval.specs.Stops.{Stops}
 use Rattle.chi_eval.specs.Surroundings.{value_in}
 use Rattle.chi_plain.specs.Drafts.{opening_of}

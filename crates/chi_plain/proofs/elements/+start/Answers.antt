@@ -1,4 +1,4 @@
-use Rattle.std.proofs.Common.{◌≡◌, ◌∙◌, refl, sym, subst, map, rules, arith}
+use Rattle.std.proofs.Common.{◌∙◌, refl, sym, subst, rules, arith}
 use Rattle.chi_core.specs.Answer.{Answer}
 use Rattle.chi_core.specs.Starting.{Started, starts}
 use Rattle.chi_eval.specs.Stops.{Stops}

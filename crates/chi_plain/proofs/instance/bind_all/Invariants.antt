@@ -1,4 +1,4 @@
-use Rattle.std.proofs.Common.{◌≡◌, ◌≢◌, None}
+use Rattle.std.proofs.Common.{◌≡◌}
 use Rattle.chi_core.specs.Variables.{bind}
 use Rattle.chi_plain.proofs.instance.bind_all.Given as goal
 

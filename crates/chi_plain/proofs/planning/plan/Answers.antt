@@ -1,4 +1,4 @@
-use Rattle.std.proofs.Common.{◌≡◌, ◌∙◌, ap, sym, subst, rules}
+use Rattle.std.proofs.Common.{◌∙◌, ap, sym, subst, rules}
 use Rattle.chi_core.specs.declared.statement.CStat.{out-CStat}
 use Rattle.chi_core.specs.Answer.{Answer, giving}
 use Rattle.chi_eval.specs.Stops.{Stops}

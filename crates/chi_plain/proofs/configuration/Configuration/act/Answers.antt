@@ -1,5 +1,5 @@
-use Rattle.std.proofs.Common.{◌≡◌, ◌<◌, ◌∙◌, ℤ, Option, Some, None, length, ap, sym, subst, refl, arith, rules}
-use Rattle.std.specs.Prelude.{slice_set, IfSome}
+use Rattle.std.proofs.Common.{◌≡◌, ◌<◌, ◌∙◌, Some, None, length, ap, sym, subst, refl, arith, rules}
+use Rattle.std.specs.Prelude.{slice_set}
 use Rattle.std.specs.List.{slice_get}
 use Rattle.std.proofs.lemmas.Int.{to_z-of_z}
 use Rattle.std.proofs.lemmas.Option.{slice_get_read}
@@ -11,7 +11,7 @@ use Rattle.chi_core.specs.Performing.{Change, quietly}
 use Rattle.chi_eval.specs.Stops.{Stops}
 use Rattle.chi_eval.specs.Surroundings.{scene_in}
 use Rattle.chi_plain.specs.Configurations.{config_at}
-use Rattle.chi_plain.specs.Plans.{own_of, performed_at}
+use Rattle.chi_plain.specs.Plans.{own_of}
 use Rattle.chi_plain.proofs.Changes.{kept-set}
 use Rattle.chi_plain.proofs.Going.{at_known, giving_stops, if_err, on_ok}
 use Rattle.chi_plain.proofs.Planned.{scene_is, seen_shared, shared_gives}

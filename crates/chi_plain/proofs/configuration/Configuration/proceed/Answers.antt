@@ -1,9 +1,8 @@
-use Rattle.std.proofs.Common.{◌≡◌, ◌<◌, ◌∙◌, Option, Some, length, ap, sym, subst, refl, arith}
-use Rattle.std.specs.Prelude.{slice_set, IfSome, unwrap_or}
+use Rattle.std.proofs.Common.{◌≡◌, ◌<◌, ◌∙◌, Some, length, ap, sym, refl, arith}
+use Rattle.std.specs.Prelude.{slice_set}
 use Rattle.std.specs.List.{slice_get}
 use Rattle.std.proofs.lemmas.Option.{slice_get_read}
-use Rattle.chi_core.specs.Config.{Config, Instance, with_instance}
-use Rattle.chi_plain.specs.Instances.{rest_of, state_of}
+use Rattle.chi_core.specs.Config.{Config, Instance}
 use Rattle.chi_plain.proofs.Changes.{kept-set}
 use Rattle.chi_plain.proofs.Going.{at_some}
 use Rattle.chi_plain.proofs.configuration.Configuration.proceed.Goals as goal

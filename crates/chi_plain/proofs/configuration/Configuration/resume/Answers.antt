@@ -1,11 +1,11 @@
-use Rattle.std.proofs.Common.{◌≡◌, ◌<◌, ◌∙◌, Some, length, ap, sym, subst, refl, arith}
-use Rattle.std.specs.Prelude.{OnOk, IfOk, slice_set}
+use Rattle.std.proofs.Common.{◌≡◌, ◌<◌, ◌∙◌, Some, length, ap, sym, refl, arith}
+use Rattle.std.specs.Prelude.{slice_set}
 use Rattle.std.specs.List.{slice_get}
 use Rattle.std.proofs.lemmas.Option.{slice_get_read}
 use Rattle.chi_core.specs.Answer.{Gives}
 use Rattle.chi_core.specs.Config.{Config}
 use Rattle.chi_core.specs.Meeting.{offer_at}
-use Rattle.chi_plain.specs.Meetings.{resumed_at, sent_by}
+use Rattle.chi_plain.specs.Meetings.{sent_by}
 use Rattle.chi_plain.proofs.Changes.{kept-set}
 use Rattle.chi_plain.proofs.Going.{on_ok, if_ok}
 use Rattle.chi_plain.proofs.Meetings.{resumed_there, resumed_gives, resumed_well}

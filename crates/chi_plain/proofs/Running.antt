@@ -1,0 +1,166 @@
+-- A runner of a sound program stays in kinded configurations, and what it tells can be told.
+use Rattle.std.proofs.Common.{◌≡◌, ◌≢◌, ℕ, ◌-◌, ◌<◌, ◌≤◌, List, [], ◌∷◌, ◌++◌, Option, Some, None, pos, Bool, true, false, cond, sym, ◌∙◌, ap, subst, refl, arith}
+use Rattle.std.specs.Prelude.{IsTrue, ◌&&◌, codes, length}
+use Rattle.chi_value.specs.declared.value.Value.{Value}
+use Rattle.chi_core.specs.declared.label.Label.{Label}
+use Rattle.chi_core.specs.declared.program.ConstDef.{ConstDef}
+use Rattle.chi_core.specs.declared.program.Core.{Core}
+use Rattle.chi_core.specs.declared.program.ProcDef.{ProcDef}
+use Rattle.chi_core.specs.declared.verdict.Verdict.{Verdict}
+use Rattle.chi_core.specs.declared.verdict.Verdict.TheVariants.{Completed, Exit, Deadlock, Fault, OutOfSteps, Stopped}
+use Rattle.chi_core.specs.Answer as answer
+use Rattle.chi_core.specs.Answer.{Answer, Gives, Fails}
+use Rattle.chi_core.specs.Beginning as beginning
+use Rattle.chi_core.specs.Beginning.{Beginning, Begins, Breaks, model_begins, constant_value, with_constant, begins_after, start}
+use Rattle.chi_core.specs.Config.{Config}
+use Rattle.chi_core.specs.Kinded.{Kinded}
+use Rattle.chi_core.specs.Options.{Ending, all_finished, stopped_at, at_rest, ending_of, enabled, ending}
+use Rattle.chi_core.specs.Meeting.{next_due}
+use Rattle.chi_core.specs.Starting.{started_by}
+use Rattle.chi_core.specs.Step.{Outcome, Next, Over, Spent, Amiss, step}
+use Rattle.chi_kinded.specs.Keeps.{SoundVerdict, GoesKinded, BeginsKinded}
+use Rattle.chi_runs.specs.Time.{EachCosts}
+use Rattle.chi_plain.specs.declared.beginning.Begun.{Begun}
+use Rattle.chi_plain.specs.declared.beginning.Begun.TheVariants as begun
+use Rattle.chi_plain.specs.declared.standing.Standing.{Standing}
+use Rattle.chi_plain.specs.declared.stepped.Stepped.TheVariants as stepped
+use Rattle.chi_plain.specs.declared.stepping.Went.{Went}
+use Rattle.chi_plain.specs.declared.stepping.Went.TheVariants as went
+use Rattle.chi_plain.specs.Begun.{begun_of}
+use Rattle.chi_plain.specs.Stage as stage
+use Rattle.chi_plain.specs.Stage.{MayTell}
+use Rattle.chi_plain.specs.Standings.{stage_of, standing_at, Stands}
+use Rattle.chi_plain.specs.Takings.{IsRight, Takes}
+use Rattle.std.proofs.lemmas.List.{append-nil}
+use Rattle.std.proofs.Common.{ℤ}
+
+both_true : (a b : Bool) → IsTrue a → IsTrue b → IsTrue (a && b)
+both_true a b p q = ap (λ x. x && b) p ∙ q
+
+pub may_tell : (core : Core) (v : Verdict) → SoundVerdict core v → MayTell core v
+may_tell core (Exit (Some v)) h = record { may = both_true _ _ h.plain h.named; within = h.short }
+may_tell core (Exit None) h = record { may = refl; within = omega arith }
+may_tell core Completed h = record { may = refl; within = omega arith }
+may_tell core Deadlock h = record { may = refl; within = omega arith }
+may_tell core (Fault kind name line) h = record { may = refl; within = omega arith }
+may_tell core OutOfSteps h = record { may = refl; within = omega arith }
+may_tell core Stopped h = record { may = refl; within = omega arith }
+
+-- the ending where nothing is enabled can be told
+pub rest_told : (core : Core) (config : Config) (end : Ending) → ending config ≡ Some end → MayTell core end.verdict
+rest_told core config end e = by_enabled (enabled config) e
+  where
+    by_stop : (t u : Option ℤ) → SoundVerdict core (stopped_at config t u).verdict
+    by_stop (Some t) (Some u) = tt
+    by_stop (Some t) None = tt
+    by_stop None u = tt
+
+    by_all : (b : Bool) → SoundVerdict core (cond b (record { verdict = Completed; clock = config.clock }) (stopped_at config (next_due config) config.until)).verdict
+    by_all true = tt
+    by_all false = by_stop (next_due config) config.until
+
+    by_enabled : (ls : List Label) → ending_of ls config ≡ Some end → MayTell core end.verdict
+    by_enabled [] e =
+        let same : at_rest config ≡ end = cc in
+        may_tell core end.verdict (subst (λ (x : Ending). SoundVerdict core x.verdict) same (by_all (all_finished config)))
+    by_enabled (l ∷ ls) e = absurd (cc)
+
+-- the fault of a constant can be told
+pub breaks_told : (core : Core) (arguments : List Value) (seed : ℕ) (until : Option ℤ) (values : List Value) (cs : List ConstDef) (end : Ending)
+    → begins_after core arguments seed until values cs ≡ Breaks end → MayTell core end.verdict
+breaks_told core arguments seed until values [] end e = by_model (started_by core.procs core.model (length arguments)) e
+  where
+    by_model : (o : Option ProcDef) → model_begins seed until arguments values core.model o ≡ Breaks end → MayTell core end.verdict
+    by_model None e = absurd (cc)
+    by_model (Some d) e = absurd (cc)
+breaks_told core arguments seed until values (c ∷ cs) end e =
+    by_value (λ more. breaks_told core arguments seed until more cs end) (constant_value core seed values c) e
+  where
+    by_value : ((more : List Value) → begins_after core arguments seed until more cs ≡ Breaks end → MayTell core end.verdict)
+        → (m : Answer Value) → with_constant core arguments seed until (λ more. begins_after core arguments seed until more cs) values c m ≡ Breaks end → MayTell core end.verdict
+    by_value later (Gives v view) e = later (values ++ v ∷ []) e
+    by_value later (Fails kind) e =
+        let broken : Ending = record { verdict = Fault kind (codes "const") c.line; clock = pos 0 } in
+        let same : broken ≡ end = cc in
+        may_tell core end.verdict (subst (λ (x : Ending). SoundVerdict core x.verdict) same tt)
+    by_value later answer.Spent e = absurd (cc)
+    by_value later answer.Amiss e = absurd (cc)
+
+pub right_of : (core : Core) (o : Outcome) → GoesKinded core o → IsRight o
+right_of core (Next config text left) good = good.few
+right_of core (Over verdict) good = tt
+right_of core Spent good = tt
+right_of core Amiss good = good
+
+pub begins_well : (core : Core) (b : Beginning) → BeginsKinded core b → b ≢ beginning.Amiss
+begins_well core b good e = subst (BeginsKinded core) e good
+
+pub kinded_begin : (core : Core) (b : Beginning) (config : Config) → b ≡ Begins config → BeginsKinded core b → Kinded core config
+kinded_begin core b config e good = subst (BeginsKinded core) e good
+
+pub kinded_next : (core : Core) (o : Outcome) (config : Config) (text : List ℕ) (left : ℕ) → o ≡ Next config text left → GoesKinded core o → Kinded core config
+kinded_next core o config text left e good = subst (GoesKinded core) e good
+
+pub told_over : (core : Core) (o : Outcome) (v : Verdict) → o ≡ Over v → GoesKinded core o → MayTell core v
+told_over core o v e good = may_tell core v (subst (GoesKinded core) e good)
+
+-- where a run stands at its beginning
+
+pub begun_stands : (core : Core) (arguments : List Value) (seed : ℕ) (until : Option ℤ) (b : Begun) → start core arguments seed until ≡ begun_of b
+    → BeginsKinded core (start core arguments seed until) → Stands core (standing_at b)
+begun_stands core arguments seed until (begun.Begins config) e good = record { known = refl; kinded = kinded_begin core _ config e good }
+begun_stands core arguments seed until (begun.Breaks end) e good = breaks_told core arguments seed until [] core.consts end e
+
+pub begun_stage : (b : Beginning) (kept : Begun) (s : Standing) → b ≡ begun_of kept → s ≡ standing_at kept → stage.Begun b (stage_of s)
+begun_stage b (begun.Begins config) s e is =
+    let P : Beginning → Type 0 = λ b. stage.Begun b (stage_of s) in subst P (sym e) (ap stage_of is)
+begun_stage b (begun.Breaks end) s e is =
+    let P : Beginning → Type 0 = λ b. stage.Begun b (stage_of s) in subst P (sym e) (ap stage_of is)
+
+-- a label that was taken
+module _ (core : Core) (old new : Config) (label : Label) (left : ℕ) (before after : List ℕ) (how : Went)
+    (taken : stage.Appends before after (λ text. Takes (step core old label left) old new text how)) where
+  pub on_next : (rest : ℕ) → how ≡ went.On rest → (text : List ℕ) × (step core old label left ≡ Next new text rest)
+  on_next rest is =
+      let P : Went → Type 0 = λ w. Takes (step core old label left) old new taken.0 w in (taken.0, subst P is taken.2)
+
+  pub on_costs : EachCosts → (rest : ℕ) → how ≡ went.On rest → rest ≤ left
+  on_costs costs rest is =
+      let n = on_next rest is in
+      let less : rest < left = costs core old label left new n.0 rest n.1 in omega arith
+
+  pub on_kinded : (rest : ℕ) → how ≡ went.On rest → GoesKinded core (step core old label left) → Kinded core new
+  on_kinded rest is good = let n = on_next rest is in kinded_next core _ new n.0 rest n.1 good
+
+  pub on_steps : EachCosts → (rest : ℕ) → how ≡ went.On rest → stage.Appends before after (λ text. stage.Steps core (stage.At old) (stage.At new) label left text (stepped.Next (left - rest)))
+  on_steps costs rest is =
+      let less : rest ≤ left = on_costs costs rest is in
+      let P : Went → Type 0 = λ w. Takes (step core old label left) old new taken.0 w in
+      (taken.0, taken.1, (rest, subst P is taken.2, omega arith))
+
+  pub over_told : (v : Verdict) → how ≡ went.Over v → GoesKinded core (step core old label left) → MayTell core v
+  over_told v is good =
+      let P : Went → Type 0 = λ w. Takes (step core old label left) old new taken.0 w in
+      let t = subst P is taken.2 in told_over core _ v t.0 good
+
+  pub over_steps : (v : Verdict) (clock : ℤ) → how ≡ went.Over v → clock ≡ old.clock
+      → stage.Appends before after (λ text. stage.Steps core (stage.At old) (stage.Ended (record { verdict = v; clock = clock })) label left text stepped.Over)
+  over_steps v clock is same =
+      let P : Went → Type 0 = λ w. Takes (step core old label left) old new taken.0 w in
+      let t = subst P is taken.2 in
+      (taken.0, taken.1, (t.0, (λ k. record { verdict = v; clock = same k }), t.1))
+
+  pub spent_same : how ≡ went.Spent → new ≡ old
+  spent_same is =
+      let P : Went → Type 0 = λ w. Takes (step core old label left) old new taken.0 w in
+      let t = subst P is taken.2 in t.1
+
+  pub spent_steps : how ≡ went.Spent → stage.Appends before after (λ text. stage.Steps core (stage.At old) (stage.At new) label left text stepped.Spent)
+  spent_steps is =
+      let P : Went → Type 0 = λ w. Takes (step core old label left) old new taken.0 w in
+      let t = subst P is taken.2 in
+      (taken.0, taken.1, (t.0, ap stage.At t.1, t.2))
+
+pub lost_steps : (core : Core) (old : Config) (label : Label) (left : ℕ) (before after : List ℕ) → after ≡ before
+    → stage.Appends before after (λ text. stage.Steps core (stage.At old) stage.Lost label left text stepped.NoMemory)
+lost_steps core old label left before after same = ([], same ∙ sym (append-nil before), (refl, refl))

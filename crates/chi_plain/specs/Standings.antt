@@ -1,0 +1,38 @@
+-- Private to proofs: how a runner stands.
+use Rattle.std.specs.Prelude.{◌≡◌, Option}
+use Rattle.chi_core.specs.declared.program.Core.{Core}
+use Rattle.chi_core.specs.Config.{Config}
+use Rattle.chi_core.specs.Kinded.{Kinded}
+use Rattle.chi_core.specs.Options.{Ending, ending}
+use Rattle.chi_core.specs.Sound.{Sound}
+use Rattle.chi_plain.specs.declared.beginning.Begun.{Begun}
+use Rattle.chi_plain.specs.declared.beginning.Begun.TheVariants as begun
+use Rattle.chi_plain.specs.declared.standing.Standing.{Standing}
+use Rattle.chi_plain.specs.declared.standing.Standing.TheVariants.{At, Ended, Lost}
+use Rattle.chi_plain.specs.Stage as stage
+use Rattle.chi_plain.specs.Stage.{Stage, MayTell}
+
+-- where a run stands at its beginning
+abbrev pub standing_at : Begun → Standing
+standing_at (begun.Begins config) = At config (ending config)
+standing_at (begun.Breaks end) = Ended end
+
+abbrev pub stage_of : Standing → Stage
+stage_of (At config rest) = stage.At config
+stage_of (Ended end) = stage.Ended end
+stage_of Lost = stage.Lost
+
+-- what is kept with a configuration: how the run ends there, and that it is kinded
+pub record IsAt (core : Core) (config : Config) (rest : Option Ending) : Type 0 where
+  pub known : rest ≡ ending config
+  pub kinded : Kinded core config
+
+-- and of a run that is over, that its verdict can be told
+abbrev pub Stands : Core → Standing → Type 0
+Stands core (At config rest) = IsAt core config rest
+Stands core (Ended end) = MayTell core end.verdict
+Stands core Lost = Unit {0}
+
+pub record IsRunner (core : Core) (standing : Standing) : Type 0 where
+  pub sound : Sound core
+  pub stands : Stands core standing
