@@ -1,9 +1,9 @@
 -- What is built is sound.
-use Rattle.std.proofs.Common.{◌≡◌, ◌&&◌, ℕ, zero, suc, List, [], ◌∷◌, ◌++◌, Option, Some, None, Bool, true, false, cond, refl, ap, sym, ◌∙◌, subst, append_assoc, append-nil}
-use Rattle.std.specs.Prelude.{IfSome, length, map, option_map, slice_get}
+use Rattle.std.proofs.Common.{◌≡◌, ◌&&◌, ℕ, suc, List, [], ◌∷◌, ◌++◌, Option, Some, None, Bool, true, false, cond, refl, ap, sym, ◌∙◌, subst, append_assoc, append-nil}
+use Rattle.std.specs.Prelude.{IfSome, length, option_map, slice_get}
 use Rattle.std.specs.List.{find}
 use Rattle.std.specs.Option.{option_and_then}
-use Rattle.std.proofs.lemmas.Bool.{false≢true, and_parts}
+use Rattle.std.proofs.lemmas.Bool.{false≢true}
 use Rattle.chi_tree.specs.declared.statement.Step.{Step}
 use Rattle.chi_tree.specs.declared.definition.Definition.{Definition}
 use Rattle.chi_tree.specs.declared.definition.Definition.TheVariants as definition
@@ -14,7 +14,7 @@ use Rattle.chi_types.specs.declared.ty.Ty.TheVariants as ty
 use Rattle.chi_core.specs.declared.program.Core.{Core}
 use Rattle.chi_core.specs.declared.program.ProcDef.{ProcDef}
 use Rattle.chi_core.specs.declared.statement.CStat.{CStat}
-use Rattle.chi_core.specs.Fills.{Fill, Fills, unwound, one_after_another, by_statement, by_body, UnwindsOwn}
+use Rattle.chi_core.specs.Fills.{Fills, unwound, by_statement, by_body, UnwindsOwn}
 use Rattle.chi_core.specs.Kinds.{Every}
 use Rattle.chi_core.specs.Sound.{IsName, SoundIn, SoundProcess, Sound}
 use Rattle.chi_core.specs.SoundTypes as sound

@@ -10,13 +10,13 @@ use Rattle.chi_tree.specs.declared.statement.Statement.{Statement, Statement-F, 
 use Rattle.chi_types.specs.declared.ty.Way.TheVariants as way
 use Rattle.chi_types.specs.declared.ty.Ty.{Ty, Ty-F}
 use Rattle.chi_types.specs.declared.ty.Ty.TheVariants as ty
-use Rattle.chi_value.specs.declared.shape.Shape.{Shape, Shape-F, out-Shape}
+use Rattle.chi_value.specs.declared.shape.Shape.{out-Shape}
 use Rattle.chi_value.specs.declared.shape.Shape.TheVariants as shape
 use Rattle.chi_core.specs.declared.communication.CComm.{CComm}
 use Rattle.chi_core.specs.declared.communication.CComm.TheVariants as comm
 use Rattle.chi_core.specs.declared.element.CElem.{CElem, CElem-F, fold_out-CElem, map-CElem, out-CElem}
 use Rattle.chi_core.specs.declared.element.CElem.TheVariants as element
-use Rattle.chi_core.specs.declared.expression.CExpr.{CExpr, CExpr-F, out-CExpr}
+use Rattle.chi_core.specs.declared.expression.CExpr.{CExpr, out-CExpr}
 use Rattle.chi_core.specs.declared.expression.CExpr.TheVariants as expression
 use Rattle.chi_core.specs.declared.program.Core.{Core}
 use Rattle.chi_core.specs.declared.program.ProcDef.{ProcDef}

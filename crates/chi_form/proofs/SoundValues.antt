@@ -10,13 +10,12 @@ use Rattle.chi_tree.specs.declared.statement.Communication.{Communication}
 use Rattle.chi_tree.specs.declared.statement.Communication.TheVariants as communication
 use Rattle.chi_types.specs.declared.ty.Way.{Way}
 use Rattle.chi_types.specs.declared.ty.Way.TheVariants as way
-use Rattle.chi_types.specs.declared.ty.Ty.{Ty, Ty-F, out-Ty}
+use Rattle.chi_types.specs.declared.ty.Ty.{Ty-F, out-Ty}
 use Rattle.chi_types.specs.declared.ty.Ty.TheVariants as ty
-use Rattle.chi_value.specs.declared.value.Value.{out-Value}
 use Rattle.chi_value.specs.declared.value.Value.TheVariants as value
 use Rattle.chi_core.specs.declared.communication.CComm.{CComm}
 use Rattle.chi_core.specs.declared.communication.CComm.TheVariants as comm
-use Rattle.chi_core.specs.declared.expression.CExpr.{CExpr, CExpr-F, out-CExpr}
+use Rattle.chi_core.specs.declared.expression.CExpr.{CExpr, out-CExpr}
 use Rattle.chi_core.specs.declared.expression.CExpr.TheVariants as expression
 use Rattle.chi_core.specs.declared.op_name.OpName.TheVariants as op
 use Rattle.chi_core.specs.declared.program.Core.{Core}
@@ -27,7 +26,7 @@ use Rattle.chi_core.specs.OperatorKinds.{widen_int}
 use Rattle.chi_core.specs.Scopes.{Scope, process}
 use Rattle.chi_core.specs.SetSlots.{Known}
 use Rattle.chi_core.specs.SoundExpressions.{LiteralKind, int, real, HasKind, literal, variable, operation, HaveKinds, no_expression, one_expression}
-use Rattle.chi_core.specs.SoundParts.{StepsLead, no_step, ChannelAt, SoundComm, sends, receives, delays}
+use Rattle.chi_core.specs.SoundParts.{no_step, ChannelAt, SoundComm, sends, receives, delays}
 use Rattle.chi_core.proofs.Erased.{kind_at}
 use Rattle.chi_form.specs.declared.kind.Kind.{Kind}
 use Rattle.chi_form.specs.declared.kind.Kind.TheVariants.{Int, Chan}
