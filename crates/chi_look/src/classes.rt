@@ -10,46 +10,100 @@ macro_rules! classes {
         [$($all,)*]
     };
     ([$($all:expr,)*] prefix_signs $($more:ident)*) => {
-        classes!([$($all,)* Class::Sign(Sign::Minus), Class::Sign(Sign::Plus), Class::Word(Keyword::SampleWord),] $($more)*)
+        classes!([
+            $($all,)*
+            Class::Sign(Sign::Minus), Class::Sign(Sign::Plus), Class::Word(Keyword::SampleWord),
+        ] $($more)*)
     };
     ([$($all:expr,)*] relation_signs $($more:ident)*) => {
-        classes!([$($all,)* Class::Sign(Sign::Less), Class::Sign(Sign::LessEqual), Class::Sign(Sign::Equal), Class::Sign(Sign::NotEqual), Class::Sign(Sign::Greater), Class::Sign(Sign::GreaterEqual), Class::Word(Keyword::InWord), Class::Word(Keyword::SubWord),] $($more)*)
+        classes!([
+            $($all,)*
+            Class::Sign(Sign::Less), Class::Sign(Sign::LessEqual), Class::Sign(Sign::Equal),
+            Class::Sign(Sign::NotEqual), Class::Sign(Sign::Greater),
+            Class::Sign(Sign::GreaterEqual), Class::Word(Keyword::InWord),
+            Class::Word(Keyword::SubWord),
+        ] $($more)*)
     };
     ([$($all:expr,)*] sum_signs $($more:ident)*) => {
         classes!([$($all,)* Class::Sign(Sign::Plus), Class::Sign(Sign::Minus),] $($more)*)
     };
     ([$($all:expr,)*] product_signs $($more:ident)*) => {
-        classes!([$($all,)* Class::Sign(Sign::Star), Class::Sign(Sign::Slash), Class::Word(Keyword::DivWord), Class::Word(Keyword::ModWord),] $($more)*)
+        classes!([
+            $($all,)*
+            Class::Sign(Sign::Star), Class::Sign(Sign::Slash), Class::Word(Keyword::DivWord),
+            Class::Word(Keyword::ModWord),
+        ] $($more)*)
     };
     ([$($all:expr,)*] literals $($more:ident)*) => {
-        classes!([$($all,)* Class::Int, Class::Real, Class::Text, Class::Word(Keyword::TrueWord), Class::Word(Keyword::FalseWord), Class::Word(Keyword::TimeWord),] $($more)*)
+        classes!([
+            $($all,)*
+            Class::Int, Class::Real, Class::Text, Class::Word(Keyword::TrueWord),
+            Class::Word(Keyword::FalseWord), Class::Word(Keyword::TimeWord),
+        ] $($more)*)
     };
     ([$($all:expr,)*] cast_words $($more:ident)*) => {
-        classes!([$($all,)* Class::Word(Keyword::IntWord), Class::Word(Keyword::RealWord), Class::Word(Keyword::StringWord), Class::Word(Keyword::BoolWord), Class::Word(Keyword::TimerWord),] $($more)*)
+        classes!([
+            $($all,)*
+            Class::Word(Keyword::IntWord), Class::Word(Keyword::RealWord),
+            Class::Word(Keyword::StringWord), Class::Word(Keyword::BoolWord),
+            Class::Word(Keyword::TimerWord),
+        ] $($more)*)
     };
     ([$($all:expr,)*] open_brackets $($more:ident)*) => {
-        classes!([$($all,)* Class::Sign(Sign::LeftParen), Class::Sign(Sign::LeftBracket), Class::Sign(Sign::LeftBrace), Class::Sign(Sign::Less),] $($more)*)
+        classes!([
+            $($all,)*
+            Class::Sign(Sign::LeftParen), Class::Sign(Sign::LeftBracket),
+            Class::Sign(Sign::LeftBrace), Class::Sign(Sign::Less),
+        ] $($more)*)
     };
     ([$($all:expr,)*] type_words $($more:ident)*) => {
-        classes!([$($all,)* Class::Word(Keyword::BoolWord), Class::Word(Keyword::IntWord), Class::Word(Keyword::RealWord), Class::Word(Keyword::StringWord), Class::Word(Keyword::TimerWord), Class::Word(Keyword::InstWord),] $($more)*)
+        classes!([
+            $($all,)*
+            Class::Word(Keyword::BoolWord), Class::Word(Keyword::IntWord),
+            Class::Word(Keyword::RealWord), Class::Word(Keyword::StringWord),
+            Class::Word(Keyword::TimerWord), Class::Word(Keyword::InstWord),
+        ] $($more)*)
     };
     ([$($all:expr,)*] built_type_words $($more:ident)*) => {
-        classes!([$($all,)* Class::Word(Keyword::ListWord), Class::Word(Keyword::SetWord), Class::Word(Keyword::DistWord), Class::Word(Keyword::DictWord), Class::Word(Keyword::TupleWord), Class::Word(Keyword::ChanWord),] $($more)*)
+        classes!([
+            $($all,)*
+            Class::Word(Keyword::ListWord), Class::Word(Keyword::SetWord),
+            Class::Word(Keyword::DistWord), Class::Word(Keyword::DictWord),
+            Class::Word(Keyword::TupleWord), Class::Word(Keyword::ChanWord),
+        ] $($more)*)
     };
     ([$($all:expr,)*] closed $($more:ident)*) => {
-        classes!([$($all,)* Class::Word(Keyword::SelectWord), Class::Word(Keyword::IfWord), Class::Word(Keyword::WhileWord), Class::Word(Keyword::ForWord),] $($more)*)
+        classes!([
+            $($all,)*
+            Class::Word(Keyword::SelectWord), Class::Word(Keyword::IfWord),
+            Class::Word(Keyword::WhileWord), Class::Word(Keyword::ForWord),
+        ] $($more)*)
     };
     ([$($all:expr,)*] launch_words $($more:ident)*) => {
-        classes!([$($all,)* Class::Word(Keyword::RunWord), Class::Word(Keyword::StartWord),] $($more)*)
+        classes!([
+            $($all,)*
+            Class::Word(Keyword::RunWord), Class::Word(Keyword::StartWord),
+        ] $($more)*)
     };
     ([$($all:expr,)*] jumps $($more:ident)*) => {
-        classes!([$($all,)* Class::Word(Keyword::PassWord), Class::Word(Keyword::BreakWord), Class::Word(Keyword::ContinueWord),] $($more)*)
+        classes!([
+            $($all,)*
+            Class::Word(Keyword::PassWord), Class::Word(Keyword::BreakWord),
+            Class::Word(Keyword::ContinueWord),
+        ] $($more)*)
     };
     ([$($all:expr,)*] value_words $($more:ident)*) => {
-        classes!([$($all,)* Class::Word(Keyword::ReturnWord), Class::Word(Keyword::ExitWord), Class::Word(Keyword::FinishWord),] $($more)*)
+        classes!([
+            $($all,)*
+            Class::Word(Keyword::ReturnWord), Class::Word(Keyword::ExitWord),
+            Class::Word(Keyword::FinishWord),
+        ] $($more)*)
     };
     ([$($all:expr,)*] write_words $($more:ident)*) => {
-        classes!([$($all,)* Class::Word(Keyword::WriteWord), Class::Word(Keyword::WritelnWord),] $($more)*)
+        classes!([
+            $($all,)*
+            Class::Word(Keyword::WriteWord), Class::Word(Keyword::WritelnWord),
+        ] $($more)*)
     };
     ([$($all:expr,)*] name $($more:ident)*) => {
         classes!([$($all,)* Class::Name,] $($more)*)

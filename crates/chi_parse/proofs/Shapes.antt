@@ -23,10 +23,10 @@ use Rattle.chi_tree.proofs.Fine.{grammar_fine}
 use Rattle.chi_grammar.proofs.Answers.{means}
 use Rattle.chi_grammar.proofs.Starts.{takes}
 use Rattle.chi_grammar.proofs.Decided.{decided}
-use Rattle.chi_tree.specs.Statements.{initial_of, is_some, offered, alternative_of, definition_of, element_of, head_of, walk_of}
+use Rattle.chi_tree.specs.Statements.{initial_of, is_some, alternative_of, definition_of, element_of, head_of, walk_of}
 use Rattle.chi_tree.specs.View.{Built, name_in, optional, place_in, type_of}
 use Rattle.chi_parse.specs.Heads.{is_there}
-use Rattle.chi_parse.specs.Rests.{assigned_of, callable_of, guarded_of, values_of, repeated_alternatives_of, repeated_elements_of}
+use Rattle.chi_parse.specs.Rests.{assigned_of, callable_of, guarded_of, offered_shown, values_of, repeated_alternatives_of, repeated_elements_of}
 
 pub any_room : Room
 any_room = record { blocks = 0; expressions = 0 }
@@ -84,7 +84,7 @@ module _ {tokens : List Spanned} where
   enumeration_shows (runs.both p (runs.deeper e (runs.both q (runs.both r x)))) w name = refl
 
   pub guarded_shows : {room : Room} {i j : ℕ} {t : Built} → RuleRuns grammar table tokens room (sign Comma ▸ part s.Communication) i (Done t j) → (guard : Expr)
-      → offered guard (node s.Guarded t) ≡ (Some guard, guarded_of t)
+      → offered_shown guard (node s.Guarded t) ≡ record { guard = Some guard; communication = guarded_of t }
   guarded_shows (runs.both p q) guard = refl
 
 -- an answer is seen in another way

@@ -1,6 +1,7 @@
 -- What is shown of the rest of a production. Private to proofs.
 use Rattle.std.specs.Prelude.{List, []}
 use Rattle.chi_grammar.specs.Rules.{pair}
+use Rattle.chi_tree.specs.declared.expr.Expr.{Expr}
 use Rattle.chi_tree.specs.declared.statement.Alternative.{Alternative}
 use Rattle.chi_tree.specs.declared.statement.Communication.{Communication}
 use Rattle.chi_tree.specs.declared.statement.Communication.TheVariants as communication
@@ -9,7 +10,8 @@ use Rattle.chi_tree.specs.declared.statement.Initial.{Initial}
 use Rattle.chi_tree.specs.declared.statement.Step.{Step}
 use Rattle.chi_tree.specs.declared.type_tree.Formal.{Formal}
 use Rattle.chi_tree.specs.declared.type_tree.Name.{Name}
-use Rattle.chi_tree.specs.Statements.{alternatives_of, body_of, communication_of, elements_of, parameters_of}
+use Rattle.chi_tree.specs.Statements.{alternatives_of, body_of, communication_of, elements_of, offer_of, offered, parameters_of}
+use Rattle.chi_parse.specs.declared.offers.GuardedCommunication.{GuardedCommunication}
 use Rattle.chi_tree.specs.View.{Built, expr_of, names_in, no_expr, nowhere, place_in}
 
 -- what an unwind repeats, between `:` and `end`
@@ -41,3 +43,11 @@ values_of _ = []
 abbrev pub guarded_of : Built → Communication
 guarded_of (pair c m) = communication_of m
 guarded_of _ = communication.Delay nowhere no_expr
+
+-- an offer
+
+abbrev pub offered_shown : Expr → Built → GuardedCommunication
+offered_shown e t = record { guard = (offered e t).0; communication = (offered e t).1 }
+
+abbrev pub offer_shown : Built → GuardedCommunication
+offer_shown t = record { guard = (offer_of t).0; communication = (offer_of t).1 }

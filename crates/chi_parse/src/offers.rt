@@ -1,14 +1,14 @@
-ghost use Rattle.std.specs.Prelude.{◌≡◌, ◌^◌, ◌<◌, ◌≤◌, true, IfOk, List, Some, length};
+ghost use Rattle.std.specs.Prelude.{◌≡◌, ◌^◌, ◌<◌, ◌≤◌, true, IfOk, List, None, Some, length};
 ghost use Rattle.chi_grammar.specs.Rules.{part, ◌▸◌};
 ghost use Rattle.chi_grammar.specs.Reads.{Reads};
 ghost use Rattle.chi_tree.specs.Parts as s;
 ghost use Rattle.chi_token.specs.declared.sign.Sign.TheVariants.{Comma};
 ghost use Rattle.chi_tree.specs.Rules.{grammar, sign};
-ghost use Rattle.chi_parse.specs.Rests.{guarded_of};
+ghost use Rattle.chi_parse.specs.Rests.{guarded_of, offer_shown, offered_shown};
 ghost use Rattle.chi_tree.specs.Tables.{table};
 ghost use Rattle.chi_tree.specs.declared.expr.Expr.{out-Expr};
 ghost use Rattle.chi_tree.specs.declared.expr.Postfix.{Postfix, out-Postfix};
-ghost use Rattle.chi_tree.specs.Statements.{as_target, is_some, is_step_in, name_target, offer_of, offered};
+ghost use Rattle.chi_tree.specs.Statements.{as_target, is_some, is_step_in, name_target};
 
 use crate::communications::{communication, communication_end, delay};
 use chi_base::{Items, NoMemory};
@@ -19,8 +19,12 @@ use chi_token::{Keyword, Sign, Spanned};
 use chi_tree::{Class, Communication, Expr, Postfix, Target};
 use std::alloc::Global;
 
-/// A guard, where there is one, and a communication.
-pub type Offer = (Option<Expr>, Communication);
+/// A communication, with its guard where there is one.
+#[derive(Drop)]
+pub struct GuardedCommunication {
+    pub guard: Option<Expr>,
+    pub communication: Communication,
+}
 
 /// Whether an expression is a name alone.
 fn is_named(e: &Expr) -> bool
@@ -69,6 +73,16 @@ fn into_target(alloc: Global, e: Expr) -> Result<Target, NoMemory>
     }
 }
 
+/// An offer without a guard.
+fn bare(communication: Communication) -> GuardedCommunication
+    ensures { result ≡ record { guard = None; communication = communication } }
+{
+    GuardedCommunication {
+        guard: None,
+        communication,
+    }
+}
+
 /// A guard and a communication, of which the guard has been read.
 fn guarded(
     alloc: Global,
@@ -76,13 +90,20 @@ fn guarded(
     at: u32,
     room: Room,
     guard: Expr,
-) -> Result<(Offer, u32), ParseFault>
+) -> Result<(GuardedCommunication, u32), ParseFault>
     requires short { length tokens.now < 2 ^ 32 }
     requires inside { at ≤ length tokens.now }
-    ensures { Reads grammar table tokens.now (offered guard) room (part s.Guarded) at result }
+    ensures { Reads grammar table tokens.now (offered_shown guard) room (part s.Guarded) at result }
 {
     let (communication, end) = after_guard(alloc, tokens, at, room)?;
-    Ok(((Some(guard), communication), end))
+    let guard = Some(guard);
+    Ok((
+        GuardedCommunication {
+            guard,
+            communication,
+        },
+        end,
+    ))
 }
 
 /// The communication after a guard and its comma.
@@ -107,18 +128,18 @@ fn offered(
     at: u32,
     room: Room,
     first: Expr,
-) -> Result<(Offer, u32), ParseFault>
+) -> Result<(GuardedCommunication, u32), ParseFault>
     requires short { length tokens.now < 2 ^ 32 }
     requires inside { at ≤ length tokens.now }
     requires target { is_some (as_target first) ≡ true }
-    ensures { Reads grammar table tokens.now (offered first) room (part s.Offered) at result }
+    ensures { Reads grammar table tokens.now (offered_shown first) room (part s.Offered) at result }
 {
     if is_next(tokens, at, &[Class::Sign(Sign::Comma)]) {
         return guarded(alloc, tokens, at, room, first);
     }
     let target = into_target(alloc, first)?;
     let (communication, end) = communication_end(alloc, tokens, at, room, target)?;
-    Ok(((None, communication), end))
+    Ok((bare(communication), end))
 }
 
 pub fn offer(
@@ -126,14 +147,14 @@ pub fn offer(
     tokens: &[Spanned],
     at: u32,
     room: Room,
-) -> Result<(Offer, u32), ParseFault>
+) -> Result<(GuardedCommunication, u32), ParseFault>
     requires short { length tokens.now < 2 ^ 32 }
     requires inside { at ≤ length tokens.now }
-    ensures { Reads grammar table tokens.now offer_of room (part s.Offer) at result }
+    ensures { Reads grammar table tokens.now offer_shown room (part s.Offer) at result }
 {
     if is_next(tokens, at, &[Class::Word(Keyword::DelayWord)]) {
         let (communication, end) = delay(alloc, tokens, at, room)?;
-        return Ok(((None, communication), end));
+        return Ok((bare(communication), end));
     }
     let (first, middle) = expr(alloc, tokens, at, room)?;
     if is_target(&first) {

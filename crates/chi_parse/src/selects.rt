@@ -11,7 +11,7 @@ ghost use Rattle.chi_tree.specs.Statements.{alternative_body_of, alternative_of,
 ghost use Rattle.chi_parse.specs.Rests.{repeated_alternatives_of};
 
 use crate::blocks::inner;
-use crate::offers::{Offer, offer};
+use crate::offers::{GuardedCommunication, offer};
 use crate::walks::walk;
 use chi_base::Items;
 use chi_grammar::{Nesting, ParseFault, Room};
@@ -161,10 +161,13 @@ fn guarded_alternative(
 }
 
 /// An offer with the block after it.
-fn offered_block(offer: Offer, block: Block) -> Alternative
-    ensures { result ≡ alternative.Guarded offer.0 offer.1 block }
+fn offered_block(offer: GuardedCommunication, block: Block) -> Alternative
+    ensures { result ≡ alternative.Guarded offer.guard offer.communication block }
 {
-    let (guard, communication) = offer;
+    let GuardedCommunication {
+        guard,
+        communication,
+    } = offer;
     Alternative::Guarded {
         guard,
         communication,

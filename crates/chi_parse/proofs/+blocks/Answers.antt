@@ -324,7 +324,7 @@ selects::guarded_alternative-returns-in_err-block t c = failed grammar table _ a
 pub selects::guarded_alternative-returns : goal.selects::guarded_alternative-returns
 selects::guarded_alternative-returns t c = read grammar table _ (alternative_of) c.requires.inside
     (runs.part (runs.both c.in_ok-offer.ensures.runs c.in_ok-block.ensures.runs))
-    ((λ i. alternative.Guarded (c.in_ok-offer.ensures.shows i).0 (c.in_ok-offer.ensures.shows i).1 (c.in_ok-block.ensures.shows i)) ∙ sym c.offered_block.ensures)
+    ((λ i. alternative.Guarded (c.in_ok-offer.ensures.shows i).guard (c.in_ok-offer.ensures.shows i).communication (c.in_ok-block.ensures.shows i)) ∙ sym c.offered_block.ensures)
 
 pub selects::alternative_body-returns-in_err-of : goal.selects::alternative_body-returns-in_err-of
 selects::alternative_body-returns-in_err-of t c = no_memory grammar table _ alternative_body_of _ (maybe (part s.AlternativeBody)) _ _ c.from_residual.ensures.1

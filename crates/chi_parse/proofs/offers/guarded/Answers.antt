@@ -5,15 +5,15 @@ use Rattle.chi_grammar.proofs.Exits.{read, failed}
 use Rattle.chi_tree.specs.Parts as s
 use Rattle.chi_tree.specs.Rules.{grammar}
 use Rattle.chi_tree.specs.Tables.{table}
-use Rattle.chi_tree.specs.Statements.{offered}
+use Rattle.chi_parse.specs.Rests.{offered_shown}
 use Rattle.chi_parse.proofs.Shapes.{guarded_shows}
 use Rattle.chi_parse.proofs.offers.guarded.Goals as goal
 
 pub returns-in_err-communication : goal.returns-in_err-communication
-returns-in_err-communication c = failed grammar table _ (offered c.args.guard) _ (part s.Guarded) _ _ _ c.from_residual.ensures.1
+returns-in_err-communication c = failed grammar table _ (offered_shown c.args.guard) _ (part s.Guarded) _ _ _ c.from_residual.ensures.1
     (runs.part_fails c.in_err-communication.ensures)
 
 pub returns : goal.returns
-returns c = read grammar table _ (offered c.args.guard) c.requires.inside
+returns c = read grammar table _ (offered_shown c.args.guard) c.requires.inside
     (runs.part c.in_ok-communication.ensures.runs)
-    (guarded_shows c.in_ok-communication.ensures.runs c.args.guard ∙ (λ i. (Some c.args.guard, c.in_ok-communication.ensures.shows i)))
+    (guarded_shows c.in_ok-communication.ensures.runs c.args.guard ∙ (λ i. record { guard = Some c.args.guard; communication = c.in_ok-communication.ensures.shows i }))
