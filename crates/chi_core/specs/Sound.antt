@@ -2,7 +2,7 @@
 -- each number names something.
 use Rattle.std.specs.Prelude.{◌≡◌, ℕ, ◌<◌, ◌≤◌, false, Option, Some, None, List, ◌++◌, length, slice_get}
 use Rattle.chi_token.specs.declared.token.Token.TheVariants.{Name}
-use Rattle.chi_token.specs.Tokens.{token_of}
+use Rattle.chi_token.specs.Tokens.{token_spelled_by}
 use Rattle.chi_types.specs.declared.ty.Ty.{Ty, out-Ty}
 use Rattle.chi_core.specs.declared.expression.CExpr.{out-CExpr}
 use Rattle.chi_core.specs.declared.program.ConstDef.{ConstDef}
@@ -19,7 +19,7 @@ use Rattle.chi_core.specs.SoundTypes.{SoundType}
 
 -- the bytes are a name of the language, and no keyword
 abbrev pub IsName : List ℕ → Type 0
-IsName bytes = token_of bytes ≡ Some (Name bytes)
+IsName bytes = token_spelled_by bytes ≡ Some (Name bytes)
 
 -- a type is sound in a program
 abbrev pub SoundIn : Core → Ty → Type 0

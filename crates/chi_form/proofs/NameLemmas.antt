@@ -11,7 +11,7 @@ use Rattle.chi_token.specs.Characters.{quote, is_digit, is_name_start, is_name_b
 use Rattle.chi_token.specs.Keywords.{keyword_of}
 use Rattle.chi_token.specs.Signs.{sign_of}
 use Rattle.chi_token.specs.Texts.{text_of}
-use Rattle.chi_token.specs.Tokens.{word_or_name, is_digits, is_real, number_of, token_of}
+use Rattle.chi_token.specs.Tokens.{word_or_name, is_digits, is_real, number_of, token_spelled_by}
 use Rattle.chi_form.specs.Scope.{is_word, is_name_token, is_name}
 
 text-no-name : (o : Option (List ℕ)) → is_name_token (option_map Text o) ≡ false
@@ -41,7 +41,7 @@ word-or-other true false k bytes other h = refl
 word-or-other false goes_on k bytes other h = h
 
 by-keyword : (k : Option Keyword) (text : List ℕ) → keyword_of text ≡ k → is_name text ≡ (is_word text && is_name_token (Some (word_or_name k text)))
-unfolding is_name token_of
+unfolding is_name token_spelled_by
 by-keyword k [] is = refl
 by-keyword k (c ∷ cs) is =
     word-or-other (is_name_start c) (list_all is_name_byte cs) (keyword_of (c ∷ cs)) (c ∷ cs) _
@@ -76,8 +76,8 @@ name-parts true false k bytes other none h = absurd (false≢true h)
 name-parts false goes_on k bytes other none h = absurd (false≢true (sym none ∙ h))
 
 -- what is called a name is the token of that name
-pub name_token : (text : List ℕ) → is_name text ≡ true → token_of text ≡ Some (Name text)
-unfolding is_name token_of
+pub name_token : (text : List ℕ) → is_name text ≡ true → token_spelled_by text ≡ Some (Name text)
+unfolding is_name token_spelled_by
 name_token [] h = absurd (false≢true h)
 name_token (c ∷ cs) h =
     name-parts (is_name_start c) (list_all is_name_byte cs) (keyword_of (c ∷ cs)) (c ∷ cs) _

@@ -9,7 +9,7 @@ use Rattle.chi_tree.specs.declared.definition.Definition.{Definition}
 use Rattle.chi_tree.specs.declared.definition.Definition.TheVariants as definition
 use Rattle.chi_tree.specs.declared.definition.Item.{Item}
 use Rattle.chi_tree.specs.declared.definition.Program.{Program}
-use Rattle.chi_types.specs.declared.ty.Ty.{Ty, out-Ty}
+use Rattle.chi_types.specs.declared.ty.Ty.{out-Ty}
 use Rattle.chi_types.specs.declared.ty.Ty.TheVariants as ty
 use Rattle.chi_core.specs.declared.program.Core.{Core}
 use Rattle.chi_core.specs.declared.program.ProcDef.{ProcDef}

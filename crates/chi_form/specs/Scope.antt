@@ -4,7 +4,7 @@ use Rattle.std.specs.List.{find, list_all, list_any}
 use Rattle.chi_token.specs.Characters.{is_name_start, is_name_byte}
 use Rattle.chi_token.specs.declared.token.Token.{Token}
 use Rattle.chi_token.specs.declared.token.Token.TheVariants.{Name}
-use Rattle.chi_token.specs.Tokens.{token_of}
+use Rattle.chi_token.specs.Tokens.{token_spelled_by}
 use Rattle.chi_form.specs.declared.kind.Kind.{Kind}
 use Rattle.chi_form.specs.declared.scope.Local.{Local}
 use Rattle.chi_form.specs.declared.scope.Header.{Header}
@@ -22,7 +22,7 @@ is_name_token _ = false
 
 -- the bytes are a name of the language, and no keyword
 unfoldable pub is_name : List ℕ → Bool
-is_name bytes = is_name_token (token_of bytes)
+is_name bytes = is_name_token (token_spelled_by bytes)
 
 -- a name to which the language gives a meaning of its own
 unfoldable pub is_predefined : List ℕ → Bool

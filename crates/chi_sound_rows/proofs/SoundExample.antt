@@ -4,7 +4,7 @@ use Rattle.std.proofs.lemmas.Bool.{false≢true}
 use Rattle.std.specs.Prelude.{slice_get, option_map}
 use Rattle.chi_token.specs.Keywords.{keyword_of}
 use Rattle.chi_token.specs.Tables.{value_at}
-use Rattle.chi_token.specs.Tokens.{token_of}
+use Rattle.chi_token.specs.Tokens.{token_spelled_by}
 use Rattle.chi_types.specs.declared.ty.Ty.{Ty-F, out-Ty}
 use Rattle.chi_types.specs.declared.ty.Ty.TheVariants as ty
 use Rattle.chi_types.specs.declared.ty.Way.{Way}
@@ -91,7 +91,7 @@ twice_home = record {
     fills = ap (λ (f : Fills). f ++ []) (fills_at _ _ (s.outs-Return 1 (e.Op op.Add (e.Var 0 ∷ e.Var 0 ∷ []))))
 
 sound_twice : SoundFunction line_of_two twice
-unfolding in_twice token_of keyword_of value_at
+unfolding in_twice token_spelled_by keyword_of value_at
 sound_twice = record {
   name = refl;
   result = int_type;
@@ -152,7 +152,7 @@ sender_home = record {
         ∙ ap (λ (f : Fills). f ++ []) (alternative_fills_at _ _ (a.outs-Guarded None (comm.Send (slot 0) (Some call_of_twice)) [])))
 
 sound_sender : SoundProcess line_of_two sender
-unfolding in_sender token_of keyword_of value_at
+unfolding in_sender token_spelled_by keyword_of value_at
 sound_sender = record {
   name = refl;
   exit = tt;
@@ -217,7 +217,7 @@ receiver_home = record {
     no_unwind (suc (suc k)) slot e = absurd (cc)
 
 sound_receiver : SoundProcess line_of_two receiver
-unfolding in_receiver token_of keyword_of value_at
+unfolding in_receiver token_spelled_by keyword_of value_at
 sound_receiver = record {
   name = refl;
   exit = tt;
@@ -312,7 +312,7 @@ model_home = record {
     owned (suc (suc k)) slot e = absurd (cc)
 
 sound_model : SoundProcess line_of_two model
-unfolding in_model token_of keyword_of value_at
+unfolding in_model token_spelled_by keyword_of value_at
 sound_model = record {
   name = refl;
   exit = tt;

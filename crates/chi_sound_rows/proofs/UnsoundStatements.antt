@@ -4,7 +4,7 @@ use Rattle.std.proofs.lemmas.Bool.{false≢true}
 use Rattle.std.specs.Prelude.{slice_get, codes}
 use Rattle.chi_token.specs.Keywords.{keyword_of}
 use Rattle.chi_token.specs.Tables.{value_at}
-use Rattle.chi_token.specs.Tokens.{token_of}
+use Rattle.chi_token.specs.Tokens.{token_spelled_by}
 use Rattle.chi_types.specs.declared.ty.Ty.{Ty, Ty-F, out-Ty}
 use Rattle.chi_types.specs.declared.ty.Ty.TheVariants as ty
 use Rattle.chi_types.specs.declared.ty.Way.TheVariants as way
@@ -209,7 +209,7 @@ abbrev called_if : ProcDef
 called_if = record { name = codes "if"; params = []; exit = None; slots = []; body = [] }
 
 no_name : Sound (alone called_if) → ⊥
-unfolding token_of keyword_of value_at
+unfolding token_spelled_by keyword_of value_at
 no_name sound = absurd (cc ((sound.processes 0 called_if refl).name))
 
 -- an enumeration has no value
