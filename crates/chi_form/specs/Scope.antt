@@ -1,5 +1,5 @@
 -- Names, and those that are visible.
-use Rattle.std.specs.Prelude.{ℕ, not, ◌&&◌, Bool, true, false, bytes_eq, List, [], ◌∷◌, ◌++◌, length, Option, Some, None, if◌then◌else◌}
+use Rattle.std.specs.Prelude.{ℕ, not, ◌&&◌, Bool, true, false, bytes_eq, List, [], ◌∷◌, ◌++◌, length, Option, Some, None, is_none, if◌then◌else◌}
 use Rattle.std.specs.List.{find, list_all, list_any}
 use Rattle.chi_token.specs.Characters.{is_name_start, is_name_byte}
 use Rattle.chi_token.specs.declared.token.Token.{Token}
@@ -37,8 +37,7 @@ header_of headers name = find (λ h. bytes_eq h.name name) headers
 
 -- a name that may be given to something new: it is neither predefined nor visible
 unfoldable pub is_new : List Header → List Local → List ℕ → Bool
-is_new headers locals name =
-    not (is_predefined name) && not (list_any (λ h. bytes_eq h.name name) headers) && not (list_any (λ l. bytes_eq l.name name) locals)
+is_new headers locals name = not (is_predefined name) && is_none (header_of headers name) && is_none (local_of locals name)
 
 -- one variable more, in the next slot
 unfoldable pub with_local : List Header → List ℕ → Kind → List Local → Option (List Local)

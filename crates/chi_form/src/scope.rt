@@ -77,24 +77,12 @@ fn is_among(name: &[u8], names: &[&str]) -> bool
     names.iter().any(|other| name == other.as_bytes())
 }
 
-fn is_defined(headers: &[Header], name: &[u8]) -> bool
-    ensures { result ≡ list_any (λ h. bytes_eq h.name name.now) headers.now }
-{
-    headers.iter().any(|h| h.name.as_slice() == name)
-}
-
-fn is_declared(locals: &[Local], name: &[u8]) -> bool
-    ensures { result ≡ list_any (λ l. bytes_eq l.name name.now) locals.now }
-{
-    locals.iter().any(|l| l.name.as_slice() == name)
-}
-
 /// Whether a name may be given to something new: it is neither predefined nor visible.
 #[tactic(auto, unfolding(crate::specs::Scope::is_new))]
 pub fn is_new(headers: &[Header], locals: &[Local], name: &[u8]) -> bool
     ensures { result ≡ is_new headers.now locals.now name.now }
 {
-    !is_predefined(name) && !is_defined(headers, name) && !is_declared(locals, name)
+    !is_predefined(name) && header_of(headers, name).is_none() && local_of(locals, name).is_none()
 }
 
 /// The definition of a name.
