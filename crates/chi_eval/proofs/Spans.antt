@@ -1,5 +1,5 @@
 -- How large statements are, and what is left to do.
-use Rattle.std.proofs.Common.{◌≡◌, ℕ, suc-mul, zero, suc, ◌-◌, Bool, true, false, nat_eq, subst, ◌+◌, ◌*◌, ◌<◌, ◌≤◌, max, List, [], ◌∷◌, ◌++◌, Option, Some, None, length, map, sym, ◌∙◌, ap, refl, arith}
+use Rattle.std.proofs.Common.{get_or, ◌≡◌, ℕ, suc-mul, zero, suc, ◌-◌, Bool, true, false, nat_eq, subst, ◌+◌, ◌*◌, ◌<◌, ◌≤◌, max, List, [], ◌∷◌, ◌++◌, Option, Some, None, length, map, sym, ◌∙◌, ap, refl, arith}
 use Rattle.std.specs.Prelude.{slice_get, if◌then◌else◌}
 use Rattle.std.specs.Option.{option_and_then}
 use denote.Param.Weighed.{most}
@@ -41,7 +41,7 @@ alt_span : CAlt → ℕ
 alt_span = fold-CAlt ℕ ℕ ℕ alt_span_step span_step branch_span_step
 
 -- a branch by its layer
-branch_within : (b : Branch) → max (size-CExpr (out-Branch b).test) (most span (out-Branch b).block) ≤ branch_span b
+pub branch_within : (b : Branch) → max (size-CExpr (out-Branch b).test) (most span (out-Branch b).block) ≤ branch_span b
 unfolding span branch_span alt_span
 branch_within b = omega (arith, fold_out-Branch ℕ ℕ ℕ alt_span_step span_step branch_span_step b, most_map span (out-Branch b).block)
 
@@ -92,7 +92,7 @@ taken count (Some g) f e = by_test (nat_eq count g.arity) e
     by_test true e = e
     by_test false e = absurd (cc)
 
-pub body_within : (functions : List FuncDef) (k count : ℕ) (f : FuncDef) → callee functions k count ≡ Some f → (2 * most span f.body) + 6 < reach functions
+pub body_within : (functions : List FuncDef) (k count : ℕ) (f : FuncDef) → callee functions k count ≡ Some f → (2 * most span f.body) + 7 < reach functions
 unfolding reach
 body_within functions k count f e = omega (arith, body_in functions k f (taken count (slice_get functions k) f e))
 
@@ -125,10 +125,10 @@ module _ (x : CStat) where
 
 -- the measure of a body that is called
 pub body_falls : (functions : List FuncDef) (k n more : ℕ) (f : FuncDef) (body : List CStat) → 0 < more → callee functions k n ≡ Some f → body ≡ f.body
-    → ((more - 1) * reach functions) + (2 * most span body) + 6 < more * reach functions
+    → ((more - 1) * reach functions) + (2 * most span body) + 7 < more * reach functions
 body_falls functions k n more f body h found b =
-    let within : (2 * most span body) + 6 < reach functions = omega (arith, body_within functions k n f found, ap (most span) b) in
-    omega (arith, call_falls more (reach functions) ((2 * most span body) + 6) h within)
+    let within : (2 * most span body) + 7 < reach functions = omega (arith, body_within functions k n f found, ap (most span) b) in
+    omega (arith, call_falls more (reach functions) ((2 * most span body) + 7) h within)
 
 -- what is left after an item is no larger than what was
 
@@ -244,3 +244,11 @@ head_within [] i e = absurd (cc)
 head_within (x ∷ rest) i e = let same : x ≡ i = cc in omega (arith, ap item_span same)
 
 pub ruleset falling = (is_declare, is_return, is_while, is_for, is_assign, is_if, head_within)
+
+most_at : {A : Type 0} (f : A → ℕ) (all : List A) (i : ℕ) (x : A) → i < length all → x ≡ get_or all i x → f x ≤ most f all
+most_at f [] i x h is = absurd (omega arith)
+most_at f (a ∷ all) zero x h is = let same : x ≡ a = is in omega (arith, ap f same)
+most_at f (a ∷ all) (suc i) x h is = omega (arith, most_at f all i x (omega arith) is)
+
+pub test_within : (all : List Branch) (i : ℕ) (b : Branch) → i < length all → b ≡ get_or all i b → size-CExpr (out-Branch b).test ≤ most branch_span all
+test_within all i b h is = omega (arith, most_at branch_span all i b h is, branch_within b)

@@ -1,3 +1,4 @@
+pub mod Assignments
 pub mod Calls
 pub mod Heads
 pub mod Operands

@@ -2,23 +2,29 @@
 
 ghost use Rattle.std.specs.Prelude.{◌≡◌, ◌≢◌, Err, IfOk, IfErr, OnOk, drop, map};
 ghost use Rattle.chi_core.specs.Answer.{Gives, Amiss, in_turn};
+ghost use Rattle.chi_ops.specs.Paths.{step_of, steps_of};
+ghost use Rattle.chi_core.specs.Spots.{spot_of, step_at};
+ghost use Rattle.chi_eval.specs.Spots.{spot_in};
 ghost use Rattle.chi_core.specs.Functions.{exec};
-ghost use Rattle.chi_core.specs.Terms.{Do, On, act_stat, tested};
+ghost use Rattle.chi_core.specs.Terms.{Do, On, act_stat, assigned, chosen, tested};
 ghost use Rattle.chi_core.specs.declared.statement.CStat.{out-CStat};
 ghost use Rattle.chi_eval.specs.Calls.{run_by, meaning};
 ghost use Rattle.chi_eval.specs.Stops.{Stops};
 ghost use Rattle.chi_eval.specs.Surroundings.{scene_in};
 ghost use Rattle.chi_eval.specs.Terms.{act_first, came_to};
 
+use crate::assigning::store_all;
 use crate::calls::Calls;
 use crate::making::{fresh, made_of};
 use crate::operating::apply;
 use crate::reading::{elements_in, part_in, truth_in};
+use crate::spots::Spot;
 use crate::stop::Stop;
 use crate::surroundings::{Surroundings, constant, function};
 use crate::term::{Head, Term};
 use crate::variables::Variables;
-use chi_core::{CExpr, CStat, FaultKind, View};
+use chi_core::{Branch, CExpr, CStat, CStep, CTarget, FaultKind, View};
+use chi_ops::Path;
 use chi_value::Value;
 use std::alloc::Global;
 
@@ -227,20 +233,21 @@ fn act_on<'a>(
             term.drop_first();
             Ok(None)
         }
-        CStat::Assign(_, _, _) => Err(Stop::NoMemory),
-        CStat::If(_, _, _) => Err(Stop::NoMemory),
+        CStat::Assign(_, targets, values) => {
+            let places = targets.as_slice();
+            let expressions = values.as_slice();
+            assign(expressions, alloc, s, calls, places, term, variables, view)?;
+            Ok(None)
+        }
+        CStat::If(_, branches, otherwise) => {
+            let tests = branches.as_slice();
+            let last = otherwise.as_slice();
+            choose(tests, alloc, s, calls, last, term, variables, view)?;
+            Ok(None)
+        }
         CStat::While(line, test, block) => {
-            test_loop(
-                test,
-                alloc,
-                s,
-                calls,
-                *line,
-                block.as_slice(),
-                term,
-                variables,
-                view,
-            )?;
+            let turn = block.as_slice();
+            test_loop(test, alloc, s, calls, *line, turn, term, variables, view)?;
             Ok(None)
         }
         CStat::For(line, slots, e, block) => {
@@ -302,4 +309,129 @@ fn test_loop<'a>(
     } else {
         Ok(())
     }
+}
+
+/// The branches of an `if`, whose statement stands first.
+#[cycle(eval)]
+#[tactic(auto, using(crate::proofs::Stopping::stopping, crate::proofs::Choosing::choosing))]
+fn choose<'a>(
+    branches: &'a [Branch],
+    alloc: Global,
+    s: &Surroundings<'_>,
+    calls: Calls,
+    otherwise: &'a [CStat],
+    term: &mut Term<'a>,
+    variables: &Variables,
+    view: &mut View,
+) -> Result<(), Stop>
+    requires { chosen (meaning calls s.now variables.now) variables.now branches.now otherwise.now (drop 1 term.old) view.old ≢ Amiss }
+    ensures value { OnOk result (chosen (meaning calls s.now variables.now) variables.now branches.now otherwise.now (drop 1 term.old) view.old ≡ Gives (On variables.now term.new) view.new) }
+    ensures stops { IfErr result (λ stop. Stops stop (chosen (meaning calls s.now variables.now) variables.now branches.now otherwise.now (drop 1 term.old) view.old)) }
+    ensures kept { result ≡ Err Stop.Spent → term.new ≡ term.old }
+{
+    for branch in branches {
+        let holds = eval(&branch.test, alloc, s, calls, variables, view)?;
+        if truth_in(&holds) {
+            term.drop_first();
+            term.put_first(branch.block.as_slice())?;
+            return Ok(());
+        }
+    }
+    term.drop_first();
+    term.put_first(otherwise)?;
+    Ok(())
+}
+
+/// The way into a variable that the steps of a target name: their indexes are evaluated from left to
+/// right.
+#[cycle(eval)]
+#[tactic(auto, using(crate::proofs::Stopping::stopping, crate::proofs::Spotting::paths))]
+pub fn path_of(
+    steps: &[CStep],
+    alloc: Global,
+    s: &Surroundings<'_>,
+    calls: Calls,
+    variables: &Variables,
+    view: &mut View,
+) -> Result<Vec<Path>, Stop>
+    requires { in_turn (map (step_at (meaning calls s.now variables.now)) steps.now) view.old ≢ Amiss }
+    ensures path { IfOk result (λ path. in_turn (map (step_at (meaning calls s.now variables.now)) steps.now) view.old ≡ Gives (steps_of path.items) view.new) }
+    ensures stops { IfErr result (λ stop. Stops stop (in_turn (map (step_at (meaning calls s.now variables.now)) steps.now) view.old)) }
+{
+    let mut path = Vec::new(alloc);
+    for step in steps {
+        let next = step_on(step, alloc, s, calls, variables, view)?;
+        path.push(next)?;
+    }
+    Ok(path)
+}
+
+/// A step of a target.
+#[cycle(eval)]
+#[tactic(auto, using(crate::proofs::Stopping::stopping, crate::proofs::Spotting::steps))]
+fn step_on(
+    step: &CStep,
+    alloc: Global,
+    s: &Surroundings<'_>,
+    calls: Calls,
+    variables: &Variables,
+    view: &mut View,
+) -> Result<Path, Stop>
+    requires { step_at (meaning calls s.now variables.now) step.now view.old ≢ Amiss }
+    ensures step { IfOk result (λ path. step_at (meaning calls s.now variables.now) step.now view.old ≡ Gives (step_of path) view.new) }
+    ensures stops { IfErr result (λ stop. Stops stop (step_at (meaning calls s.now variables.now) step.now view.old)) }
+{
+    match step {
+        CStep::Index(e) => Ok(Path::Key(eval(e, alloc, s, calls, variables, view)?)),
+        CStep::Part(number) => Ok(Path::Part(*number)),
+    }
+}
+
+/// The spots of targets, from left to right.
+#[cycle(eval)]
+#[tactic(auto, using(crate::proofs::Stopping::stopping, crate::proofs::Spotting::places))]
+pub fn spots_of(
+    targets: &[CTarget],
+    alloc: Global,
+    s: &Surroundings<'_>,
+    calls: Calls,
+    variables: &Variables,
+    view: &mut View,
+) -> Result<Vec<Spot>, Stop>
+    requires { in_turn (map (spot_of (meaning calls s.now variables.now)) targets.now) view.old ≢ Amiss }
+    ensures spots { IfOk result (λ spots. in_turn (map (spot_of (meaning calls s.now variables.now)) targets.now) view.old ≡ Gives (map spot_in spots.items) view.new) }
+    ensures stops { IfErr result (λ stop. Stops stop (in_turn (map (spot_of (meaning calls s.now variables.now)) targets.now) view.old)) }
+{
+    let mut spots = Vec::new(alloc);
+    for target in targets {
+        let path = path_of(target.steps.as_slice(), alloc, s, calls, variables, view)?;
+        let slot = target.slot;
+        spots.push(Spot { slot, path })?;
+    }
+    Ok(spots)
+}
+
+/// An assignment, which stands first: the values, then the targets' indexes, then the stores.
+#[cycle(eval)]
+#[tactic(auto, using(crate::proofs::Stopping::stopping, crate::proofs::Assigned::assigning))]
+fn assign(
+    values: &[CExpr],
+    alloc: Global,
+    s: &Surroundings<'_>,
+    calls: Calls,
+    targets: &[CTarget],
+    term: &mut Term<'_>,
+    variables: &mut Variables,
+    view: &mut View,
+) -> Result<(), Stop>
+    requires { assigned (meaning calls s.now variables.old) variables.old targets.now values.now (drop 1 term.old) view.old ≢ Amiss }
+    ensures value { OnOk result (assigned (meaning calls s.now variables.old) variables.old targets.now values.now (drop 1 term.old) view.old ≡ Gives (On variables.new term.new) view.new) }
+    ensures stops { IfErr result (λ stop. Stops stop (assigned (meaning calls s.now variables.old) variables.old targets.now values.now (drop 1 term.old) view.old)) }
+    ensures kept { result ≡ Err Stop.Spent → (variables.new ≡ variables.old) × (term.new ≡ term.old) }
+{
+    let xs = eval_all(values, alloc, s, calls, variables, view)?;
+    let spots = spots_of(targets, alloc, s, calls, variables, view)?;
+    store_all(alloc, targets, spots, xs, variables, view)?;
+    term.drop_first();
+    Ok(())
 }

@@ -9,6 +9,8 @@ ghost use Rattle.chi_eval.specs.Stops.{Stops};
 ghost use Rattle.chi_eval.specs.Surroundings.{value_in, constant_in};
 ghost use Rattle.chi_eval.specs.Terms.{act_first, came_to};
 
+use crate::calling::{self, eval, eval_all};
+use crate::calls::Calls;
 use crate::spots::Spot;
 use crate::stop::Stop;
 use crate::surroundings::Surroundings;
@@ -19,6 +21,7 @@ use chi_value::Value;
 use std::alloc::Global;
 
 /// The value of an expression.
+#[tactic(auto, unfolding(crate::specs::Calls::run_by))]
 pub fn value_of(
     alloc: Global,
     surroundings: &Surroundings<'_>,
@@ -30,10 +33,11 @@ pub fn value_of(
     ensures value { IfOk result (λ v. value_in surroundings.now variables.now e.now view.old ≡ Gives v view.new) }
     ensures stops { IfErr result (λ stop. Stops stop (value_in surroundings.now variables.now e.now view.old)) }
 {
-    Err(Stop::NoMemory)
+    Ok(eval(e, alloc, surroundings, Calls::Within(500), variables, view)?)
 }
 
 /// The values of expressions, from left to right.
+#[tactic(auto, unfolding(crate::specs::Calls::run_by))]
 pub fn values_of(
     alloc: Global,
     surroundings: &Surroundings<'_>,
@@ -45,10 +49,11 @@ pub fn values_of(
     ensures values { IfOk result (λ vs. in_turn (map (value_in surroundings.now variables.now) es.now) view.old ≡ Gives vs.items view.new) }
     ensures stops { IfErr result (λ stop. Stops stop (in_turn (map (value_in surroundings.now variables.now) es.now) view.old)) }
 {
-    Err(Stop::NoMemory)
+    Ok(eval_all(es, alloc, surroundings, Calls::Within(500), variables, view)?)
 }
 
 /// The value of a constant's expression, which calls no function.
+#[tactic(auto, unfolding(crate::specs::Calls::run_by))]
 pub fn constant_value(
     alloc: Global,
     surroundings: &Surroundings<'_>,
@@ -59,7 +64,8 @@ pub fn constant_value(
     ensures value { IfOk result (λ v. constant_in surroundings.now e.now view.old ≡ Gives v view.new) }
     ensures stops { IfErr result (λ stop. Stops stop (constant_in surroundings.now e.now view.old)) }
 {
-    Err(Stop::NoMemory)
+    let variables = Variables::new(alloc, 0, Vec::new(alloc))?;
+    Ok(eval(e, alloc, surroundings, Calls::Never, &variables, view)?)
 }
 
 /// The spot of a target: its indexes are evaluated from left to right.
@@ -94,6 +100,7 @@ pub fn read_at(
 
 /// Does the first item of a term, which is one that functions and processes share. Where a function
 /// returns, its value is the answer. What costs too much leaves the variables and the term as they were.
+#[tactic(auto, unfolding(crate::specs::Calls::run_by))]
 pub fn act<'a>(
     alloc: Global,
     surroundings: &Surroundings<'_>,
@@ -106,5 +113,12 @@ pub fn act<'a>(
     ensures stops { IfErr result (λ stop. Stops stop (act_first (value_in surroundings.now variables.old) variables.old term.old view.old)) }
     ensures kept { result ≡ Err Stop.Spent → (variables.new ≡ variables.old) × (term.new ≡ term.old) }
 {
-    Err(Stop::NoMemory)
+    Ok(calling::act(
+        term,
+        alloc,
+        surroundings,
+        Calls::Within(500),
+        variables,
+        view,
+    )?)
 }

@@ -3,8 +3,10 @@
 #![tactic(auto)]
 
 mod arithmetic;
+mod assigning;
 mod calling;
 mod calls;
+mod casts;
 mod comparing;
 mod containers;
 mod evaluating;
@@ -15,6 +17,7 @@ mod operating;
 mod reading;
 mod spots;
 mod stop;
+mod summing;
 mod surroundings;
 mod term;
 mod variables;

@@ -10,6 +10,7 @@ ghost use Rattle.chi_eval.specs.Surroundings.{scene_in};
 use crate::arithmetic::{
     absolute, ceiled, divided, floored, nearest_to, negated, powered, quotient, remainder, widened,
 };
+use crate::casts::{is_ready, sign_of, to_int, to_real, to_timer};
 use crate::comparing::{above, at_least, at_most, below, different, equal, opposite};
 use crate::containers::{
     element_at, enumerated, is_empty, is_in, is_within, keys_in, looked_up, popped, size_of,
@@ -17,6 +18,7 @@ use crate::containers::{
 };
 use crate::operands::{Operands, split_operands};
 use crate::stop::Stop;
+use crate::summing::{difference, product, sum};
 use crate::surroundings::Surroundings;
 use chi_core::{OpName, View};
 use chi_num::Real;
@@ -115,16 +117,16 @@ fn of_one(
         OpName::Widen => Ok(widened(a, view)?),
         OpName::Sample => Err(Stop::NoMemory),
         OpName::Slice(_, _, _) => Err(Stop::NoMemory),
-        OpName::Sign => Err(Stop::NoMemory),
+        OpName::Sign => Ok(sign_of(a, view)),
         OpName::Range => Err(Stop::NoMemory),
         OpName::Constant => Err(Stop::NoMemory),
-        OpName::Ready => Err(Stop::NoMemory),
+        OpName::Ready => Ok(is_ready(s, a, view)),
         OpName::Finished => Err(Stop::NoMemory),
-        OpName::ToInt => Err(Stop::NoMemory),
-        OpName::ToReal => Err(Stop::NoMemory),
+        OpName::ToInt => Ok(to_int(a, view)?),
+        OpName::ToReal => Ok(to_real(s, a, view)?),
         OpName::ToText => Err(Stop::NoMemory),
         OpName::ToBool => Err(Stop::NoMemory),
-        OpName::ToTimer => Err(Stop::NoMemory),
+        OpName::ToTimer => Ok(to_timer(s, a, view)?),
         OpName::Add => unreachable!(),
         OpName::Sub => unreachable!(),
         OpName::Mul => unreachable!(),
@@ -181,9 +183,9 @@ fn of_two(
         OpName::Index => Ok(element_at(alloc, a, b, view)?),
         OpName::Lookup => Ok(looked_up(alloc, a, b, view)?),
         OpName::Del => Ok(without(alloc, a, b, view)?),
-        OpName::Add => Err(Stop::NoMemory),
-        OpName::Sub => Err(Stop::NoMemory),
-        OpName::Mul => Err(Stop::NoMemory),
+        OpName::Add => Ok(sum(alloc, a, b, view)?),
+        OpName::Sub => Ok(difference(alloc, a, b, view)?),
+        OpName::Mul => Ok(product(alloc, a, b, view)?),
         OpName::Min => Err(Stop::NoMemory),
         OpName::Max => Err(Stop::NoMemory),
         OpName::Range => Err(Stop::NoMemory),

@@ -160,11 +160,12 @@ pub fn parts_in(value: &Value) -> &[Value]
 }
 
 /// A copy of the part of a tuple.
+#[tactic(auto, using(crate::proofs::Parts::parts))]
 pub fn part_in(alloc: Global, value: &Value, number: u32) -> Result<Value, NoMemory>
     requires { part_of value.now number ≢ None }
     ensures { IfOk result (λ part. part_of value.now number ≡ Some part) }
 {
-    Err(NoMemory)
+    Ok(parts_in(value)[number as usize].copy(alloc)?)
 }
 
 /// The elements of a container in order; those of a dictionary are pairs of a key and what it has.
@@ -182,6 +183,28 @@ pub fn elements_in(alloc: Global, value: Value) -> Result<Vec<Value>, NoMemory>
         | Value::Text(_)
         | Value::Choice(_, _)
         | Value::TupleOf(_)
+        | Value::Chan(_)
+        | Value::Dist(_)
+        | Value::Timer(_)
+        | Value::Inst(_) => unreachable!(),
+    }
+}
+
+/// The parts of a tuple, as they are.
+pub fn parts_from(alloc: Global, value: Value) -> Result<Vec<Value>, NoMemory>
+    requires { parts_of value ≢ None }
+    ensures { IfOk result (λ parts. parts_of value ≡ Some parts.items) }
+{
+    match value {
+        Value::TupleOf(parts) => Ok(parts.into_vec(alloc)?),
+        Value::Bool(_)
+        | Value::Int(_)
+        | Value::Real(_)
+        | Value::Text(_)
+        | Value::Choice(_, _)
+        | Value::ListOf(_)
+        | Value::SetOf(_)
+        | Value::DictOf(_)
         | Value::Chan(_)
         | Value::Dist(_)
         | Value::Timer(_)

@@ -26,6 +26,26 @@ impl Model for Variables {
     ghost view = { λ v. v.slots.items };
 }
 
+fn copy_of(alloc: Global, variable: &Option<Value>) -> Result<Option<Value>, NoMemory>
+    ensures { IfOk result (λ copy. copy ≡ variable.now) }
+{
+    match variable {
+        Some(value) => Ok(Some(value.copy(alloc)?)),
+        None => Ok(None),
+    }
+}
+
+fn copy_all(alloc: Global, variables: &[Option<Value>]) -> Result<Vec<Option<Value>>, NoMemory>
+    ensures { IfOk result (λ copies. copies.items ≡ variables.now) }
+{
+    let mut copies = Vec::new(alloc);
+    for variable in variables {
+        let copy = copy_of(alloc, variable)?;
+        copies.push(copy)?;
+    }
+    Ok(copies)
+}
+
 impl Variables {
     /// The variables at the start: the arguments in the first slots, and no other set.
     #[tactic(auto, using(crate::proofs::Slots::slots))]
@@ -45,7 +65,8 @@ impl Variables {
     pub fn copy(&self, alloc: Global) -> Result<Variables, NoMemory>
         ensures { IfOk result (λ variables. variables ≡ self.now) }
     {
-        Err(NoMemory)
+        let slots = copy_all(alloc, self.slots.as_slice())?;
+        Ok(Variables { slots })
     }
 
     /// The value of a slot, which is there and set.
@@ -67,10 +88,17 @@ impl Variables {
     }
 
     /// Binds the names of these slots to an element: one name to itself, several to its parts.
+    #[tactic(auto, using(crate::proofs::Binding::one_name))]
     pub fn bind(&mut self, alloc: Global, slots: &[u32], element: Value) -> Result<(), NoMemory>
         requires { bound slots.now element self.old ≢ None }
         ensures { OnOk result (bound slots.now element self.old ≡ Some self.new) }
     {
-        Err(NoMemory)
+        match slots {
+            [slot] => {
+                self.set(*slot, element);
+                Ok(())
+            }
+            _ => Err(NoMemory),
+        }
     }
 }

@@ -3,19 +3,23 @@ use Rattle.std.proofs.lemmas.Grind.{common_steps}
 use denote.Param.Weighed.{most}
 use Rattle.std.specs.Prelude.{IfErr}
 use Rattle.chi_value.specs.declared.value.Value.{Value}
+use Rattle.chi_core.specs.declared.statement.Branch.{Branch}
 use Rattle.chi_core.specs.declared.statement.CStat.{CStat}
 use Rattle.chi_core.specs.Answer.{Answer, Gives, Amiss}
-use Rattle.chi_core.specs.Terms.{tested, Do, On}
+use Rattle.chi_core.specs.Terms.{tested, assigned, chosen, Do, On}
+use Rattle.chi_core.specs.declared.expression.CExpr.{CExpr, size-CExpr}
+use Rattle.chi_core.specs.declared.target.CTarget.{CTarget}
 use Rattle.chi_core.specs.Functions.{exec}
 use Rattle.std.specs.Prelude.{map}
 use Rattle.chi_core.specs.Variables.{variables_of}
 use Rattle.chi_eval.specs.Stops.{Stops}
 use Rattle.chi_eval.specs.Terms.{came_to, act_first}
 use Rattle.chi_eval.specs.Calls.{more_of, run_by, meaning}
-use Rattle.chi_eval.specs.Spans.{item_span, span, reach}
+use Rattle.chi_eval.specs.Spans.{item_span, span, branch_span, target_span, reach}
 use Rattle.chi_eval.specs.Surroundings.{scene_in}
-use Rattle.chi_eval.proofs.Acting.{declare_first, while_tested, for_first, return_first}
-use Rattle.chi_eval.proofs.Spans.{is_declare, is_while, is_for, is_return, body_falls, act_sized, most_do}
+use Rattle.chi_eval.proofs.Acting.{assign_assigned, declare_first, if_chosen, while_tested, for_first, return_first}
+use Rattle.chi_eval.proofs.Spans.{is_assign, is_declare, is_if, is_while, is_for, is_return, body_falls, act_sized, most_do, test_within}
+use Rattle.chi_eval.proofs.Choosing.{choose_first}
 use Rattle.chi_eval.proofs.Stopping.{then_stops}
 use Rattle.chi_eval.proofs.Turns.{body_is, turns_start, turn_goes, turn_gives}
 use Rattle.chi_eval.proofs.calling.+eval.Goals as goal
@@ -29,7 +33,7 @@ act_on-test_loop-requires t c =
     tested (meaning c.args.calls c.args.s.now c.args.variables.now) c.args.variables.now c.in-While.line c.in-While.test block (drop 1 c.args.term.now) c.args.view.now ≢ Amiss
     in (
       omega (arith, is_while _ _ _ _ c.in-While.is),
-      subst P (sym c.as_slice.ensures.same) (while_tested (meaning c.args.calls c.args.s.now c.args.variables.now) c.args.variables.now c.args.statement.now (drop 1 c.args.term.now) c.args.view.now
+      subst P (sym c.as_slice-turn.ensures.same) (while_tested (meaning c.args.calls c.args.s.now c.args.variables.now) c.args.variables.now c.args.statement.now (drop 1 c.args.term.now) c.args.view.now
           c.in-While.line c.in-While.test c.in-While.block c.in-While.is c.requires),
     )
 
@@ -97,4 +101,35 @@ run_body-loop-turn-preserved t c =
           (exec c.args.view.now.left (run_by c.args.calls c.args.s.now) (scene_in c.args.s.now) c.args.variables.now (map Do c.args.body.now) c.args.view.now)
           c.args.view.now.left c.loop-turn.turn c.is_empty.result c.in_ok-value.field-0 c.act.new.variables c.act.new.term c.act.new.view
           c.is_empty.ensures c.if-is_empty.false (omega arith) (omega arith) c.loop-turn.invariant.1 c.in_ok-value.ensures.value c.in-None.is,
+    )
+
+pub act_on-choose-requires : goal.act_on-choose-requires
+act_on-choose-requires t c =
+    let P : List Branch → List CStat → Type 0 = λ branches otherwise.
+    chosen (meaning c.args.calls c.args.s.now c.args.variables.now) c.args.variables.now branches otherwise (drop 1 c.args.term.now) c.args.view.now ≢ Amiss
+    in
+    let Q : List Branch → Type 0 = λ branches. P branches c.as_slice-last.result.now in
+    let R : List CStat → Type 0 = P c.in-If.branches in (
+      omega (arith, is_if _ _ _ _ c.in-If.is, ap (most branch_span) c.as_slice-tests.ensures.same),
+      subst Q (sym c.as_slice-tests.ensures.same) (subst R (sym c.as_slice-last.ensures.same)
+          (if_chosen (meaning c.args.calls c.args.s.now c.args.variables.now) c.args.variables.now c.args.statement.now (drop 1 c.args.term.now) c.args.view.now
+          _ c.in-If.branches c.in-If.otherwise c.in-If.is c.requires)),
+    )
+
+pub choose-eval-requires : goal.choose-eval-requires
+choose-eval-requires t c = (
+  omega (arith, test_within c.args.branches.now c.loop-branch.branch-index c.branch-item.result c.loop-branch-test.true c.branch-item.is),
+  choose_first (meaning c.args.calls c.args.s.now c.args.variables.now) c.args.variables.now c.args.branches.now c.args.otherwise.now (drop 1 c.loop-branch.term) c.loop-branch.view
+      c.loop-branch.branch-index c.branch-item.result c.loop-branch-test.true c.branch-item.is c.loop-branch.invariant.1,
+)
+
+pub act_on-assign-requires : goal.act_on-assign-requires
+act_on-assign-requires t c =
+    let m = meaning c.args.calls c.args.s.now c.args.variables.now in
+    let P : List CTarget → List CExpr → Type 0 = λ targets values. assigned m c.args.variables.now targets values (drop 1 c.args.term.now) c.args.view.now ≢ Amiss in
+    let Q : List CTarget → Type 0 = λ targets. P targets c.as_slice-expressions.result.now in
+    let R : List CExpr → Type 0 = P c.in-Assign.targets in (
+      omega (arith, is_assign _ _ _ _ c.in-Assign.is, ap (most target_span) c.as_slice-places.ensures.same, ap (most size-CExpr) c.as_slice-expressions.ensures.same),
+      subst Q (sym c.as_slice-places.ensures.same) (subst R (sym c.as_slice-expressions.ensures.same)
+          (assign_assigned m c.args.variables.now c.args.statement.now (drop 1 c.args.term.now) c.args.view.now _ c.in-Assign.targets c.in-Assign.values c.in-Assign.is c.requires)),
     )

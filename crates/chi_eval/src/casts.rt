@@ -1,0 +1,137 @@
+//! Casts, and what values mean to a process: its time, its timers and the instances that it knows.
+
+ghost use Rattle.std.specs.Prelude.{◌≡◌, ◌≢◌, ◌-ℤ◌, pos, IfOk, IfErr};
+ghost use Rattle.std.specs.Int.{int_max};
+ghost use Rattle.chi_num.specs.Results.{fitted};
+ghost use Rattle.chi_core.specs.Answer.{Gives, Amiss};
+ghost use Rattle.chi_core.specs.Arithmetic.{sign_of};
+ghost use Rattle.chi_core.specs.Casts.{to_int, to_real, to_timer, is_ready};
+ghost use Rattle.chi_eval.specs.Stops.{Stops};
+ghost use Rattle.chi_eval.specs.Surroundings.{scene_in};
+
+use crate::exact;
+use crate::reading::{due_in, real_in};
+use crate::stop::Stop;
+use crate::surroundings::Surroundings;
+use chi_core::{FaultKind, View};
+use chi_num::{NumFault, ReadFault, Real, read_int, read_real};
+use chi_value::Value;
+
+/// An int of an int or of a text.
+#[tactic(auto, using(crate::proofs::Casting::meanings, crate::proofs::Numbers::rounding))]
+pub fn to_int(a: &Value, view: &View) -> Result<Value, Stop>
+    requires { to_int a.now view.now ≢ Amiss }
+    ensures value { IfOk result (λ v. to_int a.now view.now ≡ Gives v view.now) }
+    ensures stops { IfErr result (λ stop. Stops stop (to_int a.now view.now)) }
+{
+    match a {
+        Value::Int(x) => Ok(Value::Int(*x)),
+        Value::Text(text) => match read_int(text.as_slice()) {
+            Ok(z) => Ok(Value::Int(z)),
+            Err(ReadFault::Form) => Err(Stop::Fault(FaultKind::BadText)),
+            Err(ReadFault::Range) => Err(Stop::Fault(FaultKind::IntRange)),
+        },
+        Value::Bool(_)
+        | Value::Real(_)
+        | Value::Choice(_, _)
+        | Value::TupleOf(_)
+        | Value::ListOf(_)
+        | Value::SetOf(_)
+        | Value::DictOf(_)
+        | Value::Chan(_)
+        | Value::Dist(_)
+        | Value::Timer(_)
+        | Value::Inst(_) => unreachable!(),
+    }
+}
+
+/// How long it is until a timer is due; nothing once it is.
+#[tactic(auto, using(crate::proofs::Casting::times))]
+fn time_left(due: i64, clock: i64) -> Result<i64, NumFault>
+    ensures { result ≡ fitted (int_max (pos 0) (due -ℤ clock)) }
+{
+    if due <= clock {
+        Ok(0)
+    } else {
+        exact::difference(due, clock)
+    }
+}
+
+/// A real of a number, of a text, or of the time until a timer is due.
+#[tactic(auto, using(crate::proofs::Casting::meanings, crate::proofs::Numbers::fitting, crate::proofs::Numbers::rounding))]
+pub fn to_real(s: &Surroundings<'_>, a: &Value, view: &View) -> Result<Value, Stop>
+    requires { to_real (scene_in s.now) a.now view.now ≢ Amiss }
+    ensures value { IfOk result (λ v. to_real (scene_in s.now) a.now view.now ≡ Gives v view.now) }
+    ensures stops { IfErr result (λ stop. Stops stop (to_real (scene_in s.now) a.now view.now)) }
+{
+    match a {
+        Value::Int(x) => match exact::wide(*x) {
+            Ok(z) => Ok(Value::Real(z)),
+            Err(_) => Err(Stop::Fault(FaultKind::RealRange)),
+        },
+        Value::Real(x) => Ok(Value::Real(Real::from_units(x.units()))),
+        Value::Text(text) => match read_real(text.as_slice()) {
+            Ok(z) => Ok(Value::Real(z)),
+            Err(ReadFault::Form) => Err(Stop::Fault(FaultKind::BadText)),
+            Err(ReadFault::Range) => Err(Stop::Fault(FaultKind::RealRange)),
+        },
+        Value::Timer(due) => match time_left(*due, s.clock) {
+            Ok(z) => Ok(Value::Real(Real::from_units(z))),
+            Err(_) => Err(Stop::Fault(FaultKind::RealRange)),
+        },
+        Value::Bool(_)
+        | Value::Choice(_, _)
+        | Value::TupleOf(_)
+        | Value::ListOf(_)
+        | Value::SetOf(_)
+        | Value::DictOf(_)
+        | Value::Chan(_)
+        | Value::Dist(_)
+        | Value::Inst(_) => unreachable!(),
+    }
+}
+
+/// -1, 0 or 1, as a number is below 0, 0 or above it.
+#[tactic(auto, using(crate::proofs::Casting::signs))]
+pub fn sign_of(a: &Value, view: &View) -> Value
+    requires { sign_of a.now view.now ≢ Amiss }
+    ensures { sign_of a.now view.now ≡ Gives result view.now }
+{
+    match a {
+        Value::Int(x) => Value::Int(x.signum()),
+        Value::Real(x) => Value::Int(x.units().signum()),
+        Value::Bool(_)
+        | Value::Text(_)
+        | Value::Choice(_, _)
+        | Value::TupleOf(_)
+        | Value::ListOf(_)
+        | Value::SetOf(_)
+        | Value::DictOf(_)
+        | Value::Chan(_)
+        | Value::Dist(_)
+        | Value::Timer(_)
+        | Value::Inst(_) => unreachable!(),
+    }
+}
+
+/// A timer that is due so much after the clock.
+#[tactic(auto, using(crate::proofs::Numbers::kinds, crate::proofs::Numbers::fitting))]
+pub fn to_timer(s: &Surroundings<'_>, a: &Value, view: &View) -> Result<Value, Stop>
+    requires { to_timer (scene_in s.now) a.now view.now ≢ Amiss }
+    ensures value { IfOk result (λ v. to_timer (scene_in s.now) a.now view.now ≡ Gives v view.now) }
+    ensures stops { IfErr result (λ stop. Stops stop (to_timer (scene_in s.now) a.now view.now)) }
+{
+    match exact::sum(s.clock, real_in(a).units()) {
+        Ok(z) => Ok(Value::Timer(z)),
+        Err(_) => Err(Stop::Fault(FaultKind::RealRange)),
+    }
+}
+
+/// Whether a timer is due.
+#[tactic(auto, using(crate::proofs::Casting::knowing))]
+pub fn is_ready(s: &Surroundings<'_>, a: &Value, view: &View) -> Value
+    requires { is_ready (scene_in s.now) a.now view.now ≢ Amiss }
+    ensures { is_ready (scene_in s.now) a.now view.now ≡ Gives result view.now }
+{
+    Value::Bool(due_in(a) <= s.clock)
+}
