@@ -1,4 +1,5 @@
 pub mod Assignments
+pub mod Best
 pub mod Calls
 pub mod Heads
 pub mod Operands

@@ -5,12 +5,12 @@ ghost use Rattle.std.specs.Int.{int_max};
 ghost use Rattle.chi_num.specs.Results.{fitted};
 ghost use Rattle.chi_core.specs.Answer.{Gives, Amiss};
 ghost use Rattle.chi_core.specs.Arithmetic.{sign_of};
-ghost use Rattle.chi_core.specs.Casts.{to_int, to_real, to_timer, is_ready};
+ghost use Rattle.chi_core.specs.Casts.{to_int, to_real, to_timer, is_ready, is_finished, has_finished};
 ghost use Rattle.chi_eval.specs.Stops.{Stops};
 ghost use Rattle.chi_eval.specs.Surroundings.{scene_in};
 
 use crate::exact;
-use crate::reading::{due_in, real_in};
+use crate::reading::{due_in, instance_in, real_in};
 use crate::stop::Stop;
 use crate::surroundings::Surroundings;
 use chi_core::{FaultKind, View};
@@ -134,4 +134,26 @@ pub fn is_ready(s: &Surroundings<'_>, a: &Value, view: &View) -> Value
     ensures { is_ready (scene_in s.now) a.now view.now ≡ Gives result view.now }
 {
     Value::Bool(due_in(a) <= s.clock)
+}
+
+/// Whether an instance is finished; of no instance, true.
+#[tactic(auto, using(crate::proofs::Casting::finishing))]
+pub fn is_finished(s: &Surroundings<'_>, a: &Value, view: &View) -> Value
+    requires { is_finished (scene_in s.now) a.now view.now ≢ Amiss }
+    ensures { is_finished (scene_in s.now) a.now view.now ≡ Gives result view.now }
+{
+    has_finished(s, instance_in(a), view)
+}
+
+fn has_finished(s: &Surroundings<'_>, number: Option<u32>, view: &View) -> Value
+    requires { has_finished (scene_in s.now) number view.now ≢ Amiss }
+    ensures { has_finished (scene_in s.now) number view.now ≡ Gives result view.now }
+{
+    match number {
+        None => Value::Bool(true),
+        Some(p) => match s.finished.get(p as usize) {
+            Some(finished) => Value::Bool(*finished),
+            None => Value::Bool(false),
+        },
+    }
 }

@@ -10,12 +10,13 @@ ghost use Rattle.chi_eval.specs.Surroundings.{scene_in};
 use crate::arithmetic::{
     absolute, ceiled, divided, floored, nearest_to, negated, powered, quotient, remainder, widened,
 };
-use crate::casts::{is_ready, sign_of, to_int, to_real, to_timer};
+use crate::casts::{is_finished, is_ready, sign_of, to_int, to_real, to_timer};
 use crate::comparing::{above, at_least, at_most, below, different, equal, opposite};
 use crate::containers::{
     element_at, enumerated, is_empty, is_in, is_within, keys_in, looked_up, popped, size_of,
     values_in, without,
 };
+use crate::least::best_of;
 use crate::operands::{Operands, split_operands};
 use crate::stop::Stop;
 use crate::summing::{difference, product, sum};
@@ -121,7 +122,7 @@ fn of_one(
         OpName::Range => Err(Stop::NoMemory),
         OpName::Constant => Err(Stop::NoMemory),
         OpName::Ready => Ok(is_ready(s, a, view)),
-        OpName::Finished => Err(Stop::NoMemory),
+        OpName::Finished => Ok(is_finished(s, a, view)),
         OpName::ToInt => Ok(to_int(a, view)?),
         OpName::ToReal => Ok(to_real(s, a, view)?),
         OpName::ToText => Err(Stop::NoMemory),
@@ -186,8 +187,8 @@ fn of_two(
         OpName::Add => Ok(sum(alloc, a, b, view)?),
         OpName::Sub => Ok(difference(alloc, a, b, view)?),
         OpName::Mul => Ok(product(alloc, a, b, view)?),
-        OpName::Min => Err(Stop::NoMemory),
-        OpName::Max => Err(Stop::NoMemory),
+        OpName::Min => Ok(best_of(false, a, b, &[], view)),
+        OpName::Max => Ok(best_of(true, a, b, &[], view)),
         OpName::Range => Err(Stop::NoMemory),
         OpName::Bernoulli => Err(Stop::NoMemory),
         OpName::Slice(_, _, _) => Err(Stop::NoMemory),
