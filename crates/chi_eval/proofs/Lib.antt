@@ -8,6 +8,7 @@ pub mod Lists
 pub mod Numbers
 pub mod Operations
 pub mod Parts
+pub mod Ranges
 pub mod Repeating
 pub mod Sizes
 pub mod Slots

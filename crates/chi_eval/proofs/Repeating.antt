@@ -54,4 +54,5 @@ module _ (run : Run) (scene : Scene) (variables : Variables) (view : View) (x : 
       next_there _ (λ v. repeated (eval run scene variables each) (out-Value v)) v now (λ a. h (ap (λ x. eval run scene variables x view) is ∙ eval_repeat run scene variables view n each ∙ a)) got
 
 pub ruleset repeating = (one_there, one_goes, one_stops, all_done)
+
 pub ruleset repeats = (repeat_first, repeat_next)

@@ -81,6 +81,9 @@ module _ {X S : Type 0} (each : X → S → Does S) (all : List X) (i : ℕ) (x 
   turn_stops stop st = let P : Answer S → Type 0 = Stops stop in subst P (sym turn) (then_stops stop _ (through each (drop (i + 1) all)) st)
 
 pub ruleset elements = (by_key, by_index)
+
 pub ruleset steps = (then_stops, key_there, element_there, part_there)
+
 pub ruleset walks = (slot_there, slot_is, steps_there)
+
 pub ruleset turns = (turn_there, turn_goes, turn_stops)

@@ -82,7 +82,14 @@ pub fn spot_of(
     ensures stops { IfErr result (λ stop. Stops stop (spot_of (value_in surroundings.now variables.now) target.now view.old)) }
 {
     let steps = target.steps.as_slice();
-    let path = path_of(steps, alloc, surroundings, Calls::Within(500), variables, view)?;
+    let path = path_of(
+        steps,
+        alloc,
+        surroundings,
+        Calls::Within(500),
+        variables,
+        view,
+    )?;
     let slot = target.slot;
     Ok(Spot { slot, path })
 }

@@ -89,7 +89,14 @@ pub fn read_at(
     ensures stops { IfErr result (λ stop. Stops stop (read_at (value_in surroundings.now variables.now) variables.now target.now view.old)) }
 {
     let first = variables.get(target.slot).copy(alloc)?;
-    Ok(read_steps(alloc, surroundings, variables, target.steps.as_slice(), first, view)?)
+    Ok(read_steps(
+        alloc,
+        surroundings,
+        variables,
+        target.steps.as_slice(),
+        first,
+        view,
+    )?)
 }
 
 #[tactic(auto, using(crate::proofs::Stepped::turns))]
