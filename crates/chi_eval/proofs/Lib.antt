@@ -20,5 +20,6 @@ pub mod Stepped
 pub mod Stopping
 pub mod Storing
 pub mod Tasks
+pub mod Texting
 pub mod Truths
 pub mod Turns

@@ -9,6 +9,7 @@ mod calls;
 mod casts;
 mod comparing;
 mod containers;
+mod distributions;
 mod evaluating;
 mod exact;
 mod least;

@@ -10,12 +10,13 @@ ghost use Rattle.chi_eval.specs.Surroundings.{scene_in};
 use crate::arithmetic::{
     absolute, ceiled, divided, floored, nearest_to, negated, powered, quotient, remainder, widened,
 };
-use crate::casts::{is_finished, is_ready, sign_of, to_int, to_real, to_timer};
+use crate::casts::{is_finished, is_ready, sign_of, to_int, to_real, to_text, to_timer, to_truth};
 use crate::comparing::{above, at_least, at_most, below, different, equal, opposite};
 use crate::containers::{
     element_at, enumerated, is_empty, is_in, is_within, keys_in, looked_up, popped, range_of,
     size_of, values_in, without,
 };
+use crate::distributions::constant_of;
 use crate::least::best_of;
 use crate::operands::{Operands, split_operands};
 use crate::stop::Stop;
@@ -120,13 +121,13 @@ fn of_one(
         OpName::Slice(_, _, _) => Err(Stop::NoMemory),
         OpName::Sign => Ok(sign_of(a, view)),
         OpName::Range => Ok(range_of(alloc, &Value::Int(0), a, &Value::Int(1), view)?),
-        OpName::Constant => Err(Stop::NoMemory),
+        OpName::Constant => Ok(constant_of(a, view)),
         OpName::Ready => Ok(is_ready(s, a, view)),
         OpName::Finished => Ok(is_finished(s, a, view)),
         OpName::ToInt => Ok(to_int(a, view)?),
         OpName::ToReal => Ok(to_real(s, a, view)?),
-        OpName::ToText => Err(Stop::NoMemory),
-        OpName::ToBool => Err(Stop::NoMemory),
+        OpName::ToText => Ok(to_text(alloc, s, a, view)?),
+        OpName::ToBool => Ok(to_truth(a, view)?),
         OpName::ToTimer => Ok(to_timer(s, a, view)?),
         OpName::Add => unreachable!(),
         OpName::Sub => unreachable!(),
