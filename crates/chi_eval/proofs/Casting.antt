@@ -13,10 +13,10 @@ use Rattle.chi_core.specs.declared.fault.FaultKind.{FaultKind}
 use Rattle.chi_core.specs.declared.fault.FaultKind.TheVariants.{BadText}
 use Rattle.chi_core.specs.declared.scene.Scene.{Scene}
 use Rattle.chi_core.specs.declared.view.View.{View}
-use Rattle.chi_core.specs.Answer.{Gives, Fails, Amiss}
-use Rattle.chi_core.specs.Casts.{as_meant, is_ready}
+use Rattle.chi_core.specs.Answer.{Gives, Fails, Amiss, then_do, wanted}
+use Rattle.chi_core.specs.Casts.{as_meant, is_ready, is_finished, has_finished}
 use Rattle.chi_core.specs.Comparisons.{tells}
-use Rattle.chi_core.specs.Reading.{due_of}
+use Rattle.chi_core.specs.Reading.{due_of, instance_of}
 
 module _ (past : FaultKind) (made : ℤ → Value) (view : View) where
   pub meant_ok : (m : Meant) (z : ℤ) → Ok z ≡ answer_of m → as_meant past made m view ≡ Gives (made z) view
@@ -67,3 +67,14 @@ pub ruleset signs = (to_z-of_z, signum_fits)
 pub ruleset knowing = (to_z-of_z, ready_there, ready_is)
 
 pub ruleset times = (to_z-of_z, ints, time_over, time_ahead)
+
+pub finished_there : (scene : Scene) (a : Value) (view : View) → is_finished scene a view ≢ Amiss → instance_of a ≢ None
+finished_there scene a view h e = h (ap (λ o. then_do (wanted o view) (has_finished scene)) e)
+
+pub finished_is : (scene : Scene) (a : Value) (p : Option ℕ) (view : View) → instance_of a ≡ Some p → is_finished scene a view ≡ has_finished scene p view
+finished_is scene a p view e = ap (λ o. then_do (wanted o view) (has_finished scene)) e
+
+pub has_there : (scene : Scene) (a : Value) (p : Option ℕ) (view : View) → instance_of a ≡ Some p → is_finished scene a view ≢ Amiss → has_finished scene p view ≢ Amiss
+has_there scene a p view e h b = h (finished_is scene a p view e ∙ b)
+
+pub ruleset finishing = (finished_there, finished_is, has_there)

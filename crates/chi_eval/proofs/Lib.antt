@@ -1,5 +1,6 @@
 pub mod Acting
 pub mod Assigned
+pub mod Bests
 pub mod Binding
 pub mod Casting
 pub mod Choosing
@@ -7,14 +8,18 @@ pub mod Lists
 pub mod Numbers
 pub mod Operations
 pub mod Parts
+pub mod Ranges
+pub mod Repeating
 pub mod Sizes
 pub mod Slots
 pub mod Spans
 pub mod Spotting
 pub mod Spreading
 pub mod Standing
+pub mod Stepped
 pub mod Stopping
 pub mod Storing
 pub mod Tasks
+pub mod Texting
 pub mod Truths
 pub mod Turns

@@ -1,4 +1,6 @@
 pub mod Assignments
+pub mod Best
+pub mod Bindings
 pub mod Calls
 pub mod Heads
 pub mod Operands

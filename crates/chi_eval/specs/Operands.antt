@@ -8,4 +8,4 @@ abbrev pub AreOperands : Operands → List Value → Type 0
 AreOperands None values = values ≡ []
 AreOperands (One a) values = values ≡ a.now ∷ []
 AreOperands (Two a b) values = values ≡ a.now ∷ b.now ∷ []
-AreOperands (More a b rest) values = values ≡ a.now ∷ b.now ∷ rest.now
+AreOperands (More a b c rest) values = values ≡ a.now ∷ b.now ∷ c.now ∷ rest.now

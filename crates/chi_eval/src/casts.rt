@@ -5,17 +5,19 @@ ghost use Rattle.std.specs.Int.{int_max};
 ghost use Rattle.chi_num.specs.Results.{fitted};
 ghost use Rattle.chi_core.specs.Answer.{Gives, Amiss};
 ghost use Rattle.chi_core.specs.Arithmetic.{sign_of};
-ghost use Rattle.chi_core.specs.Casts.{to_int, to_real, to_timer, is_ready};
+ghost use Rattle.chi_core.specs.Casts.{to_int, to_real, to_timer, is_ready, is_finished, has_finished, to_truth, truth_meant, to_text};
 ghost use Rattle.chi_eval.specs.Stops.{Stops};
 ghost use Rattle.chi_eval.specs.Surroundings.{scene_in};
 
 use crate::exact;
-use crate::reading::{due_in, real_in};
+use crate::reading::{due_in, instance_in, real_in};
 use crate::stop::Stop;
 use crate::surroundings::Surroundings;
 use chi_core::{FaultKind, View};
 use chi_num::{NumFault, ReadFault, Real, read_int, read_real};
-use chi_value::Value;
+use chi_token::Bytes;
+use chi_value::{MOST_ELEMENTS, TextFault, Value, text_of};
+use std::alloc::Global;
 
 /// An int of an int or of a text.
 #[tactic(auto, using(crate::proofs::Casting::meanings, crate::proofs::Numbers::rounding))]
@@ -134,4 +136,83 @@ pub fn is_ready(s: &Surroundings<'_>, a: &Value, view: &View) -> Value
     ensures { is_ready (scene_in s.now) a.now view.now ≡ Gives result view.now }
 {
     Value::Bool(due_in(a) <= s.clock)
+}
+
+/// Whether an instance is finished; of no instance, true.
+#[tactic(auto, using(crate::proofs::Casting::finishing))]
+pub fn is_finished(s: &Surroundings<'_>, a: &Value, view: &View) -> Value
+    requires { is_finished (scene_in s.now) a.now view.now ≢ Amiss }
+    ensures { is_finished (scene_in s.now) a.now view.now ≡ Gives result view.now }
+{
+    has_finished(s, instance_in(a), view)
+}
+
+fn has_finished(s: &Surroundings<'_>, number: Option<u32>, view: &View) -> Value
+    requires { has_finished (scene_in s.now) number view.now ≢ Amiss }
+    ensures { has_finished (scene_in s.now) number view.now ≡ Gives result view.now }
+{
+    match number {
+        None => Value::Bool(true),
+        Some(p) => match s.finished.get(p as usize) {
+            Some(finished) => Value::Bool(*finished),
+            None => Value::Bool(false),
+        },
+    }
+}
+
+/// A truth value of a truth value or of its text.
+#[tactic(auto, using(crate::proofs::Casting::meanings))]
+pub fn to_truth(a: &Value, view: &View) -> Result<Value, Stop>
+    requires { to_truth a.now view.now ≢ Amiss }
+    ensures value { IfOk result (λ v. to_truth a.now view.now ≡ Gives v view.now) }
+    ensures stops { IfErr result (λ stop. Stops stop (to_truth a.now view.now)) }
+{
+    match a {
+        Value::Bool(x) => Ok(Value::Bool(*x)),
+        Value::Text(text) => Ok(truth_meant(text.as_slice(), view)?),
+        Value::Int(_)
+        | Value::Real(_)
+        | Value::Choice(_, _)
+        | Value::TupleOf(_)
+        | Value::ListOf(_)
+        | Value::SetOf(_)
+        | Value::DictOf(_)
+        | Value::Chan(_)
+        | Value::Dist(_)
+        | Value::Timer(_)
+        | Value::Inst(_) => unreachable!(),
+    }
+}
+
+fn truth_meant(text: &[u8], view: &View) -> Result<Value, Stop>
+    ensures value { IfOk result (λ v. truth_meant text.now view.now ≡ Gives v view.now) }
+    ensures stops { IfErr result (λ stop. Stops stop (truth_meant text.now view.now)) }
+{
+    if text == b"true".as_slice() {
+        Ok(Value::Bool(true))
+    } else if text == b"false".as_slice() {
+        Ok(Value::Bool(false))
+    } else {
+        Err(Stop::Fault(FaultKind::BadText))
+    }
+}
+
+/// The text of a plain value.
+#[tactic(auto, using(crate::proofs::Texting::texts))]
+pub fn to_text(alloc: Global, s: &Surroundings<'_>, a: &Value, view: &View) -> Result<Value, Stop>
+    requires { to_text (scene_in s.now) a.now view.now ≢ Amiss }
+    ensures value { IfOk result (λ v. to_text (scene_in s.now) a.now view.now ≡ Gives v view.now) }
+    ensures stops { IfErr result (λ stop. Stops stop (to_text (scene_in s.now) a.now view.now)) }
+{
+    let mut text = Vec::new(alloc);
+    match text_of(alloc, a, s.names, &mut text) {
+        Ok(()) => {
+            if text.len() > MOST_ELEMENTS {
+                return Err(Stop::Fault(FaultKind::TooLarge));
+            }
+            Ok(Value::Text(Bytes::copy_of(alloc, text.as_slice())?))
+        }
+        Err(TextFault::Limit) => Err(Stop::Fault(FaultKind::TooLarge)),
+        Err(TextFault::NoMemory) => Err(Stop::NoMemory),
+    }
 }

@@ -1,19 +1,20 @@
 //! Operations on containers and strings. Nothing of them uses anything up.
 
 ghost use Rattle.std.specs.Prelude.{◌≡◌, ◌≢◌, ℤ, IfOk, IfErr};
+ghost use Rattle.chi_value.specs.declared.value.Value.{out-Value};
 ghost use Rattle.chi_ops.specs.Operations.{has, sub, lookup, pop, union, meet, minus, minus_keys, keys_of, values_of};
 ghost use Rattle.chi_ops.specs.Sequences.{index, del, join, enumerate, range};
 ghost use Rattle.chi_core.specs.Answer.{Gives, Amiss};
 ghost use Rattle.chi_core.specs.Comparisons.{tells};
-ghost use Rattle.chi_core.specs.Containers.{done, element_at, without, size_of, is_empty};
+ghost use Rattle.chi_core.specs.Containers.{done, range_of, element_at, without, size_of, is_empty};
 ghost use Rattle.chi_eval.specs.Stops.{Stops};
 
 use crate::reading::int_in;
 use crate::stop::Stop;
 use chi_core::View;
 use chi_ops::{
-    del, enumerate, has, index, join, keys, lookup, meet, minus, minus_keys, pop, size, sub, union,
-    values,
+    del, enumerate, has, index, join, keys, lookup, meet, minus, minus_keys, pop, range, size, sub,
+    union, values,
 };
 use chi_value::Value;
 use std::alloc::Global;
@@ -179,4 +180,28 @@ pub fn is_empty(a: &Value, view: &View) -> Value
     ensures { is_empty a.now view.now ≡ Gives result view.now }
 {
     Value::Bool(size(a) == 0)
+}
+
+#[tactic(auto, using(crate::proofs::Ranges::made))]
+fn ranged(alloc: Global, first: i64, last: i64, by: i64, view: &View) -> Result<Value, Stop>
+    ensures value { IfOk result (λ v. done (range first last by) view.now ≡ Gives v view.now) }
+    ensures stops { IfErr result (λ stop. Stops stop (done (range first last by) view.now)) }
+{
+    Ok(range(alloc, first, last, by)?)
+}
+
+/// The ints from the first to before the last, so far apart.
+#[tactic(auto, using(crate::proofs::Ranges::ranges))]
+pub fn range_of(
+    alloc: Global,
+    first: &Value,
+    last: &Value,
+    by: &Value,
+    view: &View,
+) -> Result<Value, Stop>
+    requires { range_of (out-Value first.now) (out-Value last.now) (out-Value by.now) view.now ≢ Amiss }
+    ensures value { IfOk result (λ v. range_of (out-Value first.now) (out-Value last.now) (out-Value by.now) view.now ≡ Gives v view.now) }
+    ensures stops { IfErr result (λ stop. Stops stop (range_of (out-Value first.now) (out-Value last.now) (out-Value by.now) view.now)) }
+{
+    Ok(ranged(alloc, int_in(first), int_in(last), int_in(by), view)?)
 }

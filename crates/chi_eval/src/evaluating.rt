@@ -3,13 +3,13 @@
 
 ghost use Rattle.std.specs.Prelude.{◌≡◌, ◌≢◌, map, Err, IfOk, IfErr};
 ghost use Rattle.chi_core.specs.Answer.{Gives, Amiss, in_turn};
-ghost use Rattle.chi_core.specs.Spots.{spot_of, read_at};
+ghost use Rattle.chi_core.specs.Spots.{spot_of};
 ghost use Rattle.chi_eval.specs.Spots.{spot_in};
 ghost use Rattle.chi_eval.specs.Stops.{Stops};
 ghost use Rattle.chi_eval.specs.Surroundings.{value_in, constant_in};
 ghost use Rattle.chi_eval.specs.Terms.{act_first, came_to};
 
-use crate::calling::{self, eval, eval_all};
+use crate::calling::{self, eval, eval_all, path_of};
 use crate::calls::Calls;
 use crate::spots::Spot;
 use crate::stop::Stop;
@@ -69,6 +69,7 @@ pub fn constant_value(
 }
 
 /// The spot of a target: its indexes are evaluated from left to right.
+#[tactic(auto, using(crate::proofs::Spotting::places, crate::proofs::Stopping::stopping), unfolding(crate::specs::Calls::run_by))]
 pub fn spot_of(
     alloc: Global,
     surroundings: &Surroundings<'_>,
@@ -80,22 +81,17 @@ pub fn spot_of(
     ensures spot { IfOk result (λ spot. spot_of (value_in surroundings.now variables.now) target.now view.old ≡ Gives (spot_in spot) view.new) }
     ensures stops { IfErr result (λ stop. Stops stop (spot_of (value_in surroundings.now variables.now) target.now view.old)) }
 {
-    Err(Stop::NoMemory)
-}
-
-/// What stands at a target.
-pub fn read_at(
-    alloc: Global,
-    surroundings: &Surroundings<'_>,
-    variables: &Variables,
-    target: &CTarget,
-    view: &mut View,
-) -> Result<Value, Stop>
-    requires { read_at (value_in surroundings.now variables.now) variables.now target.now view.old ≢ Amiss }
-    ensures value { IfOk result (λ v. read_at (value_in surroundings.now variables.now) variables.now target.now view.old ≡ Gives v view.new) }
-    ensures stops { IfErr result (λ stop. Stops stop (read_at (value_in surroundings.now variables.now) variables.now target.now view.old)) }
-{
-    Err(Stop::NoMemory)
+    let steps = target.steps.as_slice();
+    let path = path_of(
+        steps,
+        alloc,
+        surroundings,
+        Calls::Within(500),
+        variables,
+        view,
+    )?;
+    let slot = target.slot;
+    Ok(Spot { slot, path })
 }
 
 /// Does the first item of a term, which is one that functions and processes share. Where a function

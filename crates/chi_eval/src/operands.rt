@@ -8,7 +8,7 @@ pub enum Operands<'a> {
     One(&'a Value),
     Two(&'a Value, &'a Value),
     /// Three or more.
-    More(&'a Value, &'a Value, &'a [Value]),
+    More(&'a Value, &'a Value, &'a Value, &'a [Value]),
 }
 
 #[tactic(auto, using(crate::proofs::Lists::lists))]
@@ -21,9 +21,8 @@ pub fn split_operands(values: &[Value]) -> Operands<'_>
     let Some((second, rest)) = others.split_first() else {
         return Operands::One(first);
     };
-    if rest.is_empty() {
-        Operands::Two(first, second)
-    } else {
-        Operands::More(first, second, rest)
-    }
+    let Some((third, others)) = rest.split_first() else {
+        return Operands::Two(first, second);
+    };
+    Operands::More(first, second, third, others)
 }

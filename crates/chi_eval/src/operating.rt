@@ -10,12 +10,14 @@ ghost use Rattle.chi_eval.specs.Surroundings.{scene_in};
 use crate::arithmetic::{
     absolute, ceiled, divided, floored, nearest_to, negated, powered, quotient, remainder, widened,
 };
-use crate::casts::{is_ready, sign_of, to_int, to_real, to_timer};
+use crate::casts::{is_finished, is_ready, sign_of, to_int, to_real, to_text, to_timer, to_truth};
 use crate::comparing::{above, at_least, at_most, below, different, equal, opposite};
 use crate::containers::{
-    element_at, enumerated, is_empty, is_in, is_within, keys_in, looked_up, popped, size_of,
-    values_in, without,
+    element_at, enumerated, is_empty, is_in, is_within, keys_in, looked_up, popped, range_of,
+    size_of, values_in, without,
 };
+use crate::distributions::constant_of;
+use crate::least::best_of;
 use crate::operands::{Operands, split_operands};
 use crate::stop::Stop;
 use crate::summing::{difference, product, sum};
@@ -118,14 +120,14 @@ fn of_one(
         OpName::Sample => Err(Stop::NoMemory),
         OpName::Slice(_, _, _) => Err(Stop::NoMemory),
         OpName::Sign => Ok(sign_of(a, view)),
-        OpName::Range => Err(Stop::NoMemory),
-        OpName::Constant => Err(Stop::NoMemory),
+        OpName::Range => Ok(range_of(alloc, &Value::Int(0), a, &Value::Int(1), view)?),
+        OpName::Constant => Ok(constant_of(a, view)),
         OpName::Ready => Ok(is_ready(s, a, view)),
-        OpName::Finished => Err(Stop::NoMemory),
+        OpName::Finished => Ok(is_finished(s, a, view)),
         OpName::ToInt => Ok(to_int(a, view)?),
         OpName::ToReal => Ok(to_real(s, a, view)?),
-        OpName::ToText => Err(Stop::NoMemory),
-        OpName::ToBool => Err(Stop::NoMemory),
+        OpName::ToText => Ok(to_text(alloc, s, a, view)?),
+        OpName::ToBool => Ok(to_truth(a, view)?),
         OpName::ToTimer => Ok(to_timer(s, a, view)?),
         OpName::Add => unreachable!(),
         OpName::Sub => unreachable!(),
@@ -186,9 +188,9 @@ fn of_two(
         OpName::Add => Ok(sum(alloc, a, b, view)?),
         OpName::Sub => Ok(difference(alloc, a, b, view)?),
         OpName::Mul => Ok(product(alloc, a, b, view)?),
-        OpName::Min => Err(Stop::NoMemory),
-        OpName::Max => Err(Stop::NoMemory),
-        OpName::Range => Err(Stop::NoMemory),
+        OpName::Min => Ok(best_of(false, a, b, &[], view)),
+        OpName::Max => Ok(best_of(true, a, b, &[], view)),
+        OpName::Range => Ok(range_of(alloc, a, b, &Value::Int(1), view)?),
         OpName::Bernoulli => Err(Stop::NoMemory),
         OpName::Slice(_, _, _) => Err(Stop::NoMemory),
         OpName::Not => unreachable!(),
@@ -220,6 +222,81 @@ fn of_two(
     }
 }
 
+/// An operator of three or more operands.
+#[tactic(auto, using(crate::proofs::Ranges::many))]
+fn of_more(
+    alloc: Global,
+    s: &Surroundings<'_>,
+    name: OpName,
+    a: &Value,
+    b: &Value,
+    c: &Value,
+    rest: &[Value],
+    view: &mut View,
+) -> Result<Value, Stop>
+    requires { applied (scene_in s.now) name (a.now ∷ b.now ∷ c.now ∷ rest.now) view.old ≢ Amiss }
+    ensures value { IfOk result (λ v. applied (scene_in s.now) name (a.now ∷ b.now ∷ c.now ∷ rest.now) view.old ≡ Gives v view.new) }
+    ensures stops { IfErr result (λ stop. Stops stop (applied (scene_in s.now) name (a.now ∷ b.now ∷ c.now ∷ rest.now) view.old)) }
+{
+    match name {
+        OpName::Min => Err(Stop::NoMemory),
+        OpName::Max => Err(Stop::NoMemory),
+        OpName::Range => {
+            if rest.is_empty() {
+                Ok(range_of(alloc, a, b, c, view)?)
+            } else {
+                unreachable!()
+            }
+        }
+        OpName::Uniform => Err(Stop::NoMemory),
+        OpName::Binomial => Err(Stop::NoMemory),
+        OpName::Slice(_, _, _) => Err(Stop::NoMemory),
+        OpName::Not => unreachable!(),
+        OpName::Add => unreachable!(),
+        OpName::Sub => unreachable!(),
+        OpName::Mul => unreachable!(),
+        OpName::Divide => unreachable!(),
+        OpName::Div => unreachable!(),
+        OpName::Mod => unreachable!(),
+        OpName::Power => unreachable!(),
+        OpName::Neg => unreachable!(),
+        OpName::Equal => unreachable!(),
+        OpName::NotEqual => unreachable!(),
+        OpName::Less => unreachable!(),
+        OpName::AtMost => unreachable!(),
+        OpName::Greater => unreachable!(),
+        OpName::AtLeast => unreachable!(),
+        OpName::In => unreachable!(),
+        OpName::Subset => unreachable!(),
+        OpName::Sample => unreachable!(),
+        OpName::Index => unreachable!(),
+        OpName::Lookup => unreachable!(),
+        OpName::Abs => unreachable!(),
+        OpName::Sign => unreachable!(),
+        OpName::Floor => unreachable!(),
+        OpName::Ceil => unreachable!(),
+        OpName::Round => unreachable!(),
+        OpName::Size => unreachable!(),
+        OpName::Empty => unreachable!(),
+        OpName::Pop => unreachable!(),
+        OpName::Del => unreachable!(),
+        OpName::Enumerate => unreachable!(),
+        OpName::DictKeys => unreachable!(),
+        OpName::DictValues => unreachable!(),
+        OpName::Constant => unreachable!(),
+        OpName::Bernoulli => unreachable!(),
+        OpName::Ready => unreachable!(),
+        OpName::Finished => unreachable!(),
+        OpName::Time => unreachable!(),
+        OpName::Widen => unreachable!(),
+        OpName::ToInt => unreachable!(),
+        OpName::ToReal => unreachable!(),
+        OpName::ToText => unreachable!(),
+        OpName::ToBool => unreachable!(),
+        OpName::ToTimer => unreachable!(),
+    }
+}
+
 /// What an operator makes of the values of its operands.
 pub fn apply(
     alloc: Global,
@@ -236,6 +313,6 @@ pub fn apply(
         Operands::None => Ok(of_none(alloc, s, name, view)?),
         Operands::One(a) => Ok(of_one(alloc, s, name, a, view)?),
         Operands::Two(a, b) => Ok(of_two(alloc, s, name, a, b, view)?),
-        Operands::More(_, _, _) => Err(Stop::NoMemory),
+        Operands::More(a, b, c, rest) => Ok(of_more(alloc, s, name, a, b, c, rest, view)?),
     }
 }

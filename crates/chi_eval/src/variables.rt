@@ -1,7 +1,9 @@
 ghost use Rattle.std.specs.Prelude.{◌≡◌, ◌≢◌, ◌<◌, None, Some, IfOk, OnOk, length, slice_set};
 ghost use Rattle.std.specs.Option.{option_copied};
+ghost use Rattle.chi_eval.specs.Bindings.{bound_parts};
 ghost use Rattle.chi_core.specs.Variables.{variables_of, value_at, with_slot, bound};
 
+use crate::reading::parts_from;
 use chi_base::NoMemory;
 use chi_value::Value;
 use std::alloc::Global;
@@ -98,7 +100,26 @@ impl Variables {
                 self.set(*slot, element);
                 Ok(())
             }
-            _ => Err(NoMemory),
+            _ => {
+                let parts = parts_from(alloc, element)?;
+                self.bind_parts(slots, parts);
+                Ok(())
+            }
+        }
+    }
+
+    #[tactic(auto, using(crate::proofs::Binding::turns))]
+    fn bind_parts(&mut self, slots: &[u32], parts: Vec<Value>)
+        requires { bound_parts slots.now parts.items self.old ≢ None }
+        ensures { bound_parts slots.now parts.items self.old ≡ Some self.new }
+    {
+        let mut left = parts;
+        left.reverse();
+        for slot in slots {
+            match left.pop() {
+                Some(part) => self.set(*slot, part),
+                None => unreachable!(),
+            }
         }
     }
 }
