@@ -54,33 +54,42 @@ fn entries_of(alloc: Global, parts: &[Value]) -> Result<Option<Vec<Value>>, NoMe
 }
 
 /// A kind of container, its parts, and what they come to.
-const LITERALS: [(Kind, &[i64], &str); 12] = [
-    (Kind::TupleOf, &[2, 1], "(2, 1)"),
-    (Kind::ListOf, &[], "[]"),
-    (Kind::ListOf, &[2, 1, 2], "[2, 1, 2]"),
-    (Kind::SetOf, &[], "{}"),
-    (Kind::SetOf, &[3, 1, 2], "{1, 2, 3}"),
-    (Kind::SetOf, &[2, 1, 2, 1], "{1, 2}"),
-    (Kind::SetOf, &[5, 5, 5], "{5}"),
-    (Kind::DictOf, &[], "{}"),
-    (Kind::DictOf, &[2, 20, 1, 10], "{1: 10, 2: 20}"),
-    (Kind::DictOf, &[1, 10, 2, 20, 1, 11], "{1: 11, 2: 20}"),
-    (Kind::DictOf, &[1, 10, 1, 11, 1, 9], "{1: 9}"),
-    (Kind::DictOf, &[2, 20, 1, 10, 2, 20], "{1: 10, 2: 20}"),
+const LITERALS: [(Kind, &[i64], &[u8]); 12] = [
+    (Kind::TupleOf, &[2, 1], b"(2, 1)"),
+    (Kind::ListOf, &[], b"[]"),
+    (Kind::ListOf, &[2, 1, 2], b"[2, 1, 2]"),
+    (Kind::SetOf, &[], b"{}"),
+    (Kind::SetOf, &[3, 1, 2], b"{1, 2, 3}"),
+    (Kind::SetOf, &[2, 1, 2, 1], b"{1, 2}"),
+    (Kind::SetOf, &[5, 5, 5], b"{5}"),
+    (Kind::DictOf, &[], b"{}"),
+    (Kind::DictOf, &[2, 20, 1, 10], b"{1: 10, 2: 20}"),
+    (Kind::DictOf, &[1, 10, 2, 20, 1, 11], b"{1: 11, 2: 20}"),
+    (Kind::DictOf, &[1, 10, 1, 11, 1, 9], b"{1: 9}"),
+    (Kind::DictOf, &[2, 20, 1, 10, 2, 20], b"{1: 10, 2: 20}"),
 ];
+
+fn built(alloc: Global, kind: Kind, numbers: &[i64]) -> Result<Vec<u8>, Fail> {
+    let parts = ints(alloc, numbers)?;
+    if !may_build(alloc, kind, parts.as_slice())? {
+        return Err(Fail::new("parts that no literal has"));
+    }
+    told(alloc, build(alloc, kind, parts))
+}
 
 #[test]
 fn literals_are_built(rt: HostRuntime) -> Result<(), Fail> {
-    let alloc = rt.alloc();
     for (kind, numbers, wanted) in LITERALS {
-        let parts = ints(alloc, numbers)?;
-        let may = may_build(alloc, kind, parts.as_slice())?;
-        assert!(rt; may);
-        let built = told(alloc, build(alloc, kind, parts))?;
-        assert_eq!(rt; built.as_slice(), wanted.as_bytes(), "{kind:?} {numbers:?}");
+        let told = built(rt.alloc(), kind, numbers)?;
+        assert_eq!(rt; told.as_slice(), wanted);
     }
-    let odd = ints(alloc, &[1, 10, 2])?;
-    let may = may_build(alloc, Kind::DictOf, odd.as_slice())?;
+    Ok(())
+}
+
+#[test]
+fn keys_without_a_value_are_no_literal(rt: HostRuntime) -> Result<(), Fail> {
+    let odd = ints(rt.alloc(), &[1, 10, 2])?;
+    let may = may_build(rt.alloc(), Kind::DictOf, odd.as_slice())?;
     assert!(rt; !may);
     Ok(())
 }

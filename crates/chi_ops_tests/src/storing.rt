@@ -8,7 +8,7 @@ ghost use Rattle.chi_ops.specs.Store.{by, fits_along, may_put, part};
 
 use crate::conditions::{alike_to_keys, is_int, is_key};
 use crate::likeness::alike;
-use crate::sample::{Sample, ints, pair};
+use crate::sample::{Sample, pair};
 use crate::tidiness::tidy;
 use crate::told::told;
 use chi_base::NoMemory;
@@ -120,55 +120,60 @@ fn nested(alloc: Global) -> Result<Value, NoMemory> {
 }
 
 /// An index and a key within the first part of the nested value, and what it comes to with 5 there.
-const WITHIN: [(i64, i64, &str); 7] = [
-    (0, 1, "([{1: 5, 2: 20}, {3: 30}], 7)"),
-    (-1, 3, "([{1: 10, 2: 20}, {3: 5}], 7)"),
-    (1, 4, "([{1: 10, 2: 20}, {3: 30, 4: 5}], 7)"),
-    (-2, 0, "([{0: 5, 1: 10, 2: 20}, {3: 30}], 7)"),
-    (2, 1, "index"),
-    (-3, 1, "index"),
-    (i64::MIN, 1, "index"),
+const WITHIN: [(i64, i64, &[u8]); 7] = [
+    (0, 1, b"([{1: 5, 2: 20}, {3: 30}], 7)"),
+    (-1, 3, b"([{1: 10, 2: 20}, {3: 5}], 7)"),
+    (1, 4, b"([{1: 10, 2: 20}, {3: 30, 4: 5}], 7)"),
+    (-2, 0, b"([{0: 5, 1: 10, 2: 20}, {3: 30}], 7)"),
+    (2, 1, b"index"),
+    (-3, 1, b"index"),
+    (i64::MIN, 1, b"index"),
 ];
+
+fn stored_within(alloc: Global, i: i64, key: i64) -> Result<Vec<u8>, Fail> {
+    let path = [Path::Part(0), Path::At(i), Path::Key(Value::Int(key))];
+    stored(alloc, &path, nested(alloc)?)
+}
 
 #[test]
 fn a_path_leads_through_tuples_lists_and_dictionaries(rt: HostRuntime) -> Result<(), Fail> {
-    let alloc = rt.alloc();
     for (i, key, wanted) in WITHIN {
-        let path = [Path::Part(0), Path::At(i), Path::Key(Value::Int(key))];
-        let told = stored(alloc, &path, nested(alloc)?)?;
-        assert_eq!(rt; told.as_slice(), wanted.as_bytes(), "{i} {key}");
+        let told = stored_within(rt.alloc(), i, key)?;
+        assert_eq!(rt; told.as_slice(), wanted, "{i} {key}");
     }
-    let told = stored(alloc, &[Path::Part(1)], nested(alloc)?)?;
-    assert_eq!(rt;
-        told.as_slice(),
-        b"([{1: 10, 2: 20}, {3: 30}], 5)".as_slice()
-    );
-    let told = stored(alloc, &[], Value::Int(3))?;
+    Ok(())
+}
+
+#[test]
+fn a_path_may_be_short(rt: HostRuntime) -> Result<(), Fail> {
+    let told = stored(rt.alloc(), &[], Value::Int(3))?;
     assert_eq!(rt; told.as_slice(), b"5".as_slice());
     Ok(())
 }
 
 /// A key and an index within `{1: [7, 8]}`, and what it comes to with 5 there. The key is on the way: it isn't added.
-const BELOW: [(i64, i64, &str); 6] = [
-    (1, 0, "{1: [5, 8]}"),
-    (1, -1, "{1: [7, 5]}"),
-    (1, 2, "index"),
-    (1, -3, "index"),
-    (2, 0, "key"),
-    (2, 9, "key"),
+const BELOW: [(i64, i64, &[u8]); 6] = [
+    (1, 0, b"{1: [5, 8]}"),
+    (1, -1, b"{1: [7, 5]}"),
+    (1, 2, b"index"),
+    (1, -3, b"index"),
+    (2, 0, b"key"),
+    (2, 9, b"key"),
 ];
+
+fn stored_below(alloc: Global, key: i64, i: i64) -> Result<Vec<u8>, Fail> {
+    let list = Sample::List(&[7, 8]).value(alloc)?;
+    let mut entries = Vec::new(alloc);
+    entries.push(pair(alloc, Value::Int(1), list)?)?;
+    let dictionary = Value::DictOf(Items::of(alloc, entries)?);
+    stored(alloc, &[Path::At(key), Path::At(i)], dictionary)
+}
 
 #[test]
 fn keys_on_the_way_are_there(rt: HostRuntime) -> Result<(), Fail> {
-    let alloc = rt.alloc();
     for (key, i, wanted) in BELOW {
-        let list = Value::ListOf(Items::of(alloc, ints(alloc, &[7, 8])?)?);
-        let mut entries = Vec::new(alloc);
-        entries.push(pair(alloc, Value::Int(1), list)?)?;
-        let dictionary = Value::DictOf(Items::of(alloc, entries)?);
-        let path = [Path::At(key), Path::At(i)];
-        let told = stored(alloc, &path, dictionary)?;
-        assert_eq!(rt; told.as_slice(), wanted.as_bytes(), "{key} {i}");
+        let told = stored_below(rt.alloc(), key, i)?;
+        assert_eq!(rt; told.as_slice(), wanted, "{key} {i}");
     }
     Ok(())
 }
