@@ -8,6 +8,7 @@ mod definition;
 mod header;
 mod kind;
 mod laws;
+mod list;
 mod literal;
 mod name;
 mod program;
