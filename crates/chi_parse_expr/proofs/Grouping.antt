@@ -1,12 +1,11 @@
 -- Runs of chains and links of any level, and what is shown of their trees.
-use Rattle.std.proofs.Common.{◌≡◌, ℕ, Bool, List, [], ◌∷◌, map, slice_get, refl, sym, ap, subst, ◌∙◌}
+use Rattle.std.proofs.Common.{◌≡◌, ℕ, Bool, List, [], map, slice_get, refl, sym, ap, subst, ◌∙◌}
 use Rattle.chi_grammar.specs.declared.fault.ParseFault.{ParseFault}
 use Rattle.chi_grammar.specs.declared.room.Room.{Room}
 use Rattle.chi_grammar.specs.Rules.{leaf, node, pair, part, many, Rule, ◌▸◌}
 use Rattle.chi_grammar.specs.Lookahead.{Next, starts_in}
 use Rattle.chi_grammar.specs.RuleRuns.{Outcome, Done, Fail, RuleRuns}
-use Rattle.chi_token.specs.declared.keyword.Keyword.TheVariants.{AndWord, DivWord, ModWord, OrWord}
-use Rattle.chi_token.specs.declared.sign.Sign.TheVariants.{Plus, Minus, Star, Slash}
+use Rattle.chi_token.specs.declared.keyword.Keyword.TheVariants.{AndWord, OrWord}
 use Rattle.chi_token.specs.declared.place.Spanned.{Spanned}
 use Rattle.chi_tree.specs.declared.class.Class.{Class}
 use Rattle.chi_tree.specs.declared.class.Class.TheVariants as class

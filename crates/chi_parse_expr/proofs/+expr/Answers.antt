@@ -5,8 +5,7 @@ use Rattle.chi_grammar.specs.Rules.{leaf, part, many, maybe, ◌▸◌, ◌∣�
 use Rattle.chi_grammar.specs.Rules as rule
 use Rattle.chi_grammar.specs.RuleRuns as runs
 use Rattle.chi_grammar.proofs.Exits.{read, run_word, run_no_word, run_refused, reads_part, reads_left, reads_right, reads_once, reads_deeper, reads_then, failed, no_memory}
-use Rattle.chi_token.specs.declared.keyword.Keyword.TheVariants.{BoolWord, InWord, IntWord, RealWord, SampleWord, StringWord, SubWord, TimerWord}
-use Rattle.chi_token.specs.declared.sign.Sign.TheVariants.{LeftParen, RightParen, Less, LessEqual, Equal, NotEqual, Greater, GreaterEqual, Plus, Minus, Comma, Colon}
+use Rattle.chi_token.specs.declared.sign.Sign.TheVariants.{LeftParen, RightParen, Less, Greater, Comma, Colon}
 use Rattle.chi_tree.specs.declared.class.Class.TheVariants as class
 use Rattle.chi_tree.specs.declared.expr.Expr.TheVariants as expr
 use Rattle.chi_tree.specs.declared.expr.Postfix.TheVariants as postfix

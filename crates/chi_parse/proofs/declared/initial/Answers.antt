@@ -1,7 +1,7 @@
 use Rattle.std.proofs.Common.{refl, ◌∙◌, Some}
 use Rattle.chi_grammar.specs.Rules.{part, maybe}
 use Rattle.chi_grammar.specs.RuleRuns as runs
-use Rattle.chi_grammar.proofs.Exits.{read, run_word, run_no_word, failed}
+use Rattle.chi_grammar.proofs.Exits.{read, failed}
 use Rattle.chi_tree.specs.Parts as s
 use Rattle.chi_tree.specs.Rules.{grammar}
 use Rattle.chi_tree.specs.Tables.{table}
