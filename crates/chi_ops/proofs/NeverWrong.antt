@@ -1,23 +1,18 @@
 -- Where its condition holds, an operation comes to a value or a named fault.
-use Rattle.std.proofs.Common.{◌≡◌, ◌<◌, ◌≤◌, ◌+◌, ℕ, zero, suc, ℤ, pos, negsuc, Bool, true, false, ◌&&◌, IsTrue, cond, Option, None, Some, List, [], ◌∷◌, ◌++◌, map, length, slice_get, is_some, is_none, nat_lt, nat_le, not, refl, sym, ap, ◌∙◌, subst, arith}
+use Rattle.std.proofs.Common.{◌≡◌, ℕ, ℤ, pos, Bool, true, false, ◌&&◌, IsTrue, cond, Option, None, Some, List, [], ◌∷◌, is_some, nat_le, refl, sym, ap, ◌∙◌}
 use Rattle.std.proofs.lemmas.Bool.{false≢true, and_parts}
-use Rattle.std.proofs.lemmas.Bool.Decides.{nat_tests}
-use Rattle.std.proofs.lemmas.Option.{slice_get-get_or}
-use Rattle.std.specs.List.{list_all}
 use Rattle.std.specs.Ordering.{int_eq}
-use Rattle.std.specs.Prelude.{option_map}
 use Rattle.chi_value.specs.declared.format.Kind.{Kind}
 use Rattle.chi_value.specs.declared.format.Kind.TheVariants as kind
 use Rattle.chi_value.specs.declared.value.TheConstants.{MOST_ELEMENTS}
 use Rattle.chi_value.specs.declared.value.Value.{Value, Value-F, fold_out-Value, map-Value, out-Value, roll-Value, roll-out-Value}
 use Rattle.chi_value.specs.declared.value.Value.TheVariants as value
 use Rattle.chi_value.specs.Alike.{alike, alike_step}
-use Rattle.chi_sets.specs.Dictionaries.{are_entries, entries_of, is_entry, key_in, key_of, value_in, value_of, value_at, values}
+use Rattle.chi_sets.specs.Dictionaries.{are_entries, entries_of, is_entry, key_in, value_in}
 use Rattle.chi_ops.specs.Conditions.{are_keys_alike, are_peers, has_size, is_key, may_build, may_del, may_enumerate, may_has, may_hold, may_index, may_insert_at, may_join, may_keys, may_lookup, may_meet, may_minus, may_minus_keys, may_pop, may_size, may_slice, may_sub, may_union, may_values, takes_at, takes_key}
 use Rattle.chi_ops.specs.Kinds.{is_container, is_dictionary, is_list, is_sequence, is_set, is_sorted}
-use Rattle.chi_ops.specs.Operations.{build, elements_built, entry_and_others, entry_and_rest, first_and_rest, has, keys_of, lookup, meet, minus, minus_keys, of_kind, pop, size, sub, union, values_of}
-use Rattle.chi_ops.specs.Outcome.{Fault, Outcome, gives, faults, wrong, is_wrong, where_may, gives_or, gives_within, limit_fault}
-use Rattle.chi_ops.specs.Progression.{count_from, progression}
+use Rattle.chi_ops.specs.Operations.{build, entry_and_others, entry_and_rest, first_and_rest, has, keys_of, lookup, meet, minus, minus_keys, pop, size, sub, union, values_of}
+use Rattle.chi_ops.specs.Outcome.{Fault, Outcome, gives, faults, is_wrong, where_may, gives_or, gives_within, limit_fault}
 use Rattle.chi_ops.specs.Sequences.{index, slice, join, insert_at, del, range, enumerate, step_of}
 use Rattle.chi_ops.specs.Tidy.{tidy}
 use Rattle.chi_ops.proofs.TidyLaws.{dictionary_entries}
@@ -40,9 +35,6 @@ within_right : (size : ℕ) (v : Value) → is_wrong (gives_within size v) ≡ f
 within_right size v = cond_right (nat_le size MOST_ELEMENTS) (gives v) (faults limit_fault) refl refl
 
 -- kinds
-
-is_of : (v : Value) (o w : Value-F Value) → out-Value v ≡ o → roll-Value o ≡ roll-Value w → v ≡ roll-Value w
-is_of v o w out is = sym (roll-out-Value v) ∙ ap roll-Value out ∙ is
 
 dictionary_is : (v : Value) (items : List Value) → out-Value v ≡ Value-F.DictOf items → v ≡ value.DictOf items
 dictionary_is v items out = sym (roll-out-Value v) ∙ ap roll-Value out ∙ value.rolls-DictOf items

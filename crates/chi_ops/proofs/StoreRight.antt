@@ -1,5 +1,5 @@
 -- Where a value may stand along a path, a store comes to a value or a named fault.
-use Rattle.std.proofs.Common.{◌≡◌, ◌<◌, ℕ, zero, suc, ℤ, pos, negsuc, Bool, true, false, ◌&&◌, IsTrue, cond, Option, None, Some, List, [], ◌∷◌, length, slice_get, is_some, is_none, nat_lt, not, refl, sym, ap, ◌∙◌, arith}
+use Rattle.std.proofs.Common.{◌≡◌, ◌<◌, ℕ, zero, suc, ℤ, pos, negsuc, Bool, true, false, ◌&&◌, IsTrue, cond, Option, None, Some, List, [], ◌∷◌, length, slice_get, is_some, is_none, nat_lt, not, refl, arith}
 use Rattle.std.proofs.lemmas.Bool.{false≢true, and_parts}
 use Rattle.std.proofs.lemmas.Bool.Decides.{nat_tests}
 use Rattle.std.specs.List.{list_all}

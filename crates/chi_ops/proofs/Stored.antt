@@ -1,5 +1,5 @@
 -- What is stored along a path is what is read along it.
-use Rattle.std.proofs.Common.{◌≡◌, ℕ, zero, suc, ℤ, Bool, true, false, IsTrue, cond, Option, None, Some, List, [], ◌∷◌, length, slice_get, slice_set, is_some, is_none, nat_lt, not, ◌&&◌, refl, sym, ap, ◌∙◌, subst}
+use Rattle.std.proofs.Common.{◌≡◌, ℕ, zero, suc, ℤ, Bool, true, false, cond, Option, None, Some, List, [], ◌∷◌, length, slice_get, slice_set, is_some, is_none, nat_lt, not, ◌&&◌, refl, sym, ap, ◌∙◌}
 use Rattle.std.proofs.lemmas.Bool.{false≢true}
 use Rattle.std.proofs.lemmas.List.{length-set}
 use Rattle.std.specs.Prelude.{option_and_then}
@@ -11,7 +11,7 @@ use Rattle.chi_sets.proofs.DictionaryLaws.{with_entry_value}
 use Rattle.chi_ops.specs.Along.{read_along}
 use Rattle.chi_ops.specs.Outcome.{Outcome, gives, faults, wrong, limit_fault, where_may, outcome_map}
 use Rattle.chi_ops.specs.Places.{place_of, at_place}
-use Rattle.chi_ops.specs.Store.{Step, by, part, may_put, changed_at, change_place, change_key, put_key, store_key, stored, put}
+use Rattle.chi_ops.specs.Store.{Step, by, part, may_put, changed_at, change_place, change_key, store_key, stored, put}
 
 get_set : (xs : List Value) (k : ℕ) (old new : Value) → slice_get xs k ≡ Some old → slice_get (slice_set xs k new) k ≡ Some new
 get_set [] k old new is = absurd (false≢true (ap is_some is))

@@ -1,5 +1,5 @@
 -- Reading a part of a value along a path.
-use Rattle.std.specs.Prelude.{ℕ, Option, None, Some, List, [], ◌∷◌, slice_get, option_and_then}
+use Rattle.std.specs.Prelude.{Option, None, Some, List, [], ◌∷◌, slice_get, option_and_then}
 use Rattle.chi_value.specs.declared.value.Value.{Value, Value-F, out-Value}
 use Rattle.chi_sets.specs.Dictionaries.{value_at}
 use Rattle.chi_ops.specs.Places.{at_place}
