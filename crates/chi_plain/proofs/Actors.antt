@@ -6,7 +6,7 @@ use Rattle.std.proofs.lemmas.Option.{slice_get_within}
 use Rattle.chi_core.specs.Config.{Config}
 use Rattle.chi_core.specs.Options.{options, actors}
 use Rattle.chi_plain.specs.Scanning.{actors_below}
-use Rattle.chi_plain.proofs.Numbers.{passing, failing, place, length-push}
+use Rattle.chi_open.proofs.Numbers.{passing, failing, place, length-push}
 
 pub length-actors_below-acts : (config : Config) (p n : ℕ) → n ≡ length (options config p) → 0 < n
     → length (actors_below config (p + 1)) ≡ length (actors_below config p) + 1

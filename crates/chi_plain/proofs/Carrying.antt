@@ -13,7 +13,7 @@ use Rattle.chi_core.specs.Performing.{Goes}
 use Rattle.chi_core.specs.Variables.{Variables}
 use Rattle.chi_plain.specs.declared.deed.Deed.{Deed}
 use Rattle.chi_plain.specs.declared.deed.Deed.TheVariants as deed
-use Rattle.chi_plain.specs.Instances.{rest_of}
+use Rattle.chi_open.specs.Instances.{rest_of}
 use Rattle.chi_plain.specs.Plans.{Plan, Waits, Runs, Starts, IsFew, change_of, plan_of, made_in}
 
 length-started : (config : Config) (p : ℕ) (i : Instance) (made : List Instance) → length (slice_set config.instances p i ++ map settled made) ≡ length config.instances + length made

@@ -7,7 +7,7 @@ use Rattle.chi_core.specs.Config.{Instance, Offer}
 use Rattle.chi_core.specs.Opening.{Opening}
 use Rattle.chi_core.specs.Starting.{Started}
 use Rattle.chi_core.specs.Variables.{Variables}
-use Rattle.chi_plain.specs.Drafts.{Opened, opening_of, Made, started_of}
+use Rattle.chi_open.specs.Drafts.{Opened, opening_of, Made, started_of}
 
 pub opened_gives : (m : Answer Opening) (o : Opened) (view : View) (changed : Option Variables) (variables : Variables) (offers : List Offer) → m ≡ Gives (opening_of o) view
     → unwrap_or changed o.origin ≡ o.variables → o.origin ≡ variables → offers ≡ o.offers

@@ -1,17 +1,9 @@
-pub mod Numbers
-pub mod Times
 pub mod Pairs
 pub mod Actors
 pub mod Options
 pub mod Enabled
-pub mod Going
-pub mod Bindings
 pub mod Changes
 pub mod Meetings
-pub mod Keeping
-pub mod Through
-pub mod Unwinding
-pub mod Making
 pub mod Named
 pub mod Owned
 pub mod Planned

@@ -11,7 +11,8 @@ use Rattle.chi_core.specs.Answer.{Answer, Gives, Fails, Spent, Amiss, then_do, g
 use Rattle.chi_core.specs.Config.{Config, Instance, Offer, State, Running, Waiting, Joining, Finished, offers_in, settled, with_instance}
 use Rattle.chi_core.specs.Meeting.{resumed, offer_at, met, paired, woken_by, woken, are_over, joined_in, joined}
 use Rattle.chi_core.specs.Performing.{Change, quietly}
-use Rattle.chi_plain.specs.Meetings.{slot_in, sent_in, sent_by, sent_at, resumed_by, resumed_at}
+use Rattle.chi_open.specs.Taken.{slot_in, sent_in, sent_by, resumed_by}
+use Rattle.chi_plain.specs.Meetings.{sent_at, resumed_at}
 use Rattle.chi_plain.proofs.Changes.{slice_get-set_other}
 
 giving-giving : {A B C : Type 0} (g : B → C) (f : A → B) (it : Answer A) → giving (λ x. g (f x)) it ≡ giving g (giving f it)

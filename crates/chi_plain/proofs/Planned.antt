@@ -28,8 +28,9 @@ use Rattle.chi_eval.specs.declared.surroundings.Surroundings.{Surroundings}
 use Rattle.chi_eval.specs.Surroundings as surroundings
 use Rattle.chi_eval.specs.Surroundings.{scene_in}
 use Rattle.chi_eval.specs.Terms.{first_of, act_first}
-use Rattle.chi_plain.specs.Instances.{rest_of}
-use Rattle.chi_plain.specs.Plans.{Plan, Writes, Leaves, Waits, Runs, Starts, Joins, leaves_with, left_with, is_own, planned, change_of, performed_at, own_in, own_of, acted, went_on}
+use Rattle.chi_open.specs.Instances.{rest_of}
+use Rattle.chi_plain.specs.Plans.{Plan, Writes, Leaves, Waits, Runs, Starts, Joins, leaves_with, left_with, is_own, planned, change_of, performed_at, own_in, own_of}
+use Rattle.chi_open.specs.Acted.{acted, went_on}
 
 giving-giving : {A B C : Type 0} (g : B → C) (f : A → B) (it : Answer A) → giving g (giving f it) ≡ giving (λ x. g (f x)) it
 giving-giving g f (Gives x view) = refl

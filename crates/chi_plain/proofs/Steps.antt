@@ -16,7 +16,7 @@ use Rattle.chi_core.specs.Performing.{Change, Goes, Exits, performed}
 use Rattle.chi_core.specs.Step.{Outcome, Next, Over, Spent, line_of, name_of, fault_in, after_step, first_done, local_in, local}
 use Rattle.chi_core.specs.Terms.{Item, Term}
 use Rattle.chi_eval.specs.Terms.{first_of}
-use Rattle.chi_plain.specs.Instances.{rest_of}
+use Rattle.chi_open.specs.Instances.{rest_of}
 use Rattle.chi_plain.specs.Plans.{IsFew, performed_at}
 use Rattle.chi_eval.specs.declared.stop.Stop.{Stop}
 use Rattle.chi_eval.specs.declared.stop.Stop.TheVariants as stop

@@ -7,21 +7,21 @@ use Rattle.chi_core.specs.declared.program.Core.{Core}
 use Rattle.chi_core.specs.declared.statement.Branch.{Branch}
 use Rattle.chi_core.specs.declared.statement.CAlt.{CAlt}
 use Rattle.chi_core.specs.declared.statement.CStat.{CStat, CStat-F, out-CStat}
-use Rattle.chi_core.specs.Answer.{Answer, Gives, Fails, Spent, Amiss, Does, then_do, gives, amiss, wanted, giving, in_turn}
+use Rattle.chi_core.specs.Answer.{Answer, Gives, Fails, Spent, Amiss, Does, then_do, wanted, giving, in_turn}
 use Rattle.chi_core.specs.Config.{Config, Instance, Offer, Running, with_instance}
 use Rattle.chi_core.specs.Evaluation.{Evaluates}
 use Rattle.chi_core.specs.Opening.{Opening, opened}
 use Rattle.chi_core.specs.Performing.{Change, Goes, Exits, quietly, written, within_text, all_named, waits, with_started, joins_started, joins, performed}
 use Rattle.chi_core.specs.Reading.{quoted_in}
 use Rattle.chi_core.specs.Starting.{Started, all_started}
-use Rattle.chi_core.specs.Terms.{Do, Loop, Walk, Term, Did, On, Returns}
+use Rattle.chi_core.specs.Terms.{Do, Loop, Walk, Term}
 use Rattle.chi_core.specs.Variables.{Variables}
-use Rattle.chi_eval.specs.Terms.{first_of, act_first}
+use Rattle.chi_eval.specs.Terms.{first_of}
 use Rattle.chi_plain.specs.declared.deed.Deed.{Deed}
 use Rattle.chi_plain.specs.declared.deed.Deed.TheVariants as deed
 use Rattle.chi_plain.specs.declared.deed.Done.{Done}
 use Rattle.chi_plain.specs.declared.deed.Done.TheVariants as done
-use Rattle.chi_plain.specs.Instances.{rest_of}
+use Rattle.chi_open.specs.Instances.{rest_of}
 
 pub data Plan : Type 0 where
   Writes : List ℕ → Plan
@@ -114,15 +114,6 @@ own_of [] = None
 own_of (Do s ∷ term) = own_in s (is_own (out-CStat s))
 own_of (Loop line test block ∷ term) = None
 own_of (Walk line slots elements block ∷ term) = None
-
--- an instance that does its first item, which is one that functions have too
-
-abbrev pub went_on : Instance → Did → Does Instance
-went_on i (On variables term) = gives (record i { variables = variables; term = term })
-went_on i (Returns v) = amiss
-
-abbrev pub acted : (Variables → Evaluates) → Instance → Does Instance
-acted value_in i view = then_do (act_first (value_in i.variables) i.variables i.term view) (went_on i)
 
 -- the offers and the new instances that a plan has
 

@@ -1,21 +1,15 @@
 -- Private to proofs: options, counted one instance and one offer after another.
-use Rattle.std.specs.Prelude.{ℕ, ◌*◌, ℤ, Bool, true, false, List, Option, Some, None, length, nat_lt, filter, slice_get}
-use Rattle.std.specs.Int.{int_min}
+use Rattle.std.specs.Prelude.{ℕ, ◌*◌, Bool, true, false, List, length, nat_lt, filter, slice_get}
 use Rattle.std.specs.List.{flat_map}
 use Rattle.chi_core.specs.declared.label.Label.{Label}
 use Rattle.chi_core.specs.declared.label.Label.TheVariants.{Local, Pair, Wake, Join, Advance}
 use Rattle.chi_core.specs.declared.limits.TheConstants.{MOST_OFFERS, MOST_INSTANCES}
 use Rattle.chi_core.specs.Config.{Config, Offer}
-use Rattle.chi_core.specs.Meeting.{due_in}
-use Rattle.chi_core.specs.Options.{numbers, is_receiver, pairs_with, options_for, options}
+use Rattle.chi_core.specs.Options.{numbers, pairs_with, options_for, options}
 
 -- how many pairs one offer may make
 abbrev pub MOST_PAIRS : ℕ
 MOST_PAIRS = MOST_INSTANCES * MOST_OFFERS
-
--- the alternatives below number n that receive from a channel, ascending
-unfoldable pub receivers_below : ℕ → List Offer → ℕ → List ℕ
-receivers_below channel offers n = filter (λ b. is_receiver channel (slice_get offers b)) (numbers n)
 
 -- the pairs of instance p, which sends on a channel as its alternative a, with instances below number n
 unfoldable pub pairs_below : Config → ℕ → ℕ → ℕ → ℕ → List Label
@@ -29,16 +23,6 @@ offered_below config p offers n = flat_map (λ a. options_for config p a (slice_
 -- the instances below number n that have an option, ascending
 unfoldable pub actors_below : Config → ℕ → List ℕ
 actors_below config n = filter (λ p. nat_lt 0 (length (options config p))) (numbers n)
-
--- the sooner of two times, each of which may be wanting
-unfoldable pub sooner : Option ℤ → Option ℤ → Option ℤ
-sooner None u = u
-sooner (Some t) None = Some t
-sooner (Some t) (Some u) = Some (int_min t u)
-
--- the due time of a delay
-abbrev pub due_of : Offer → List ℤ
-due_of o = due_in o.act
 
 abbrev pub is_advance : Label → Bool
 is_advance (Local p) = false

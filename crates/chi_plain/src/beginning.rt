@@ -11,12 +11,11 @@ ghost use Rattle.chi_eval.specs.Stops.{Stops};
 ghost use Rattle.chi_plain.specs.Begun.{begun_of};
 
 use crate::configuration::Configuration;
-use crate::elements::started_by;
 use crate::ending::Ending;
-use crate::instance::Instance;
 use chi_base::NoMemory;
 use chi_core::{ConstDef, Core, Verdict, View};
 use chi_eval::{Stop, Surroundings, constant_value};
+use chi_open::{Instance, started_by};
 use chi_token::Bytes;
 use chi_value::Value;
 use std::alloc::Global;

@@ -4,13 +4,12 @@ ghost use Rattle.std.specs.Prelude.{◌≡◌, ℕ, ◌<◌, ◌≤◌, length, 
 ghost use Rattle.chi_core.specs.declared.limits.TheConstants.{MOST_OFFERS};
 ghost use Rattle.chi_core.specs.Config.{offers_in};
 ghost use Rattle.chi_core.specs.Options.{is_under_way, none_under_way, pairs_with, pairs, options_for, options_in, options};
-ghost use Rattle.chi_plain.specs.Instances.{state_of};
+ghost use Rattle.chi_open.specs.Instances.{state_of};
 ghost use Rattle.chi_plain.specs.Scanning.{MOST_PAIRS, offered_below};
 
 use crate::configuration::Configuration;
-use crate::instance::{Instance, State};
-use crate::offer::{Offer, receiver_at, receiver_count};
 use chi_core::{Act, Label};
+use chi_open::{Instance, Offer, State, receiver_at, receiver_count};
 
 /// How many pairs instance `pid`, which sends on a channel, may make with this instance, which is number `other`.
 #[tactic(auto, using(crate::proofs::Pairs::partners))]

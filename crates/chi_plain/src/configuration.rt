@@ -1,7 +1,7 @@
 ghost use Rattle.std.specs.Prelude.{◌≡◌, ◌<◌, length, slice_get, Some};
 ghost use Rattle.chi_core.specs.Options.{actors};
 
-use crate::instance::Instance;
+use chi_open::Instance;
 use chi_value::Value;
 use std::marker::Model;
 

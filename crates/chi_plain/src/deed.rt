@@ -1,6 +1,5 @@
-use crate::instance::Instance;
-use crate::offer::Offer;
 use chi_eval::Variables;
+use chi_open::{Instance, Offer};
 use chi_value::Value;
 
 /// What a statement that functions don't have comes to, before it is carried out. The variables are

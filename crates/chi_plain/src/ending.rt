@@ -4,8 +4,8 @@ ghost use Rattle.chi_core.specs.Meeting.{may_reach, next_due};
 ghost use Rattle.chi_core.specs.Options.{actors, advance, all_finished, at_rest, enabled, ending};
 
 use crate::configuration::Configuration;
-use crate::offer::{self, sooner};
 use chi_core::Verdict;
+use chi_open::{least_due, sooner};
 use std::marker::Model;
 
 /// How a run ended, and when, in units of a real.
@@ -59,13 +59,13 @@ fn may_reach(until: Option<i64>, time: i64) -> bool
 
 impl<'a> Configuration<'a> {
     /// The least due time of all offers.
-    #[tactic(auto, using(crate::proofs::Times::steps))]
+    #[tactic(auto, using(chi_open::proofs::Times::steps))]
     pub(crate) fn least_due(&self) -> Option<i64>
         ensures { result ≡ next_due self.now }
     {
         let mut least = None;
         for instance in &self.instances {
-            least = sooner(least, offer::least_due(instance.offers()));
+            least = sooner(least, least_due(instance.offers()));
         }
         least
     }

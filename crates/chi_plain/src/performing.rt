@@ -11,17 +11,17 @@ ghost use Rattle.chi_core.specs.Config.{has_finished, offers_in, scene_of, settl
 ghost use Rattle.chi_core.specs.Performing.{quietly};
 ghost use Rattle.chi_eval.specs.Stops.{Stops};
 ghost use Rattle.chi_eval.specs.Surroundings.{scene_in};
-ghost use Rattle.chi_plain.specs.Instances.{rest_of, state_of};
+ghost use Rattle.chi_open.specs.Instances.{rest_of, state_of};
 ghost use Rattle.chi_plain.specs.Plans.{IsFew, IsQuiet, change_by, change_of, made_in, offers_kept, own_of, performed_at, plan_of};
 ghost use Rattle.chi_plain.specs.Stage.{Appends};
 
 use crate::configuration::Configuration;
 use crate::deed::{Deed, Done};
-use crate::instance::{Instance, State};
 use crate::planning::{self, is_own};
 use chi_base::NoMemory;
 use chi_core::{CStat, Core, View};
 use chi_eval::{Stop, Surroundings, Task, Variables};
+use chi_open::{Instance, State};
 use chi_value::Value;
 use std::alloc::Global;
 

@@ -11,20 +11,17 @@ ghost use Rattle.chi_eval.specs.Stops.{Stops};
 ghost use Rattle.chi_eval.specs.Surroundings.{value_in};
 ghost use Rattle.chi_plain.specs.Plans.{is_own, leaves_with, left_with, offers_kept, plan_of, planned};
 
-use crate::alternatives::open_select;
 use crate::deed::Deed;
-use crate::elements::start_all;
-use crate::instance::Instance;
-use crate::offer::Offer;
 use chi_base::NoMemory;
 use chi_core::{CAlt, CElem, CExpr, CStat, Core, FaultKind, ProcDef, View};
 use chi_eval::{Stop, Surroundings, Variables, instance_in, value_of, values_of};
 use chi_format::{RenderFault, render, rendered_where_allowed};
+use chi_open::{Instance, Offer, open_select, start_all};
 use chi_value::{Piece, TextFault, Value, quoted_of};
 use std::alloc::Global;
 
 /// The text of a format's pieces with the values of expressions.
-#[tactic(auto, using(crate::proofs::Going::going))]
+#[tactic(auto, using(chi_open::proofs::Going::going))]
 fn written(
     alloc: Global,
     core: &Core,
@@ -62,7 +59,7 @@ fn tell(alloc: Global, core: &Core, value: &Value, view: &View) -> Result<(), St
 }
 
 /// The value of an exit.
-#[tactic(auto, using(crate::proofs::Going::going))]
+#[tactic(auto, using(chi_open::proofs::Going::going))]
 fn left_with(
     alloc: Global,
     core: &Core,
@@ -162,7 +159,7 @@ pub fn is_own(statement: &CStat) -> bool
 }
 
 /// What such a statement comes to.
-#[tactic(auto, using(crate::proofs::Going::going, crate::proofs::Planned::planning))]
+#[tactic(auto, using(chi_open::proofs::Going::going, crate::proofs::Planned::planning))]
 pub fn plan<'a>(
     alloc: Global,
     core: &'a Core,
@@ -176,6 +173,7 @@ pub fn plan<'a>(
     ensures few { IfOk result (λ deed. length (offers_kept deed) ≤ MOST_OFFERS) }
     ensures stops { IfErr result (λ stop. Stops stop (planned core.now (value_in scene.now) scene.now.clock variables.now (out-CStat statement.now) view.old)) }
 {
+    let procs = core.procs.as_slice();
     match statement {
         CStat::Write(_, pieces, values) => Ok(Deed::Writes(written(
             alloc,
@@ -191,26 +189,12 @@ pub fn plan<'a>(
             let (changed, offers) = opened(alloc, scene, variables, alternatives.as_slice(), view)?;
             Ok(Deed::Waits(changed, offers))
         }
-        CStat::Run(_, elements) => {
-            let (changed, made) = started(
-                alloc,
-                core.procs.as_slice(),
-                scene,
-                variables,
-                elements.as_slice(),
-                view,
-            )?;
+        CStat::Run(_, parts) => {
+            let (changed, made) = started(alloc, procs, scene, variables, parts.as_slice(), view)?;
             Ok(Deed::Runs(changed, made))
         }
-        CStat::Start(_, elements) => {
-            let (changed, made) = started(
-                alloc,
-                core.procs.as_slice(),
-                scene,
-                variables,
-                elements.as_slice(),
-                view,
-            )?;
+        CStat::Start(_, parts) => {
+            let (changed, made) = started(alloc, procs, scene, variables, parts.as_slice(), view)?;
             Ok(Deed::Starts(changed, made))
         }
         CStat::Finish(_, expressions) => {

@@ -2,7 +2,7 @@ use Rattle.std.proofs.Common.{◌≡◌, rules, arith}
 use Rattle.std.proofs.lemmas.Grind.{common_steps}
 use Rattle.chi_core.specs.Answer.{Gives}
 use Rattle.chi_core.specs.Beginning.{constant_value}
-use Rattle.chi_plain.proofs.Going.{if_ok}
+use Rattle.chi_open.proofs.Going.{if_ok}
 use Rattle.chi_plain.proofs.beginning.constant.Goals as goal
 
 pub returns-clause-value : goal.returns-clause-value

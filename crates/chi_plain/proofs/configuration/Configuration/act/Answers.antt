@@ -13,7 +13,7 @@ use Rattle.chi_eval.specs.Surroundings.{scene_in}
 use Rattle.chi_plain.specs.Configurations.{config_at}
 use Rattle.chi_plain.specs.Plans.{own_of}
 use Rattle.chi_plain.proofs.Changes.{kept-set}
-use Rattle.chi_plain.proofs.Going.{at_known, giving_stops, if_err, on_ok}
+use Rattle.chi_open.proofs.Going.{at_known, giving_stops, if_err, on_ok}
 use Rattle.chi_plain.proofs.Planned.{scene_is, seen_shared, shared_gives}
 use Rattle.chi_plain.proofs.configuration.Configuration.act.Goals as goal
 

@@ -7,7 +7,7 @@ use Rattle.chi_core.specs.declared.program.Core.{Core}
 use Rattle.chi_core.specs.Config.{Config, Instance, Running, Waiting, Joining, with_instance}
 use Rattle.chi_core.specs.Performing.{Goes, Exits}
 use Rattle.chi_plain.specs.declared.deed.Deed.{Deed}
-use Rattle.chi_plain.specs.Instances.{rest_of}
+use Rattle.chi_open.specs.Instances.{rest_of}
 use Rattle.chi_plain.specs.Plans.{change_of, plan_of}
 use Rattle.chi_plain.proofs.Carrying.{carried_waits, carried_starts, carried_runs, if_some_all, if_some_then}
 use Rattle.chi_plain.proofs.configuration.Configuration.carry_out.Goals as goal

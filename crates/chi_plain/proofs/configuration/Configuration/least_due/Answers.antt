@@ -2,8 +2,8 @@ use Rattle.std.proofs.Common.{◌∙◌, ap}
 use Rattle.std.specs.List.{flat_map}
 use Rattle.chi_core.specs.Config.{Instance, offers_in}
 use Rattle.chi_core.specs.Meeting.{least_time}
-use Rattle.chi_plain.specs.Scanning.{due_of}
-use Rattle.chi_plain.proofs.Times.{least-turn}
+use Rattle.chi_open.specs.Offered.{due_of}
+use Rattle.chi_open.proofs.Times.{least-turn}
 use Rattle.chi_plain.proofs.configuration.Configuration.least_due.Goals as goal
 
 pub loop-instance-preserved : goal.loop-instance-preserved

@@ -2,7 +2,7 @@ use Rattle.std.proofs.Common.{◌≡◌, drop}
 use Rattle.std.specs.List.{flat_map}
 use Rattle.chi_core.specs.Config.{offers_in}
 use Rattle.chi_core.specs.Meeting.{least_time, next_due}
-use Rattle.chi_plain.specs.Scanning.{sooner, due_of}
+use Rattle.chi_open.specs.Offered.{sooner, due_of}
 use Rattle.chi_plain.proofs.configuration.Configuration.least_due.Given as goal
 
 abbrev pub invariant-loop-instance : goal.invariant-loop-instance

@@ -3,9 +3,9 @@ use Rattle.chi_core.specs.Answer.{Answer, Gives, giving}
 use Rattle.chi_core.specs.Performing.{Change}
 use Rattle.chi_core.specs.Variables.{Variables}
 use Rattle.chi_eval.specs.Stops.{Stops}
-use Rattle.chi_plain.specs.Instances.{rest_of}
+use Rattle.chi_open.specs.Instances.{rest_of}
 use Rattle.chi_plain.specs.Plans.{change_of, plan_of}
-use Rattle.chi_plain.proofs.Going.{giving_stops, if_ok, if_err}
+use Rattle.chi_open.proofs.Going.{giving_stops, if_ok, if_err}
 use Rattle.chi_plain.proofs.Planned.{seen_own}
 use Rattle.chi_plain.proofs.configuration.Configuration.plan.Goals as goal
 

@@ -4,7 +4,7 @@ use Rattle.std.specs.List.{slice_get}
 use Rattle.std.proofs.lemmas.Option.{slice_get_read}
 use Rattle.chi_core.specs.Config.{Config, Instance}
 use Rattle.chi_plain.proofs.Changes.{kept-set}
-use Rattle.chi_plain.proofs.Going.{at_some}
+use Rattle.chi_open.proofs.Going.{at_some}
 use Rattle.chi_plain.proofs.configuration.Configuration.proceed.Goals as goal
 
 pub invariant_of-self : goal.invariant_of-self

@@ -5,9 +5,9 @@ use Rattle.std.proofs.lemmas.Option.{slice_get_read}
 use Rattle.chi_core.specs.Answer.{Gives}
 use Rattle.chi_core.specs.Config.{Config}
 use Rattle.chi_core.specs.Meeting.{offer_at}
-use Rattle.chi_plain.specs.Meetings.{sent_by}
+use Rattle.chi_open.specs.Taken.{sent_by}
 use Rattle.chi_plain.proofs.Changes.{kept-set}
-use Rattle.chi_plain.proofs.Going.{on_ok, if_ok}
+use Rattle.chi_open.proofs.Going.{on_ok, if_ok}
 use Rattle.chi_plain.proofs.Meetings.{resumed_there, resumed_gives, resumed_well}
 use Rattle.chi_plain.proofs.configuration.Configuration.resume.Goals as goal
 

@@ -1,0 +1,5 @@
+pub mod Drafts
+pub mod Instances
+pub mod Taken
+pub mod Acted
+pub mod Offered
