@@ -1,5 +1,5 @@
 -- Values that are evaluated so many times.
-use Rattle.std.proofs.Common.{◌≡◌, ◌≢◌, ℕ, zero, suc, ◌+◌, ◌-◌, ◌<◌, ◌≤◌, Bool, true, false, ℤ, pos, negsuc, nat_le, List, [], ◌∷◌, ◌++◌, Option, Some, None, ap, sym, subst, refl, ◌∙◌, arith, rules}
+use Rattle.std.proofs.Common.{◌≡◌, ◌≢◌, ℕ, suc, ◌+◌, ◌-◌, ◌<◌, ◌≤◌, Bool, true, false, pos, negsuc, nat_le, List, [], ◌∷◌, ◌++◌, Some, None, ap, sym, subst, refl, ◌∙◌, arith, rules}
 use Rattle.std.specs.Prelude.{if◌then◌else◌}
 use Rattle.chi_value.specs.declared.value.TheConstants.{MOST_ELEMENTS}
 use Rattle.chi_value.specs.declared.value.Value.{Value, Value-F, out-Value}
@@ -16,7 +16,7 @@ use Rattle.chi_core.specs.Variables.{Variables}
 use Rattle.chi_core.proofs.Equations.{eval_repeat}
 use Rattle.chi_eval.specs.declared.stop.Stop.{Stop}
 use Rattle.chi_eval.specs.Stops.{Stops}
-use Rattle.chi_eval.proofs.Stopping.{then_stops, then_there, next_there, giving_stops}
+use Rattle.chi_eval.proofs.Stopping.{then_stops, then_there, giving_stops}
 
 -- one more
 module _ (each : Does Value) (values : List Value) (n k : ℕ) (view : View) (h : k < n) where

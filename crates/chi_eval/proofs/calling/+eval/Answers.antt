@@ -1,4 +1,4 @@
-use Rattle.std.proofs.Common.{rules, List, drop, subst, ◌≢◌, ◌≡◌, ◌-◌, ◌+◌, ◌*◌, ◌≤◌, ◌<◌, sym, refl, ◌∙◌, ap, arith, length, vec_len}
+use Rattle.std.proofs.Common.{rules, List, drop, subst, ◌≢◌, ◌≡◌, ◌-◌, ◌*◌, sym, refl, ◌∙◌, ap, arith, length}
 use Rattle.std.proofs.lemmas.Grind.{common_steps}
 use denote.Param.Weighed.{most}
 use Rattle.std.specs.Prelude.{IfErr}
@@ -18,12 +18,11 @@ use Rattle.chi_core.specs.Variables.{variables_of}
 use Rattle.chi_eval.specs.Stops.{Stops}
 use Rattle.chi_eval.specs.Terms.{came_to, act_first}
 use Rattle.chi_eval.specs.Calls.{more_of, run_by, meaning}
-use Rattle.chi_eval.specs.Spans.{item_span, span, branch_span, target_span, reach}
+use Rattle.chi_eval.specs.Spans.{item_span, branch_span, target_span, reach}
 use Rattle.chi_eval.specs.Surroundings.{scene_in}
 use Rattle.chi_eval.proofs.Acting.{assign_assigned, declare_first, if_chosen, while_tested, for_first, return_first}
 use Rattle.chi_eval.proofs.Spans.{is_assign, is_declare, is_if, is_while, is_for, is_return, body_falls, act_sized, most_do, test_within}
 use Rattle.chi_eval.proofs.Choosing.{choose_first}
-use Rattle.chi_eval.proofs.Stopping.{then_stops}
 use Rattle.chi_eval.proofs.Turns.{body_is, turns_start, turn_goes, turn_gives}
 use Rattle.chi_eval.proofs.calling.+eval.Goals as goal
 

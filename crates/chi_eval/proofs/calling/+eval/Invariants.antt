@@ -1,6 +1,6 @@
-use Rattle.std.proofs.Common.{max, ◌≡◌, ◌≢◌, ◌≤◌, ◌-◌, ◌+◌, ◌*◌, ◌++◌, [], length, drop, map}
+use Rattle.std.proofs.Common.{max, ◌≡◌, ◌≢◌, ◌≤◌, ◌-◌, ◌+◌, ◌*◌, drop, map}
 use denote.Param.Weighed.{most}
-use Rattle.chi_core.specs.declared.expression.CExpr.{CExpr, size-CExpr}
+use Rattle.chi_core.specs.declared.expression.CExpr.{size-CExpr}
 use Rattle.chi_core.specs.Answer.{in_turn, gathered, gathered_times, times, Amiss}
 use Rattle.chi_core.specs.Functions.{exec}
 use Rattle.chi_core.specs.Terms.{Do, chosen}
