@@ -1,5 +1,5 @@
 -- What an item does: where it isn't amiss, nor is what it evaluates, and each value is of its kind.
-use Rattle.std.proofs.Common.{◌≡◌, ◌≢◌, ℕ, zero, suc, ◌<◌, Bool, true, false, nat_lt, List, [], ◌∷◌, Option, Some, None, length, map, drop, ap, sym, refl, ◌∙◌, arith, rules, slice_set}
+use Rattle.std.proofs.Common.{◌≡◌, ◌≢◌, ℕ, ◌<◌, Bool, true, false, nat_lt, List, [], ◌∷◌, Option, Some, None, length, ap, refl, ◌∙◌, rules, slice_set}
 use Rattle.std.specs.Prelude.{if◌then◌else◌, option_map}
 use Rattle.chi_value.specs.declared.value.Value.{Value}
 use Rattle.chi_value.specs.declared.format.Piece.{Piece}
@@ -11,11 +11,11 @@ use Rattle.chi_core.specs.declared.statement.Branch.{Branch}
 use Rattle.chi_core.specs.declared.target.CTarget.{CTarget}
 use Rattle.chi_core.specs.declared.element.CElem.{CElem}
 use Rattle.chi_core.specs.declared.view.View.{View}
-use Rattle.chi_core.specs.Answer.{Answer, Does, Gives, Amiss, then_do, gives, wanted, giving}
+use Rattle.chi_core.specs.Answer.{Answer, Gives, Amiss, gives, wanted, giving}
 use Rattle.chi_core.specs.Reading.{truth_of, elements_of}
 use Rattle.chi_core.specs.Variables.{Variables, with_slot, bound}
 use Rattle.chi_core.specs.Evaluation.{Evaluates, on_truth}
-use Rattle.chi_core.specs.Terms.{Item, Term, Did, On, Do, Loop, Walk, act_stat, tested, chosen, assigned, on_with, after_loop, from_loop, first_the}
+use Rattle.chi_core.specs.Terms.{Term, Did, On, Do, Loop, Walk, act_stat, tested, chosen, assigned, on_with, after_loop, from_loop, first_the}
 use Rattle.chi_eval.specs.Heads.{IsWalk, walk_done}
 use Rattle.chi_eval.specs.Terms.{act_first, first_of}
 use Rattle.chi_eval.proofs.Stopping.{then_there, next_there}

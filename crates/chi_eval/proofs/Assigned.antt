@@ -1,5 +1,5 @@
 -- Assignments: the values, then the targets' indexes, then the stores.
-use Rattle.std.proofs.Common.{◌≡◌, ◌≢◌, ℕ, List, [], ◌∷◌, Option, Some, None, map, ap, sym, subst, refl, ◌∙◌}
+use Rattle.std.proofs.Common.{◌≡◌, ◌≢◌, List, Option, Some, None, map, ap, sym, subst, refl, ◌∙◌}
 use Rattle.chi_value.specs.declared.value.Value.{Value}
 use Rattle.chi_core.specs.declared.expression.CExpr.{CExpr}
 use Rattle.chi_core.specs.declared.target.CTarget.{CTarget}
@@ -12,7 +12,7 @@ use Rattle.chi_core.specs.Variables.{Variables}
 use Rattle.chi_eval.specs.declared.stop.Stop.{Stop}
 use Rattle.chi_eval.specs.Assignments.{all_stored}
 use Rattle.chi_eval.specs.Stops.{Stops}
-use Rattle.chi_eval.proofs.Stopping.{then_stops, then_there, next_there, giving_stops}
+use Rattle.chi_eval.proofs.Stopping.{then_stops, then_there, giving_stops}
 
 module _ (m : Evaluates) (variables : Variables) (targets : List CTarget) (es : List CExpr) (rest : Term) (view : View) where
   last : List Value → List Spot → Does Did

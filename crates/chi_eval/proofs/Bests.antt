@@ -1,10 +1,10 @@
 -- The best of numbers, as one more is looked at.
-use Rattle.std.proofs.Common.{◌≡◌, ◌≢◌, ℕ, ℤ, ◌+◌, ◌<◌, List, [], ◌∷◌, Option, Some, None, length, drop, get_or, ap, sym, ◌∙◌, refl}
+use Rattle.std.proofs.Common.{◌≡◌, ◌≢◌, ℕ, ℤ, ◌+◌, ◌<◌, List, ◌∷◌, Some, None, length, drop, get_or, ap, sym, ◌∙◌}
 use Rattle.std.proofs.lemmas.Int.{to_z-of_z}
 use Rattle.std.proofs.lemmas.List.{drop_more}
-use Rattle.chi_value.specs.declared.value.Value.{Value, out-Value}
+use Rattle.chi_value.specs.declared.value.Value.{Value}
 use Rattle.chi_core.specs.declared.view.View.{View}
-use Rattle.chi_core.specs.Answer.{Gives, Amiss}
+use Rattle.chi_core.specs.Answer.{Amiss}
 use Rattle.chi_core.specs.Arithmetic.{best_int, best_real}
 use Rattle.chi_core.specs.Reading.{int_of, real_of}
 use Rattle.chi_eval.proofs.Numbers.{int_first, int_is, real_first, real_is}

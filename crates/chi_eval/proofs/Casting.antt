@@ -1,9 +1,8 @@
 -- Casts, and what values mean to a process.
-use Rattle.std.proofs.Common.{◌≡◌, ◌≢◌, ℕ, zero, suc, ℤ, pos, negsuc, ◌-ℤ◌, Bool, true, false, Option, Some, None, Result, Ok, Err, refl, sym, ap, ◌∙◌, rules, arith, ◌<ℤ◌, ◌≤ℤ◌}
+use Rattle.std.proofs.Common.{◌≡◌, ◌≢◌, ℕ, zero, suc, ℤ, pos, negsuc, ◌-ℤ◌, true, Option, Some, None, Ok, Err, refl, sym, ap, ◌∙◌, rules, arith, ◌<ℤ◌, ◌≤ℤ◌}
 use Rattle.std.specs.Prelude.{option_map, int_le}
 use Rattle.std.specs.Int.{int_max, int_signum}
 use Rattle.std.proofs.lemmas.Int.{ints, to_z-of_z}
-use Rattle.chi_num.specs.declared.read.fault.ReadFault.{ReadFault}
 use Rattle.chi_num.specs.declared.read.fault.ReadFault.TheVariants.{Form, Range}
 use Rattle.chi_num.specs.Results.{fits}
 use Rattle.chi_num.specs.TextNumbers.{Meant, means, no_form, out_of_range, answer_of}

@@ -1,5 +1,5 @@
 -- The branches of an if, tested one after another.
-use Rattle.std.proofs.Common.{◌≡◌, ◌≢◌, ℕ, ◌+◌, ◌<◌, ◌≤◌, Bool, true, false, List, [], ◌∷◌, Option, Some, None, length, drop, get_or, ap, sym, subst, refl, ◌∙◌, arith}
+use Rattle.std.proofs.Common.{◌≡◌, ◌≢◌, ℕ, ◌+◌, ◌<◌, ◌≤◌, Bool, true, false, List, ◌∷◌, Some, None, length, drop, get_or, ap, sym, subst, ◌∙◌}
 use Rattle.std.proofs.lemmas.List.{drop_more, drop_all}
 use Rattle.chi_value.specs.declared.value.Value.{Value}
 use Rattle.chi_core.specs.declared.statement.CStat.{CStat}
@@ -12,7 +12,7 @@ use Rattle.chi_core.specs.Evaluation.{Evaluates, on_truth}
 use Rattle.chi_core.specs.Terms.{Term, Did, On, chosen, first_the}
 use Rattle.chi_eval.specs.declared.stop.Stop.{Stop}
 use Rattle.chi_eval.specs.Stops.{Stops}
-use Rattle.chi_eval.proofs.Stopping.{then_stops, then_there, next_there}
+use Rattle.chi_eval.proofs.Stopping.{then_stops, then_there}
 
 module _ (m : Evaluates) (variables : Variables) (all : List Branch) (otherwise : List CStat) (rest : Term) (view : View) (i : ℕ) where
   at_end : length all ≤ i → chosen m variables (drop i all) otherwise rest view ≡ Gives (On variables (first_the otherwise rest)) view

@@ -1,5 +1,5 @@
 -- Lists of operands.
-use Rattle.std.proofs.Common.{◌≡◌, ℕ, List, [], ◌∷◌, length, refl, arith}
+use Rattle.std.proofs.Common.{◌≡◌, List, [], ◌∷◌, length, refl, arith}
 use Rattle.chi_value.specs.declared.value.Value.{Value}
 
 pub no_value : (xs : List Value) → length xs ≡ 0 → xs ≡ []

@@ -1,5 +1,5 @@
 -- Numbers: results that 64 bits hold or don't, and operands of their kinds.
-use Rattle.std.proofs.Common.{◌≡◌, ◌≢◌, ℤ, pos, Bool, true, false, Option, Some, None, Result, Ok, Err, refl, sym, ap, ◌∙◌, rules, ◌-ℤ◌, ◌*ℤ◌, w64, FitsSigned, to_z, of_z}
+use Rattle.std.proofs.Common.{◌≡◌, ◌≢◌, ℤ, pos, Bool, true, false, Some, None, Result, Ok, Err, refl, sym, ap, ◌∙◌, ◌-ℤ◌, ◌*ℤ◌, w64, FitsSigned, to_z, of_z}
 use mir.Val.{SFits}
 use Rattle.std.proofs.lemmas.Int.{to_z-of_z}
 use Rattle.std.specs.Prelude.{if◌then◌else◌}
@@ -21,7 +21,7 @@ use Rattle.chi_core.specs.declared.fault.FaultKind.TheVariants.{IntRange, RealRa
 use Rattle.chi_core.specs.declared.view.View.{View}
 use Rattle.chi_core.specs.Answer.{Gives, Fails, Amiss, Does}
 use Rattle.chi_core.specs.Reading.{int_of, int_in, real_of, real_in}
-use Rattle.chi_core.specs.Arithmetic.{whole, real, timer, on_int, on_real, on_number, on_ints, on_reals, over, nearest_to}
+use Rattle.chi_core.specs.Arithmetic.{whole, real, timer, on_int, on_real, on_ints, on_reals, over, nearest_to}
 
 fitted_ok : (z x : ℤ) → Ok x ≡ fitted z → (fits z ≡ true) × (x ≡ z)
 fitted_ok z x e = by_fit (fits z) refl e

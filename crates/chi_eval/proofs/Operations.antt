@@ -3,9 +3,9 @@ use Rattle.std.proofs.Common.{◌≡◌, ◌≢◌, Bool, true, false, IsTrue, r
 use Rattle.chi_value.specs.declared.value.Value.{Value}
 use Rattle.chi_ops.specs.declared.fault.OpFault.{OpFault}
 use Rattle.chi_ops.specs.declared.fault.OpFault.TheVariants as fault
-use Rattle.chi_ops.specs.Outcome.{Outcome, gives, faults, wrong, where_may}
+use Rattle.chi_ops.specs.Outcome.{Outcome, gives, where_may}
 use Rattle.chi_ops.specs.Refusal.{Refuses}
-use Rattle.chi_core.specs.Answer.{Gives, Fails, Amiss}
+use Rattle.chi_core.specs.Answer.{Gives, Amiss}
 use Rattle.chi_core.specs.declared.view.View.{View}
 use Rattle.chi_core.specs.Containers.{done}
 use Rattle.chi_eval.specs.declared.stop.Stop.{Stop}

@@ -1,12 +1,12 @@
 -- Ranges of ints.
-use Rattle.std.proofs.Common.{◌≡◌, ◌≢◌, ℕ, ◌<◌, ℤ, pos, List, [], ◌∷◌, Option, Some, None, length, ap, sym, subst, refl, ◌∙◌, arith}
+use Rattle.std.proofs.Common.{◌≡◌, ◌≢◌, ℤ, List, [], ◌∷◌, Some, None, length, refl, arith}
 use Rattle.std.proofs.lemmas.Int.{to_z-of_z}
 use Rattle.chi_value.specs.declared.value.Value.{Value, Value-F, out-Value}
 use Rattle.chi_ops.specs.Sequences.{range}
 use Rattle.chi_core.specs.declared.op_name.OpName.TheVariants as op
 use Rattle.chi_core.specs.declared.scene.Scene.{Scene}
 use Rattle.chi_core.specs.declared.view.View.{View}
-use Rattle.chi_core.specs.Answer.{Gives, Amiss}
+use Rattle.chi_core.specs.Answer.{Amiss}
 use Rattle.chi_core.specs.Containers.{done, range_of}
 use Rattle.chi_core.specs.Operators.{applied}
 use Rattle.chi_core.specs.Reading.{int_of, int_in}

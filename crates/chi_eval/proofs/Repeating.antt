@@ -1,5 +1,5 @@
 -- Values that are evaluated so many times.
-use Rattle.std.proofs.Common.{◌≡◌, ◌≢◌, ℕ, zero, suc, ◌+◌, ◌-◌, ◌<◌, ◌≤◌, Bool, true, false, ℤ, pos, negsuc, nat_le, List, [], ◌∷◌, ◌++◌, Option, Some, None, ap, sym, subst, refl, ◌∙◌, arith, rules}
+use Rattle.std.proofs.Common.{◌≡◌, ◌≢◌, ℕ, suc, ◌+◌, ◌-◌, ◌<◌, ◌≤◌, Bool, true, false, pos, negsuc, nat_le, List, [], ◌∷◌, ◌++◌, Some, None, ap, sym, subst, refl, ◌∙◌, arith, rules}
 use Rattle.std.specs.Prelude.{if◌then◌else◌}
 use Rattle.chi_value.specs.declared.value.TheConstants.{MOST_ELEMENTS}
 use Rattle.chi_value.specs.declared.value.Value.{Value, Value-F, out-Value}
@@ -16,7 +16,7 @@ use Rattle.chi_core.specs.Variables.{Variables}
 use Rattle.chi_core.proofs.Equations.{eval_repeat}
 use Rattle.chi_eval.specs.declared.stop.Stop.{Stop}
 use Rattle.chi_eval.specs.Stops.{Stops}
-use Rattle.chi_eval.proofs.Stopping.{then_stops, then_there, next_there, giving_stops}
+use Rattle.chi_eval.proofs.Stopping.{then_stops, then_there, giving_stops}
 
 -- one more
 module _ (each : Does Value) (values : List Value) (n k : ℕ) (view : View) (h : k < n) where
@@ -36,23 +36,71 @@ pub all_done : (each : Does Value) (values : List Value) (n k : ℕ) (view : Vie
 all_done each values n k view h = let m : n - k ≡ 0 = omega arith in ap (λ j. gathered_times values j each view) m
 
 -- how many
-module _ (each : Does Value) (view : View) where
-  count_in : (v : Value-F Value) → repeated each v view ≢ Amiss → int_in v ≢ None
-  count_in (Value-F.Int z) h = λ e. absurd (cc)
-  count_in _ h = absurd (h refl)
 
-  pub count_there : (v : Value) → repeated each (out-Value v) view ≢ Amiss → int_of v ≢ None
-  count_there v = count_in (out-Value v)
+few_in : (each : Does Value) (view : View) (v : Value-F Value) (n : ℕ) → int_in v ≡ Some (pos n) → n ≤ MOST_ELEMENTS → repeated each v view ≡ giving value.ListOf (times n each view)
+few_in each view (Value-F.Int z) n e h =
+    let same : z ≡ pos n = cc in
+    ap (λ z. repeated each (Value-F.Int z) view) same ∙ by_test (nat_le n MOST_ELEMENTS) (search (rules, h))
+  where
+    by_test : (b : Bool) → b ≡ true → (if b then giving value.ListOf (times n each view) else Fails TooLarge) ≡ giving value.ListOf (times n each view)
+    by_test true e = refl
+    by_test false e = absurd (cc)
+few_in each view _ n e h = absurd (cc)
+
+many_in : (each : Does Value) (view : View) (v : Value-F Value) → int_in v ≢ None → ((n : ℕ) → int_in v ≡ Some (pos n) → MOST_ELEMENTS < n) → repeated each v view ≡ Fails TooLarge
+many_in each view (Value-F.Int (pos n)) h over =
+    let past : MOST_ELEMENTS < n = over n refl in by_test (nat_le n MOST_ELEMENTS) (search (rules, past))
+  where
+    by_test : (b : Bool) → b ≡ false → (if b then giving value.ListOf (times n each view) else Fails TooLarge) ≡ Fails TooLarge
+    by_test false e = refl
+    by_test true e = absurd (cc)
+many_in each view (Value-F.Int (negsuc n)) h over = refl
+many_in each view _ h over = absurd (h refl)
+
+count_in : (each : Does Value) (view : View) (v : Value-F Value) → repeated each v view ≢ Amiss → int_in v ≢ None
+count_in each view (Value-F.Int (pos n)) h = λ e. absurd (cc)
+count_in each view (Value-F.Int (negsuc n)) h = λ e. absurd (cc)
+count_in each view _ h = absurd (h refl)
 
 module _ (run : Run) (scene : Scene) (variables : Variables) (view : View) (x : CExpr) (n each : CExpr) (is : x ≡ e.Repeat n each) where
-  pub repeat_first : eval run scene variables x view ≢ Amiss → eval run scene variables n view ≢ Amiss
-  repeat_first h = then_there _ (λ v. repeated (eval run scene variables each) (out-Value v)) (λ a. h (ap (λ x. eval run scene variables x view) is ∙ eval_repeat run scene variables view n each ∙ a))
+  made : Value → Does Value
+  made v = repeated (eval run scene variables each) (out-Value v)
 
-  pub repeat_next : (v : Value) (now : View) → eval run scene variables n view ≡ Gives v now → eval run scene variables x view ≢ Amiss
-      → repeated (eval run scene variables each) (out-Value v) now ≢ Amiss
-  repeat_next v now got h =
-      next_there _ (λ v. repeated (eval run scene variables each) (out-Value v)) v now (λ a. h (ap (λ x. eval run scene variables x view) is ∙ eval_repeat run scene variables view n each ∙ a)) got
+  at : eval run scene variables x view ≡ then_do (eval run scene variables n view) made
+  unfolding made
+  at = ap (λ x. eval run scene variables x view) is ∙ eval_repeat run scene variables view n each
+
+  pub repeat_first : eval run scene variables x view ≢ Amiss → eval run scene variables n view ≢ Amiss
+  repeat_first h = then_there _ made (λ a. h (at ∙ a))
+
+  pub repeat_stops : (stop : Stop) → Stops stop (eval run scene variables n view) → Stops stop (eval run scene variables x view)
+  repeat_stops stop s = let P : Answer Value → Type 0 = Stops stop in subst P (sym at) (then_stops stop _ made s)
+
+  module _ (v : Value) (now : View) (got : eval run scene variables n view ≡ Gives v now) where
+    goes : eval run scene variables x view ≡ repeated (eval run scene variables each) (out-Value v) now
+    unfolding made
+    goes = at ∙ ap (λ a. then_do a made) got
+
+    pub repeat_count : eval run scene variables x view ≢ Amiss → int_of v ≢ None
+    repeat_count h = count_in (eval run scene variables each) now (out-Value v) (λ a. h (goes ∙ a))
+
+    pub repeat_many : int_of v ≢ None → ((n : ℕ) → int_of v ≡ Some (pos n) → MOST_ELEMENTS < n) → eval run scene variables x view ≡ Fails TooLarge
+    repeat_many h over = goes ∙ many_in (eval run scene variables each) now (out-Value v) h over
+
+    module _ (k : ℕ) (few : int_of v ≡ Some (pos k)) (small : k ≤ MOST_ELEMENTS) where
+      listed : eval run scene variables x view ≡ giving value.ListOf (times k (eval run scene variables each) now)
+      listed = goes ∙ few_in (eval run scene variables each) now (out-Value v) k few small
+
+      pub repeat_each : eval run scene variables x view ≢ Amiss → times k (eval run scene variables each) now ≢ Amiss
+      repeat_each h a = h (listed ∙ ap (giving value.ListOf) a)
+
+      pub repeat_each_stops : (stop : Stop) → Stops stop (times k (eval run scene variables each) now) → Stops stop (eval run scene variables x view)
+      repeat_each_stops stop s =
+          let P : Answer Value → Type 0 = Stops stop in subst P (sym listed) (giving_stops stop (times k (eval run scene variables each) now) value.ListOf s)
+
+      pub repeat_gives : (xs : List Value) (new : View) → times k (eval run scene variables each) now ≡ Gives xs new → eval run scene variables x view ≡ Gives (value.ListOf xs) new
+      repeat_gives xs new g = listed ∙ ap (giving value.ListOf) g
 
 pub ruleset repeating = (one_there, one_goes, one_stops, all_done)
 
-pub ruleset repeats = (repeat_first, repeat_next)
+pub ruleset repeats = (repeat_first, repeat_stops, repeat_count, repeat_many, repeat_each, repeat_each_stops, repeat_gives)

@@ -5,9 +5,9 @@ use Rattle.std.specs.Option.{option_and_then}
 use denote.Param.Weighed.{most}
 use Rattle.chi_value.specs.declared.value.Value.{Value}
 use Rattle.chi_core.specs.declared.expression.CExpr.{CExpr, size-CExpr}
-use Rattle.chi_core.specs.declared.statement.CStat.{CStat, CStat-F, out-CStat, fold_out-CStat, map-CStat, fold-CStat}
+use Rattle.chi_core.specs.declared.statement.CStat.{CStat, CStat-F, out-CStat, fold_out-CStat, map-CStat}
 use Rattle.chi_core.specs.declared.statement.CAlt.{CAlt, fold-CAlt}
-use Rattle.chi_core.specs.declared.statement.Branch.{Branch, Branch-F, out-Branch, fold_out-Branch, map-Branch}
+use Rattle.chi_core.specs.declared.statement.Branch.{Branch, out-Branch, fold_out-Branch}
 use Rattle.chi_core.specs.declared.target.CTarget.{CTarget}
 use Rattle.chi_core.specs.declared.program.FuncDef.{FuncDef}
 use Rattle.chi_core.specs.Functions.{callee, taking}

@@ -1,11 +1,10 @@
 -- Spots of targets, as they are gathered.
-use Rattle.std.proofs.Common.{◌≡◌, ◌≢◌, ℕ, ◌+◌, ◌<◌, List, [], ◌∷◌, ◌++◌, length, map, drop, get_or, ap, sym, ◌∙◌, refl, subst}
+use Rattle.std.proofs.Common.{◌≡◌, ◌≢◌, ℕ, ◌+◌, ◌<◌, List, [], ◌∷◌, ◌++◌, length, map, drop, get_or, ap, sym, ◌∙◌, subst}
 use Rattle.std.proofs.lemmas.List.{map-append, drop_more}
 use Rattle.chi_value.specs.declared.value.Value.{Value}
 use Rattle.chi_ops.specs.declared.path.Path.{Path}
-use Rattle.chi_ops.specs.declared.path.Path.TheVariants as path
 use Rattle.chi_ops.specs.Paths.{step_of, steps_of}
-use Rattle.chi_ops.specs.Store.{Step, by, part}
+use Rattle.chi_ops.specs.Store.{Step, by}
 use Rattle.chi_core.specs.declared.expression.CExpr.{CExpr}
 use Rattle.chi_core.specs.declared.target.CStep.{CStep}
 use Rattle.chi_core.specs.declared.target.CStep.TheVariants as step

@@ -1,15 +1,15 @@
 -- Values that go to spots, one after another.
-use Rattle.std.proofs.Common.{◌≡◌, ◌≢◌, ℕ, ◌<◌, ◌≤◌, List, [], ◌∷◌, ◌++◌, Option, Some, None, length, map, ap, sym, subst, refl, ◌∙◌, arith, Vec, Global}
+use Rattle.std.proofs.Common.{◌≡◌, ◌≢◌, ◌<◌, ◌≤◌, List, [], ◌∷◌, ◌++◌, Option, Some, None, length, ap, sym, subst, refl, ◌∙◌, arith}
 use Rattle.std.specs.Prelude.{option_map, reverse}
 use Rattle.std.specs.Option.{option_and_then}
 use Rattle.std.proofs.lemmas.List.{reverse-append, reverse-reverse}
 use Rattle.chi_value.specs.declared.value.Value.{Value}
 use Rattle.chi_core.specs.declared.target.CTarget.{CTarget}
 use Rattle.chi_core.specs.declared.view.View.{View}
-use Rattle.chi_core.specs.Answer.{Answer, Does, Gives, Amiss, then_do, wanted, through}
+use Rattle.chi_core.specs.Answer.{Answer, Gives, Amiss, then_do}
 use Rattle.chi_core.specs.Reading.{parts_of}
 use Rattle.chi_core.specs.Spots.{Spot, store}
-use Rattle.chi_core.specs.Terms.{spread, stores_of}
+use Rattle.chi_core.specs.Terms.{spread}
 use Rattle.chi_core.specs.Variables.{Variables, side_by_side}
 use Rattle.chi_eval.specs.declared.stop.Stop.{Stop}
 use Rattle.chi_eval.specs.Assignments.{each_stored, all_stored}

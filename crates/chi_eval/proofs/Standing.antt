@@ -1,10 +1,10 @@
 -- Where the value of an expression isn't amiss, nor is that of its parts, and each is of its kind.
-use Rattle.std.proofs.Common.{◌≡◌, ◌≢◌, ℕ, zero, suc, ◌∙◌, ◌<◌, Bool, true, false, List, [], ◌∷◌, Option, Some, None, length, map, ap, sym, refl, slice_get, arith}
+use Rattle.std.proofs.Common.{◌≡◌, ◌≢◌, ℕ, zero, suc, ◌∙◌, ◌<◌, Bool, true, false, List, [], ◌∷◌, Option, Some, None, length, map, ap, refl, slice_get, arith}
 use Rattle.std.specs.Prelude.{nat_eq, if◌then◌else◌}
 use Rattle.std.specs.Option.{option_and_then}
 use Rattle.chi_core.specs.declared.program.FuncDef.{FuncDef}
 use Rattle.chi_core.specs.Functions.{callee, taking}
-use Rattle.chi_value.specs.declared.value.Value.{Value, out-Value}
+use Rattle.chi_value.specs.declared.value.Value.{Value}
 use Rattle.chi_value.specs.declared.format.Kind.{Kind}
 use Rattle.chi_ops.specs.Operations.{build}
 use Rattle.chi_core.specs.declared.op_name.OpName.{OpName}
@@ -12,13 +12,13 @@ use Rattle.chi_core.specs.declared.expression.CExpr.{CExpr}
 use Rattle.chi_core.specs.declared.expression.CExpr.TheVariants as e
 use Rattle.chi_core.specs.declared.scene.Scene.{Scene}
 use Rattle.chi_core.specs.declared.view.View.{View}
-use Rattle.chi_core.specs.Answer.{Answer, Does, Gives, Amiss, then_do, gives, wanted, in_turn}
+use Rattle.chi_core.specs.Answer.{Does, Gives, Amiss, gives, wanted, in_turn}
 use Rattle.chi_core.specs.Reading.{truth_of, part_of}
 use Rattle.chi_core.specs.Variables.{Variables, value_at}
 use Rattle.chi_core.specs.Containers.{done}
 use Rattle.chi_core.specs.Operators.{applied}
 use Rattle.chi_core.specs.Evaluation.{Run, eval, on_truth}
-use Rattle.chi_core.proofs.Equations.{eval_lit, eval_var, eval_const, eval_op, eval_and, eval_or, eval_build, eval_part, eval_call, eval_default, eval_repeat, eval_insert}
+use Rattle.chi_core.proofs.Equations.{eval_var, eval_const, eval_op, eval_and, eval_or, eval_build, eval_part}
 use Rattle.chi_eval.proofs.Stopping.{then_there, next_there}
 
 pub wanted_there : {A : Type 0} (o : Option A) (view : View) → wanted o view ≢ Amiss → o ≢ None

@@ -1,6 +1,6 @@
 -- What stands at a target, read step by step.
-use Rattle.std.proofs.Common.{◌≡◌, ◌≢◌, ℕ, ◌+◌, ◌<◌, ◌≤◌, Bool, true, false, List, [], ◌∷◌, Option, Some, None, length, drop, get_or, ap, sym, subst, refl, ◌∙◌}
-use Rattle.std.proofs.lemmas.List.{drop_more, drop_all}
+use Rattle.std.proofs.Common.{◌≡◌, ◌≢◌, ℕ, ◌+◌, ◌<◌, Bool, true, false, List, ◌∷◌, Some, None, length, drop, get_or, ap, sym, subst, refl, ◌∙◌}
+use Rattle.std.proofs.lemmas.List.{drop_more}
 use Rattle.chi_value.specs.declared.value.Value.{Value, Value-F, out-Value}
 use Rattle.chi_ops.specs.Kinds.{is_dictionary}
 use Rattle.chi_ops.specs.Operations.{lookup}

@@ -1,5 +1,5 @@
 -- Where something is not done, what comes after it isn't either; and where the whole isn't amiss, nor is what comes first.
-use Rattle.std.proofs.Common.{◌≡◌, ◌≢◌, ◌∙◌, ap, refl}
+use Rattle.std.proofs.Common.{◌≡◌, ◌≢◌, ◌∙◌, ap}
 use Rattle.chi_core.specs.Answer.{Answer, Does, Gives, Amiss, then_do, giving}
 use Rattle.chi_core.specs.declared.view.View.{View}
 use Rattle.chi_eval.specs.declared.stop.Stop.{Stop}

@@ -1,21 +1,21 @@
 -- Stores into spots.
-use Rattle.std.proofs.Common.{◌≡◌, ◌≢◌, ℕ, ◌<◌, Bool, true, false, nat_lt, IsTrue, List, [], ◌∷◌, Option, Some, None, length, map, ap, sym, subst, refl, ◌∙◌, rules, arith, slice_set, slice_get}
+use Rattle.std.proofs.Common.{◌≡◌, ◌≢◌, ℕ, ◌<◌, Bool, true, false, nat_lt, IsTrue, List, [], ◌∷◌, Option, Some, None, length, ap, sym, subst, refl, ◌∙◌, rules, slice_set}
 use Rattle.std.specs.Prelude.{if◌then◌else◌}
 use Rattle.chi_value.specs.declared.value.Value.{Value}
 use Rattle.chi_ops.specs.declared.fault.OpFault.{OpFault}
 use Rattle.chi_ops.specs.declared.path.Path.{Path}
-use Rattle.chi_ops.specs.Outcome.{Outcome, gives}
-use Rattle.chi_ops.specs.Paths.{step_of, steps_of}
+use Rattle.chi_ops.specs.Outcome.{gives}
+use Rattle.chi_ops.specs.Paths.{steps_of}
 use Rattle.chi_ops.specs.Refusal.{Refuses}
-use Rattle.chi_ops.specs.Store.{Step, put, may_put, stored}
+use Rattle.chi_ops.specs.Store.{put, may_put, stored}
 use Rattle.chi_core.specs.declared.view.View.{View}
 use Rattle.chi_core.specs.Answer.{Answer, Does, Gives, Amiss, then_do, wanted}
 use Rattle.chi_core.specs.Containers.{done}
-use Rattle.chi_core.specs.Spots.{store, store_into}
+use Rattle.chi_core.specs.Spots.{store_into}
 use Rattle.chi_core.specs.Variables.{Variables, value_at, with_slot, set_value}
 use Rattle.chi_eval.specs.declared.stop.Stop.{Stop}
 use Rattle.chi_eval.specs.Stops.{Stops, stop_of_operation}
-use Rattle.chi_eval.proofs.Operations.{may, done_gives, done_stops}
+use Rattle.chi_eval.proofs.Operations.{may, done_stops}
 use Rattle.chi_eval.proofs.Standing.{at_place}
 use Rattle.chi_eval.proofs.Stopping.{then_stops}
 

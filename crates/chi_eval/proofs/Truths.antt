@@ -1,5 +1,5 @@
 -- Truth values, and comparisons.
-use Rattle.std.proofs.Common.{◌≡◌, ◌≢◌, Bool, true, false, IsTrue, Option, Some, None, refl, sym, ap, ◌∙◌}
+use Rattle.std.proofs.Common.{◌≡◌, ◌≢◌, Bool, true, false, IsTrue, Option, Some, None, refl, ap}
 use Rattle.std.specs.Prelude.{if◌then◌else◌, option_map, not}
 use Rattle.std.specs.declared.cmp.Ordering.{Ordering}
 use Rattle.chi_value.specs.declared.value.Value.{Value}
@@ -8,7 +8,7 @@ use Rattle.chi_value.specs.Order.{order}
 use Rattle.chi_ops.specs.Conditions.{may_has, may_sub, may_size}
 use Rattle.chi_ops.specs.Operations.{has, sub, size}
 use Rattle.chi_core.specs.declared.view.View.{View}
-use Rattle.chi_core.specs.Answer.{Gives, Amiss, wanted}
+use Rattle.chi_core.specs.Answer.{Gives, Amiss}
 use Rattle.chi_core.specs.Reading.{truth_of}
 use Rattle.chi_core.specs.Comparisons.{tells, opposite, are_comparable, compared, compares}
 

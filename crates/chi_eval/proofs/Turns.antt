@@ -1,5 +1,5 @@
 -- Calls, and the turns of a body.
-use Rattle.std.proofs.Common.{◌≡◌, ◌≢◌, ℕ, zero, suc, ◌-◌, ◌+◌, ◌<◌, ◌≤◌, Bool, true, false, List, [], ◌∷◌, ◌++◌, Option, Some, None, length, map, drop, refl, sym, ap, ◌∙◌, subst, arith, IsTrue, ◌↔◌}
+use Rattle.std.proofs.Common.{◌≡◌, ◌≢◌, ℕ, ◌-◌, ◌+◌, ◌<◌, ◌≤◌, Bool, true, false, List, [], ◌∷◌, Option, Some, None, length, map, drop, refl, sym, ap, ◌∙◌, subst, arith, IsTrue, ◌↔◌}
 use Rattle.chi_value.specs.declared.value.Value.{Value}
 use Rattle.chi_core.specs.declared.fault.FaultKind.TheVariants.{CallDepth, NoReturn}
 use Rattle.chi_core.specs.declared.program.FuncDef.{FuncDef}
@@ -9,7 +9,7 @@ use Rattle.chi_core.specs.declared.view.View.{View}
 use Rattle.chi_core.specs.Answer.{Answer, Gives, Fails, Spent, Amiss, then_do}
 use Rattle.chi_core.specs.Variables.{Variables, variables_of}
 use Rattle.chi_core.specs.Evaluation.{Run, eval, Evaluates}
-use Rattle.chi_core.specs.Terms.{Item, Do, Term, Did, On, Returns, act}
+use Rattle.chi_core.specs.Terms.{Item, Do, Term, act}
 use Rattle.chi_core.specs.Functions.{exec, run_at, callee, did_then}
 use Rattle.chi_core.proofs.Bodies.{run_none, run_lost, run_found, exec_none, exec_over, exec_spent, exec_turn}
 use Rattle.chi_eval.specs.declared.calls.Calls.{Calls}

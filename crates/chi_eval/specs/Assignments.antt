@@ -1,6 +1,5 @@
 -- Stores into spots, one after another. Private to proofs.
 use Rattle.std.specs.Prelude.{List, Option}
-use Rattle.std.specs.Option.{option_and_then}
 use Rattle.chi_value.specs.declared.value.Value.{Value}
 use Rattle.chi_core.specs.declared.target.CTarget.{CTarget}
 use Rattle.chi_core.specs.Answer.{Does, then_do, wanted, through}

@@ -1,5 +1,5 @@
 -- What stands first of what is left to do. Private to proofs.
-use Rattle.std.specs.Prelude.{◌≡◌, ℕ, List, [], ◌∷◌, Option, Some, None, option_map}
+use Rattle.std.specs.Prelude.{◌≡◌, [], ◌∷◌, Option, Some, None, option_map}
 use Rattle.chi_core.specs.Terms as terms
 use Rattle.chi_core.specs.Terms.{Item, Term, first_the}
 use Rattle.chi_core.specs.Variables.{Variables, bound}

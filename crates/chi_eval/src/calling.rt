@@ -1,7 +1,7 @@
 //! Expressions, with calls of functions. Everything here calls back; what doesn't stands elsewhere.
 
 ghost use Rattle.std.specs.Prelude.{◌≡◌, ◌≢◌, Err, IfOk, IfErr, OnOk, drop, map};
-ghost use Rattle.chi_core.specs.Answer.{Gives, Amiss, in_turn};
+ghost use Rattle.chi_core.specs.Answer.{Gives, Amiss, in_turn, times};
 ghost use Rattle.chi_ops.specs.Paths.{step_of, steps_of};
 ghost use Rattle.chi_core.specs.Spots.{spot_of, step_at};
 ghost use Rattle.chi_eval.specs.Spots.{spot_in};
@@ -15,7 +15,7 @@ ghost use Rattle.chi_eval.specs.Terms.{act_first, came_to};
 
 use crate::assigning::store_all;
 use crate::calls::Calls;
-use crate::making::{fresh, made_of};
+use crate::making::{fresh, made_of, times_in};
 use crate::operating::apply;
 use crate::reading::{elements_in, part_in, truth_in};
 use crate::spots::Spot;
@@ -25,12 +25,12 @@ use crate::term::{Head, Term};
 use crate::variables::Variables;
 use chi_core::{Branch, CExpr, CStat, CStep, CTarget, FaultKind, View};
 use chi_ops::Path;
-use chi_value::Value;
+use chi_value::{Items, Value};
 use std::alloc::Global;
 
 /// The value of an expression.
 #[cycle(eval)]
-#[tactic(auto, using(crate::proofs::Stopping::stopping, crate::proofs::Standing::standing), unfolding(chi_core::specs::Evaluation::eval))]
+#[tactic(auto, using(crate::proofs::Stopping::stopping, crate::proofs::Standing::standing, crate::proofs::Repeating::repeats), unfolding(chi_core::specs::Evaluation::eval))]
 pub fn eval(
     e: &CExpr,
     alloc: Global,
@@ -81,7 +81,16 @@ pub fn eval(
         }
         CExpr::InsertBy(_, _, _) => Err(Stop::NoMemory),
         CExpr::Default(shape) => Ok(fresh(alloc, shape, view)?),
-        CExpr::Repeat(_, _) => Err(Stop::NoMemory),
+        CExpr::Repeat(count, each) => {
+            let n = eval(count.get(), alloc, s, calls, variables, view)?;
+            match times_in(&n) {
+                Some(times) => {
+                    let values = repeat(each.get(), alloc, s, calls, times, variables, view)?;
+                    Ok(Value::ListOf(Items::of(alloc, values)?))
+                }
+                None => Err(Stop::Fault(FaultKind::TooLarge)),
+            }
+        }
     }
 }
 
@@ -434,4 +443,28 @@ fn assign(
     store_all(alloc, targets, spots, xs, variables, view)?;
     term.drop_first();
     Ok(())
+}
+
+/// So many values, each evaluated anew.
+#[cycle(eval)]
+#[tactic(auto, using(crate::proofs::Stopping::stopping, crate::proofs::Repeating::repeating))]
+fn repeat(
+    each: &CExpr,
+    alloc: Global,
+    s: &Surroundings<'_>,
+    calls: Calls,
+    count: u32,
+    variables: &Variables,
+    view: &mut View,
+) -> Result<Vec<Value>, Stop>
+    requires { times count (meaning calls s.now variables.now each.now) view.old ≢ Amiss }
+    ensures values { IfOk result (λ vs. times count (meaning calls s.now variables.now each.now) view.old ≡ Gives vs.items view.new) }
+    ensures stops { IfErr result (λ stop. Stops stop (times count (meaning calls s.now variables.now each.now) view.old)) }
+{
+    let mut values = Vec::new(alloc);
+    for turn in 0..count {
+        let value = eval(each, alloc, s, calls, variables, view)?;
+        values.push(value)?;
+    }
+    Ok(values)
 }

@@ -1,12 +1,15 @@
 //! Values that are made: defaults and literals of their parts.
 
-ghost use Rattle.std.specs.Prelude.{◌≡◌, ◌≢◌, IfOk, IfErr};
+ghost use Rattle.std.specs.Prelude.{◌≡◌, ◌≢◌, ◌<◌, ◌≤◌, ℕ, pos, None, Some, IfNone, IfSome, IfOk, IfErr};
 ghost use Rattle.chi_ops.specs.Operations.{build as built};
+ghost use Rattle.chi_value.specs.declared.value.TheConstants.{MOST_ELEMENTS};
+ghost use Rattle.chi_core.specs.Reading.{int_of};
 ghost use Rattle.chi_core.specs.Answer.{Gives, Amiss};
 ghost use Rattle.chi_core.specs.Containers.{done};
 ghost use Rattle.chi_core.specs.Evaluation.{fresh};
 ghost use Rattle.chi_eval.specs.Stops.{Stops};
 
+use crate::reading::int_in;
 use crate::stop::Stop;
 use chi_core::View;
 use chi_ops::build;
@@ -31,4 +34,20 @@ pub fn made_of(alloc: Global, kind: Kind, parts: Vec<Value>, view: &View) -> Res
     ensures stops { IfErr result (λ stop. Stops stop (done (built kind parts.items) view.now)) }
 {
     Ok(build(alloc, kind, parts)?)
+}
+
+/// How many values a list of so many values has, where it may have that many.
+#[tactic(auto, using(crate::proofs::Numbers::rounding))]
+pub fn times_in(count: &Value) -> Option<u32>
+    requires { int_of count.now ≢ None }
+    ensures few { IfSome result (λ n. int_of count.now ≡ Some (pos n)) }
+    ensures within { IfSome result (λ n. n ≤ MOST_ELEMENTS) }
+    ensures many { IfNone result ((n : ℕ) → int_of count.now ≡ Some (pos n) → MOST_ELEMENTS < n) }
+{
+    let count = int_in(count);
+    if count < 0 || count > 1_048_576 {
+        None
+    } else {
+        Some(count as u32)
+    }
 }

@@ -1,6 +1,6 @@
-use Rattle.std.proofs.Common.{◌≡◌, ◌≢◌, ◌∷◌, ◌∙◌, sym, subst, rules}
+use Rattle.std.proofs.Common.{◌≡◌, ◌∷◌, ◌∙◌, sym, subst, rules}
 use Rattle.std.specs.Prelude.{map, reverse, IfErr}
-use Rattle.chi_core.specs.Answer.{Answer, Amiss}
+use Rattle.chi_core.specs.Answer.{Answer}
 use Rattle.chi_core.specs.Variables.{Variables, side_by_side}
 use Rattle.chi_eval.specs.Assignments.{each_stored}
 use Rattle.chi_eval.specs.Spots.{spot_in}

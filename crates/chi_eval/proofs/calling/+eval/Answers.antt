@@ -1,11 +1,14 @@
-use Rattle.std.proofs.Common.{rules, List, drop, subst, ◌≢◌, ◌≡◌, ◌-◌, ◌+◌, ◌*◌, ◌≤◌, ◌<◌, sym, refl, ◌∙◌, ap, arith, length, vec_len}
+use Rattle.std.proofs.Common.{rules, List, drop, subst, ◌≢◌, ◌≡◌, ◌-◌, ◌*◌, sym, refl, ◌∙◌, ap, arith, length}
 use Rattle.std.proofs.lemmas.Grind.{common_steps}
 use denote.Param.Weighed.{most}
 use Rattle.std.specs.Prelude.{IfErr}
 use Rattle.chi_value.specs.declared.value.Value.{Value}
 use Rattle.chi_core.specs.declared.statement.Branch.{Branch}
 use Rattle.chi_core.specs.declared.statement.CStat.{CStat}
-use Rattle.chi_core.specs.Answer.{Answer, Gives, Amiss}
+use Rattle.chi_value.specs.declared.value.Value.TheVariants as value
+use Rattle.chi_core.specs.declared.view.View.{View}
+use Rattle.chi_core.specs.Answer.{Answer, Gives, Amiss, times}
+use Rattle.chi_eval.proofs.Repeating.{repeat_gives, repeat_many, repeat_count, repeat_each_stops}
 use Rattle.chi_core.specs.Terms.{tested, assigned, chosen, Do, On}
 use Rattle.chi_core.specs.declared.expression.CExpr.{CExpr, size-CExpr}
 use Rattle.chi_core.specs.declared.target.CTarget.{CTarget}
@@ -15,12 +18,11 @@ use Rattle.chi_core.specs.Variables.{variables_of}
 use Rattle.chi_eval.specs.Stops.{Stops}
 use Rattle.chi_eval.specs.Terms.{came_to, act_first}
 use Rattle.chi_eval.specs.Calls.{more_of, run_by, meaning}
-use Rattle.chi_eval.specs.Spans.{item_span, span, branch_span, target_span, reach}
+use Rattle.chi_eval.specs.Spans.{item_span, branch_span, target_span, reach}
 use Rattle.chi_eval.specs.Surroundings.{scene_in}
 use Rattle.chi_eval.proofs.Acting.{assign_assigned, declare_first, if_chosen, while_tested, for_first, return_first}
 use Rattle.chi_eval.proofs.Spans.{is_assign, is_declare, is_if, is_while, is_for, is_return, body_falls, act_sized, most_do, test_within}
 use Rattle.chi_eval.proofs.Choosing.{choose_first}
-use Rattle.chi_eval.proofs.Stopping.{then_stops}
 use Rattle.chi_eval.proofs.Turns.{body_is, turns_start, turn_goes, turn_gives}
 use Rattle.chi_eval.proofs.calling.+eval.Goals as goal
 
@@ -133,3 +135,39 @@ act_on-assign-requires t c =
       subst Q (sym c.as_slice-places.ensures.same) (subst R (sym c.as_slice-expressions.ensures.same)
           (assign_assigned m c.args.variables.now c.args.statement.now (drop 1 c.args.term.now) c.args.view.now _ c.in-Assign.targets c.in-Assign.values c.in-Assign.is c.requires)),
     )
+
+pub eval-returns-in-Some-clause-value : goal.eval-returns-in-Some-clause-value
+eval-returns-in-Some-clause-value t c =
+    let m : CExpr → View → Answer Value = meaning c.args.calls c.args.s.now c.args.variables.now in
+    let got : m c.in-Repeat.count c.args.view.now ≡ Gives c.in_ok-n-in-Repeat.n c.eval-in-Repeat.new.view
+    = ap (λ x. m x c.args.view.now) (sym c.get-in-Repeat.ensures.same) ∙ c.in_ok-n-in-Repeat.ensures.value
+    in
+    let all : times c.in-Some.times (m c.in-Repeat.each) c.eval-in-Repeat.new.view ≡ Gives c.in_ok-values-in-Some.values.items c.repeat.new.view
+    = ap (λ x. times c.in-Some.times (m x) c.eval-in-Repeat.new.view) (sym c.get-in-Some.ensures.same) ∙ c.in_ok-values-in-Some.ensures.values
+    in
+    repeat_gives (run_by c.args.calls c.args.s.now) (scene_in c.args.s.now) c.args.variables.now c.args.view.now c.args.e.now c.in-Repeat.count c.in-Repeat.each c.in-Repeat.is
+    c.in_ok-n-in-Repeat.n c.eval-in-Repeat.new.view got c.in-Some.times c.in-Some.ensures.few c.in-Some.ensures.within c.in_ok-values-in-Some.values.items c.repeat.new.view all
+    ∙ ap (λ l. Gives (value.ListOf l) c.repeat.new.view) (sym c.in_ok-of-in-Some.ensures.same)
+
+pub eval-returns-clause-stops : goal.eval-returns-clause-stops
+eval-returns-clause-stops t c =
+    let m : CExpr → View → Answer Value = meaning c.args.calls c.args.s.now c.args.variables.now in
+    let got : m c.in-Repeat.count c.args.view.now ≡ Gives c.in_ok-n-in-Repeat.n c.eval-in-Repeat.new.view
+    = ap (λ x. m x c.args.view.now) (sym c.get-in-Repeat.ensures.same) ∙ c.in_ok-n-in-Repeat.ensures.value
+    in
+    repeat_many (run_by c.args.calls c.args.s.now) (scene_in c.args.s.now) c.args.variables.now c.args.view.now c.args.e.now c.in-Repeat.count c.in-Repeat.each c.in-Repeat.is
+    c.in_ok-n-in-Repeat.n c.eval-in-Repeat.new.view got
+    (repeat_count (run_by c.args.calls c.args.s.now) (scene_in c.args.s.now) c.args.variables.now c.args.view.now c.args.e.now c.in-Repeat.count c.in-Repeat.each c.in-Repeat.is
+    c.in_ok-n-in-Repeat.n c.eval-in-Repeat.new.view got c.requires) c.in-None.ensures.many
+
+pub eval-returns-in_err-values-in-Some-clause-stops : goal.eval-returns-in_err-values-in-Some-clause-stops
+eval-returns-in_err-values-in-Some-clause-stops t c =
+    let m : CExpr → View → Answer Value = meaning c.args.calls c.args.s.now c.args.variables.now in
+    let got : m c.in-Repeat.count c.args.view.now ≡ Gives c.in_ok-n-in-Repeat.n c.eval-in-Repeat.new.view
+    = ap (λ x. m x c.args.view.now) (sym c.get-in-Repeat.ensures.same) ∙ c.in_ok-n-in-Repeat.ensures.value
+    in
+    let Q : CExpr → Type 0 = λ x. Stops c.in_err-values-in-Some.field-0.0 (times c.in-Some.times (m x) c.eval-in-Repeat.new.view) in
+    let stops = repeat_each_stops (run_by c.args.calls c.args.s.now) (scene_in c.args.s.now) c.args.variables.now c.args.view.now c.args.e.now c.in-Repeat.count c.in-Repeat.each c.in-Repeat.is
+    c.in_ok-n-in-Repeat.n c.eval-in-Repeat.new.view got c.in-Some.times c.in-Some.ensures.few c.in-Some.ensures.within c.in_err-values-in-Some.field-0.0
+    (subst Q c.get-in-Some.ensures.same c.in_err-values-in-Some.ensures.stops)
+    in search rules

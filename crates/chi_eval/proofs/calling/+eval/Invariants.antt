@@ -1,7 +1,7 @@
-use Rattle.std.proofs.Common.{max, ◌≡◌, ◌≢◌, ◌≤◌, ◌-◌, ◌+◌, ◌*◌, ◌++◌, [], length, drop, map}
+use Rattle.std.proofs.Common.{max, ◌≡◌, ◌≢◌, ◌≤◌, ◌-◌, ◌+◌, ◌*◌, drop, map}
 use denote.Param.Weighed.{most}
-use Rattle.chi_core.specs.declared.expression.CExpr.{CExpr, size-CExpr}
-use Rattle.chi_core.specs.Answer.{in_turn, gathered, Amiss}
+use Rattle.chi_core.specs.declared.expression.CExpr.{size-CExpr}
+use Rattle.chi_core.specs.Answer.{in_turn, gathered, gathered_times, times, Amiss}
 use Rattle.chi_core.specs.Functions.{exec}
 use Rattle.chi_core.specs.Terms.{Do, chosen}
 use Rattle.chi_eval.specs.Calls.{meaning, more_of, run_by}
@@ -78,3 +78,12 @@ invariant-spots_of-loop-target l =
     let does = spot_of (meaning l.calls l.s l.variables) in
     (gathered (map spot_in l.spots.items) (map does (drop l.target-index l.targets)) l.view ≢ Amiss)
     × (in_turn (map does l.targets) l.fn.view ≡ gathered (map spot_in l.spots.items) (map does (drop l.target-index l.targets)) l.view)
+
+abbrev pub decreases-repeat : goal.decreases-repeat
+decreases-repeat l = (more_of l.calls * reach l.s.now.functions.now) + (2 * size-CExpr l.each.now) + 1
+
+abbrev pub invariant-repeat-loop-turn : goal.invariant-repeat-loop-turn
+invariant-repeat-loop-turn l =
+    let m = meaning l.calls l.s l.variables l.each in
+    (gathered_times l.values.items (l.count - l.turn) m l.view ≢ Amiss)
+    × (times l.count m l.fn.view ≡ gathered_times l.values.items (l.count - l.turn) m l.view)

@@ -1,5 +1,5 @@
 use Rattle.std.proofs.Common.{neg_ℤ}
-use Rattle.chi_eval.proofs.Numbers.{given_one, given_two}
+use Rattle.chi_eval.proofs.Numbers.{given_one}
 use Rattle.chi_eval.proofs.exact.opposite.Goals as goal
 
 pub returns : goal.returns

@@ -1,7 +1,7 @@
 use Rattle.std.proofs.Common.{◌∙◌, w64}
 use Rattle.std.proofs.lemmas.Int.{to_z-of_z}
 use Rattle.chi_num.specs.Power.{power}
-use Rattle.chi_eval.proofs.Numbers.{given_one, given_two}
+use Rattle.chi_eval.proofs.Numbers.{given_one}
 use Rattle.chi_eval.proofs.exact.power_of.Goals as goal
 
 pub returns : goal.returns

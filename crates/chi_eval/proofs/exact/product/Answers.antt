@@ -1,5 +1,5 @@
 use Rattle.std.proofs.Common.{◌*ℤ◌}
-use Rattle.chi_eval.proofs.Numbers.{given_one, given_two}
+use Rattle.chi_eval.proofs.Numbers.{given_two}
 use Rattle.chi_eval.proofs.exact.product.Goals as goal
 
 pub returns : goal.returns

@@ -1,6 +1,6 @@
 use Rattle.std.proofs.Common.{pos}
 use Rattle.std.specs.Prelude.{nat_abs}
-use Rattle.chi_eval.proofs.Numbers.{given_one, given_two}
+use Rattle.chi_eval.proofs.Numbers.{given_one}
 use Rattle.chi_eval.proofs.exact.size.Goals as goal
 
 pub returns : goal.returns

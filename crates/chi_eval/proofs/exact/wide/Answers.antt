@@ -1,6 +1,6 @@
 use Rattle.std.proofs.Common.{◌*ℤ◌}
 use Rattle.chi_num.specs.Units.{units_per_one}
-use Rattle.chi_eval.proofs.Numbers.{given_one, given_two}
+use Rattle.chi_eval.proofs.Numbers.{given_one}
 use Rattle.chi_eval.proofs.exact.wide.Goals as goal
 
 pub returns : goal.returns

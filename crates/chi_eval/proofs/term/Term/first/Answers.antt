@@ -1,4 +1,4 @@
-use Rattle.std.proofs.Common.{◌≡◌, ◌-◌, Some, length, ap, ◌∙◌, slice_get}
+use Rattle.std.proofs.Common.{◌-◌, length, ap, ◌∙◌, slice_get}
 use Rattle.chi_eval.proofs.Tasks.{first_is}
 use Rattle.chi_eval.proofs.term.Term.first.Goals as goal
 
