@@ -1,0 +1,4 @@
+pub mod FirstLaws
+pub mod Firsts
+pub mod Ruled
+pub mod Shown
