@@ -1,7 +1,5 @@
 -- What a type tree means where the types of its parts are known, and which of its own rules are broken.
-use Rattle.std.specs.Prelude.{ℕ, nat_lt, Bool, true, false, not, List, [], ◌∷◌, ◌++◌, Option, Some, None}
-use Rattle.std.specs.List.{list_any}
-use Rattle.std.specs.Str.{bytes_eq}
+use Rattle.std.specs.Prelude.{ℕ, nat_lt, Bool, true, false, not, List, [], ◌∷◌, ◌++◌, Option, Some, None, if◌then◌else◌}
 use Rattle.chi_token.specs.declared.place.Place.{Place}
 use Rattle.chi_tree.specs.declared.type_tree.Name.{Name}
 use Rattle.chi_tree.specs.declared.type_tree.TypeWord.{TypeWord}
@@ -22,9 +20,10 @@ use Rattle.chi_check_expr.specs.declared.known.NameKind.{NameKind}
 use Rattle.chi_check_expr.specs.declared.known.NameKind.TheVariants as kind
 use Rattle.chi_check_expr.specs.declared.meant.Made.{Made}
 use Rattle.chi_check_expr.specs.declared.meant.Meant.{Meant}
-use Rattle.chi_check_expr.specs.declared.rules.TheConstants.{VISIBLE_NAME, NAME_KIND, TYPE_DEPTH, PLAIN_ELEMENT, LIST_SIZE, FIELD_NAMES, DISTRIBUTION}
+use Rattle.chi_check_expr.specs.declared.rules.TheConstants.{VISIBLE_NAME, NAME_KIND, TYPE_DEPTH, PLAIN_ELEMENT, LIST_SIZE, DISTRIBUTION}
 use Rattle.chi_check_expr.specs.declared.type_rules.TheConstants.{MOST_TYPE_DEPTH}
-use Rattle.chi_check_expr.specs.Faults.{fault}
+use Rattle.chi_check_expr.specs.Names.{Names, known_in}
+use Rattle.chi_check_expr.specs.Predefined.{is_predefined}
 use Rattle.chi_check_expr.specs.Typed.{Typed, broken_if, unless, untyped, refused}
 
 -- a type without sizes
@@ -50,17 +49,24 @@ word_type word.Text = ty.Text
 word_type word.Timer = ty.Timer
 word_type word.Inst = ty.Inst
 
+abbrev pub word_of : Place → TypeWord → Typed Meant
+word_of place w = of_type place [] (meaning (word_type w))
+
 -- a name whose own type breaks a rule stands for a type only where it is that of a type
 abbrev pub untyped_name : Place → NameKind → Typed Meant
 untyped_name place kind.Type = untyped []
 untyped_name place _ = refused NAME_KIND place
 
--- the name of a type that is visible
+-- what is known of the name where it stands
 abbrev pub visible_type : Place → Option Known → Typed Meant
 visible_type place None = refused VISIBLE_NAME place
 visible_type place (Some (known.Kind t)) = of_type place [] (meaning t)
 visible_type place (Some (known.Untyped k)) = untyped_name place k
 visible_type place (Some _) = refused NAME_KIND place
+
+-- a predefined name is of another kind
+abbrev pub named_type : Names → Name → Typed Meant
+named_type names name = if is_predefined name.text then refused NAME_KIND name.place else visible_type name.place (known_in names name.text)
 
 -- ---- lists, sets, distributions and channels of something
 
@@ -103,6 +109,10 @@ abbrev pub chan_of : Place → Written → Option Meant → Typed Meant
 chan_of place w None = untyped []
 chan_of place w (Some carried) = of_type place [] (meaning (ty.Chan (way_of w) carried.ty))
 
+-- what only synchronises
+abbrev pub void_chan_of : Place → Written → Typed Meant
+void_chan_of place w = of_type place [] (meaning (ty.Chan (way_of w) ty.Void))
+
 -- ---- lists with a size
 
 abbrev pub is_int : Ty-F Ty → Bool
@@ -110,10 +120,13 @@ is_int Ty-F.Int = true
 is_int _ = false
 
 -- a size may stand there, and it is an int
+abbrev pub size_holds : Bool → Option Made → Bool
+size_holds false size = false
+size_holds true None = true
+size_holds true (Some size) = is_int (out-Ty size.ty)
+
 abbrev pub size_rule : Place → Bool → Option Made → List Fault
-size_rule place false size = fault LIST_SIZE place ∷ []
-size_rule place true None = []
-size_rule place true (Some size) = broken_if (not (is_int (out-Ty size.ty))) LIST_SIZE place
+size_rule place sizes size = broken_if (not (size_holds sizes size)) LIST_SIZE place
 
 -- one more size, around the others
 abbrev pub with_size : Meant → CExpr → Meant
@@ -124,14 +137,3 @@ abbrev pub sized_list_of : Place → Bool → Option Made → Option Meant → T
 sized_list_of place sizes (Some size) (Some element) = of_type place (size_rule place sizes (Some size)) (with_size element size.core)
 sized_list_of place sizes (Some size) None = untyped (size_rule place sizes (Some size))
 sized_list_of place sizes None element = untyped (size_rule place sizes None)
-
--- ---- tuples
-
--- a field's name is none of those before it
-abbrev pub names_rule : List (List ℕ) → List Name → List Fault
-names_rule before [] = []
-names_rule before (name ∷ names) = broken_if (list_any (bytes_eq name.text) before) FIELD_NAMES name.place ++ names_rule (before ++ name.text ∷ []) names
-
-abbrev pub tuple_of : Place → List Name → Option (List (List ℕ × Ty)) → Typed Meant
-tuple_of place names None = untyped (names_rule [] names)
-tuple_of place names (Some parts) = of_type place (names_rule [] names) (meaning (ty.TupleOf parts))

@@ -15,10 +15,13 @@ ghost use Rattle.chi_check_expr.specs.TypeRules as spec;
 use crate::fault::{Fault, note};
 use crate::known::{Known, NameKind};
 use crate::meant::{Made, Meant};
+use crate::predefined::is_predefined;
 use crate::rules;
+use crate::scope::Scope;
 use chi_base::{Boxed, Items, NoMemory};
+use chi_core::CExpr;
 use chi_token::Place;
-use chi_tree::TypeWord;
+use chi_tree::{Name, TypeWord};
 use chi_types::{Ty, Way, depth, is_plain};
 use std::alloc::Global;
 
@@ -57,7 +60,7 @@ fn meaning(alloc: Global, ty: Ty) -> Result<Meant, NoMemory>
     Ok(Meant { ty, sizes })
 }
 
-pub fn word_type(word: TypeWord) -> Ty
+fn word_type(word: TypeWord) -> Ty
     ensures { result ≡ spec.word_type word }
 {
     match word {
@@ -68,6 +71,19 @@ pub fn word_type(word: TypeWord) -> Ty
         TypeWord::Timer => Ty::Timer,
         TypeWord::Inst => Ty::Inst,
     }
+}
+
+pub fn word_of(
+    alloc: Global,
+    place: Place,
+    word: TypeWord,
+    kept: &mut Option<Fault>,
+) -> Result<Option<Meant>, NoMemory>
+    ensures made { IfOk result (λ m. m ≡ (spec.word_of place word).made) }
+    ensures noted { OnOk result (kept.new ≡ first_of kept.old (spec.word_of place word).faults) }
+{
+    let meant = meaning(alloc, word_type(word))?;
+    Ok(settled(meant, true, place, kept))
 }
 
 pub fn list_of(
@@ -181,6 +197,20 @@ pub fn chan_of(
     Ok(settled(meant, true, place, kept))
 }
 
+/// A channel that carries nothing.
+pub fn void_chan_of(
+    alloc: Global,
+    place: Place,
+    way: chi_tree::Way,
+    kept: &mut Option<Fault>,
+) -> Result<Option<Meant>, NoMemory>
+    ensures made { IfOk result (λ m. m ≡ (spec.void_chan_of place way).made) }
+    ensures noted { OnOk result (kept.new ≡ first_of kept.old (spec.void_chan_of place way).faults) }
+{
+    let meant = meaning(alloc, Ty::Chan(way_of(way), Boxed::new(alloc, Ty::Void)?))?;
+    Ok(settled(meant, true, place, kept))
+}
+
 fn is_int(ty: &Ty) -> bool
     ensures { result ≡ spec.is_int (out-Ty ty.now) }
 {
@@ -188,4 +218,117 @@ fn is_int(ty: &Ty) -> bool
         Ty::Int => true,
         _ => false,
     }
+}
+
+fn size_holds(sizes: bool, size: &Option<Made>) -> bool
+    ensures { result ≡ spec.size_holds sizes size.now }
+{
+    if !sizes {
+        return false;
+    }
+    match size {
+        None => true,
+        Some(size) => is_int(&size.ty),
+    }
+}
+
+fn with_size(alloc: Global, element: Meant, size: CExpr) -> Result<Meant, NoMemory>
+    ensures { IfOk result (λ m. m ≡ spec.with_size element size) }
+{
+    let Meant { ty, sizes } = element;
+    let mut sizes = sizes.into_vec(alloc)?;
+    sizes.push(size)?;
+    let sizes = Items::of(alloc, sizes)?;
+    let ty = Ty::ListOf(Boxed::new(alloc, ty)?);
+    Ok(Meant { ty, sizes })
+}
+
+/// A list with a size. `sizes` says whether one may stand there.
+pub fn sized_list_of(
+    alloc: Global,
+    place: Place,
+    sizes: bool,
+    size: Option<Made>,
+    element: Option<Meant>,
+    kept: &mut Option<Fault>,
+) -> Result<Option<Meant>, NoMemory>
+    ensures made { IfOk result (λ m. m ≡ (spec.sized_list_of place sizes size element).made) }
+    ensures noted { OnOk result (kept.new ≡ first_of kept.old (spec.sized_list_of place sizes size element).faults) }
+{
+    let holds = size_holds(sizes, &size);
+    note_if(kept, !holds, rules::LIST_SIZE, place);
+    let Some(size) = size else {
+        return Ok(None);
+    };
+    let Some(element) = element else {
+        return Ok(None);
+    };
+    Ok(settled(with_size(alloc, element, size.core)?, holds, place, kept))
+}
+
+fn untyped_name(place: Place, kind: NameKind, kept: &mut Option<Fault>) -> Option<Meant>
+    ensures made { result ≡ (spec.untyped_name place kind).made }
+    ensures noted { kept.new ≡ first_of kept.old (spec.untyped_name place kind).faults }
+{
+    match kind {
+        NameKind::Type => None,
+        NameKind::Variable
+        | NameKind::Unwound
+        | NameKind::Constant
+        | NameKind::Function
+        | NameKind::Process => {
+            note(kept, rules::NAME_KIND, place);
+            None
+        }
+    }
+}
+
+fn visible_type(
+    alloc: Global,
+    place: Place,
+    known: Option<&Known>,
+    kept: &mut Option<Fault>,
+) -> Result<Option<Meant>, NoMemory>
+    ensures made { IfOk result (λ m. m ≡ (spec.visible_type place (option_copied known.entry)).made) }
+    ensures noted { OnOk result (kept.new ≡ first_of kept.old (spec.visible_type place (option_copied known.entry)).faults) }
+{
+    match known {
+        None => {
+            note(kept, rules::VISIBLE_NAME, place);
+            Ok(None)
+        }
+        Some(Known::Kind(ty)) => {
+            let meant = meaning(alloc, ty.copy(alloc)?)?;
+            Ok(settled(meant, true, place, kept))
+        }
+        Some(Known::Untyped(kind)) => Ok(untyped_name(place, *kind, kept)),
+        Some(Known::Var(_, _))
+        | Some(Known::Fixed(_, _))
+        | Some(Known::Const(_, _))
+        | Some(Known::Value(_, _))
+        | Some(Known::Func(_, _, _))
+        | Some(Known::Proc(_, _, _))
+        | Some(Known::Model(_))
+        | Some(Known::Xper(_)) => {
+            note(kept, rules::NAME_KIND, place);
+            Ok(None)
+        }
+    }
+}
+
+/// What a name means where a type stands.
+pub fn named_type(
+    alloc: Global,
+    scope: &Scope,
+    name: &Name,
+    kept: &mut Option<Fault>,
+) -> Result<Option<Meant>, NoMemory>
+    ensures made { IfOk result (λ m. m ≡ (spec.named_type scope.now name.now).made) }
+    ensures noted { OnOk result (kept.new ≡ first_of kept.old (spec.named_type scope.now name.now).faults) }
+{
+    if is_predefined(&name.text) {
+        note(kept, rules::NAME_KIND, name.place);
+        return Ok(None);
+    }
+    visible_type(alloc, name.place, scope.known(&name.text), kept)
 }
