@@ -6,6 +6,11 @@ use Rattle.chi_check_expr.specs.declared.fault.Fault.{Fault}
 abbrev pub fault : ℕ → Place → Fault
 fault rule place = record { rule = rule; place = place }
 
+-- no rule is broken
+abbrev pub are_none : List Fault → Bool
+are_none [] = true
+are_none (f ∷ fs) = false
+
 -- a place before another in the text
 abbrev pub is_before : Place → Place → Bool
 is_before a b = nat_lt a.line b.line || (nat_eq a.line b.line && nat_lt a.column b.column)

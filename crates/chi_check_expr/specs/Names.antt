@@ -1,7 +1,12 @@
 -- The visible names, in order of declaration.
-use Rattle.std.specs.Prelude.{ℕ, List, [], ◌∷◌, Option, Some, None, if◌then◌else◌}
+use Rattle.std.specs.Prelude.{ℕ, Bool, List, [], ◌∷◌, Option, Some, None, if◌then◌else◌}
+use Rattle.std.specs.List.{list_any}
 use Rattle.std.specs.Str.{bytes_eq}
 use Rattle.chi_check_expr.specs.declared.known.Known.{Known}
+
+-- a text is one of these
+abbrev pub is_among : List ℕ → List (List ℕ) → Bool
+is_among text = list_any (bytes_eq text)
 
 -- each with what is known of it
 abbrev pub Names : Type 0

@@ -20,9 +20,10 @@ use Rattle.chi_check_expr.specs.declared.known.NameKind.{NameKind}
 use Rattle.chi_check_expr.specs.declared.known.NameKind.TheVariants as kind
 use Rattle.chi_check_expr.specs.declared.meant.Made.{Made}
 use Rattle.chi_check_expr.specs.declared.meant.Meant.{Meant}
-use Rattle.chi_check_expr.specs.declared.rules.TheConstants.{VISIBLE_NAME, NAME_KIND, TYPE_DEPTH, PLAIN_ELEMENT, LIST_SIZE, DISTRIBUTION}
+use Rattle.chi_check_expr.specs.declared.rules.TheConstants.{VISIBLE_NAME, NAME_KIND, TYPE_DEPTH, PLAIN_ELEMENT, LIST_SIZE, FIELD_NAMES, DISTRIBUTION}
 use Rattle.chi_check_expr.specs.declared.type_rules.TheConstants.{MOST_TYPE_DEPTH}
-use Rattle.chi_check_expr.specs.Names.{Names, known_in}
+use Rattle.chi_check_expr.specs.Faults.{fault}
+use Rattle.chi_check_expr.specs.Names.{Names, known_in, is_among}
 use Rattle.chi_check_expr.specs.Predefined.{is_predefined}
 use Rattle.chi_check_expr.specs.Typed.{Typed, broken_if, unless, untyped, refused}
 
@@ -137,3 +138,16 @@ abbrev pub sized_list_of : Place → Bool → Option Made → Option Meant → T
 sized_list_of place sizes (Some size) (Some element) = of_type place (size_rule place sizes (Some size)) (with_size element size.core)
 sized_list_of place sizes (Some size) None = untyped (size_rule place sizes (Some size))
 sized_list_of place sizes None element = untyped (size_rule place sizes None)
+
+-- ---- tuples
+
+-- a field has no name of those before it
+abbrev pub names_rule : List (List ℕ) → List Name → List Fault
+names_rule before [] = []
+names_rule before (name ∷ names) =
+    if is_among name.text before then fault FIELD_NAMES name.place ∷ names_rule before names
+    else names_rule (before ++ name.text ∷ []) names
+
+abbrev pub tuple_of : Place → List Name → Option (List (List ℕ × Ty)) → Typed Meant
+tuple_of place names None = untyped (names_rule [] names)
+tuple_of place names (Some parts) = of_type place (names_rule [] names) (meaning (ty.TupleOf parts))

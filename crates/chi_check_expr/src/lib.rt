@@ -11,6 +11,7 @@ pub mod rules;
 mod scope;
 mod site;
 mod table;
+mod tuple_rules;
 mod type_laws;
 mod type_rules;
 
@@ -22,7 +23,8 @@ pub use meant::{Made, Meant};
 pub use predefined::{PREDEFINED, is_predefined};
 pub use scope::Scope;
 pub use site::Site;
-pub use type_laws::{types_are_exact, types_are_sound};
+pub use tuple_rules::tuple_of;
+pub use type_laws::{defaults_are_sound, types_are_exact, types_are_sound};
 pub use type_rules::{
     MOST_TYPE_DEPTH, chan_of, dict_of, dist_of, list_of, named_type, note_if, set_of,
     sized_list_of, void_chan_of, word_of,

@@ -1,5 +1,6 @@
 ghost use Rattle.std.specs.Prelude.{◌≡◌, map};
-ghost use Rattle.chi_check_expr.specs.Predefined as spec;
+ghost use Rattle.chi_check_expr.specs.Names.{is_among};
+ghost use Rattle.chi_check_expr.specs.Predefined.{is_predefined};
 
 use chi_token::Bytes;
 
@@ -32,7 +33,7 @@ pub static PREDEFINED: [&str; 23] = [
 
 /// Whether a text is one of the words.
 fn is_among(text: &[u8], words: &[&str]) -> bool
-    ensures { result ≡ spec.is_among text.now (map (λ word. word.now) words.now) }
+    ensures { result ≡ is_among text.now (map (λ word. word.now) words.now) }
 {
     for word in words {
         if text == word.as_bytes() {
@@ -43,7 +44,7 @@ fn is_among(text: &[u8], words: &[&str]) -> bool
 }
 
 pub fn is_predefined(name: &Bytes) -> bool
-    ensures { result ≡ spec.is_predefined name.now }
+    ensures { result ≡ is_predefined name.now }
 {
     is_among(name.as_slice(), &PREDEFINED)
 }

@@ -1,4 +1,4 @@
-ghost use Rattle.std.specs.Prelude.{◌≡◌, ◌++◌, [], ◌∷◌, None, length, take, OnOk, OnErr};
+ghost use Rattle.std.specs.Prelude.{◌≡◌, ◌++◌, [], ◌∷◌, None, is_some, length, take, OnOk, OnErr};
 ghost use Rattle.std.specs.Option.{option_copied};
 ghost use Rattle.chi_check_expr.specs.Names.{looked_up};
 
@@ -50,6 +50,12 @@ impl<V: Drop> Table<V> {
         ensures { option_copied result ≡ looked_up self.now name.now }
     {
         self.entries.get(name)
+    }
+
+    pub(crate) fn has(&self, name: &[u8]) -> bool
+        ensures { result ≡ is_some (looked_up self.now name.now) }
+    {
+        self.get(name).is_some()
     }
 
     pub(crate) fn count(&self) -> usize

@@ -5,11 +5,15 @@ ghost use Rattle.chi_token.specs.declared.place.Place.{Place};
 ghost use Rattle.chi_tree.specs.declared.type_tree.TypeWord.{TypeWord};
 ghost use Rattle.chi_tree.specs.declared.type_tree.Way.{Way};
 ghost use Rattle.chi_types.specs.declared.ty.Ty.{Ty, out-Ty};
+ghost use Rattle.chi_value.specs.declared.shape.Shape.{Shape, out-Shape};
+ghost use Rattle.chi_core.specs.Kinds.{kind_of};
+ghost use Rattle.chi_core.specs.OperatorKinds.{ShapeKind};
 ghost use Rattle.chi_core.specs.SoundTypes.{SoundType};
 ghost use Rattle.chi_check_expr.specs.declared.fault.Fault.{Fault};
 ghost use Rattle.chi_check_expr.specs.declared.known.Known.TheVariants as known;
 ghost use Rattle.chi_check_expr.specs.declared.meant.Made.{Made};
 ghost use Rattle.chi_check_expr.specs.declared.meant.Meant.{Meant};
+ghost use Rattle.chi_check_expr.specs.Defaults.{shape_of};
 ghost use Rattle.chi_check_expr.specs.TypeRules as rule;
 ghost use Rattle.chi_check_expr.specs.TypeLaws.{IsSound, ComesToSound};
 
@@ -17,6 +21,12 @@ ghost use Rattle.chi_check_expr.specs.TypeLaws.{IsSound, ComesToSound};
 #[tactic(auto, using(crate::proofs::TypeLaws::made_unbroken, crate::proofs::TypeLaws::unbroken_made))]
 pub fn types_are_exact()
     ensures exact { (place : Place) (own : List Fault) (m : Meant) → ((rule.of_type place own m).faults ≡ []) ↔ ((rule.of_type place own m).made ≡ Some m) }
+{}
+
+/// The default of a sound type is of its kind.
+#[tactic(auto, using(crate::proofs::ShapeLaws::shapes_have_kinds))]
+pub fn defaults_are_sound()
+    ensures of_shapes { (n : ℕ) (t : Ty) (s : Shape) → SoundType n (out-Ty t) → shape_of t ≡ Some s → ShapeKind n (out-Shape s) (kind_of t) }
 {}
 
 /// What a type tree comes to is sound where the types of its parts are.

@@ -44,7 +44,12 @@ fn is_deep(ty: &Ty) -> bool
 }
 
 /// What the tree means, where its own rules hold and it isn't too deep.
-fn settled(meant: Meant, holds: bool, place: Place, kept: &mut Option<Fault>) -> Option<Meant>
+pub(crate) fn settled(
+    meant: Meant,
+    holds: bool,
+    place: Place,
+    kept: &mut Option<Fault>,
+) -> Option<Meant>
     ensures made { result ≡ (if holds then (unless (spec.depth_rule place meant.ty) meant).made else None) }
     ensures noted { kept.new ≡ first_of kept.old (spec.depth_rule place meant.ty) }
 {
@@ -53,7 +58,7 @@ fn settled(meant: Meant, holds: bool, place: Place, kept: &mut Option<Fault>) ->
     if deep || !holds { None } else { Some(meant) }
 }
 
-fn meaning(alloc: Global, ty: Ty) -> Result<Meant, NoMemory>
+pub(crate) fn meaning(alloc: Global, ty: Ty) -> Result<Meant, NoMemory>
     ensures { IfOk result (λ m. m ≡ spec.meaning ty) }
 {
     let sizes = Items::of(alloc, Vec::new(alloc))?;

@@ -1,5 +1,5 @@
 use Rattle.std.proofs.Common.{◌≡◌, map, drop}
-use Rattle.chi_check_expr.specs.Predefined.{is_among}
+use Rattle.chi_check_expr.specs.Names.{is_among}
 use Rattle.chi_check_expr.proofs.predefined.is_among.Given as goal
 
 -- the words before this one are others
