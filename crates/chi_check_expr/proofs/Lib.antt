@@ -1,0 +1,9 @@
+pub mod FieldNames
+pub mod FirstLaws
+pub mod Firsts
+pub mod Parts
+pub mod Ruled
+pub mod ShapeLaws
+pub mod Shapes
+pub mod Shown
+pub mod TypeLaws

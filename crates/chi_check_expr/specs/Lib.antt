@@ -1,0 +1,8 @@
+pub mod Defaults
+pub mod Faults
+pub mod Names
+pub mod Predefined
+pub mod Typed
+pub mod TypeTrees
+pub mod TypeLaws
+pub mod TypeRules
