@@ -6,13 +6,14 @@ use Rattle.chi_value.specs.declared.value.Value.{Value}
 use Rattle.chi_tree.specs.declared.definition.Program.{Program}
 use Rattle.chi_core.specs.declared.program.Core.{Core}
 use Rattle.chi_core.specs.declared.program.ProcDef.{ProcDef}
-use Rattle.chi_core.specs.Beginning.{start}
+use Rattle.chi_core.specs.Beginning.{Beginning, start}
 use Rattle.chi_core.specs.Kinds.{kinds_of}
 use Rattle.chi_core.specs.Of.{at_start, AreOf, none_of}
 use Rattle.chi_core.specs.Picks.{Pick, IsLawful}
 use Rattle.chi_core.specs.Runs.{Told}
 use Rattle.chi_core.specs.Sound.{Sound}
 use Rattle.chi_form.specs.Form.{built, HasPlainModel}
+use Rattle.chi_plain.specs.Stage.{Stage, Begun}
 use Rattle.chi_runs.specs.Picked.{PickedAlways}
 use Rattle.chi_sched.specs.Policies.{Answers, first}
 use Rattle.chi_tool.specs.declared.report.Reported.{Reported}
@@ -21,6 +22,7 @@ use Rattle.chi_tool.specs.Reported.{report_in}
 use Rattle.chi_tool.specs.Running.{IsRunOf, IsRunReport}
 use Rattle.chi_tool.specs.Settings.{Settings, plain_settings}
 use Rattle.chi_tool.specs.Sources.{ComesTo}
+use Rattle.chi_tool.specs.Turns.{RunsTo}
 
 -- no arguments fit a model without parameters
 pub none_fit : (core : Core) → HasPlainModel core → (d : ProcDef) → slice_get core.procs core.model ≡ Some d
@@ -47,6 +49,18 @@ module _ (always : PickedAlways) (sound : (tree : Program) (core : Core) → bui
         begins = refl;
       }) first first_lawful 10_000_000 (omega arith) in
       (p.0, p.1.0)
+
+-- a run from its beginning is the run of the program with its settings
+pub begun_ran : (core : Core) (seed bound : ℕ) (arguments : List Value) (until : Option ℤ) (stage : Stage) (gives : ℕ → ℕ → ℕ → Type 0) (result : Result Reported NoMemory)
+    → Begun (start core arguments seed until) stage
+    → IfOk result (λ r. (beginning : Beginning) → Begun beginning stage → (pick : Pick) → Answers gives pick → RunsTo core beginning pick bound (report_in r))
+    → IfOk result (λ r. (pick : Pick) → Answers gives pick
+    → IsRunReport core (record { seed = seed; bound = bound; pick = pick; arguments = arguments; until = until }) (report_in r))
+begun_ran core seed bound arguments until stage gives (Ok r) begun ran =
+    λ pick answers.
+    let told = ran (start core arguments seed until) begun pick answers in
+    record { told = told.0; run = told.1; is = told.2 }
+begun_ran core seed bound arguments until stage gives (Err lost) begun ran = tt
 
 -- what the policy of the first choice gives
 abbrev gives_first : ℕ → ℕ → ℕ → Type 0

@@ -25,7 +25,7 @@ use Rattle.chi_core.specs.Step.{step}
 use Rattle.chi_plain.specs.declared.stepped.Stepped.{Stepped}
 use Rattle.chi_plain.specs.declared.stepped.Stepped.TheVariants.{Next, Over, Spent}
 use Rattle.chi_plain.specs.Stage as stages
-use Rattle.chi_plain.specs.Stage.{Stage, At, Ended, Lost, Runner, Begun, actors_at, options_at, verdict_at, clock_at, MayStep, Steps, Appends}
+use Rattle.chi_plain.specs.Stage.{Stage, At, Ended, Lost, Runner, Begun, actors_at, options_at, verdict_at, clock_at, MayTell, MayStep, Steps, Appends}
 use Rattle.chi_tool.specs.Refusals.{Report}
 use Rattle.chi_tool.specs.Running.{run_report}
 use Rattle.chi_tool.specs.Turns.{GoesOn, PicksAt, Leads, IsThere, Keeps, RunsTo}
@@ -336,3 +336,11 @@ module _ (law : TurnLaw) (gives : ℕ → ℕ → ℕ → Type 0) (core : Core) 
       → EndsWith begin pick verdict clock output → RunsTo core begin pick bound r
   reported_run r verdict clock output begin pick is e =
       (record { labels = e.0; ending = record { verdict = verdict; clock = clock }; output = output }, e.1, is)
+
+-- what can be told of a verdict
+
+pub tells_there : (core other : Core) (verdict : Verdict) → other ≡ core → MayTell other verdict → MayTell core verdict
+tells_there core other verdict same may = subst (λ c. MayTell c verdict) same may
+
+pub tells_out_of_steps : (core : Core) → MayTell core OutOfSteps
+tells_out_of_steps core = record { may = refl; within = omega arith }

@@ -1,6 +1,6 @@
 use Rattle.std.proofs.Common.{rules, arith, refl, sym, w64, FitsSigned}
 use Rattle.std.proofs.lemmas.Int.{to_z-of_z}
-use Rattle.chi_tool.proofs.Turns.{TurnLaw, begins, goes_on, rests, spends, goes_next, costs_next, goes_over, ends_over, reported_run}
+use Rattle.chi_tool.proofs.Turns.{TurnLaw, begins, goes_on, rests, spends, goes_next, costs_next, goes_over, ends_over, reported_run, tells_there, tells_out_of_steps}
 use Rattle.chi_tool.proofs.run.run_from.Goals as goal
 
 pub turn-init : goal.turn-init
@@ -18,6 +18,15 @@ picked_label-label-requires-clause-early g c = let room = c.turn.invariant.room 
 
 pub plain_step-requires : goal.plain_step-requires
 plain_step-requires g c = c.picked_label-label.ensures.may
+
+pub reported-requires : goal.reported-requires
+reported-requires g c = tells_there _ _ _ c.turn.invariant.same_core c.in-Some.ensures.told
+
+pub reported-requires-in-Spent : goal.reported-requires-in-Spent
+reported-requires-in-Spent g c = tells_out_of_steps c.args.core.now
+
+pub overflow_add-turn : goal.overflow_add-turn
+overflow_add-turn g c = let room = c.turn.invariant.room in let below = c.requires.bound in omega arith
 
 pub overflow_sub-left : goal.overflow_sub-left
 overflow_sub-left g c =
