@@ -1,0 +1,12 @@
+pub mod Calls
+pub mod Casts
+pub mod Comparisons
+pub mod Containers
+pub mod Conversions
+pub mod Literals
+pub mod Named
+pub mod Nodes
+pub mod Operators
+pub mod Parts
+pub mod PredefinedCalls
+pub mod Sites

@@ -1,0 +1,243 @@
+-- Calls of predefined names, by the types of their arguments. Distributions that draw get their streams later, when all
+-- of a program is known.
+use Rattle.std.specs.Prelude.{ℕ, Bool, true, false, ◌&&◌, nat_eq, nat_lt, List, [], ◌∷◌, map, Option, Some, None, option_map, length, if◌then◌else◌}
+use Rattle.std.specs.List.{list_all}
+use Rattle.std.specs.Option.{option_and_then}
+use Rattle.chi_token.specs.declared.place.Place.{Place}
+use Rattle.chi_types.specs.declared.ty.Ty.{Ty, Ty-F, out-Ty}
+use Rattle.chi_types.specs.declared.ty.Ty.TheVariants as ty
+use Rattle.chi_types.specs.Fits.{fits}
+use Rattle.chi_types.specs.Same.{same}
+use Rattle.chi_core.specs.declared.expression.CExpr.TheVariants as expression
+use Rattle.chi_core.specs.declared.op_name.OpName.{OpName}
+use Rattle.chi_core.specs.declared.op_name.OpName.TheVariants as op
+use Rattle.chi_core.specs.Kinds.{nameless_parts}
+use Rattle.chi_typing.specs.declared.fault.Fault.{Fault}
+use Rattle.chi_typing.specs.declared.known.Known.{Known}
+use Rattle.chi_typing.specs.declared.known.Known.TheVariants as known
+use Rattle.chi_typing.specs.declared.known.NameKind.TheVariants as kind
+use Rattle.chi_typing.specs.declared.meant.Made.{Made}
+use Rattle.chi_typing.specs.declared.predefined.Predefined.{Predefined}
+use Rattle.chi_typing.specs.declared.predefined.Predefined.TheVariants as name
+use Rattle.chi_typing.specs.declared.rules.TheConstants.{PREDEFINED}
+use Rattle.chi_typing.specs.declared.site.Site.{Site}
+use Rattle.chi_typing.specs.Typed.{Typed, untyped, refused}
+use Rattle.chi_typing.specs.TypeRules.{is_int, is_drawn}
+use Rattle.chi_expr_rules.specs.Conversions.{made, converted, wanting, as_they_are, both_as}
+use Rattle.chi_expr_rules.specs.Nodes.{settled, of_all, barred, all_made}
+use Rattle.chi_expr_rules.specs.Operators.{number_of}
+use Rattle.chi_expr_rules.specs.Sites.{calling_rule, running_rule}
+
+-- a tuple of parts without names
+abbrev pub tuple : List Ty → Ty
+tuple ts = ty.TupleOf (nameless_parts ts)
+
+-- ---- one argument, by its type
+
+abbrev pub absolute_by : Ty-F Ty → Made → Option Made
+absolute_by Ty-F.Int m = Some (as_they_are op.Abs (m ∷ []) ty.Int)
+absolute_by Ty-F.Real m = Some (as_they_are op.Abs (m ∷ []) ty.Real)
+absolute_by _ m = None
+
+abbrev pub absolute : Made → Option Made
+absolute m = absolute_by (out-Ty m.ty) m
+
+-- -1, 0 or 1
+abbrev pub sign_by : Ty-F Ty → Made → Option Made
+sign_by Ty-F.Int m = Some (as_they_are op.Sign (m ∷ []) ty.Int)
+sign_by Ty-F.Real m = Some (as_they_are op.Sign (m ∷ []) ty.Int)
+sign_by _ m = None
+
+abbrev pub sign : Made → Option Made
+sign m = sign_by (out-Ty m.ty) m
+
+-- what has elements or bytes that are counted
+abbrev pub is_counted : Ty-F Ty → Bool
+is_counted Ty-F.Text = true
+is_counted (Ty-F.ListOf element) = true
+is_counted (Ty-F.SetOf element) = true
+is_counted (Ty-F.DictOf key value) = true
+is_counted _ = false
+
+abbrev pub counted : OpName → Ty → Made → Option Made
+counted name result m = if is_counted (out-Ty m.ty) then Some (as_they_are name (m ∷ []) result) else None
+
+-- the first, or the least, and the rest
+abbrev pub popped_type : Ty → Ty-F Ty → Option Ty
+popped_type whole (Ty-F.ListOf element) = Some (tuple (element ∷ whole ∷ []))
+popped_type whole (Ty-F.SetOf element) = Some (tuple (element ∷ whole ∷ []))
+popped_type whole (Ty-F.DictOf key value) = Some (tuple (key ∷ value ∷ whole ∷ []))
+popped_type whole _ = None
+
+abbrev pub popped : Made → Option Made
+popped m = option_map (as_they_are op.Pop (m ∷ [])) (popped_type m.ty (out-Ty m.ty))
+
+-- each element with its index
+abbrev pub enumerated_by : Ty-F Ty → Made → Option Made
+enumerated_by (Ty-F.ListOf element) m = Some (as_they_are op.Enumerate (m ∷ []) (ty.ListOf (tuple (ty.Int ∷ element ∷ []))))
+enumerated_by _ m = None
+
+abbrev pub enumerated : Made → Option Made
+enumerated m = enumerated_by (out-Ty m.ty) m
+
+abbrev pub keys_by : Ty-F Ty → Made → Option Made
+keys_by (Ty-F.DictOf key value) m = Some (as_they_are op.DictKeys (m ∷ []) (ty.ListOf key))
+keys_by _ m = None
+
+abbrev pub keys : Made → Option Made
+keys m = keys_by (out-Ty m.ty) m
+
+abbrev pub values_by : Ty-F Ty → Made → Option Made
+values_by (Ty-F.DictOf key value) m = Some (as_they_are op.DictValues (m ∷ []) (ty.ListOf value))
+values_by _ m = None
+
+abbrev pub values : Made → Option Made
+values m = values_by (out-Ty m.ty) m
+
+-- a distribution that is always the same
+abbrev pub constant : Made → Option Made
+constant m = if is_drawn (out-Ty m.ty) then Some (as_they_are op.Constant (m ∷ []) (ty.Dist m.ty)) else None
+
+-- ---- two arguments
+
+-- without the element at an index
+abbrev pub deleted_by : Ty-F Ty → Made → Made → Option Made
+deleted_by (Ty-F.ListOf element) list index =
+    if is_int (out-Ty index.ty) then Some (as_they_are op.Del (list ∷ index ∷ []) list.ty) else None
+deleted_by _ list index = None
+
+abbrev pub deleted : Made → Made → Option Made
+deleted list index = deleted_by (out-Ty list.ty) list index
+
+-- between two ints, or between two numbers as reals
+abbrev pub uniform : Made → Made → Option Made
+uniform a b = option_map (λ t. both_as op.Uniform t a b (ty.Dist t)) (number_of (out-Ty a.ty) (out-Ty b.ty))
+
+-- ---- two numbers or more
+
+-- int where all are ints, real where all are numbers and one of them is a real
+abbrev pub common_number : Ty → List Made → Option Ty
+common_number t [] = Some t
+common_number t (m ∷ ms) = option_and_then (λ u. common_number u ms) (number_of (out-Ty t) (out-Ty m.ty))
+
+abbrev pub extreme : OpName → List Made → Option Made
+extreme name [] = None
+extreme name (m ∷ ms) =
+    option_map (λ t. made (expression.Op name (map (λ each. converted each t) (m ∷ ms))) t) (common_number m.ty ms)
+
+-- ---- ranges
+
+abbrev pub range : List Made → Option Made
+range bounds = if list_all (λ m. is_int (out-Ty m.ty)) bounds then Some (as_they_are op.Range bounds (ty.ListOf ty.Int)) else None
+
+-- ---- the table
+
+-- how many arguments there may be
+abbrev pub is_count : Predefined → ℕ → Bool
+is_count name.Abs count = nat_eq count 1
+is_count name.Sign count = nat_eq count 1
+is_count name.Min count = nat_lt 1 count
+is_count name.Max count = nat_lt 1 count
+is_count name.Floor count = nat_eq count 1
+is_count name.Ceil count = nat_eq count 1
+is_count name.Round count = nat_eq count 1
+is_count name.Size count = nat_eq count 1
+is_count name.Empty count = nat_eq count 1
+is_count name.Pop count = nat_eq count 1
+is_count name.Del count = nat_eq count 2
+is_count name.Insert count = nat_eq count 3
+is_count name.Range count = nat_lt 0 count && nat_lt count 4
+is_count name.Enumerate count = nat_eq count 1
+is_count name.DictKeys count = nat_eq count 1
+is_count name.DictValues count = nat_eq count 1
+is_count name.Constant count = nat_eq count 1
+is_count name.Uniform count = nat_eq count 2
+is_count name.Bernoulli count = nat_eq count 1
+is_count name.Binomial count = nat_eq count 2
+is_count name.Exponential count = false
+is_count name.Ready count = nat_eq count 1
+is_count name.Finished count = nat_eq count 1
+
+abbrev pub one : (Made → Option Made) → List Made → Option Made
+one f (m ∷ []) = f m
+one f _ = None
+
+abbrev pub two : (Made → Made → Option Made) → List Made → Option Made
+two f (a ∷ b ∷ []) = f a b
+two f _ = None
+
+-- What a predefined name makes of its arguments. `insert` has a rule of its own, since its third argument is a name, and
+-- `exponential` isn't defined for any.
+abbrev pub predefined : Predefined → List Made → Option Made
+predefined name.Abs ms = one absolute ms
+predefined name.Sign ms = one sign ms
+predefined name.Min ms = extreme op.Min ms
+predefined name.Max ms = extreme op.Max ms
+predefined name.Floor ms = wanting op.Floor (ty.Real ∷ []) ty.Int ms
+predefined name.Ceil ms = wanting op.Ceil (ty.Real ∷ []) ty.Int ms
+predefined name.Round ms = wanting op.Round (ty.Real ∷ []) ty.Int ms
+predefined name.Size ms = one (counted op.Size ty.Int) ms
+predefined name.Empty ms = one (counted op.Empty ty.Bool) ms
+predefined name.Pop ms = one popped ms
+predefined name.Del ms = two deleted ms
+predefined name.Insert ms = None
+predefined name.Range ms = range ms
+predefined name.Enumerate ms = one enumerated ms
+predefined name.DictKeys ms = one keys ms
+predefined name.DictValues ms = one values ms
+predefined name.Constant ms = one constant ms
+predefined name.Uniform ms = two uniform ms
+predefined name.Bernoulli ms = wanting op.Bernoulli (ty.Real ∷ []) (ty.Dist ty.Bool) ms
+predefined name.Binomial ms = wanting op.Binomial (ty.Int ∷ ty.Real ∷ []) (ty.Dist ty.Int) ms
+predefined name.Exponential ms = None
+predefined name.Ready ms = wanting op.Ready (ty.Timer ∷ []) ty.Bool ms
+predefined name.Finished ms = wanting op.Finished (ty.Inst ∷ []) ty.Bool ms
+
+-- ---- insertion by a function
+
+-- two parameters of the type, and a bool
+abbrev pub tells_order : Ty → List Ty → Ty → Bool
+tells_order t (a ∷ b ∷ []) result = same a t && same b t && same result ty.Bool
+tells_order t _ result = false
+
+-- the list, the new element, and what is known of the name of the function
+abbrev pub inserted_by : Ty → Made → Made → Known → Option Made
+inserted_by element list x (known.Func number params result) =
+    if fits x.ty element && tells_order element params result
+    then Some (made (expression.InsertBy list.core (converted x element) number) list.ty)
+    else None
+inserted_by element list x _ = None
+
+abbrev pub inserted_in : Ty-F Ty → Made → Made → Known → Option Made
+inserted_in (Ty-F.ListOf element) list x k = inserted_by element list x k
+inserted_in _ list x k = None
+
+-- A function one of whose types breaks a rule has no type, and so no rule that needs it is broken.
+abbrev pub insertion : Place → Made → Made → Option Known → Typed Made
+insertion place list x None = refused PREDEFINED place
+insertion place list x (Some (known.Untyped kind.Function)) = untyped []
+insertion place list x (Some k) = settled PREDEFINED place (inserted_in (out-Ty list.ty) list x k)
+
+-- what stands third in an insertion is a name, and what is known of it; a predefined name is no function's
+abbrev pub insertion_of : Place → Option Made → Option Made → Option Known → Typed Made
+insertion_of place (Some list) (Some x) k = insertion place list x k
+insertion_of place _ _ k = untyped []
+
+-- ---- the nodes
+
+-- what depends on the run may stand in processes alone, and an insertion calls a function
+abbrev pub predefined_rule : Site → Predefined → Place → List Fault
+predefined_rule site name.Ready place = running_rule site place
+predefined_rule site name.Finished place = running_rule site place
+predefined_rule site name.Insert place = calling_rule site place
+predefined_rule site p place = []
+
+-- the first two arguments of an insertion, and what is known of the name that stands third
+abbrev pub insert_call : Place → List (Option Made) → Option Known → Typed Made
+insert_call place (list ∷ x ∷ third ∷ []) k = insertion_of place list x k
+insert_call place _ k = refused PREDEFINED place
+
+abbrev pub predefined_call : Site → Place → Predefined → List (Option Made) → Option Known → Typed Made
+predefined_call site place name.Insert arguments k = barred (predefined_rule site name.Insert place) (insert_call place arguments k)
+predefined_call site place p arguments k =
+    barred (predefined_rule site p place) (of_all PREDEFINED place (is_count p (length arguments)) (predefined p) (all_made arguments))

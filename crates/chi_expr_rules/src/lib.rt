@@ -1,0 +1,2 @@
+//! One function a rule of expressions: what is made of typed parts, or that the rule is broken.
+#![tactic(auto)]
