@@ -1,0 +1,12 @@
+pub mod Casts
+pub mod Comparisons
+pub mod Containers
+pub mod Conversions
+pub mod Has
+pub mod Names
+pub mod Operators
+pub mod Parts
+pub mod PredefinedCalls
+pub mod Sites
+pub mod TypeKinds
+pub mod Types
