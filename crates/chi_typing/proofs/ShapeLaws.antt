@@ -50,10 +50,10 @@ plain_layer (Ty-F.Dist a) = refl
 plain_rolled : (z : Ty-F Ty) → is_plain_kind (without_ways_and_names (map-Ty Ty Ty erased z)) ≡ is_plain_kind z → StaysPlain (roll-Ty z)
 plain_rolled z e = plain_at (erased (roll-Ty z)) _ (kind_at (roll-Ty z) z (out-roll-Ty z)) ∙ e ∙ sym (plain_at (roll-Ty z) z (out-roll-Ty z))
 
-stays_plain : (a : Ty) → is_plain (erased a) ≡ is_plain a
+pub stays_plain : (a : Ty) → is_plain (erased a) ≡ is_plain a
 stays_plain = ind-Ty StaysPlain (λ x y e. subst (λ x. StaysPlain (roll-Ty x)) e (plain_rolled (map-Ty Held Ty type_of y) (plain_layer y)))
 
-still_plain : (a : Ty) → IsTrue (is_plain a) → IsTrue (is_plain (erased a))
+pub still_plain : (a : Ty) → IsTrue (is_plain a) → IsTrue (is_plain (erased a))
 still_plain a h = subst IsTrue (sym (stays_plain a)) h
 
 -- ---- shapes

@@ -2,6 +2,7 @@
 use Rattle.std.proofs.Common.{◌≡◌, ℕ, Bool, true, false, not, List, [], ◌∷◌, ◌++◌, Option, Some, None, refl, sym, ap, subst, ◌∙◌}
 use Rattle.std.specs.Prelude.{IsTrue}
 use Rattle.chi_token.specs.declared.place.Place.{Place}
+use Rattle.chi_tree.specs.declared.type_tree.Name.{Name}
 use Rattle.chi_tree.specs.declared.type_tree.TypeWord.{TypeWord}
 use Rattle.chi_tree.specs.declared.type_tree.TypeWord.TheVariants as word
 use Rattle.chi_tree.specs.declared.type_tree.Way.{Way}
@@ -9,13 +10,13 @@ use Rattle.chi_types.specs.declared.ty.Ty.{Ty, Ty-F, out-Ty}
 use Rattle.chi_types.specs.declared.ty.Ty.TheVariants as ty
 use Rattle.chi_types.specs.Plain.{is_plain}
 use Rattle.chi_core.specs.SoundTypes as sound
-use Rattle.chi_core.specs.SoundTypes.{SoundType}
+use Rattle.chi_core.specs.SoundTypes.{SoundType, SoundParts}
 use Rattle.chi_typing.specs.declared.fault.Fault.{Fault}
 use Rattle.chi_typing.specs.declared.known.Known.TheVariants as known
 use Rattle.chi_typing.specs.declared.meant.Made.{Made}
 use Rattle.chi_typing.specs.declared.meant.Meant.{Meant}
 use Rattle.chi_typing.specs.Typed.{Typed, broken_if, unless}
-use Rattle.chi_typing.specs.TypeRules.{of_type, meaning, depth_rule, word_type, word_of, visible_type, list_of, set_of, dict_of, dist_of, chan_of, void_chan_of, sized_list_of, with_size, way_of}
+use Rattle.chi_typing.specs.TypeRules.{of_type, meaning, depth_rule, word_type, word_of, visible_type, list_of, set_of, dict_of, dist_of, chan_of, void_chan_of, sized_list_of, with_size, way_of, names_rule, tuple_of}
 use Rattle.chi_typing.specs.TypeLaws.{IsSound, ComesToSound}
 
 unless_made : (fs : List Fault) (m : Meant) → (unless fs m).faults ≡ [] → (unless fs m).made ≡ Some m
@@ -87,3 +88,6 @@ sound_chan n place w carried s = sound_made n place [] (meaning (ty.Chan (way_of
 
 pub sound_void_chan : (n : ℕ) (place : Place) (w : Way) → ComesToSound n (void_chan_of place w)
 sound_void_chan n place w = sound_made n place [] (meaning (ty.Chan (way_of w) ty.Void)) (subst (SoundType n) (sym (ty.outs-Chan (way_of w) ty.Void)) (sound.channel_of_void (way_of w) ty.Void ty.outs-Void))
+
+pub sound_tuple : (n : ℕ) (place : Place) (names : List Name) (parts : List (List ℕ × Ty)) → SoundParts n parts → ComesToSound n (tuple_of place names (Some parts))
+sound_tuple n place names parts s = sound_made n place (names_rule [] names) (meaning (ty.TupleOf parts)) (subst (SoundType n) (sym (ty.outs-TupleOf parts)) (sound.tuple parts s))

@@ -20,7 +20,7 @@ pub use fault::{Fault, TypeFault, note};
 pub use known::{Known, NameKind};
 pub use laws::first_is_the_least;
 pub use meant::{Made, Meant};
-pub use predefined::{PREDEFINED, is_predefined};
+pub use predefined::{PREDEFINED, Predefined, is_predefined, predefined_of};
 pub use scope::Scope;
 pub use site::Site;
 pub use tuple_rules::tuple_of;

@@ -1,50 +1,86 @@
 ghost use Rattle.std.specs.Prelude.{◌≡◌, map};
-ghost use Rattle.chi_typing.specs.Names.{is_among};
-ghost use Rattle.chi_typing.specs.Predefined.{is_predefined};
+ghost use Rattle.chi_typing.specs.Names.{looked_up};
+ghost use Rattle.chi_typing.specs.Predefined as spec;
 
 use chi_token::Bytes;
 
-/// The predefined names, which nothing else may be named.
-pub static PREDEFINED: [&str; 23] = [
-    "abs",
-    "sign",
-    "min",
-    "max",
-    "floor",
-    "ceil",
-    "round",
-    "size",
-    "empty",
-    "pop",
-    "del",
-    "insert",
-    "range",
-    "enumerate",
-    "dict_keys",
-    "dict_values",
-    "constant",
-    "uniform",
-    "bernoulli",
-    "binomial",
-    "exponential",
-    "ready",
-    "finished",
+/// What a predefined name stands for.
+#[derive(Clone, Copy, Debug, PartialEq, Eq)]
+pub enum Predefined {
+    Abs,
+    Sign,
+    Min,
+    Max,
+    Floor,
+    Ceil,
+    Round,
+    Size,
+    Empty,
+    Pop,
+    Del,
+    Insert,
+    Range,
+    Enumerate,
+    DictKeys,
+    DictValues,
+    Constant,
+    Uniform,
+    Bernoulli,
+    Binomial,
+    Exponential,
+    Ready,
+    Finished,
+}
+
+/// The predefined names, which nothing else may be named, with what each stands for.
+pub static PREDEFINED: [(&str, Predefined); 23] = [
+    ("abs", Predefined::Abs),
+    ("sign", Predefined::Sign),
+    ("min", Predefined::Min),
+    ("max", Predefined::Max),
+    ("floor", Predefined::Floor),
+    ("ceil", Predefined::Ceil),
+    ("round", Predefined::Round),
+    ("size", Predefined::Size),
+    ("empty", Predefined::Empty),
+    ("pop", Predefined::Pop),
+    ("del", Predefined::Del),
+    ("insert", Predefined::Insert),
+    ("range", Predefined::Range),
+    ("enumerate", Predefined::Enumerate),
+    ("dict_keys", Predefined::DictKeys),
+    ("dict_values", Predefined::DictValues),
+    ("constant", Predefined::Constant),
+    ("uniform", Predefined::Uniform),
+    ("bernoulli", Predefined::Bernoulli),
+    ("binomial", Predefined::Binomial),
+    ("exponential", Predefined::Exponential),
+    ("ready", Predefined::Ready),
+    ("finished", Predefined::Finished),
 ];
 
-/// Whether a text is one of the words.
-fn is_among(text: &[u8], words: &[&str]) -> bool
-    ensures { result ≡ is_among text.now (map (λ word. word.now) words.now) }
+/// What the first row with this name stands for.
+fn row_of(rows: &[(&'static str, Predefined)], name: &[u8]) -> Option<Predefined>
+    ensures { result ≡ looked_up (map (λ row. (row.0.now, row.1)) rows.now) name.now }
 {
-    for word in words {
-        if text == word.as_bytes() {
-            return true;
+    for row in rows {
+        if name == row.0.as_bytes() {
+            return Some(row.1);
         }
     }
-    false
+    None
+}
+
+/// What a name stands for, if it is predefined.
+#[tactic(auto, unfolding(crate::specs::Predefined::predefined_of))]
+pub fn predefined_of(name: &Bytes) -> Option<Predefined>
+    ensures { result ≡ spec.predefined_of name.now }
+{
+    row_of(&PREDEFINED, name.as_slice())
 }
 
 pub fn is_predefined(name: &Bytes) -> bool
-    ensures { result ≡ is_predefined name.now }
+    ensures { result ≡ spec.is_predefined name.now }
 {
-    is_among(name.as_slice(), &PREDEFINED)
+    predefined_of(name).is_some()
 }

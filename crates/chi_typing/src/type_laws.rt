@@ -2,13 +2,14 @@
 
 ghost use Rattle.std.specs.Prelude.{◌≡◌, ◌↔◌, ℕ, Bool, List, [], Option, Some};
 ghost use Rattle.chi_token.specs.declared.place.Place.{Place};
+ghost use Rattle.chi_tree.specs.declared.type_tree.Name.{Name};
 ghost use Rattle.chi_tree.specs.declared.type_tree.TypeWord.{TypeWord};
 ghost use Rattle.chi_tree.specs.declared.type_tree.Way.{Way};
 ghost use Rattle.chi_types.specs.declared.ty.Ty.{Ty, out-Ty};
 ghost use Rattle.chi_value.specs.declared.shape.Shape.{Shape, out-Shape};
 ghost use Rattle.chi_core.specs.Kinds.{kind_of};
 ghost use Rattle.chi_core.specs.OperatorKinds.{ShapeKind};
-ghost use Rattle.chi_core.specs.SoundTypes.{SoundType};
+ghost use Rattle.chi_core.specs.SoundTypes.{SoundType, SoundParts};
 ghost use Rattle.chi_typing.specs.declared.fault.Fault.{Fault};
 ghost use Rattle.chi_typing.specs.declared.known.Known.TheVariants as known;
 ghost use Rattle.chi_typing.specs.declared.meant.Made.{Made};
@@ -30,7 +31,7 @@ pub fn defaults_are_sound()
 {}
 
 /// What a type tree comes to is sound where the types of its parts are.
-#[tactic(auto, using(crate::proofs::TypeLaws::sound_word, crate::proofs::TypeLaws::sound_name, crate::proofs::TypeLaws::sound_list, crate::proofs::TypeLaws::sound_sized_list, crate::proofs::TypeLaws::sound_set, crate::proofs::TypeLaws::sound_dict, crate::proofs::TypeLaws::sound_dist, crate::proofs::TypeLaws::sound_chan, crate::proofs::TypeLaws::sound_void_chan))]
+#[tactic(auto, using(crate::proofs::TypeLaws::sound_word, crate::proofs::TypeLaws::sound_name, crate::proofs::TypeLaws::sound_list, crate::proofs::TypeLaws::sound_sized_list, crate::proofs::TypeLaws::sound_set, crate::proofs::TypeLaws::sound_dict, crate::proofs::TypeLaws::sound_dist, crate::proofs::TypeLaws::sound_chan, crate::proofs::TypeLaws::sound_void_chan, crate::proofs::TypeLaws::sound_tuple))]
 pub fn types_are_sound()
     ensures of_words { (n : ℕ) (place : Place) (word : TypeWord) → ComesToSound n (rule.word_of place word) }
     ensures of_names { (n : ℕ) (place : Place) (t : Ty) → SoundType n (out-Ty t) → ComesToSound n (rule.visible_type place (Some (known.Kind t))) }
@@ -41,4 +42,5 @@ pub fn types_are_sound()
     ensures of_distributions { (n : ℕ) (place : Place) (drawn : Meant) → IsSound n drawn → ComesToSound n (rule.dist_of place (Some drawn)) }
     ensures of_channels { (n : ℕ) (place : Place) (way : Way) (carried : Meant) → IsSound n carried → ComesToSound n (rule.chan_of place way (Some carried)) }
     ensures of_void_channels { (n : ℕ) (place : Place) (way : Way) → ComesToSound n (rule.void_chan_of place way) }
+    ensures of_tuples { (n : ℕ) (place : Place) (names : List Name) (parts : List (List ℕ × Ty)) → SoundParts n parts → ComesToSound n (rule.tuple_of place names (Some parts)) }
 {}

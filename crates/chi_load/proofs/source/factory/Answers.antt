@@ -1,0 +1,16 @@
+-- What is formatted is the source, but for how its parts are grouped.
+use Rattle.std.proofs.Common.{◌+◌, ◌∙◌, ◌++◌, codes, ap}
+use Rattle.std.specs.Fmt.{decimal}
+use Rattle.chi_load.specs.Factory.{processes}
+use Rattle.chi_load.proofs.Grouped.{grouped}
+use Rattle.chi_load.proofs.source.factory.Goals as goal
+
+pub returns : goal.returns
+returns c = record {
+  source =
+      ap (λ v. v.items) c.into_bytes.ensures.value
+      ∙ c.in_ok-source.ensures.ok
+      ∙ ap (λ tail. processes ++ codes "model int M():\n  list(" ++ tail)
+      (grouped (decimal (c.args.n + 1)) (codes ") chan int c;\n") (codes "  run G(c[0], 100), unwind i in range(") (decimal c.args.n)
+      (codes "): W(c[i], c[i + 1], 1.0) end, E(c[") (codes "], 100)\n") (codes "end\n"));
+}

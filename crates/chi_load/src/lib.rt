@@ -1,0 +1,10 @@
+//! The source of a factory: a generator, so many machines in a row, and an exit, by which the
+//! program shows what load it bears.
+#![tactic(auto)]
+
+mod source;
+
+pub use source::{MOST_MACHINES, factory};
+
+#[cfg(test)]
+mod tests;
