@@ -50,12 +50,20 @@ abbrev pub spread_one : ℕ → Place → List (Option Aim) → Option Made → 
 spread_one line equals aims None = untyped []
 spread_one line equals aims (Some m) = spread_value line equals aims m.core (out-Ty m.ty)
 
+-- the one value, where there is just one
+abbrev pub only_one : List (Option Made) → Option (Option Made)
+only_one (value ∷ []) = Some value
+only_one _ = None
+
 -- another number of values than of targets
-abbrev pub uneven : ℕ → Place → List (Option Aim) → List (Option Made) → Typed CStat
-uneven line equals aims (value ∷ []) = spread_one line equals aims value
-uneven line equals aims _ = refused TARGET_COUNT equals
+abbrev pub uneven : ℕ → Place → List (Option Aim) → Option (Option Made) → Typed CStat
+uneven line equals aims None = refused TARGET_COUNT equals
+uneven line equals aims (Some value) = spread_one line equals aims value
+
+-- as many of one as of the other
+abbrev pub even : ℕ → Place → List (Option Aim) → List (Option Made) → Typed CStat
+even line equals aims values = of_two ASSIGNED_VALUE equals (stored line) (all_made values) (all_aims aims)
 
 abbrev pub assigned : ℕ → Place → List (Option Aim) → List (Option Made) → Typed CStat
 assigned line equals aims values =
-    if nat_eq (length values) (length aims) then of_two ASSIGNED_VALUE equals (stored line) (all_made values) (all_aims aims)
-    else uneven line equals aims values
+    if nat_eq (length values) (length aims) then even line equals aims values else uneven line equals aims (only_one values)

@@ -1,5 +1,5 @@
 -- What is run and started.
-use Rattle.std.specs.Prelude.{ℕ, nat_eq, true, not, List, [], length, Option, Some, None, option_map, if◌then◌else◌}
+use Rattle.std.specs.Prelude.{ℕ, nat_eq, Bool, true, false, not, List, [], length, Option, Some, None, option_map, if◌then◌else◌}
 use Rattle.chi_token.specs.declared.place.Place.{Place}
 use Rattle.chi_tree.specs.declared.type_tree.Name.{Name}
 use Rattle.chi_types.specs.declared.ty.Ty.{Ty, out-Ty}
@@ -35,14 +35,14 @@ abbrev pub instance_target : Place → Option Aim → Typed CTarget
 instance_target place a = of_one ELEMENT_TARGET place as_instance_target a
 
 -- a process with exits of a type is started only by a definition whose exits have that type
-abbrev pub exit_among : ExitType → Place → Ty → List Fault
-exit_among exit.Nothing place t = broken_if true STARTED_EXIT place
-exit_among exit.Untyped place t = []
-exit_among (exit.Given own) place t = broken_if (not (same t own)) STARTED_EXIT place
+abbrev pub is_other_exit : ExitType → Ty → Bool
+is_other_exit exit.Nothing t = true
+is_other_exit exit.Untyped t = false
+is_other_exit (exit.Given own) t = not (same t own)
 
 abbrev pub exit_in : Home → Place → Ty → List Fault
 exit_in (home.Function result) place t = []
-exit_in (home.Process own) place t = exit_among own place t
+exit_in (home.Process own) place t = broken_if (is_other_exit own t) STARTED_EXIT place
 
 -- one without an exit type is started by any
 abbrev pub exit_rule : Home → Place → Option Ty → List Fault
@@ -51,6 +51,11 @@ exit_rule h place (Some t) = exit_in h place t
 
 abbrev pub started : ℕ → List Ty → List Made → Option Started
 started number params arguments = option_map (λ es. record { process = number; arguments = es }) (passed arguments params)
+
+-- a start of a process with parameters of these types
+abbrev pub process_start : Place → ℕ → List Ty → List (Option Made) → Typed Started
+process_start place number params arguments =
+    of_all ELEMENT_ARGUMENTS place (nat_eq (length arguments) (length params)) (started number params) (all_made arguments)
 
 -- a process one of whose types breaks a rule has no type; what else has none is of another kind
 abbrev pub untyped_start : Place → NameKind → Typed Started
@@ -65,8 +70,7 @@ untyped_start place kind.Function = refused NAME_KIND place
 abbrev pub visible_start : Home → Place → Option Known → List (Option Made) → Typed Started
 visible_start h place None arguments = refused VISIBLE_NAME place
 visible_start h place (Some (known.Proc number params exit)) arguments =
-    barred (exit_rule h place exit)
-      (of_all ELEMENT_ARGUMENTS place (nat_eq (length arguments) (length params)) (started number params) (all_made arguments))
+    barred (exit_rule h place exit) (process_start place number params arguments)
 visible_start h place (Some (known.Untyped k)) arguments = untyped_start place k
 visible_start h place (Some (known.Var slot t)) arguments = refused NAME_KIND place
 visible_start h place (Some (known.Fixed slot t)) arguments = refused NAME_KIND place

@@ -1,8 +1,8 @@
 -- What may stand in a function and what may not.
-use Rattle.std.specs.Prelude.{true, List, [], Option, Some, None}
+use Rattle.std.specs.Prelude.{Bool, true, false, List, [], Option, Some, None}
 use Rattle.chi_token.specs.declared.place.Place.{Place}
-use Rattle.chi_types.specs.declared.ty.Ty.{Ty, out-Ty}
-use Rattle.chi_core.specs.Kinds.{holds_channel}
+use Rattle.chi_types.specs.declared.ty.Ty.{Ty, fold-Ty}
+use Rattle.chi_core.specs.Kinds.{holds_channel_step}
 use Rattle.chi_typing.specs.declared.fault.Fault.{Fault}
 use Rattle.chi_typing.specs.declared.rules.TheConstants.{IN_FUNCTION, CHANNEL_IN_FUNCTION}
 use Rattle.chi_typing.specs.declared.site.Site.{Site}
@@ -21,8 +21,12 @@ abbrev pub running_rule : Home → Place → List Fault
 running_rule (home.Function result) place = broken_if true IN_FUNCTION place
 running_rule (home.Process exit) place = []
 
+-- a channel is in the type, at some depth
+abbrev pub has_channel : Ty → Bool
+has_channel = fold-Ty Bool holds_channel_step
+
 abbrev pub channel_in_rule : Home → Place → Ty → List Fault
-channel_in_rule (home.Function result) place t = broken_if (holds_channel (out-Ty t)) CHANNEL_IN_FUNCTION place
+channel_in_rule (home.Function result) place t = broken_if (has_channel t) CHANNEL_IN_FUNCTION place
 channel_in_rule (home.Process exit) place t = []
 
 -- no local variable of a function has a type with a channel in it

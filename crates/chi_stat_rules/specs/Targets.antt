@@ -1,5 +1,5 @@
 -- Targets: what a name is where something is stored, and a step into a part of it.
-use Rattle.std.specs.Prelude.{ℕ, List, [], ◌∷◌, ◌++◌, Option, Some, None, option_map, if◌then◌else◌}
+use Rattle.std.specs.Prelude.{ℕ, Bool, true, false, List, [], ◌∷◌, ◌++◌, Option, Some, None, option_map, if◌then◌else◌}
 use Rattle.chi_token.specs.declared.place.Place.{Place}
 use Rattle.chi_tree.specs.declared.type_tree.Name.{Name}
 use Rattle.chi_types.specs.declared.ty.Ty.{Ty, Ty-F, out-Ty}
@@ -69,14 +69,17 @@ indexed (Ty-F.ListOf element) a index = to_element a element index
 indexed (Ty-F.DictOf key value) a index = to_key a key value index
 indexed _ a index = None
 
+abbrev pub is_text : Ty-F Ty → Bool
+is_text Ty-F.Text = true
+is_text _ = false
+
 -- An index on a string breaks the rule of targets, at the target's name, whatever the index is.
-abbrev pub index_into : Place → Place → Ty-F Ty → Aim → Option Made → Typed Aim
-index_into name place Ty-F.Text a index = refused TARGET name
-index_into name place layer a index = of_one INDEX place (indexed layer a) index
+abbrev pub index_into : Place → Place → Aim → Option Made → Typed Aim
+index_into name place a index = if is_text (out-Ty a.ty) then refused TARGET name else of_one INDEX place (indexed (out-Ty a.ty) a) index
 
 abbrev pub index_step : Place → Place → Option Aim → Option Made → Typed Aim
 index_step name place None index = untyped []
-index_step name place (Some a) index = index_into name place (out-Ty a.ty) a index
+index_step name place (Some a) index = index_into name place a index
 
 abbrev pub to_part : Aim → ℕ × Ty → Aim
 to_part a found = stepped a (step.Part found.0) found.1

@@ -30,10 +30,13 @@ name_types count element = if nat_eq count 1 then Some (element ∷ []) else typ
 abbrev pub walked : CExpr → List Ty → Walked
 walked container types = record { container = container; types = types }
 
+abbrev pub walked_by : ℕ → CExpr → Ty → Option Walked
+walked_by count container element = option_map (walked container) (name_types count element)
+
 -- the first place is that of the container, the second that of the first name
 abbrev pub walk_over : Place → Place → ℕ → CExpr → Option Ty → Typed Walked
 walk_over place first count container None = refused WALK place
-walk_over place first count container (Some element) = settled WALK_NAMES first (option_map (walked container) (name_types count element))
+walk_over place first count container (Some element) = settled WALK_NAMES first (walked_by count container element)
 
 abbrev pub walk_of : Place → Place → ℕ → Option Made → Typed Walked
 walk_of place first count None = untyped []

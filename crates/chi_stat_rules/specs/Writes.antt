@@ -1,6 +1,6 @@
 -- Writes: a format and the values that it shows.
 use Rattle.std.proofs.Common.{inl, inr}
-use Rattle.std.specs.Prelude.{ℕ, ◌+◌, nat_eq, Bool, true, false, List, [], ◌∷◌, ◌++◌, length, Option, Some, None, option_map, if◌then◌else◌}
+use Rattle.std.specs.Prelude.{ℕ, nat_eq, count_by, Bool, true, false, List, [], ◌∷◌, ◌++◌, length, Option, Some, None, option_map, if◌then◌else◌}
 use Rattle.std.specs.Option.{option_and_then}
 use Rattle.chi_token.specs.declared.place.Place.{Place}
 use Rattle.chi_types.specs.declared.ty.Ty.{out-Ty}
@@ -32,13 +32,21 @@ read_pieces text (inr bad) = None
 unfoldable pub pieces_of : List ℕ → Option (List Piece)
 pieces_of text = read_pieces text (a_reading text)
 
--- how many pieces show a value
+-- each piece but one of plain text shows a value
+abbrev pub is_shown : Piece → Bool
+is_shown (piece.Plain bytes) = false
+is_shown (piece.Any field) = true
+is_shown (piece.Whole field) = true
+is_shown (piece.Fixed field decimals) = true
+
+-- how many do
 abbrev pub shown_count : List Piece → ℕ
-shown_count [] = 0
-shown_count (piece.Plain bytes ∷ pieces) = shown_count pieces
-shown_count (piece.Any field ∷ pieces) = 1 + shown_count pieces
-shown_count (piece.Whole field ∷ pieces) = 1 + shown_count pieces
-shown_count (piece.Fixed field decimals ∷ pieces) = 1 + shown_count pieces
+shown_count pieces = count_by is_shown pieces
+
+-- the next that does, and the pieces after it
+abbrev pub next_shown : List Piece → Option (Piece × List Piece)
+next_shown [] = None
+next_shown (p ∷ pieces) = if is_shown p then Some (p, pieces) else next_shown pieces
 
 -- a value as its piece shows it; a piece of plain text shows none
 abbrev pub showing : Piece → Made → Option CExpr
@@ -57,12 +65,18 @@ shown_one p v = of_one FORMAT_VALUE v.0 (showing p) v.1
 abbrev pub with_first : Typed CExpr → Typed (List CExpr) → Typed (List CExpr)
 with_first e es = record { faults = e.faults ++ es.faults; made = option_and_then (λ e. option_map (λ es. e ∷ es) es.made) e.made }
 
--- the values in turn, each with the next piece that shows one; what is left over when either ends shows nothing
+abbrev pub shown_then : Option (Piece × List Piece) → Written → (List Piece → Typed (List CExpr)) → Typed (List CExpr)
+shown_then None v more = unless [] []
+shown_then (Some next) v more = with_first (shown_one next.0 v) (more next.1)
+
+-- the values in turn, each by the next piece that shows one
 abbrev pub all_shown : List Piece → List Written → Typed (List CExpr)
-all_shown [] values = unless [] []
-all_shown (piece.Plain bytes ∷ pieces) values = all_shown pieces values
-all_shown (p ∷ pieces) [] = unless [] []
-all_shown (p ∷ pieces) (v ∷ values) = with_first (shown_one p v) (all_shown pieces values)
+all_shown pieces [] = unless [] []
+all_shown pieces (v ∷ values) = shown_then (next_shown pieces) v (λ rest. all_shown rest values)
+
+-- one more, where all are there
+abbrev pub and_then_one : Option (List CExpr) → Option CExpr → Option (List CExpr)
+and_then_one es e = option_and_then (λ es. option_map (λ e. es ++ e ∷ []) e) es
 
 abbrev pub written : ℕ → List Piece → Typed (List CExpr) → Typed CStat
 written line pieces es = record { faults = es.faults; made = option_map (statement.Write line pieces) es.made }
