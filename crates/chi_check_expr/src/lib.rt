@@ -1,0 +1,2 @@
+//! Typing of expressions and types: what each comes to with the names that are visible, or its first broken rule.
+#![tactic(auto)]
