@@ -27,7 +27,8 @@ use Rattle.chi_expr_rules.specs.Containers.{joined_from, joined_all, all_convert
 use Rattle.chi_typing_laws.specs.Standing.{Has}
 use Rattle.chi_typing_laws.proofs.Has.{Have, have_none, have_one, has_tuple, has_list, has_set, has_dictionary}
 use Rattle.chi_typing_laws.proofs.TypeKinds.{Serves, serves_itself, serves_still, joined_serves, kind_tuple, kind_list, kind_set, kind_dictionary, plain_erased, sound_real, sound_list, sound_set, sound_dictionary, sound_tuple, EachSound, sound_nameless}
-use Rattle.chi_typing_laws.proofs.Conversions.{some_is, chained, Each, Sounds, sound_made, converts, AllServe, all_have, cores_have}
+use Rattle.chi_check_expr.proofs.Kept.{Each}
+use Rattle.chi_typing_laws.proofs.Conversions.{some_is, chained, Sounds, sound_made, converts, AllServe, all_have, cores_have}
 use Rattle.chi_typing_laws.proofs.Sites.{unless_made, unbroken}
 
 -- ---- the joined type

@@ -14,6 +14,7 @@ use Rattle.chi_core.specs.SetSlots.{Known as Set}
 use Rattle.chi_core.specs.Sound.{SoundIn}
 use Rattle.chi_typing.specs.declared.meant.Made.{Made}
 use Rattle.chi_expr_rules.specs.Conversions.{made, converted, passed, wanting, as_they_are, both_as}
+use Rattle.chi_check_expr.proofs.Kept.{Each}
 use Rattle.chi_typing_laws.specs.Standing.{Has, SoundMade}
 use Rattle.chi_typing_laws.proofs.Has.{Have, have_none, have_one, has_operation}
 use Rattle.chi_typing_laws.proofs.TypeKinds.{Serves, fits_serves, widens_kinds, kinds_widen}
@@ -38,11 +39,6 @@ chosen false a m e = absurd (cc)
 pub chosen_some : {A : Type 0} (b : Bool) (o : Option A) (m : A) → cond b o None ≡ Some m → (b ≡ true) × (o ≡ Some m)
 chosen_some true o m e = (refl, e)
 chosen_some false o m e = absurd (cc)
-
--- P holds of each
-abbrev pub Each : {A : Type 0} → (A → Type 0) → List A → Type 0
-Each P [] = Unit {0}
-Each P (x ∷ xs) = P x × Each P xs
 
 -- ---- what doesn't depend on the run may stand everywhere
 

@@ -2,6 +2,7 @@ pub mod Casts
 pub mod Comparisons
 pub mod Containers
 pub mod Conversions
+pub mod Expressions
 pub mod Has
 pub mod Names
 pub mod Operators

@@ -12,7 +12,6 @@ use Rattle.chi_value.specs.Names.{name_at}
 use Rattle.chi_core.specs.declared.expression.CExpr.TheVariants as expression
 use Rattle.chi_core.specs.declared.op_name.OpName.TheVariants as op
 use Rattle.chi_core.specs.Kinds.{Kind, kind_of}
-use Rattle.chi_core.specs.Of.{IsShort}
 use Rattle.chi_core.specs.OperatorKinds as row
 use Rattle.chi_core.specs.Scopes.{Scope, may_call}
 use Rattle.chi_core.specs.SetSlots.{Known as Set}
@@ -32,9 +31,10 @@ use Rattle.chi_expr_rules.specs.Named.{untyped_value, visible_value, time_of}
 use Rattle.chi_expr_rules.specs.Calls.{called}
 use Rattle.chi_expr_rules.specs.Sites.{running_rule}
 use Rattle.chi_typing_laws.specs.Standing.{Has, IsSite, Stands, SlotStands, FunctionStands}
-use Rattle.chi_typing_laws.proofs.Has.{Have, have_none, has_literal, has_variable, has_constant, has_call}
+use Rattle.chi_typing_laws.proofs.Has.{Have, have_none, has_literal, has_text, has_variable, has_constant, has_call}
 use Rattle.chi_typing_laws.proofs.TypeKinds.{kind_bool, kind_int, kind_real, kind_text, kind_choice, sound_bool, sound_int, sound_real, sound_text}
-use Rattle.chi_typing_laws.proofs.Conversions.{some_is, mapped, chained, Each, Sounds, sound_made, passed_have, operation_sound}
+use Rattle.chi_check_expr.proofs.Kept.{Each}
+use Rattle.chi_typing_laws.proofs.Conversions.{some_is, mapped, chained, Sounds, sound_made, passed_have, operation_sound}
 use Rattle.chi_typing_laws.proofs.Sites.{may_run, unless_made}
 
 -- an enumeration with a named value is there
@@ -67,8 +67,8 @@ module _ (scope : Scope) (set : Set) where
   pub real_literal_sound : (digits : List ℕ) (m : Made) → real_literal digits ≡ Some m → Sounds scope set m
   real_literal_sound digits m e = real_by (real_meant digits) m e
 
-  pub text_literal_sound : (bytes : List ℕ) → IsShort bytes → Sounds scope set (text_literal bytes)
-  text_literal_sound bytes short = literal_sound (value.Text bytes) _ ty.Text Ty-F.Text _ (value.outs-Text bytes) kind_text (literal.text bytes short) (sound_text _) refl
+  pub text_literal_sound : (bytes : List ℕ) → Sounds scope set (text_literal bytes)
+  text_literal_sound bytes = sound_made scope set (expression.Lit (value.Text bytes)) ty.Text _ refl (subst (Has scope set _) (sym kind_text) (has_text scope set bytes)) (sound_text _)
 
   pub bool_literal_sound : (truth : Bool) → Sounds scope set (bool_literal truth)
   bool_literal_sound truth = literal_sound (value.Bool truth) _ ty.Bool Ty-F.Bool _ (value.outs-Bool truth) kind_bool (literal.bool truth) (sound_bool _) refl

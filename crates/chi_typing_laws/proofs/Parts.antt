@@ -27,7 +27,8 @@ use Rattle.chi_expr_rules.specs.Parts.{element_at, looked_up, indexed_by, indexe
 use Rattle.chi_typing_laws.specs.Standing.{Has}
 use Rattle.chi_typing_laws.proofs.Has.{has_part}
 use Rattle.chi_typing_laws.proofs.TypeKinds.{kind_text, sound_text, element_of_list, parts_of_dictionary, parts_of_tuple}
-use Rattle.chi_typing_laws.proofs.Conversions.{some_is, mapped, chained, chosen, Each, always, Sounds, sound_made, fits_has, two_of, operation_sound, as_they_are_sound}
+use Rattle.chi_check_expr.proofs.Kept.{Each}
+use Rattle.chi_typing_laws.proofs.Conversions.{some_is, mapped, chained, chosen, always, Sounds, sound_made, fits_has, two_of, operation_sound, as_they_are_sound}
 
 -- ---- ints
 

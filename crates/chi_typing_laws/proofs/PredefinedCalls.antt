@@ -34,7 +34,8 @@ use Rattle.chi_expr_rules.specs.PredefinedCalls.{tuple, absolute_by, absolute, s
 use Rattle.chi_typing_laws.specs.Standing.{Has, IsSite, Stands}
 use Rattle.chi_typing_laws.proofs.Has.{Have, has_insertion}
 use Rattle.chi_typing_laws.proofs.TypeKinds.{Serves, serves_itself, serves_still, kind_bool, kind_int, kind_real, kind_timer, kind_instance, kind_list, kind_dist, sound_bool, sound_int, sound_real, sound_list, sound_dist, sound_tuple, sound_nameless, element_of_list, element_of_set, parts_of_dictionary}
-use Rattle.chi_typing_laws.proofs.Conversions.{some_is, mapped, chained, chosen, Each, always, Sounds, sound_made, fits_has, AllServe, all_have, operation_sound, wanting_sound, as_they_are_sound, both_sound}
+use Rattle.chi_check_expr.proofs.Kept.{Each}
+use Rattle.chi_typing_laws.proofs.Conversions.{some_is, mapped, chained, chosen, always, Sounds, sound_made, fits_has, AllServe, all_have, operation_sound, wanting_sound, as_they_are_sound, both_sound}
 use Rattle.chi_typing_laws.proofs.Sites.{may_run, settled_made}
 use Rattle.chi_typing_laws.proofs.Operators.{Numeric, numbers_are}
 use Rattle.chi_typing_laws.proofs.Casts.{of_kind}

@@ -18,7 +18,8 @@ use Rattle.chi_typing.specs.declared.meant.Meant.{Meant}
 use Rattle.chi_typing.specs.declared.site.Site.{Site}
 use Rattle.chi_typing.specs.declared.site.Site.TheVariants as site
 use Rattle.chi_typing.specs.Names.{Names, known_in}
-use Rattle.chi_typing_laws.specs.Streams.{with_streams}
+use Rattle.chi_streams.specs.Streams.{of_expression}
+use Rattle.chi_typing_laws.specs.Texts.{texts_are_short}
 
 -- a site is that of a definition
 abbrev pub IsSite : Site → Role → Type 0
@@ -61,7 +62,7 @@ pub record ValueStands (scope : Scope) (enumeration position : ℕ) : Type 0 whe
   pub name : List ℕ
   pub is : name_at scope.core.names.kinds enumeration position ≡ Some name
 
--- what is known of a name agrees with the program
+-- what is known of a name agrees with the program; a name without a type agrees with none
 abbrev pub Stands : Scope → Set → Known → Type 0
 Stands scope set (known.Var slot t) = SlotStands scope set slot t
 Stands scope set (known.Fixed slot t) = SlotStands scope set slot t
@@ -72,15 +73,15 @@ Stands scope set (known.Func number params result) = FunctionStands scope number
 Stands scope set (known.Proc number params exit) = ProcessStands scope number params exit
 Stands scope set (known.Model number) = Unit {0}
 Stands scope set (known.Xper number) = Unit {0}
-Stands scope set (known.Untyped kind) = Unit {0}
+Stands scope set (known.Untyped kind) = ⊥
 
 -- and so of all visible names
 abbrev pub AllStand : Scope → Set → Names → Type 0
 AllStand scope set names = (name : List ℕ) (k : Known) → known_in names name ≡ Some k → Stands scope set k
 
--- an expression is of a kind with its streams, from whatever number on
+-- An expression is of a kind with its streams, however many calls come before it; its text literals are short.
 abbrev pub Has : Scope → Set → CExpr → Kind → Type 0
-Has scope set e T = (next : ℕ) → HasKind scope set (out-CExpr (with_streams e next).0) T
+Has scope set e T = IsTrue (texts_are_short e) → (count : ℕ) → HasKind scope set (out-CExpr (of_expression e count).part) T
 
 -- what is made is of its type, which is sound
 pub record SoundMade (scope : Scope) (set : Set) (m : Made) : Type 0 where
