@@ -1,0 +1,7 @@
+pub mod Answers
+pub mod Arguments
+pub mod Commands
+pub mod Numbers
+pub mod Requests
+pub mod Saying
+pub mod Splitting
