@@ -4,3 +4,4 @@ pub mod Forth
 pub mod LineLaws
 pub mod Names
 pub mod Numbers
+pub mod Reading
