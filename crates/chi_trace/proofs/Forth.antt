@@ -141,9 +141,11 @@ detail_is_rest l (Sent channel value) = refl
 pub event_forth : (e : Event) → IsEvent e → event_told (event_text e) ≡ Some (as_told e)
 unfolding event_told event_text
 event_forth e i =
-    rw (append_assoc (decimal e.turn) (spaced (label_parts e.label e.clock)) (spaced (detail_parts e.label e.detail)),
-    head_forth e.turn e.label e.clock (spaced (detail_parts e.label e.detail)) i.turn i.label i.clock (detail_is_rest e.label e.detail),
-    detail_forth e.label e.detail i.detail) refl
+    rw (
+      append_assoc (decimal e.turn) (spaced (label_parts e.label e.clock)) (spaced (detail_parts e.label e.detail)),
+      head_forth e.turn e.label e.clock (spaced (detail_parts e.label e.detail)) i.turn i.label i.clock (detail_is_rest e.label e.detail),
+      detail_forth e.label e.detail i.detail,
+    ) refl
 
 pub event_forth_1 : (e : Event) → IsEvent e → e.detail ≡ untold e.label → event_told_1 (event_text_1 e) ≡ Some (as_told e)
 unfolding event_told_1 event_text_1

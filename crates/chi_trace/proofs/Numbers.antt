@@ -66,11 +66,12 @@ number_part_back text rest n e =
     let cut = then_some (part_told text) (λ part. option_and_then (λ number. Some (number, part.1)) (number_told (2 ^ 32) part.0)) (n, rest) e in
     let read = then_some (number_told (2 ^ 32) cut.0.0) (λ number. Some (number, cut.0.1)) (n, rest) cut.2 in
     let same = some_pair read.0 n cut.0.1 rest read.2 in
-    let number = number_back (2 ^ 32) read.0 cut.0.0 read.1 in
-    (subst (λ m. m < 2 ^ 32) same.0 number.0,
-    part_back text cut.0.0 cut.0.1 cut.1
-    ∙ ap (λ xs. 32 ∷ (xs ++ cut.0.1)) (number.1 ∙ ap (λ m. decimal m) same.0)
-    ∙ ap (λ xs. 32 ∷ (decimal n ++ xs)) same.1)
+    let number = number_back (2 ^ 32) read.0 cut.0.0 read.1 in (
+      subst (λ m. m < 2 ^ 32) same.0 number.0,
+      part_back text cut.0.0 cut.0.1 cut.1
+          ∙ ap (λ xs. 32 ∷ (xs ++ cut.0.1)) (number.1 ∙ ap (λ m. decimal m) same.0)
+          ∙ ap (λ xs. 32 ∷ (decimal n ++ xs)) same.1,
+    )
 
 pub two_in : (a b : ℕ) (tail rest : List ℕ) → a < 2 ^ 32 → b < 2 ^ 32 → IsRest (tail ++ rest)
     → two_told (32 ∷ ((decimal a ++ (32 ∷ (decimal b ++ tail))) ++ rest)) ≡ Some ((a, b), tail ++ rest)

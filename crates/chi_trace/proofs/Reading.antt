@@ -154,14 +154,15 @@ pub is_text : (units : ℤ) (text fraction decimals kept : List ℕ) (b : Bool) 
 is_text units text fraction decimals kept b c f k is =
     let s = sign_text (int_lt units (pos 0)) in
     let w = decimal (nat_abs units / 1_000_000_000) in
-    let t = trimmed (last_digits 9 (nat_abs units)) in
-    ((λ yes.
-    let same : decimals ≡ t = are_same decimals kept (sym is ∙ yes) ∙ k in
-    c.cut ∙ ap (λ x. s ++ (w ++ x)) (f ∙ ap (λ x. 46 ∷ x) same) ∙ sym (append_assoc s w (46 ∷ t)) ∙ ap (λ x. s ++ w ++ x) (sym (pointed (nat_abs units)))),
-    (λ e.
-    let tail : 46 ∷ decimals ≡ 46 ∷ t = sym f ∙ cut_is units text fraction c e in
-    let same : decimals ≡ t = ap (λ xs. drop 1 xs) tail in
-    is ∙ ap (λ x. bytes_eq x kept) (same ∙ sym k) ∙ same_bytes kept))
+    let t = trimmed (last_digits 9 (nat_abs units)) in (
+      (λ yes.
+          let same : decimals ≡ t = are_same decimals kept (sym is ∙ yes) ∙ k in
+          c.cut ∙ ap (λ x. s ++ (w ++ x)) (f ∙ ap (λ x. 46 ∷ x) same) ∙ sym (append_assoc s w (46 ∷ t)) ∙ ap (λ x. s ++ w ++ x) (sym (pointed (nat_abs units)))),
+      (λ e.
+          let tail : 46 ∷ decimals ≡ 46 ∷ t = sym f ∙ cut_is units text fraction c e in
+          let same : decimals ≡ t = ap (λ xs. drop 1 xs) tail in
+          is ∙ ap (λ x. bytes_eq x kept) (same ∙ sym k) ∙ same_bytes kept),
+    )
 
 -- ---- whole lines
 

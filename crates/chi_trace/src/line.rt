@@ -63,7 +63,12 @@ fn push_advance(alloc: Global, clock: i64, line: &mut Vec<u8>) -> Result<(), NoM
 }
 
 /// Appends the parts that tell the detail.
-fn push_detail(alloc: Global, label: Label, detail: &Detail, line: &mut Vec<u8>) -> Result<(), NoMemory>
+fn push_detail(
+    alloc: Global,
+    label: Label,
+    detail: &Detail,
+    line: &mut Vec<u8>,
+) -> Result<(), NoMemory>
     ensures ok { OnOk result (line.new.items ≡ line.old.items ++ spaced (detail_parts label detail.now)) }
 {
     match detail {

@@ -111,7 +111,10 @@ fn a_line_is_read_and_written_again(rt: HostRuntime) -> Result<(), Fail> {
 #[test]
 fn other_lines_are_refused(rt: HostRuntime) -> Result<(), Fail> {
     for line in OTHER_LINES {
-        let refused = matches!(read_line(rt.alloc(), line.as_bytes()), Err(TraceFault::Form));
+        let refused = matches!(
+            read_line(rt.alloc(), line.as_bytes()),
+            Err(TraceFault::Form)
+        );
         assert!(rt; refused, "{line}");
     }
     for line in OTHER_LINES_1 {
