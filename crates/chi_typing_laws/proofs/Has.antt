@@ -1,5 +1,7 @@
 -- Expressions with their streams are of kinds by their parts: a rule for each construct.
-use Rattle.std.proofs.Common.{◌≡◌, ℕ, ◌<◌, ◌%◌, Bool, true, false, List, [], ◌∷◌, map, Some, refl, sym, ap, subst, ◌∙◌, arith}
+use Rattle.std.proofs.Common.{◌≡◌, ℕ, ◌<◌, ◌%◌, ◌^◌, Bool, true, false, cond, nat_lt, List, [], ◌∷◌, ◌++◌, map, Some, refl, sym, ap, subst, ◌∙◌, arith}
+use Rattle.std.proofs.lemmas.Bool.{and_parts, ltb-true}
+use Rattle.std.specs.List.{list_all}
 use Rattle.std.specs.Prelude.{slice_get, length, IsTrue, ◌+◌}
 use Rattle.std.proofs.Math.Nat.{mod-lt}
 use Rattle.chi_dist.specs.Draws.{stream_count}
@@ -79,7 +81,7 @@ module _ (scope : Scope) (set : Set) where
 
   operation_has : (b : Bool) (name : OpName) (es : Counted (List CExpr)) (Ts : List Kind) (T : Kind) → has_stream name ≡ b → OpKind name Ts T → IsTrue (may_apply scope.role name Ts)
       → HaveKinds scope set es.part Ts
-      → HasKind scope set (out-CExpr (cond b (record { next = es.next + 1; part = expression.Op name (es.part ++ stream_operand (es.next % stream_count) ∷ []) }) (record { next = es.next; part = expression.Op name es.part })).part) T
+      → HasKind scope set (out-CExpr (cond {A = Counted CExpr} b (record { next = es.next + 1; part = expression.Op name (es.part ++ stream_operand (es.next % stream_count) ∷ []) }) (record { next = es.next; part = expression.Op name es.part })).part) T
   operation_has true name es Ts T is row may h =
       at _ _ T (expression.outs-Op name _) (sound.distribution name _ es.part Ts T (es.next % stream_count) refl row is h (stream_below es.next))
   operation_has false name es Ts T is row may h = at _ _ T (expression.outs-Op name es.part) (sound.operation name es.part Ts T row is may h)

@@ -71,9 +71,9 @@ bounds_kinds b ms e = made_kinds Ty-F.Int (given b) ms e ∙ given_kinds b.from 
 -- ---- parts by their names
 
 -- the part of a number, among the kinds too
-record PartAt (parts : List (List ℕ × Ty)) (number : ℕ) (t : Ty) : Type 0 where
-  place : slice_get (nameless (map (beside erased) parts)) number ≡ Some ([], erased t)
-  sound_part : (n : ℕ) → SoundParts n parts → SoundType n (out-Ty t)
+pub record PartAt (parts : List (List ℕ × Ty)) (number : ℕ) (t : Ty) : Type 0 where
+  pub place : slice_get (nameless (map (beside erased) parts)) number ≡ Some ([], erased t)
+  pub sound_part : (n : ℕ) → SoundParts n parts → SoundType n (out-Ty t)
 
 first_sound : (n : ℕ) (all : List (List ℕ × Ty)) (p : List ℕ × Ty) (ps : List (List ℕ × Ty)) → all ≡ p ∷ ps → SoundParts n all → SoundType n (out-Ty p.1) × SoundParts n ps
 first_sound n _ p ps h sound.no_part = absurd (cc)
@@ -82,10 +82,10 @@ first_sound n _ p ps h (sound.one_part q qs s r) =
     let rest : qs ≡ ps = cc in
     (subst (λ p. SoundType n (out-Ty p.1)) first s, subst (SoundParts n) rest r)
 
-abbrev Placed : List (List ℕ × Ty) → ℕ → ℕ × Ty → Type 0
+abbrev pub Placed : List (List ℕ × Ty) → ℕ → ℕ × Ty → Type 0
 Placed parts from found = (number : ℕ) × (found.0 ≡ from + number) × PartAt parts number found.1
 
-position_is : (name : List ℕ) (parts : List (List ℕ × Ty)) (from : ℕ) (found : ℕ × Ty) → position_from from name parts ≡ Some found → Placed parts from found
+pub position_is : (name : List ℕ) (parts : List (List ℕ × Ty)) (from : ℕ) (found : ℕ × Ty) → position_from from name parts ≡ Some found → Placed parts from found
 position_is name [] from found e = absurd (cc)
 position_is name (p ∷ ps) from found e = by (bytes_eq name p.0) (position_is name ps (suc from) found) e
   where

@@ -30,7 +30,7 @@ use Rattle.chi_typing.specs.TypeRules.{is_int, is_drawn}
 use Rattle.chi_expr_rules.specs.Nodes.{settled}
 use Rattle.chi_expr_rules.specs.Conversions.{made, converted, wanting, as_they_are, both_as}
 use Rattle.chi_expr_rules.specs.Operators.{number_of}
-use Rattle.chi_expr_rules.specs.PredefinedCalls.{tuple, absolute_by, absolute, sign_by, is_counted, counted, popped_type, popped, enumerated_by, keys_by, values_by, constant, deleted_by, uniform, common_number, extreme, range, one, two, is_count, predefined, tells_order, inserted_by, inserted_in, is_untyped_function, insertion, predefined_rule}
+use Rattle.chi_expr_rules.specs.PredefinedCalls.{tuple, absolute_by, absolute, sign_by, is_counted, counted, popped_type, popped, enumerated_by, keys_by, values_by, constant, is_list, deleted, uniform, common_number, extreme, range, one, two, is_count, predefined, tells_order, inserted_by, inserted_in, is_untyped_function, insertion, predefined_rule}
 use Rattle.chi_typing_laws.specs.Standing.{Has, IsSite, Stands}
 use Rattle.chi_typing_laws.proofs.Has.{Have, has_insertion}
 use Rattle.chi_typing_laws.proofs.TypeKinds.{Serves, serves_itself, serves_still, kind_bool, kind_int, kind_real, kind_timer, kind_instance, kind_list, kind_dist, sound_bool, sound_int, sound_real, sound_list, sound_dist, sound_tuple, sound_nameless, element_of_list, element_of_set, parts_of_dictionary}
@@ -171,13 +171,17 @@ module _ (scope : Scope) (set : Set) where
 
   -- ---- two arguments
 
-  deleted_sound : (a b m : Made) → Sounds scope set a → Sounds scope set b → (layer : Ty-F Ty) → out-Ty a.ty ≡ layer → deleted_by layer a b ≡ Some m → Sounds scope set m
-  deleted_sound a b m h k (Ty-F.ListOf t) p e =
-      let c = chosen (is_int (out-Ty b.ty)) (as_they_are op.Del (a ∷ b ∷ []) a.ty) m e in
+  deleted_by : (a b m : Made) → Sounds scope set a → Sounds scope set b → (layer : Ty-F Ty) → out-Ty a.ty ≡ layer → is_list layer ≡ true → kind_of b.ty ≡ Ty-F.Int → as_they_are op.Del (a ∷ b ∷ []) a.ty ≡ m → Sounds scope set m
+  deleted_by a b m h k (Ty-F.ListOf t) p is int e =
       let list : kind_of a.ty ≡ Ty-F.ListOf (erased t) = kind_at a.ty _ p in
-      let int = int_kind b.ty c.0 in
-      as_they_are_sound scope set op.Del (a ∷ b ∷ []) a.ty _ _ m (row.delete_element (erased t)) (always scope.role op.Del _ refl) (λ i. list i ∷ int i ∷ []) list h.ty (h, (k, tt)) c.1
-  deleted_sound a b m h k _ p e = absurd (cc)
+      as_they_are_sound scope set op.Del (a ∷ b ∷ []) a.ty _ _ m (row.delete_element (erased t)) (always scope.role op.Del _ refl) (λ i. list i ∷ int i ∷ []) list h.ty (h, (k, tt)) e
+  deleted_by a b m h k _ p is int e = absurd (cc)
+
+  deleted_sound : (a b m : Made) → Sounds scope set a → Sounds scope set b → deleted a b ≡ Some m → Sounds scope set m
+  deleted_sound a b m h k e =
+      let c = chosen (is_list (out-Ty a.ty) && is_int (out-Ty b.ty)) (as_they_are op.Del (a ∷ b ∷ []) a.ty) m e in
+      let both = and_parts _ _ c.0 in
+      deleted_by a b m h k (out-Ty a.ty) refl both.0 (int_kind b.ty both.1) c.1
 
   erased_real : erased ty.Real ≡ ty.Real
   erased_real = whole_of ty.Real ty.Real _ kind_real ty.rolls-Real
@@ -290,7 +294,7 @@ module _ (scope : Scope) (set : Set) where
   predefined_sound name.Size s place ms m at rule count h e = one_sound (counted op.Size ty.Int) size_sound ms m h e
   predefined_sound name.Empty s place ms m at rule count h e = one_sound (counted op.Empty ty.Bool) empty_sound ms m h e
   predefined_sound name.Pop s place ms m at rule count h e = one_sound popped popped_sound ms m h e
-  predefined_sound name.Del s place ms m at rule count h e = two_sound (λ a b. deleted_by (out-Ty a.ty) a b) (λ a b m h k. deleted_sound a b m h k (out-Ty a.ty) refl) ms m h e
+  predefined_sound name.Del s place ms m at rule count h e = two_sound deleted deleted_sound ms m h e
   predefined_sound name.Insert s place ms m at rule count h e = absurd (cc)
   predefined_sound name.Range s place ms m at rule count h e = range_sound ms m count h e
   predefined_sound name.Enumerate s place ms m at rule count h e = one_sound (λ m. enumerated_by (out-Ty m.ty) m) (λ a m h. enumerated_sound a m h (out-Ty a.ty) refl) ms m h e
