@@ -1,9 +1,7 @@
 -- Expressions and types that come to something are sound: each rule keeps that, and so do all trees.
-use Rattle.std.proofs.Common.{◌≡◌, ℕ, suc, Bool, true, false, cond, List, [], ◌∷◌, map, length, Option, Some, None, refl, sym, ap, subst, ◌∙◌}
-use Rattle.std.specs.Option.{option_and_then}
-use Rattle.std.specs.Prelude.{option_map, is_some, nat_eq}
+use Rattle.std.proofs.Common.{◌≡◌, ℕ, suc, Bool, true, false, cond, List, [], ◌∷◌, length, Option, Some, None, refl, ap, subst}
+use Rattle.std.specs.Prelude.{option_map, nat_eq}
 use Rattle.chi_token.specs.declared.place.Place.{Place}
-use Rattle.chi_tree.specs.declared.type_tree.Name.{Name}
 use Rattle.chi_types.specs.declared.ty.Ty.{Ty, out-Ty}
 use Rattle.chi_core.specs.Scopes.{Scope}
 use Rattle.chi_core.specs.SetSlots.{Known as Set}
@@ -17,21 +15,19 @@ use Rattle.chi_typing.specs.declared.meant.Made.{Made}
 use Rattle.chi_typing.specs.declared.meant.Meant.{Meant}
 use Rattle.chi_typing.specs.declared.predefined.Predefined.{Predefined}
 use Rattle.chi_typing.specs.declared.predefined.Predefined.TheVariants as predefined_name
-use Rattle.chi_typing.specs.declared.rules.TheConstants.{CALL_ARGUMENTS, PREDEFINED, INDEX}
+use Rattle.chi_typing.specs.declared.rules.TheConstants.{CALL_ARGUMENTS, PREDEFINED}
 use Rattle.chi_typing.specs.declared.site.Site.{Site}
 use Rattle.chi_typing.specs.Names.{Names, known_in}
-use Rattle.chi_typing.specs.Typed.{Typed}
-use Rattle.chi_expr_rules.specs.Nodes.{settled, of_two, of_all, barred, all_made}
+use Rattle.chi_expr_rules.specs.Nodes.{of_all, all_made}
 use Rattle.chi_expr_rules.specs.Sites.{calling_rule}
 use Rattle.chi_expr_rules.specs.Operators.{binary, power}
 use Rattle.chi_expr_rules.specs.Comparisons.{related}
 use Rattle.chi_expr_rules.specs.Calls.{called, function_call, untyped_call, call_of}
-use Rattle.chi_expr_rules.specs.PredefinedCalls.{is_count, predefined, before_third, insertion_of, insert_parts, insert_call, plain_call, is_insert, predefined_rule, predefined_made, predefined_call}
-use Rattle.chi_expr_rules.specs.Parts.{Bounds, given, indexed, sliced, slice_of, field}
+use Rattle.chi_expr_rules.specs.PredefinedCalls.{is_count, predefined, before_third, insert_parts, insert_call, plain_call, is_insert, predefined_rule, predefined_made, predefined_call}
+use Rattle.chi_expr_rules.specs.Parts.{indexed, field}
 use Rattle.chi_expr_rules.specs.Containers as literals
 use Rattle.chi_check_expr.proofs.Kept.{Each, FieldOk, typed_parts, Keeps}
 use Rattle.chi_typing_laws.specs.Standing.{IsSite, AllStand, SoundMade, SoundMeant}
-use Rattle.chi_typing_laws.proofs.Conversions.{some_is}
 use Rattle.chi_typing_laws.proofs.Sites.{may_call_there, settled_made, barred_made}
 use Rattle.chi_typing_laws.proofs.Operators.{binary_sound, power_sound, prefix_sound}
 use Rattle.chi_typing_laws.proofs.Comparisons.{related_sound}

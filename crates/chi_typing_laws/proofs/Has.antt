@@ -24,7 +24,7 @@ use Rattle.chi_core.specs.Scopes.{Scope, may_read, may_call, may_apply, may_make
 use Rattle.chi_core.specs.SetSlots.{Known as Set}
 use Rattle.chi_core.specs.SoundExpressions as sound
 use Rattle.chi_core.specs.SoundExpressions.{HasKind, HaveKinds, LiteralKind, no_expression, one_expression, stream_operand, entry_kinds}
-use Rattle.chi_streams.specs.Streams.{Counted, Counting, each, operation, expression_step, of_expression, of_expressions}
+use Rattle.chi_streams.specs.Streams.{Counted, Counting, expression_step, of_expression, of_expressions}
 use Rattle.chi_typing_laws.specs.Texts.{is_short, texts_step, texts_are_short}
 use Rattle.chi_typing_laws.specs.Standing.{Has}
 
@@ -71,7 +71,7 @@ module _ (scope : Scope) (set : Set) where
   has_text bytes = has_at _ _ Ty-F.Text (expression.outs-Lit (value.Text bytes)) (λ short count.
       let few : nat_lt (length bytes) (2 ^ 32) ≡ true = sym (ap is_short (value.outs-Text bytes)) ∙ short in
       at _ _ Ty-F.Text (expression.outs-Lit (value.Text bytes)) (sound.literal (value.Text bytes) Ty-F.Text
-          (subst (λ (o : Value-F Value). LiteralKind scope.core.names.kinds o Ty-F.Text) (sym (value.outs-Text bytes)) (sound.text bytes (ltb-true _ _ few)))))
+      (subst (λ (o : Value-F Value). LiteralKind scope.core.names.kinds o Ty-F.Text) (sym (value.outs-Text bytes)) (sound.text bytes (ltb-true _ _ few)))))
 
   pub has_variable : (slot : ℕ) (T : Kind) → IsTrue (set slot) → slice_get scope.slots slot ≡ Some T → Has scope set (expression.Var slot) T
   has_variable slot T s is = has_at _ _ T (expression.outs-Var slot) (λ short count. at _ _ T (expression.outs-Var slot) (sound.variable slot T s is))

@@ -110,7 +110,7 @@ module _ (scope : Scope) (set : Set) where
   looked_up_sound key has a b m is s h k e =
       let c = chosen (fits b.ty key) (made (expression.Op op.Lookup (a.core ∷ converted b key ∷ [])) has) m e in
       operation_sound scope set op.Lookup _ _ has (kind_of has) m (row.look_up (erased key) (erased has)) (always scope.role op.Lookup _ refl) refl
-          (two_of scope set _ _ _ _ (subst (Has scope set a.core) is h.kind) (fits_has scope set b key c.0 k)) s c.1
+      (two_of scope set _ _ _ _ (subst (Has scope set a.core) is h.kind) (fits_has scope set b key c.0 k)) s c.1
 
   indexed_sound_by : (a b m : Made) → Sounds scope set a → Sounds scope set b → (layer : Ty-F Ty) → out-Ty a.ty ≡ layer → indexed_by layer a b ≡ Some m → Sounds scope set m
   indexed_sound_by a b m h k (Ty-F.ListOf t) p e = element_sound t (Ty-F.ListOf (erased t)) a b m (row.index_list (erased t)) (kind_at a.ty _ p) (element_of_list _ a.ty t p h.ty) h k e
@@ -148,9 +148,9 @@ module _ (scope : Scope) (set : Set) where
       let at = position_is name parts 0 found e in
       let number : at.0 ≡ found.0 = omega (arith, at.1) in
       sound_made scope set (expression.Part a.core found.0) found.1 m is
-          (has_part scope set a.core found.0 (nameless (map (beside erased) parts)) ([], erased found.1) (subst (Has scope set a.core) (kind_at a.ty _ p) h.kind)
-              (subst (λ number. slice_get (nameless (map (beside erased) parts)) number ≡ Some ([], erased found.1)) number at.2.place))
-          (at.2.sound_part _ (parts_of_tuple _ a.ty parts p h.ty))
+      (has_part scope set a.core found.0 (nameless (map (beside erased) parts)) ([], erased found.1) (subst (Has scope set a.core) (kind_at a.ty _ p) h.kind)
+      (subst (λ number. slice_get (nameless (map (beside erased) parts)) number ≡ Some ([], erased found.1)) number at.2.place))
+      (at.2.sound_part _ (parts_of_tuple _ a.ty parts p h.ty))
   field_by name a m h _ p found e is = absurd (cc)
 
   pub field_sound : (name : List ℕ) (a m : Made) → Sounds scope set a → field name a ≡ Some m → Sounds scope set m

@@ -1,5 +1,5 @@
 -- Whole expressions and types.
-use Rattle.std.proofs.Common.{◌≡◌, ℕ, Bool, List, [], Option, Some, None, subst}
+use Rattle.std.proofs.Common.{◌≡◌, Bool, List, Option, Some, None, subst}
 use Rattle.chi_tree.specs.declared.expr.Expr.{Expr}
 use Rattle.chi_tree.specs.declared.type_tree.TypeTree.{TypeTree}
 use Rattle.chi_core.specs.Scopes.{Scope}
