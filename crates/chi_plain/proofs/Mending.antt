@@ -1,5 +1,5 @@
 -- What is kept beside a configuration, mended after a step.
-use Rattle.std.proofs.Common.{◌≡◌, ◌≢◌, ℕ, zero, suc, ◌+◌, ◌<◌, ◌≤◌, List, [], ◌∷◌, ◌++◌, Option, Some, None, Bool, true, false, length, get_or, drop, ◌⊎◌, inl, inr, sym, ◌∙◌, ap, subst, refl, arith}
+use Rattle.std.proofs.Common.{◌≡◌, ◌≢◌, ℕ, zero, suc, ◌+◌, ◌<◌, ◌≤◌, List, [], ◌∷◌, ◌++◌, Option, Some, None, Bool, true, false, length, get_or, drop, length-drop, ◌⊎◌, inl, inr, sym, ◌∙◌, ap, subst, refl, arith}
 use Rattle.std.specs.Prelude.{slice_set}
 use Rattle.std.specs.List.{slice_get, Contains}
 use Rattle.std.proofs.Math.ListN.{length-set}
@@ -13,6 +13,7 @@ use Rattle.chi_plain.specs.Watching.{AllJoiners, AllParties, Covers, IsAffected,
 use Rattle.chi_plain.specs.Led.{IsListed, Leads, Settles}
 use Rattle.chi_plain.proofs.Havings.{acts-none}
 use Rattle.chi_plain.proofs.Frames.{settles, settles-all, eq-cases}
+use Rattle.chi_plain.proofs.Keeping.{keeps-more, contains-pushed}
 use Rattle.chi_plain.proofs.Listed.{party-kept, joiner-kept}
 
 -- marks
@@ -60,13 +61,28 @@ right-more config before after q some rest right is renewed others p = by_cases 
     by_cases (inl e) = inl (ap (is_marked after) e ∙ renewed ∙ ap (acts config) (sym e))
     by_cases (inr other) = by_right other (subst (λ (l : List ℕ). (is_marked before p ≡ acts config p) ⊎ Contains l p) is (right p))
 
-pub right-none : (config : Config) (marks : List Bool) (some : List ℕ) → RightBut config marks some → length some ≤ 0 → length marks ≡ length config.instances
-    → IsMarked config marks
-right-none config marks some right none all = record { all = all; each = λ p. by_cases p (right p) }
+drop_step : (xs : List ℕ) (k q : ℕ) → k < length xs → q ≡ get_or xs k q → drop k xs ≡ q ∷ drop (k + 1) xs
+drop_step [] k q h e = absurd (omega arith)
+drop_step (x ∷ xs) zero q h e = ap (λ y. y ∷ xs) (sym e)
+drop_step (x ∷ xs) (suc k) q h e =
+    let one : suc (k + 1) ≡ suc k + 1 = omega arith in
+    drop_step xs k q (omega arith) e ∙ ap (λ n. q ∷ drop n (x ∷ xs)) one
+
+pub right-step : (config : Config) (before after : List Bool) (k q : ℕ) (some : List ℕ) → RightBut config before (drop k some) → k < length some → q ≡ get_or some k q
+    → is_marked after q ≡ acts config q → ((p : ℕ) → p ≢ q → is_marked after p ≡ is_marked before p) → RightBut config after (drop (k + 1) some)
+right-step config before after k q some right h is renewed others =
+    right-more config before after q (drop k some) (drop (k + 1) some) right (drop_step some k q h is) renewed others
+
+pub right-none : (config : Config) (marks : List Bool) (n : ℕ) (some : List ℕ) → RightBut config marks (drop n some) → length some ≤ n
+    → length marks ≡ length config.instances → IsMarked config marks
+right-none config marks n some right past all = record { all = all; each = λ p. by_cases p (right p) }
   where
-    by_cases : (p : ℕ) → (is_marked marks p ≡ acts config p) ⊎ Contains some p → is_marked marks p ≡ acts config p
+    none : length (drop n some) ≡ 0
+    none = let e = length-drop n some in omega (arith, e, past)
+
+    by_cases : (p : ℕ) → (is_marked marks p ≡ acts config p) ⊎ Contains (drop n some) p → is_marked marks p ≡ acts config p
     by_cases p (inl e) = e
-    by_cases p (inr c) = absurd (let h : c.0 < length some = c.1 in omega (arith, h, none))
+    by_cases p (inr c) = absurd (let h : c.0 < length (drop n some) = c.1 in omega (arith, h, none))
 
 pub marks-pushed : (marks new : List Bool) → new ≡ marks ++ false ∷ [] → (p : ℕ) → is_marked new p ≡ is_marked marks p
 marks-pushed marks new e p = ap (λ l. is_marked l p) e ∙ same marks p
@@ -76,6 +92,19 @@ marks-pushed marks new e p = ap (λ l. is_marked l p) e ∙ same marks p
     same [] (suc k) = refl
     same (m ∷ ms) zero = refl
     same (m ∷ ms) (suc k) = same ms k
+
+pub marks-more : (initial before new : List Bool) → new ≡ before ++ false ∷ [] → ((p : ℕ) → is_marked before p ≡ is_marked initial p)
+    → (p : ℕ) → is_marked new p ≡ is_marked initial p
+marks-more initial before new e same p = marks-pushed before new e p ∙ same p
+
+-- all numbers
+
+pub all-more : (before new : List ℕ) (n : ℕ) → new ≡ before ++ n ∷ [] → ((p : ℕ) → p < n → Contains before p) → (p : ℕ) → p < n + 1 → Contains new p
+all-more before new n e all p h = by_cases (let c : (p < n) ⊎ (p ≡ n) = grind arith in c)
+  where
+    by_cases : (p < n) ⊎ (p ≡ n) → Contains new p
+    by_cases (inl l) = keeps-more before new (n ∷ []) e p (all p l)
+    by_cases (inr same) = subst (λ (k : ℕ). Contains new k) (sym same) (contains-pushed before new n e)
 
 -- after a step
 
@@ -143,4 +172,4 @@ module _ (label : Label) (old new : Config) (leads : Leads label old new) where
   pub settles_later : (some : List ℕ) → ((p : ℕ) → p < length new.instances → Contains some p) → Settles old new some
   settles_later some all = settles-all old new some leads.others.grown all
 
-pub ruleset renewing = (set-length, set-marked, unset-marked, set-others, right-more, right-none, marks-pushed)
+pub ruleset renewing = (set-length, set-marked, unset-marked, set-others, right-step, right-none, marks-more, all-more)

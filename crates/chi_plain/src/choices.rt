@@ -52,9 +52,8 @@ fn pair_count(config: &Configuration<'_>, pid: u32, channel: u32) -> u64
 {
     let mut count = 0;
     let instances = config.instances();
-    for other in 0..instances.len() as u32 {
-        let instance = &instances[other as usize];
-        count += partner_count(instance, other, pid, channel);
+    for (other, instance) in instances.iter().enumerate() {
+        count += partner_count(instance, other as u32, pid, channel);
     }
     count
 }
@@ -67,11 +66,11 @@ fn pair_at(config: &Configuration<'_>, pid: u32, alternative: u32, channel: u32,
 {
     let mut seen = 0;
     let instances = config.instances();
-    for other in 0..instances.len() as u32 {
-        let instance = &instances[other as usize];
-        let count = partner_count(instance, other, pid, channel);
+    for (other, instance) in instances.iter().enumerate() {
+        let other_pid = other as u32;
+        let count = partner_count(instance, other_pid, pid, channel);
         if i - seen < count {
-            return partner_at(instance, other, pid, alternative, channel, i - seen);
+            return partner_at(instance, other_pid, pid, alternative, channel, i - seen);
         }
         seen += count;
     }

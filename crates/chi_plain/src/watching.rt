@@ -232,6 +232,7 @@ fn is_advance(label: &Label) -> bool
 }
 
 /// The numbers of all instances.
+#[tactic(auto, using(crate::proofs::Mending::renewing))]
 fn everyone(alloc: Global, count: usize) -> Result<Vec<u32>, NoMemory>
     requires { count ≤ MOST_INSTANCES }
     ensures { IfOk result (λ all. (p : ℕ) → p < count → Contains all.items p) }
