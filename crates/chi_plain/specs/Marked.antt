@@ -1,6 +1,5 @@
 -- Private to proofs: marks on numbers.
-use Rattle.std.specs.Prelude.{ℕ, List, Bool, true, false, length, filter, slice_get}
-use Rattle.std.specs.List.{get_or}
+use Rattle.std.specs.Prelude.{ℕ, List, Bool, true, false, length, filter, slice_get, get_or}
 use Rattle.chi_core.specs.Options.{numbers}
 
 -- whether a number is marked

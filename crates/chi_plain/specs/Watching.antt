@@ -1,6 +1,5 @@
 -- Private to proofs: what is kept beside a configuration, so that a step need not go over all instances.
-use Rattle.std.specs.Prelude.{◌≡◌, ℕ, ◌%◌, ◌≤◌, ◌<◌, ◌⊎◌, List, [], Option, None, Some, Bool, true, false, length, nat_eq, nat_lt, slice_get, Contains}
-use Rattle.std.specs.List.{get_or}
+use Rattle.std.specs.Prelude.{◌≡◌, ℕ, ◌%◌, ◌≤◌, ◌<◌, ◌⊎◌, List, [], Option, None, Some, Bool, true, false, length, nat_eq, nat_lt, slice_get, get_or, Contains}
 use Rattle.chi_core.specs.declared.act.Act.{Act}
 use Rattle.chi_core.specs.declared.act.Act.TheVariants.{Send, Receive, Delay}
 use Rattle.chi_core.specs.declared.label.Label.{Label}
