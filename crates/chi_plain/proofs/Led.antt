@@ -115,7 +115,7 @@ led_on core old new label left before after went rest marks parties joiners b wa
 -- all is mended
 module _ (label : Label) (new : Config) (marks : List Bool) (parties : List (List ℕ)) (joiners : List ℕ) (b : Before) (led : Led label new marks parties joiners b) where
   old_listed : IsListed led.old parties joiners
-  old_listed = record { parties = led.watched.parties; joiners = led.watched.joiners }
+  old_listed = record { communicating = led.watched.communicating; waiting = led.watched.waiting }
 
   pub led_settled : (some : List ℕ) → AllSettled label new parties joiners b some → Settles led.old new some
   led_settled some settled = settled led.old led.leads old_listed led.before
@@ -132,7 +132,7 @@ module _ (label : Label) (new : Config) (marks : List Bool) (parties : List (Lis
         → IsParty one first (slice_get new.instances first) → IsParty two second (slice_get new.instances second)
         → ((r : ℕ) → b.count ≤ r → IsParty three r (slice_get new.instances r)) → AllParties three new.instances
     led_parties one two three k1 k2 k3 f s added =
-        all_parties label led.old new led.leads parties three led.watched.parties
+        all_parties label led.old new led.leads parties three led.watched.communicating
         (parties-trans parties one three k1 (parties-trans one two three k2 k3))
         (subst P is_first (party-kept one three first (slice_get new.instances first) (parties-trans one two three k2 k3) f))
         (subst P is_second (party-kept two three second (slice_get new.instances second) k3 s))
@@ -145,7 +145,7 @@ module _ (label : Label) (new : Config) (marks : List Bool) (parties : List (Lis
         → IsJoiner one first (slice_get new.instances first) → IsJoiner two second (slice_get new.instances second)
         → ((r : ℕ) → b.count ≤ r → IsJoiner three r (slice_get new.instances r)) → AllJoiners three new.instances
     led_joiners one two three k1 k2 k3 f s added =
-        all_joiners label led.old new led.leads joiners three led.watched.joiners
+        all_joiners label led.old new led.leads joiners three led.watched.waiting
         (keeps-trans joiners one three k1 (keeps-trans one two three k2 k3))
         (subst P is_first (joiner-kept one three first (slice_get new.instances first) (keeps-trans one two three k2 k3) f))
         (subst P is_second (joiner-kept two three second (slice_get new.instances second) k3 s))

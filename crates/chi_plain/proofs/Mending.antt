@@ -167,7 +167,7 @@ module _ (label : Label) (old new : Config) (leads : Leads label old new) where
   pub settles_still : (parties : List (List ℕ)) (joiners some : List ℕ) → label ≢ Advance → IsListed old parties joiners
       → IsAffected parties joiners (first_named label) (second_named label) old.instances new.instances some → Settles old new some
   settles_still parties joiners some other listed affected =
-      settles old new parties joiners (first_named label) (second_named label) some leads.others (leads.still other) listed.parties listed.joiners affected
+      settles old new parties joiners (first_named label) (second_named label) some leads.others (leads.still other) listed.communicating listed.waiting affected
 
   pub settles_later : (some : List ℕ) → ((p : ℕ) → p < length new.instances → Contains some p) → Settles old new some
   settles_later some all = settles-all old new some leads.others.grown all

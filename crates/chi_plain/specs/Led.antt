@@ -25,8 +25,8 @@ pub record Leads (label : Label) (old new : Config) : Type 0 where
 
 -- the lists are those of a configuration
 pub record IsListed (config : Config) (parties : List (List ℕ)) (joiners : List ℕ) : Type 0 where
-  pub parties : AllParties parties config.instances
-  pub joiners : AllJoiners joiners config.instances
+  pub communicating : AllParties parties config.instances
+  pub waiting : AllJoiners joiners config.instances
 
 -- who isn't among some has an option where it had one
 abbrev pub Settles : Config → Config → List ℕ → Type 0

@@ -66,8 +66,8 @@ AllJoiners joiners instances = (p : ℕ) → IsJoiner joiners p (slice_get insta
 
 pub record IsWatched (config : Config) (marks : List Bool) (parties : List (List ℕ)) (joiners : List ℕ) : Type 0 where
   pub marked : IsMarked config marks
-  pub parties : AllParties parties config.instances
-  pub joiners : AllJoiners joiners config.instances
+  pub communicating : AllParties parties config.instances
+  pub waiting : AllJoiners joiners config.instances
 
 -- steps
 

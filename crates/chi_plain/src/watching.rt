@@ -1,7 +1,8 @@
 //! A configuration with what is kept beside it: which instances have an option, and which may get or lose one by
 //! what another does. After a step only those are looked at.
 
-ghost use Rattle.std.specs.Prelude.{◌≡◌, ◌≢◌, ℕ, ◌≤◌, ◌<◌, ◌⊎◌, List, length, slice_get, Contains, IfOk, OnOk, OnErr, OnFalse};
+ghost use Rattle.std.specs.Prelude.{◌≡◌, ◌≢◌, ℕ, ◌≤◌, ◌<◌, ◌⊎◌, List, length, slice_get, Contains, IfOk, OnOk};
+ghost use Rattle.std.specs.Bool.{OnFalse};
 ghost use Rattle.chi_core.specs.declared.label.Label.{Label};
 ghost use Rattle.chi_core.specs.declared.limits.TheConstants.{MOST_INSTANCES};
 ghost use Rattle.chi_core.specs.Config.{Config, Instance};
