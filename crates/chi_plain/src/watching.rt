@@ -199,7 +199,7 @@ fn affected(
     joiners: &Listed,
     before: Before,
 ) -> Result<Vec<u32>, NoMemory>
-    ensures { IfOk result (λ some. (label : Label) (old : List Instance) → IsBefore parties.now label old before.entry
+    ensures { IfOk result (λ some. (label : Label) (old : List Instance) → IsBefore parties.now label old before
         → IsAffected parties.now joiners.now (first_named label) (second_named label) old config.now.instances some.items) }
 {
     let joining = may_join(config, &before);
@@ -254,7 +254,7 @@ fn unsettled(
     label: &Label,
     before: Before,
 ) -> Result<Vec<u32>, NoMemory>
-    ensures { IfOk result (λ some. (old : Config) → Leads label.now old config.now → IsListed old parties.now joiners.now → IsBefore parties.now label.now old.instances before.entry
+    ensures { IfOk result (λ some. (old : Config) → Leads label.now old config.now → IsListed old parties.now joiners.now → IsBefore parties.now label.now old.instances before
         → Settles old config.now some.items) }
 {
     if is_advance(label) {
