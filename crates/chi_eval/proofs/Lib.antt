@@ -2,7 +2,7 @@ pub mod Acting
 pub mod Assigned
 pub mod Binding
 pub mod Choosing
-pub mod Inserting
+pub mod Insertions
 pub mod Operating
 pub mod Repeating
 pub mod Slots

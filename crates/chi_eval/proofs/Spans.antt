@@ -252,3 +252,6 @@ most_at f (a ∷ all) (suc i) x h is = omega (arith, most_at f all i x (omega ar
 
 pub test_within : (all : List Branch) (i : ℕ) (b : Branch) → i < length all → b ≡ get_or all i b → size-CExpr (out-Branch b).test ≤ most branch_span all
 test_within all i b h is = omega (arith, most_at branch_span all i b h is, branch_within b)
+
+pub part_within : (parts : List CExpr) (i : ℕ) (a : CExpr) → i < length parts → a ≡ get_or parts i a → size-CExpr a ≤ most size-CExpr parts
+part_within = most_at size-CExpr

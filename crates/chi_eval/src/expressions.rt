@@ -21,7 +21,7 @@ use std::alloc::Global;
 
 /// The value of an expression.
 #[cycle(eval)]
-#[tactic(auto, using(crate::proofs::Stopping::stopping, crate::proofs::Standing::standing, crate::proofs::Repeating::repeats, crate::proofs::Inserting::inserts), unfolding(chi_core::specs::Evaluation::eval))]
+#[tactic(auto, using(crate::proofs::Stopping::stopping, crate::proofs::Standing::standing, crate::proofs::Repeating::repeats, crate::proofs::Insertions::inserts), unfolding(chi_core::specs::Evaluation::eval))]
 pub fn eval(
     e: &CExpr,
     alloc: Global,

@@ -20,7 +20,7 @@ use std::alloc::Global;
 
 /// A list with an element before the first of which a function says that it stands before it.
 #[cycle(eval)]
-#[tactic(auto, using(crate::proofs::Stopping::stopping, crate::proofs::Inserting::inserting))]
+#[tactic(auto, using(crate::proofs::Stopping::stopping, crate::proofs::Insertions::inserting))]
 pub fn insert_by(
     xs: &Value,
     alloc: Global,
@@ -40,7 +40,7 @@ pub fn insert_by(
 
 /// How many elements come before the first of which a function says that x stands before it.
 #[cycle(eval)]
-#[tactic(auto, using(crate::proofs::Stopping::stopping, crate::proofs::Inserting::placing))]
+#[tactic(auto, using(crate::proofs::Stopping::stopping, crate::proofs::Insertions::placing))]
 fn place_before(
     items: &[Value],
     alloc: Global,
