@@ -48,21 +48,31 @@ use Rattle.chi_check.specs.Statements.{stating_all}
 abbrev pub with_early : Names → Names → Name → Known → Names
 with_early all early name k = if is_taken all name.text then early else with_name early name.text k
 
-abbrev pub named_early : Name → Known → Sketch → Sketch
-named_early name k s = record s { all = with_name s.all name.text k; early = with_early s.all s.early name k }
+-- an enumeration, or its value at a position
+abbrev pub early_known : ℕ → Option ℕ → Known
+early_known enumeration None = known.Kind (ty.Choice enumeration)
+early_known enumeration (Some position) = known.Value enumeration position
+
+abbrev pub named_early : Name → ℕ → Option ℕ → Sketch → Sketch
+named_early name enumeration position s = record s {
+  all = with_name s.all name.text (early_known enumeration position);
+  early = with_early s.all s.early name (early_known enumeration position);
+}
 
 abbrev pub named_late : Name → Known → Sketch → Sketch
 named_late name k s = record s { all = with_name s.all name.text k }
 
+abbrev pub value_named : ℕ → ℕ → Name → Turn Sketch (List ℕ)
+value_named enumeration position value s = record {
+  next = named_early value enumeration (Some position) s;
+  faults = new_name_rule s.all value;
+  made = Some (value.text ∷ []);
+}
+
 -- the values of an enumeration, from a position on, with their names
 abbrev pub values_from : ℕ → ℕ → List Name → List (Turn Sketch (List ℕ))
 values_from enumeration position [] = []
-values_from enumeration position (value ∷ values) =
-    (λ s. record {
-      next = named_early value (known.Value enumeration position) s;
-      faults = new_name_rule s.all value;
-      made = Some (value.text ∷ []);
-    }) ∷ values_from enumeration (suc position) values
+values_from enumeration position (value ∷ values) = value_named enumeration position value ∷ values_from enumeration (position + 1) values
 
 abbrev pub one_enumeration : Sketch → Sketch
 one_enumeration s = record s { enumerations = s.enumerations + 1 }
@@ -75,7 +85,7 @@ one_experiment s = record s { experiments = s.experiments + 1 }
 
 abbrev pub enumeration_named : Name → List Name → Turn Sketch (List (List ℕ))
 enumeration_named name values s =
-    let each = in_turn (values_from s.enumerations 0 values) (named_early name (known.Kind (ty.Choice s.enumerations)) s) in
+    let each = in_turn (values_from s.enumerations 0 values) (named_early name s.enumerations None s) in
     record {
       next = one_enumeration each.next;
       faults = new_name_rule s.all name ++ each.faults;
@@ -124,6 +134,9 @@ type_known (Some t) = known.Kind t
 abbrev pub constant : ℕ → Ty → CExpr → List ConstDef
 constant line t value = record { line = line; ty = t; value = value } ∷ []
 
+abbrev pub constant_made : ℕ → Option Ty → Option CExpr → Option (List ConstDef)
+constant_made line = both (constant line)
+
 abbrev pub constant_defined : Names → Place → TypeTree → Name → Place → Expr → Turn Early ConstDef
 constant_defined all place tree name equals value s =
     let t = type_in site.Constant s.names tree in
@@ -135,7 +148,7 @@ constant_defined all place tree name equals value s =
         constants = s.constants + 1;
       };
       faults = t.faults ++ v.faults ++ e.faults;
-      made = both (constant place.line) t.given e.made;
+      made = constant_made place.line t.given e.made;
     }
 
 abbrev pub type_defined : Names → Name → TypeTree → Turn Early ConstDef
@@ -223,6 +236,9 @@ abbrev pub formals_bound : List Formal → List (Option Ty) → List (Turn State
 formals_bound (f ∷ fs) (t ∷ types) = binding binder.Variable f.name t ∷ formals_bound fs types
 formals_bound _ _ = []
 
+abbrev pub body_made : Option (List ℕ) → Option (List CStat) → List Ty → Option (List CStat × List Ty)
+body_made bound body slots = both (λ formals b. (b, slots)) bound body
+
 -- the formals are the first slots; none of the names of a body is visible after it
 abbrev pub body_in : Header → List Formal → List Step → Names → Stated Names (List CStat × List Ty)
 body_in h formals steps names =
@@ -231,7 +247,7 @@ body_in h formals steps names =
     record {
       next = take (length names) body.next.names;
       faults = fs.faults ++ body.faults;
-      made = both (λ slots b. (b, body.next.slots)) fs.made body.made;
+      made = body_made fs.made body.made body.next.slots;
     }
 
 abbrev pub function : List ℕ → List Ty → Ty → List CStat × List Ty → List FuncDef

@@ -27,8 +27,11 @@ pub record Found (A : Type 0) : Type 0 where
   pub faults : List Fault
   pub given : A
 
+abbrev pub type_of : Option Meant → Option Ty
+type_of = option_map (λ m. m.ty)
+
 abbrev pub type_in : Site → Names → TypeTree → Found (Option Ty)
-type_in s names tree = let t = reading s names tree false in record { faults = t.faults; given = option_map (λ m. m.ty) t.made }
+type_in s names tree = let t = reading s names tree false in record { faults = t.faults; given = type_of t.made }
 
 -- the type before a formal, or that of the formal before it
 abbrev pub formal_type : Site → Names → Option Ty → Option TypeTree → Found (Option Ty)

@@ -60,7 +60,7 @@ use Rattle.chi_check.specs.declared.state.Binder.TheVariants as binder
 use Rattle.chi_check.specs.declared.state.State.{State}
 use Rattle.chi_check.specs.declared.state.Opened.{Opened}
 use Rattle.chi_check.specs.Stated.{Stated, Turn, both, in_turn, alone, one, preceded, held_by}
-use Rattle.chi_check.specs.States.{is_taken, new_name_rule, with_variable, bindings, closed, block}
+use Rattle.chi_check.specs.States.{next_slot, new_name_rule, with_variable, bindings, closed, block}
 
 -- ---- several parts
 
@@ -84,6 +84,10 @@ abbrev pub all_of : {A : Type 0} → List (Typed A) → Typed (List A)
 all_of [] = unless [] []
 all_of (t ∷ ts) = let more = all_of ts in record { faults = t.faults ++ more.faults; made = both (λ x xs. x ∷ xs) t.made more.made }
 
+-- one more, where all are there
+abbrev pub with_last : {A : Type 0} → Option (List A) → Option A → Option (List A)
+with_last = both (λ xs x. xs ++ x ∷ [])
+
 -- a part that comes to something, or is left out
 abbrev pub if_any : {A : Type 0} → Option (Typed A) → Typed (Option A)
 if_any None = unless [] None
@@ -105,6 +109,76 @@ communication_place (communication.Delay place length) = place
 abbrev pub walk_place : List Name → Place → Place
 walk_place [] container = container
 walk_place (name ∷ names) container = name.place
+
+-- ---- parts that stand in no body
+
+-- the default of a type, with the sizes of its lists
+abbrev pub default_in : Option Meant → Typed CExpr
+default_in meant = record { faults = []; made = option_and_then (λ m. default_of m.ty m.sizes) meant }
+
+abbrev pub declaration : ℕ → ℕ → Option CExpr → Option (List CStat)
+declaration line slot value = option_map (λ e. statement.Declare line slot e ∷ []) value
+
+abbrev pub types_of : Option Walked → List Ty
+types_of None = []
+types_of (Some w) = w.types
+
+abbrev pub opened : CExpr → List ℕ → Opened
+opened container slots = record { container = container; slots = slots }
+
+abbrev pub opening : Option Walked → Option (List ℕ) → Option Opened
+opening w slots = both opened (option_map (λ w. w.container) w) slots
+
+abbrev pub receiver_in : Place → Names → Name → Typed Receiver
+receiver_in place names name = named_receiver place names name
+
+-- each value with its place
+abbrev pub placed : List Expr → List (Option Made) → List Written
+placed (e ∷ es) (m ∷ ms) = (expr_place e, m) ∷ placed es ms
+placed _ _ = []
+
+-- one that stands alone is a select of one alternative
+abbrev pub selected : ℕ → CComm → CStat
+selected line c = statement.Select line (alternative.Guarded None c [] ∷ [])
+
+abbrev pub unwound : Option Opened → Option (List CElem) → Option (List CElem)
+unwound = both (λ w es. element.Unwind w.slots w.container es ∷ [])
+
+-- what a statement comes to, where a loop stands around it or not
+abbrev pub Going : Type 0 → Type 0
+Going A = Bool → Turn State A
+
+-- each where a loop stands around it or not
+abbrev pub each_in : {A : Type 0} → Bool → List (Going A) → List (Turn State A)
+each_in loop fs = map (λ f. f loop) fs
+
+-- statements of what their elements or alternatives come to
+abbrev pub offers : ℕ → Option (List CAlt) → Option (List CStat)
+offers line = option_map (λ each. statement.Select line each ∷ [])
+
+abbrev pub runs : ℕ → Option (List CElem) → Option (List CStat)
+runs line = option_map (λ each. statement.Run line each ∷ [])
+
+abbrev pub starts : ℕ → Option (List CElem) → Option (List CStat)
+starts line = option_map (λ each. statement.Start line each ∷ [])
+
+abbrev pub chosen : ℕ → Option (List CBranch) → Option (List CStat) → Option (List CStat)
+chosen line = both (λ branches otherwise. statement.If line branches otherwise ∷ [])
+
+abbrev pub looped : ℕ → Option CExpr → Option (List CStat) → Option (List CStat)
+looped line = both (λ test inner. statement.While line test inner ∷ [])
+
+abbrev pub walked : ℕ → Option Opened → Option (List CStat) → Option (List CStat)
+walked line = both (λ w inner. statement.For line w.slots w.container inner ∷ [])
+
+abbrev pub branched : Option CExpr → Option (List CStat) → Option (List CBranch)
+branched = both (λ test inner. record { test = test; block = inner } ∷ [])
+
+abbrev pub guarded : Option (Option CExpr) → Option CComm → Option (List CStat) → Option (List CAlt)
+guarded guard c inner = option_and_then (λ g. both (λ c b. alternative.Guarded g c b ∷ []) c inner) guard
+
+abbrev pub offered : Option Opened → Option (List CAlt) → Option (List CAlt)
+offered = both (λ w inner. alternative.Unwind w.slots w.container inner ∷ [])
 
 -- ---- expressions, and the values of a declaration, an assignment, a write
 
@@ -150,13 +224,10 @@ module _ (home : Home) where
 
   -- the value that a variable begins with: its own, or the default of its type
   abbrev pub initial_in : Names → Option Meant → Option Initial → Typed CExpr
-  initial_in names meant None = record { faults = []; made = option_and_then (λ m. default_of m.ty m.sizes) meant }
+  initial_in names meant None = default_in meant
   initial_in names meant (Some initial) =
       let v = value_in names initial.value in
       after v.faults (initial_value initial.equals v.made (option_map (λ m. m.ty) meant))
-
-  abbrev pub declaration : ℕ → ℕ → Option CExpr → Option (List CStat)
-  declaration line slot value = option_map (λ e. statement.Declare line slot e ∷ []) value
 
   -- the name is visible from after its own value
   abbrev pub declared : ℕ → Option Meant → Variable → Turn State CStat
@@ -165,7 +236,7 @@ module _ (home : Home) where
       held_by (new_name_rule s.names v.name) (record {
         next = with_variable binder.Variable v.name (option_map (λ m. m.ty) meant) s;
         faults = value.faults;
-        made = declaration line (length s.slots) value.made;
+        made = declaration line (next_slot s) value.made;
       })
 
   abbrev pub declaration_in : TypeTree → List Variable → Turn State CStat
@@ -175,13 +246,6 @@ module _ (home : Home) where
       preceded t.faults (held_by (channel_rule home place (option_map (λ m. m.ty) t.made)) (in_turn (map (declared place.line t.made) variables) s))
 
   -- ---- walks
-
-  abbrev pub types_of : Option Walked → List Ty
-  types_of None = []
-  types_of (Some w) = w.types
-
-  abbrev pub opened : CExpr → List ℕ → Opened
-  opened container slots = record { container = container; slots = slots }
 
   -- the container is typed before the names are visible
   abbrev pub walk_in : Binder → Walk → State → Stated State Opened
@@ -193,7 +257,7 @@ module _ (home : Home) where
       record {
         next = names.next;
         faults = c.faults ++ over.faults ++ names.faults;
-        made = both opened (option_map (λ w. w.container) over.made) names.made;
+        made = opening over.made names.made;
       }
 
   -- ---- communications
@@ -205,7 +269,7 @@ module _ (home : Home) where
       after (to.faults ++ faults_if v) (send_of place to.made (made_if v))
   parts_in names (communication.Receive target place name) =
       let from = target_in names target in
-      let r = option_map (named_receiver place names) name in
+      let r = option_map (receiver_in place names) name in
       after (from.faults ++ faults_if r) (receive_of place from.made (made_if r))
   parts_in names (communication.Delay place length) =
       let v = value_in names length in
@@ -213,10 +277,6 @@ module _ (home : Home) where
 
   abbrev pub communication_in : Names → Communication → Typed CComm
   communication_in names c = barred (running_rule home (communication_place c)) (parts_in names c)
-
-  -- one that stands alone is a select of one alternative
-  abbrev pub selected : ℕ → CComm → CStat
-  selected line c = statement.Select line (alternative.Guarded None c [] ∷ [])
 
   abbrev pub communicating : Names → Communication → Typed CStat
   communicating names c = let t = communication_in names c in record { faults = t.faults; made = option_map (selected (communication_place c).line) t.made }
@@ -234,9 +294,6 @@ module _ (home : Home) where
       let s = start_of home names name (map made_of given) in
       record { faults = faults_if to ++ all_faults given ++ s.faults; made = element_made (made_if to) s.made }
 
-  abbrev pub unwound : Option Opened → Option (List CElem) → Option (List CElem)
-  unwound = both (λ w es. element.Unwind w.slots w.container es ∷ [])
-
   abbrev pub element_step : Element-F (Turn State CElem) → Turn State CElem
   element_step (Element-F.Make target name arguments) s = alone s (element_in s.names target name arguments)
   element_step (Element-F.Unwind place walk elements) s =
@@ -249,13 +306,10 @@ module _ (home : Home) where
 
   -- ---- writes
 
-  abbrev pub written_in : Names → List Expr → List Written
-  written_in names es = map (λ e. (expr_place e, (value_in names e).made)) es
-
   abbrev pub write_in : Names → Place → Bool → List ℕ → Place → List Expr → Typed CStat
   write_in names place ends_line format format_place values =
       barred (running_rule home place)
-        (after (all_faults (values_in names values)) (write_of place.line format_place (pieces_of (ended ends_line format)) (written_in names values)))
+        (after (all_faults (values_in names values)) (write_of place.line format_place (pieces_of (ended ends_line format)) (placed values (map made_of (values_in names values)))))
 
   -- ---- the other statements of one line
 
@@ -270,32 +324,7 @@ module _ (home : Home) where
       let es = all_of (map (instance_in names) instances) in
       barred (running_rule home place) (record { faults = es.faults; made = option_map (statement.Finish place.line) es.made })
 
-  -- ---- statements with blocks; whether a loop stands around them is told first
-
-  abbrev pub Going : Type 0 → Type 0
-  Going A = Bool → Turn State A
-
-  -- each where a loop stands around it or not
-  abbrev pub each_in : {A : Type 0} → Bool → List (Going A) → List (Turn State A)
-  each_in loop fs = map (λ f. f loop) fs
-
-  abbrev pub chosen : ℕ → Option (List CBranch) → Option (List CStat) → Option (List CStat)
-  chosen line = both (λ branches otherwise. statement.If line branches otherwise ∷ [])
-
-  abbrev pub looped : ℕ → Option CExpr → Option (List CStat) → Option (List CStat)
-  looped line = both (λ test inner. statement.While line test inner ∷ [])
-
-  abbrev pub walked : ℕ → Option Opened → Option (List CStat) → Option (List CStat)
-  walked line = both (λ w inner. statement.For line w.slots w.container inner ∷ [])
-
-  abbrev pub branched : Option CExpr → Option (List CStat) → Option (List CBranch)
-  branched = both (λ test inner. record { test = test; block = inner } ∷ [])
-
-  abbrev pub guarded : Option (Option CExpr) → Option CComm → Option (List CStat) → Option (List CAlt)
-  guarded guard c inner = option_and_then (λ g. both (λ c b. alternative.Guarded g c b ∷ []) c inner) guard
-
-  abbrev pub offered : Option Opened → Option (List CAlt) → Option (List CAlt)
-  offered = both (λ w inner. alternative.Unwind w.slots w.container inner ∷ [])
+  -- ---- statements
 
   abbrev pub statement_step : Statement-F (Going CAlt) (Going CStat) (Going CBranch) (Going CStat) → Going CStat
   statement_step (Statement-F.Declare tree variables) loop s = declaration_in tree variables s
@@ -309,7 +338,7 @@ module _ (home : Home) where
       held_by (running_rule home place) (record {
         next = inner.next;
         faults = inner.faults;
-        made = option_map (λ each. statement.Select place.line each ∷ []) inner.made;
+        made = offers place.line inner.made;
       })
   statement_step (Statement-F.If place branches otherwise) loop s =
       let first = in_turn (each_in loop branches) s in
@@ -327,10 +356,10 @@ module _ (home : Home) where
   statement_step (Statement-F.Exit place value) loop s = alone s (exit_in s.names place value)
   statement_step (Statement-F.Run place elements) loop s =
       let es = in_turn (map starting elements) s in
-      held_by (running_rule home place) (record { next = es.next; faults = es.faults; made = option_map (λ each. statement.Run place.line each ∷ []) es.made })
+      held_by (running_rule home place) (record { next = es.next; faults = es.faults; made = runs place.line es.made })
   statement_step (Statement-F.Start place elements) loop s =
       let es = in_turn (map starting elements) s in
-      held_by (running_rule home place) (record { next = es.next; faults = es.faults; made = option_map (λ each. statement.Start place.line each ∷ []) es.made })
+      held_by (running_rule home place) (record { next = es.next; faults = es.faults; made = starts place.line es.made })
   statement_step (Statement-F.Finish place instances) loop s = alone s (finish_in s.names place instances)
   statement_step (Statement-F.Write place ends_line format format_place values) loop s =
       alone s (write_in s.names place ends_line format format_place values)
@@ -367,6 +396,15 @@ module _ (home : Home) where
   unfoldable pub offering : Alternative → Going CAlt
   offering = fold-Alternative (Going CAlt) (Going CStat) (Going CBranch) (Going CStat) alternative_step statement_step branch_step step_step
 
-  -- a block, where a loop stands around it or not
+  -- each where a loop stands around it or not
+  abbrev pub stepping_in : Bool → Step → Turn State CStat
+  stepping_in loop step = stepping step loop
+
+  abbrev pub branching_in : Bool → Branch → Turn State CBranch
+  branching_in loop b = branching b loop
+
+  abbrev pub offering_in : Bool → Alternative → Turn State CAlt
+  offering_in loop a = offering a loop
+
   abbrev pub stating_all : Bool → List Step → Turn State CStat
-  stating_all loop steps = in_turn (map (λ step. stepping step loop) steps)
+  stating_all loop steps = in_turn (map (stepping_in loop) steps)

@@ -1,5 +1,5 @@
 -- The names that are visible, and the slots of the variables so far, in a body.
-use Rattle.std.specs.Prelude.{ℕ, Bool, ◌||◌, List, [], ◌∷◌, ◌++◌, length, take, Option, Some, None, is_some, if◌then◌else◌}
+use Rattle.std.specs.Prelude.{ℕ, Bool, not, ◌||◌, List, [], ◌∷◌, ◌++◌, length, take, Option, Some, None, is_some, if◌then◌else◌}
 use Rattle.chi_tree.specs.declared.type_tree.Name.{Name}
 use Rattle.chi_types.specs.declared.ty.Ty.{Ty}
 use Rattle.chi_typing.specs.declared.fault.Fault.{Fault}
@@ -42,23 +42,32 @@ with_slot slots (Some t) = slots ++ t ∷ []
 abbrev pub with_variable : Binder → Name → Option Ty → State → State
 with_variable b name t s = record { names = with_name s.names name.text (bound b (length s.slots) t); slots = with_slot s.slots t }
 
+abbrev pub next_slot : State → ℕ
+next_slot s = length s.slots
+
 -- the slot of a new name that has a type
-abbrev pub slot_of : Bool → ℕ → Option Ty → Option (List ℕ)
-slot_of taken slot None = None
-slot_of taken slot (Some t) = if taken then None else Some (slot ∷ [])
+abbrev pub slot_if : Bool → Bool → ℕ → Option (List ℕ)
+slot_if taken typed slot = if taken || not typed then None else Some (slot ∷ [])
 
 abbrev pub binding : Binder → Name → Option Ty → Turn State ℕ
 binding b name t s = record {
   next = with_variable b name t s;
   faults = new_name_rule s.names name;
-  made = slot_of (is_taken s.names name.text) (length s.slots) t;
+  made = slot_if (is_taken s.names name.text) (is_some t) (next_slot s);
 }
+
+abbrev pub first_type : List Ty → Option Ty
+first_type [] = None
+first_type (t ∷ types) = Some t
+
+abbrev pub other_types : List Ty → List Ty
+other_types [] = []
+other_types (t ∷ types) = types
 
 -- names in turn, with their types; those past the types have none
 abbrev pub bindings : Binder → List Name → List Ty → List (Turn State ℕ)
 bindings b [] types = []
-bindings b (name ∷ names) [] = binding b name None ∷ bindings b names []
-bindings b (name ∷ names) (t ∷ types) = binding b name (Some t) ∷ bindings b names types
+bindings b (name ∷ names) types = binding b name (first_type types) ∷ bindings b names (other_types types)
 
 -- the end of a block: the first names stay visible, and no slot is used again
 abbrev pub cut : ℕ → State → State
