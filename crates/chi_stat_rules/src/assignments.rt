@@ -153,16 +153,12 @@ fn spread_one(
     let Some(value) = value else {
         return Ok(None);
     };
-    match &value.ty {
-        Ty::TupleOf(parts) => spread_parts(
-            alloc,
-            line,
-            equals,
-            aims,
-            value.core,
-            parts.as_slice(),
-            kept,
-        ),
+    let Made { core, ty } = value;
+    match &ty {
+        Ty::TupleOf(parts) => {
+            let parts = parts.as_slice();
+            spread_parts(alloc, line, equals, aims, core, parts, kept)
+        }
         _ => {
             note(kept, rules::TARGET_COUNT, equals);
             Ok(None)

@@ -1,6 +1,6 @@
 //! Writes: a format and the values that it shows.
 
-#![tactic(auto, using(chi_typing::proofs::Firsts::first_of_none, chi_typing::proofs::Firsts::first_of_append, crate::proofs::ShownValues::before_none, crate::proofs::ShownValues::before_end, crate::proofs::ShownValues::made_next, crate::proofs::ShownValues::noted_next))]
+#![tactic(auto, using(chi_typing::proofs::Firsts::first_of_none, chi_typing::proofs::Firsts::first_of_append, crate::proofs::ShownValues::before_none, crate::proofs::ShownValues::before_end, crate::proofs::ShownValues::shown_end, crate::proofs::ShownValues::made_next, crate::proofs::ShownValues::noted_next))]
 
 ghost use Rattle.std.specs.Prelude.{◌≡◌, Some, None, MatchOption, IfOk, OnOk};
 ghost use Rattle.chi_types.specs.declared.ty.Ty.{out-Ty};
