@@ -19,10 +19,7 @@ use chi_typing::{Fault, Made, note, rules};
 use std::alloc::Global;
 
 /// All targets, where each has a type.
-fn all_aims(
-    alloc: Global,
-    parts: Items<Option<Aim>>,
-) -> Result<Option<Items<Aim>>, NoMemory>
+fn all_aims(alloc: Global, parts: Items<Option<Aim>>) -> Result<Option<Items<Aim>>, NoMemory>
     ensures { IfOk result (λ all. all ≡ spec.all_aims parts) }
 {
     let mut all = Vec::new(alloc);
@@ -136,7 +133,12 @@ fn spread_parts(
     let Some(aims) = all_aims(alloc, aims)? else {
         return Ok(None);
     };
-    Ok(settle(spread(alloc, line, tuple, parts, aims)?, rules::ASSIGNED_VALUE, equals, kept))
+    Ok(settle(
+        spread(alloc, line, tuple, parts, aims)?,
+        rules::ASSIGNED_VALUE,
+        equals,
+        kept,
+    ))
 }
 
 fn spread_one(
@@ -167,10 +169,7 @@ fn spread_one(
 }
 
 /// The one value, where there is just one.
-fn only_one(
-    alloc: Global,
-    values: Items<Option<Made>>,
-) -> Result<Option<Option<Made>>, NoMemory>
+fn only_one(alloc: Global, values: Items<Option<Made>>) -> Result<Option<Option<Made>>, NoMemory>
     ensures { IfOk result (λ v. v ≡ spec.only_one values) }
 {
     let mut values = values.into_vec(alloc)?;
@@ -200,7 +199,12 @@ fn even(
     let Some(aims) = all_aims(alloc, aims)? else {
         return Ok(None);
     };
-    Ok(settle(stored(alloc, line, values, aims)?, rules::ASSIGNED_VALUE, equals, kept))
+    Ok(settle(
+        stored(alloc, line, values, aims)?,
+        rules::ASSIGNED_VALUE,
+        equals,
+        kept,
+    ))
 }
 
 /// An assignment, whose `=` stands at the place.

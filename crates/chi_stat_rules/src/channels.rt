@@ -96,7 +96,12 @@ fn send_value(
     let Some(made) = value else {
         return Ok(None);
     };
-    Ok(settle(sending(alloc, aim, ty, made)?, rules::SENT_VALUE, place, kept))
+    Ok(settle(
+        sending(alloc, aim, ty, made)?,
+        rules::SENT_VALUE,
+        place,
+        kept,
+    ))
 }
 
 /// A send, of a value where one stands there; that may have no type.
@@ -240,7 +245,12 @@ fn receive_value(
     let Some(receiver) = receiver else {
         return None;
     };
-    settle(receiving(aim, ty, receiver), rules::RECEIVING_NAME, place, kept)
+    settle(
+        receiving(aim, ty, receiver),
+        rules::RECEIVING_NAME,
+        place,
+        kept,
+    )
 }
 
 /// A receive, into a variable where one stands there; that may have no type.

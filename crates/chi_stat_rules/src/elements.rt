@@ -175,7 +175,14 @@ pub fn start_of(
         note(kept, rules::NAME_KIND, name.place);
         return Ok(None);
     }
-    visible_start(alloc, home, name.place, scope.known(&name.text), arguments, kept)
+    visible_start(
+        alloc,
+        home,
+        name.place,
+        scope.known(&name.text),
+        arguments,
+        kept,
+    )
 }
 
 /// The element, where its target has a type, if it has a target, and so has what is started.

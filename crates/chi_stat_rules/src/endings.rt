@@ -41,7 +41,12 @@ fn return_as(
     let Some(made) = made else {
         return Ok(None);
     };
-    Ok(settle(returning(alloc, place.line, ty, made)?, rules::RETURN, place, kept))
+    Ok(settle(
+        returning(alloc, place.line, ty, made)?,
+        rules::RETURN,
+        place,
+        kept,
+    ))
 }
 
 /// A return, whose word stands at the place.
@@ -110,7 +115,12 @@ fn exit_value(
             let Some(made) = made else {
                 return Ok(None);
             };
-            Ok(settle(exiting(alloc, place.line, ty, made)?, rules::EXIT, place, kept))
+            Ok(settle(
+                exiting(alloc, place.line, ty, made)?,
+                rules::EXIT,
+                place,
+                kept,
+            ))
         }
     }
 }

@@ -72,12 +72,7 @@ fn any_has_channel(parts: &[(Bytes, Ty)]) -> bool
 }
 
 /// Notes a local variable of a function whose type has a channel in it, and tells whether it is one.
-pub fn note_channel(
-    home: &Home,
-    place: Place,
-    ty: Option<&Ty>,
-    kept: &mut Option<Fault>,
-) -> bool
+pub fn note_channel(home: &Home, place: Place, ty: Option<&Ty>, kept: &mut Option<Fault>) -> bool
     ensures barred { result ≡ not (are_none (spec.channel_rule home.now place (option_copied ty.entry))) }
     ensures noted { kept.new ≡ first_of kept.old (spec.channel_rule home.now place (option_copied ty.entry)) }
 {

@@ -113,13 +113,7 @@ fn to_element(alloc: Global, aim: Aim, element: Ty, index: Made) -> Result<Optio
     }
 }
 
-fn to_key(
-    alloc: Global,
-    aim: Aim,
-    key: Ty,
-    value: Ty,
-    index: Made,
-) -> Result<Option<Aim>, NoMemory>
+fn to_key(alloc: Global, aim: Aim, key: Ty, value: Ty, index: Made) -> Result<Option<Aim>, NoMemory>
     ensures { IfOk result (λ a. a ≡ spec.to_key aim key value index) }
 {
     if !fits(&index.ty, &key) {
@@ -231,5 +225,10 @@ pub fn field_step(
     let Some(aim) = aim else {
         return Ok(None);
     };
-    Ok(settle(field_of(alloc, &name.text, aim)?, rules::FIELD, name.place, kept))
+    Ok(settle(
+        field_of(alloc, &name.text, aim)?,
+        rules::FIELD,
+        name.place,
+        kept,
+    ))
 }

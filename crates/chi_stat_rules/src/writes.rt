@@ -97,7 +97,12 @@ fn shown_one(
     let Some(made) = made else {
         return Ok(None);
     };
-    Ok(settle(showing(alloc, piece, made)?, rules::FORMAT_VALUE, place, kept))
+    Ok(settle(
+        showing(alloc, piece, made)?,
+        rules::FORMAT_VALUE,
+        place,
+        kept,
+    ))
 }
 
 /// The next piece that shows a value, and the pieces after it.
