@@ -5,8 +5,9 @@ ghost use Rattle.chi_tool.specs.Headline.{Headline, Causes, IsComplete};
 use crate::deliver::deliver;
 use crate::laws::{one_run_law, report_law};
 use crate::serve::serve;
-use crate::status::NO_REQUEST;
-use crate::words::asked_file;
+use crate::status::{NO_MEMORY, NO_REQUEST, NOT_BUILT};
+use crate::words::task_of;
+use chi_cli::{CliFault, read_words, requests_law};
 use chi_io::{Shelf, Sink};
 use std::alloc::Global;
 
@@ -49,9 +50,14 @@ pub fn chi<H: Shelf, O: Sink, L: Sink>(
 {
     report_law();
     one_run_law();
-    match asked_file(words) {
-        Some(file) => serve(alloc, file.as_bytes(), shelf, out, log),
-        None => deliver(
+    requests_law();
+    match read_words(alloc, words) {
+        Ok(request) => match task_of(request) {
+            Some(task) => serve(alloc, &task, shelf, out, log),
+            None => deliver(NOT_BUILT, out, b"", log, b"form not built\n"),
+        },
+        Err(CliFault::NoMemory) => NO_MEMORY,
+        Err(_) => deliver(
             NO_REQUEST,
             out,
             b"",
