@@ -1,6 +1,6 @@
 ghost use Rattle.std.specs.Prelude.{◌≡◌, ◌<◌};
 ghost use Rattle.std.proofs.Common.{◌∙◌, sym};
-ghost use Rattle.chi_sched.specs.Policies.{first, last, spread};
+ghost use Rattle.chi_sched.specs.Policies.{first, last, listed, spread};
 
 use crate::Chooser;
 
@@ -47,6 +47,18 @@ pub fn spread_of(salt: u64, question: u64, count: u64) -> u64
         .wrapping_add(question.wrapping_mul(2_654_435_761))
         .wrapping_add(12_345);
     word / 65_536 % count
+}
+
+/// The choice that a list has for the question, or the first where it has none below the count.
+pub fn listed_of(picks: &[u64], question: u64, count: u64) -> u64
+    requires { 0 < count }
+    ensures formula { result ≡ listed picks.now question count }
+    ensures below { result < count }
+{
+    match picks.get(question as usize) {
+        Some(&pick) if pick < count => pick,
+        _ => 0,
+    }
 }
 
 impl Chooser for First {

@@ -3,6 +3,8 @@
 
 mod chooser;
 mod formulas;
+mod policy;
 
 pub use chooser::Chooser;
-pub use formulas::{First, Last, Spread, first_of, last_of, spread_of};
+pub use formulas::{First, Last, Spread, first_of, last_of, listed_of, spread_of};
+pub use policy::{Closure, Policy};

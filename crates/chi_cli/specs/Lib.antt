@@ -1,0 +1,5 @@
+pub mod Commands
+pub mod Numbers
+pub mod Requests
+pub mod Saying
+pub mod Splitting

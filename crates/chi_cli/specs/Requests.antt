@@ -1,0 +1,111 @@
+-- Which words are a request, and for what; else why they are none.
+use Rattle.std.specs.Prelude.{◌≡◌, ℕ, ℤ, ◌&&◌, Bool, true, not, bytes_eq, codes, find, is_some, List, [], ◌∷◌, Option, Some, None, option_map, Result, Ok, Err, if◌then◌else◌}
+use Rattle.chi_cli.specs.declared.command.Command.{Command}
+use Rattle.chi_cli.specs.declared.command.Command.TheVariants as command
+use Rattle.chi_cli.specs.declared.command.OptionName.{OptionName}
+use Rattle.chi_cli.specs.declared.command.OptionName.TheVariants as option
+use Rattle.chi_cli.specs.declared.fault.CliFault.{CliFault}
+use Rattle.chi_cli.specs.declared.fault.CliFault.TheVariants as fault
+use Rattle.chi_cli.specs.declared.policy.PolicyName.{PolicyName}
+use Rattle.chi_cli.specs.declared.policy.PolicyName.TheVariants as policy
+use Rattle.chi_cli.specs.declared.request.Pick.{Pick}
+use Rattle.chi_cli.specs.declared.request.Pick.TheVariants as pick
+use Rattle.chi_cli.specs.declared.request.Request.{Request}
+use Rattle.chi_cli.specs.declared.request.Request.TheVariants as request
+use Rattle.chi_cli.specs.Commands.{Text, command_named, option_text}
+use Rattle.chi_cli.specs.Numbers.{number_in, number_or, time_or_none}
+use Rattle.chi_cli.specs.Splitting.{Said, split}
+
+-- the value that an option was given, if it was
+abbrev pub value_given : OptionName → List (OptionName × Text) → Option Text
+value_given o options = option_map (λ given. given.1) (find (λ given. bytes_eq (option_text given.0) (option_text o)) options)
+
+-- each option stands at most once
+abbrev pub each_once : List (OptionName × Text) → Bool
+each_once [] = true
+each_once (given ∷ options) = not (is_some (value_given given.0 options)) && each_once options
+
+abbrev pub policy_named : Text → Option PolicyName
+policy_named name =
+    if bytes_eq name (codes "first") then Some policy.First
+    else if bytes_eq name (codes "last") then Some policy.Last
+    else if bytes_eq name (codes "spread") then Some policy.Spread
+    else None
+
+-- the policy that is asked for, the first where the option isn't given
+abbrev pub policy_or_first : Option Text → Option PolicyName
+policy_or_first None = Some policy.First
+policy_or_first (Some name) = policy_named name
+
+abbrev pub pick_of : PolicyName → ℕ → Pick
+pick_of policy.First salt = pick.First
+pick_of policy.Last salt = pick.Last
+pick_of policy.Spread salt = pick.Spread salt
+
+-- a run of a file with arguments, where all its numbers are in their forms and ranges
+abbrev pub run_asked : Text → List Text → PolicyName → Bool → Option ℕ → Option ℕ → Option ℕ → Option (Option ℤ) → Result Request CliFault
+run_asked file args policy trace (Some seed) (Some bound) (Some salt) (Some until) =
+    Ok (request.Sim file args seed bound until (pick_of policy salt) trace)
+run_asked file args policy trace seed bound salt until = Err fault.BadNumber
+
+-- `sim`: the seed and the salt are below 2^64, and the bound on steps is at most 10^15
+abbrev pub sim_of_file : Text → List Text → Option PolicyName → List (OptionName × Text) → Result Request CliFault
+sim_of_file file args None options = Err fault.Usage
+sim_of_file file args (Some policy) options = run_asked file args policy (is_some (value_given option.Trace options))
+    (number_or 0 0 18_446_744_073_709_551_615 (value_given option.Seed options))
+    (number_or 10_000_000 0 1_000_000_000_000_000 (value_given option.Steps options))
+    (number_or 0 0 18_446_744_073_709_551_615 (value_given option.Salt options))
+    (time_or_none (value_given option.Until options))
+
+abbrev pub sim : List Text → List (OptionName × Text) → Result Request CliFault
+sim [] options = Err fault.Usage
+sim (file ∷ args) options = sim_of_file file args (policy_or_first (value_given option.Policy options)) options
+
+-- one plain word and no other
+abbrev pub one_word : List Text → Option Text
+one_word (word ∷ []) = Some word
+one_word _ = None
+
+abbrev pub check : Option Text → Result Request CliFault
+check None = Err fault.Usage
+check (Some file) = Ok (request.Check file)
+
+abbrev pub load_of : Option ℕ → Result Request CliFault
+load_of None = Err fault.BadNumber
+load_of (Some n) = Ok (request.Load n)
+
+-- `load`: the size of the factory is from 1 to 1,000
+abbrev pub load : Option Text → Result Request CliFault
+load None = Err fault.Usage
+load (Some size) = load_of (number_in 1 1_000 size)
+
+abbrev pub trace_up : Option Text → Result Request CliFault
+trace_up None = Err fault.Usage
+trace_up (Some file) = Ok (request.TraceUp file)
+
+-- the request of a command's options and plain words
+abbrev pub asked : Command → Said → Result Request CliFault
+asked command.Sim said = sim said.plain said.options
+asked command.Check said = check (one_word said.plain)
+asked command.Load said = load (one_word said.plain)
+asked command.TraceUp said = trace_up (one_word said.plain)
+
+abbrev pub said_request : Command → Option Said → Result Request CliFault
+said_request command None = Err fault.Usage
+said_request command (Some said) = if each_once said.options then asked command said else Err fault.Usage
+
+abbrev pub command_request : Option Command → List Text → Result Request CliFault
+command_request None words = Err fault.Command
+command_request (Some command) words = said_request command (split command words)
+
+-- the request of words, or why they are none
+abbrev pub request_of : List Text → Result Request CliFault
+request_of [] = Err fault.Command
+request_of (name ∷ words) = command_request (command_named name) words
+
+-- what is refused, and why; want of memory is tied to nothing
+abbrev pub IsRefused : Result Request CliFault → CliFault → Type 0
+IsRefused meant fault.NoMemory = Unit {0}
+IsRefused meant fault.Usage = meant ≡ Err fault.Usage
+IsRefused meant fault.Command = meant ≡ Err fault.Command
+IsRefused meant fault.BadNumber = meant ≡ Err fault.BadNumber

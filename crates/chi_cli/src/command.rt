@@ -1,0 +1,96 @@
+ghost use Rattle.std.specs.Prelude.{◌≡◌};
+ghost use Rattle.chi_cli.specs.Commands.{command_named, option_named, options_of, option_text, takes_value};
+
+/// What the first word asks for.
+#[derive(Clone, Copy, Debug)]
+pub enum Command {
+    Sim,
+    Check,
+    Load,
+    TraceUp,
+}
+
+/// An option of a command.
+#[derive(Clone, Copy, Debug)]
+pub enum OptionName {
+    Seed,
+    Steps,
+    Policy,
+    Salt,
+    Until,
+    Trace,
+}
+
+const SIM_OPTIONS: [OptionName; 6] = [
+    OptionName::Seed,
+    OptionName::Steps,
+    OptionName::Policy,
+    OptionName::Salt,
+    OptionName::Until,
+    OptionName::Trace,
+];
+
+impl Command {
+    /// The command that a word names.
+    pub fn named(word: &[u8]) -> Option<Command>
+        ensures { result ≡ command_named word.now }
+    {
+        if word == b"sim".as_slice() {
+            Some(Command::Sim)
+        } else if word == b"check".as_slice() {
+            Some(Command::Check)
+        } else if word == b"load".as_slice() {
+            Some(Command::Load)
+        } else if word == b"trace-up".as_slice() {
+            Some(Command::TraceUp)
+        } else {
+            None
+        }
+    }
+
+    /// The options that the command has.
+    pub fn options(self) -> &'static [OptionName]
+        ensures { result.now ≡ options_of self }
+    {
+        match self {
+            Command::Sim => &SIM_OPTIONS,
+            Command::Check | Command::Load | Command::TraceUp => &[],
+        }
+    }
+
+    /// The option of the command with this name.
+    pub fn option_named(self, name: &[u8]) -> Option<OptionName>
+        ensures { result ≡ option_named self name.now }
+    {
+        let mut rest = self.options();
+        while let Some((option, after)) = rest.split_first() {
+            if option.text() == name {
+                return Some(*option);
+            }
+            rest = after;
+        }
+        None
+    }
+}
+
+impl OptionName {
+    /// The name of the option, without the hyphens.
+    pub fn text(self) -> &'static [u8]
+        ensures { result.now ≡ option_text self }
+    {
+        match self {
+            OptionName::Seed => b"seed",
+            OptionName::Steps => b"steps",
+            OptionName::Policy => b"policy",
+            OptionName::Salt => b"salt",
+            OptionName::Until => b"until",
+            OptionName::Trace => b"trace",
+        }
+    }
+
+    pub fn takes_value(self) -> bool
+        ensures { result ≡ takes_value self }
+    {
+        !matches!(self, OptionName::Trace)
+    }
+}

@@ -1,0 +1,41 @@
+use chi_base::Items;
+use chi_num::Real;
+use chi_token::Bytes;
+
+/// Which of the labels that may come a run takes.
+#[derive(Clone, Copy, Debug)]
+pub enum Pick {
+    First,
+    Last,
+    /// One that this salt spreads.
+    Spread(u64),
+}
+
+/// What the words of the command line ask for.
+#[derive(Debug, Drop)]
+pub enum Request {
+    Sim {
+        file: Bytes,
+        /// The texts of the model's arguments.
+        args: Items<Bytes>,
+        seed: u64,
+        /// On the costs of all steps together.
+        bound: u64,
+        /// The stopping time.
+        until: Option<Real>,
+        pick: Pick,
+        /// Whether the trace is wanted.
+        trace: bool,
+    },
+    Check {
+        file: Bytes,
+    },
+    Load {
+        /// The size of the factory.
+        n: u32,
+    },
+    /// To bring a log of traces in version 1 to version 2.
+    TraceUp {
+        file: Bytes,
+    },
+}
