@@ -1,7 +1,7 @@
 -- When each status comes of a source's report.
 use Rattle.std.proofs.Common.{◌≡◌, ◌≢◌, ℕ, ◌≤◌, List, ◌⊎◌, inl, inr, sym, ◌∙◌, ap, refl, arith}
 use Rattle.chi_io.specs.Shelf.{Files}
-use Rattle.chi_cli.specs.declared.fault.ArgFault.{ArgFault}
+use Rattle.chi_cli.specs.declared.args.ArgFault.{ArgFault}
 use Rattle.chi_core.specs.declared.program.Core.{Core}
 use Rattle.chi_core.specs.declared.verdict.Verdict.{Verdict}
 use Rattle.chi_core.specs.declared.verdict.Verdict.TheVariants as verdict

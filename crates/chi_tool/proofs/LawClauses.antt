@@ -3,7 +3,7 @@ use Rattle.std.proofs.Common.{◌≡◌, ℕ, ◌<◌, List, Result, Option, Som
 use Rattle.std.specs.Prelude.{◌^◌, ℤ, Bool, Ok}
 use Rattle.chi_cli.specs.declared.request.Pick.{Pick}
 use Rattle.chi_cli.specs.declared.request.Request.TheVariants as request
-use Rattle.chi_cli.specs.Arguments.{values_of}
+use Rattle.chi_cli.specs.Arguments.{arguments_of}
 use Rattle.chi_cli.specs.Requests.{request_of}
 use Rattle.chi_io.specs.Shelf.{Files}
 use Rattle.chi_token.specs.declared.place.Spanned.{Spanned}
@@ -49,7 +49,7 @@ BoundLaw =
 abbrev pub ValuesLaw : Type 0
 ValuesLaw =
     (names : List (List (List ℕ))) (params : List Ty) (texts : List (List ℕ)) (values : List Value)
-    → values_of params texts ≡ Ok values → AreOf (at_start names) values (kinds_of params)
+    → arguments_of params texts ≡ Ok values → AreOf (at_start names) values (kinds_of params)
 
 -- words and files have one report
 pub record ReportLaw : Type 0 where

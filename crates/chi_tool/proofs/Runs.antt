@@ -5,7 +5,7 @@ use Rattle.std.specs.Prelude.{slice_get, ℤ, ◌^◌, ◌-◌, Option, Result, 
 use Rattle.chi_base.specs.declared.no_memory.NoMemory.{NoMemory}
 use Rattle.chi_cli.specs.declared.request.Pick as words
 use Rattle.chi_cli.specs.declared.request.Pick.TheVariants as pick
-use Rattle.chi_cli.specs.Arguments.{values_of}
+use Rattle.chi_cli.specs.Arguments.{arguments_of}
 use Rattle.chi_value.specs.declared.value.Value.{Value}
 use Rattle.chi_core.specs.declared.program.Core.{Core}
 use Rattle.chi_core.specs.declared.program.ProcDef.{ProcDef}
@@ -37,7 +37,7 @@ named_lawful (pick.Spread salt) question count early some few = mod-lt _ some
 
 -- settings that are asked for may be had
 pub asked_settings : ValuesLaw → (core : Core) (a : Asked) (values : List Value) (d : ProcDef) → slice_get core.procs core.model ≡ Some d
-    → values_of d.params a.texts ≡ Ok values → IsBounded (Simulate a) → MayHave core (settings_with a values)
+    → arguments_of d.params a.texts ≡ Ok values → IsBounded (Simulate a) → MayHave core (settings_with a values)
 asked_settings fit core a values d is read bounded = record {
   model = d;
   is = is;

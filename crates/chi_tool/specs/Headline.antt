@@ -12,7 +12,7 @@ use Rattle.chi_core.specs.declared.verdict.Verdict.{Verdict}
 use Rattle.chi_core.specs.declared.verdict.Verdict.TheVariants as verdict
 use Rattle.chi_core.specs.Runs.{Told}
 use Rattle.chi_value.specs.declared.value.Value.{Value}
-use Rattle.chi_cli.specs.declared.fault.ArgFault.{ArgFault}
+use Rattle.chi_cli.specs.declared.args.ArgFault.{ArgFault}
 use Rattle.chi_tool.specs.declared.task.Asked.{Asked}
 use Rattle.chi_tool.specs.declared.task.Purpose.{Purpose}
 use Rattle.chi_tool.specs.declared.task.Purpose.TheVariants.{Simulate, Check}

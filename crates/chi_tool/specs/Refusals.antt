@@ -1,8 +1,8 @@
 -- Reports, and those that are nothing but the line of a refusal.
 use Rattle.std.specs.Prelude.{ℕ, List, [], ◌∷◌, ◌++◌, codes}
 use Rattle.std.specs.Fmt.{decimal}
-use Rattle.chi_cli.specs.declared.fault.ArgFault.{ArgFault}
-use Rattle.chi_cli.specs.declared.fault.ArgFault.TheVariants as arg
+use Rattle.chi_cli.specs.declared.args.ArgFault.{ArgFault}
+use Rattle.chi_cli.specs.declared.args.ArgFault.TheVariants as arg
 use Rattle.chi_token.specs.declared.place.Spanned.{Spanned}
 use Rattle.chi_lex.specs.declared.fault.LexFault.{LexFault}
 use Rattle.chi_lex.specs.declared.fault.LexFault.TheVariants as fault

@@ -1,6 +1,6 @@
 -- The report of words and files: the status, and every byte that is written.
 use Rattle.std.specs.Prelude.{◌≡◌, ℕ, ◌<◌, ◌≤◌, List, length, Option, Some, None}
-use Rattle.chi_cli.specs.declared.fault.ArgFault.{ArgFault}
+use Rattle.chi_cli.specs.declared.args.ArgFault.{ArgFault}
 use Rattle.chi_io.specs.Shelf.{Files}
 use Rattle.chi_lex.specs.declared.lexer.TheConstants.{MOST_BYTES}
 use Rattle.chi_core.specs.declared.program.Core.{Core}
