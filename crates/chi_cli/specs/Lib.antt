@@ -1,3 +1,5 @@
+pub mod Answers
+pub mod Arguments
 pub mod Commands
 pub mod Numbers
 pub mod Requests

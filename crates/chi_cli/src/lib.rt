@@ -1,15 +1,21 @@
-//! The words of the command line as a request.
+//! The words of the command line as a request, and the arguments of a model as its values.
 #![tactic(auto)]
 
+mod args;
 mod command;
 mod fault;
+mod laws;
 mod number;
 mod policy;
+mod reading;
 mod request;
 mod said;
 mod word;
 mod words;
 
+pub use args::ArgFault;
 pub use fault::CliFault;
+pub use laws::{one_request_law, values_are_of_parameters};
+pub use reading::read_args;
 pub use request::{Pick, Request};
 pub use words::read_words;

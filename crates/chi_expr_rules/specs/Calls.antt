@@ -19,6 +19,11 @@ use Rattle.chi_expr_rules.specs.Sites.{calling_rule}
 abbrev pub called : ℕ → List Ty → Ty → List Made → Option Made
 called number params result arguments = option_map (λ es. made (expression.Call number es) result) (passed arguments params)
 
+-- a wrong number of arguments breaks the rule, also where one has no type
+abbrev pub function_call : Place → ℕ → List Ty → Ty → List (Option Made) → Typed Made
+function_call place number params result arguments =
+    of_all CALL_ARGUMENTS place (nat_eq (length arguments) (length params)) (called number params result) (all_made arguments)
+
 -- a function one of whose types breaks a rule has no type; what else has none is of another kind
 abbrev pub untyped_call : Site → Place → NameKind → Typed Made
 untyped_call site place kind.Function = untyped (calling_rule site place)
@@ -32,8 +37,7 @@ untyped_call site place kind.Process = refused NAME_KIND place
 abbrev pub call_of : Site → Place → Option Known → List (Option Made) → Typed Made
 call_of site place None arguments = refused VISIBLE_NAME place
 call_of site place (Some (known.Func number params result)) arguments =
-    barred (calling_rule site place)
-      (of_all CALL_ARGUMENTS place (nat_eq (length arguments) (length params)) (called number params result) (all_made arguments))
+    barred (calling_rule site place) (function_call place number params result arguments)
 call_of site place (Some (known.Untyped k)) arguments = untyped_call site place k
 call_of site place (Some (known.Var slot t)) arguments = refused NAME_KIND place
 call_of site place (Some (known.Fixed slot t)) arguments = refused NAME_KIND place

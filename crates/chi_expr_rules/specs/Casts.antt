@@ -40,12 +40,16 @@ to_bool _ m = None
 abbrev pub to_text : Made → Option Made
 to_text m = if is_plain m.ty then Some (as_they_are op.ToText (m ∷ []) ty.Text) else None
 
+-- due so much later
+abbrev pub to_timer : Made → Option Made
+to_timer m = wanting op.ToTimer (ty.Real ∷ []) ty.Timer (m ∷ [])
+
 abbrev pub cast : CastWord → Made → Option Made
 cast word.Int m = to_int (out-Ty m.ty) m
 cast word.Real m = to_real (out-Ty m.ty) m
 cast word.Text m = to_text m
 cast word.Bool m = to_bool (out-Ty m.ty) m
-cast word.Timer m = wanting op.ToTimer (ty.Real ∷ []) ty.Timer (m ∷ [])
+cast word.Timer m = to_timer m
 
 abbrev pub is_timer : Ty-F Ty → Bool
 is_timer Ty-F.Timer = true
@@ -62,5 +66,8 @@ timer_rule site word.Timer place m = running_rule site place
 timer_rule site word.Real place m = from_timer_rule site place m
 timer_rule site word place m = []
 
+abbrev pub cast_made : CastWord → Place → Option Made → Typed Made
+cast_made word place m = of_one PREDEFINED place (cast word) m
+
 abbrev pub cast_of : Site → CastWord → Place → Option Made → Typed Made
-cast_of site word place m = barred (timer_rule site word place m) (of_one PREDEFINED place (cast word) m)
+cast_of site word place m = barred (timer_rule site word place m) (cast_made word place m)

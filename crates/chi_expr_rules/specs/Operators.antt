@@ -11,6 +11,7 @@ use Rattle.chi_types.specs.Same.{same}
 use Rattle.chi_core.specs.declared.expression.CExpr.TheVariants as expression
 use Rattle.chi_core.specs.declared.op_name.OpName.{OpName}
 use Rattle.chi_core.specs.declared.op_name.OpName.TheVariants as op
+use Rattle.chi_typing.specs.declared.fault.Fault.{Fault}
 use Rattle.chi_typing.specs.declared.meant.Made.{Made}
 use Rattle.chi_typing.specs.declared.rules.TheConstants.{OPERATOR}
 use Rattle.chi_typing.specs.declared.site.Site.{Site}
@@ -85,6 +86,14 @@ ints = ty.Int ∷ ty.Int ∷ []
 abbrev pub reals : List Ty
 reals = ty.Real ∷ ty.Real ∷ []
 
+-- an operation on two ints, to an int
+abbrev pub of_ints : OpName → Made → Made → Option Made
+of_ints name a b = wanting name ints ty.Int (a ∷ b ∷ [])
+
+-- the quotient of two numbers, as reals
+abbrev pub divide : Made → Made → Option Made
+divide a b = wanting op.Divide reals ty.Real (a ∷ b ∷ [])
+
 -- what an operator of a chain makes of its operands
 abbrev pub binary : Operator → Made → Made → Option Made
 binary operator.Or a b = disjunction a b
@@ -92,13 +101,13 @@ binary operator.And a b = conjunction a b
 binary operator.Add a b = add_by (out-Ty a.ty) a b
 binary operator.Subtract a b = subtract_by (out-Ty a.ty) a b
 binary operator.Multiply a b = multiply_by (out-Ty a.ty) a b
-binary operator.Divide a b = wanting op.Divide reals ty.Real (a ∷ b ∷ [])
-binary operator.DivideWhole a b = wanting op.Div ints ty.Int (a ∷ b ∷ [])
-binary operator.Remainder a b = wanting op.Mod ints ty.Int (a ∷ b ∷ [])
+binary operator.Divide a b = divide a b
+binary operator.DivideWhole a b = of_ints op.Div a b
+binary operator.Remainder a b = of_ints op.Mod a b
 
 -- `^`
 abbrev pub power : Made → Made → Option Made
-power a b = wanting op.Power ints ty.Int (a ∷ b ∷ [])
+power a b = of_ints op.Power a b
 
 -- `-` before an int or a real
 abbrev pub negated : Ty-F Ty → Made → Option Made
@@ -131,6 +140,13 @@ chain_of sign place a b = of_two OPERATOR place (binary sign) a b
 abbrev pub power_of : Place → Option Made → Option Made → Typed Made
 power_of place a b = of_two OPERATOR place power a b
 
+-- what is drawn depends on the run
+abbrev pub prefix_rule : Site → PrefixSign → Place → List Fault
+prefix_rule site prefix.Sample place = running_rule site place
+prefix_rule site sign place = []
+
+abbrev pub prefix_made : PrefixSign → Place → Option Made → Typed Made
+prefix_made sign place m = of_one OPERATOR place (prefixed sign) m
+
 abbrev pub prefix_of : Site → PrefixSign → Place → Option Made → Typed Made
-prefix_of site prefix.Sample place m = barred (running_rule site place) (of_one OPERATOR place (prefixed prefix.Sample) m)
-prefix_of site sign place m = of_one OPERATOR place (prefixed sign) m
+prefix_of site sign place m = barred (prefix_rule site sign place) (prefix_made sign place m)

@@ -15,6 +15,7 @@ use Rattle.chi_core.specs.Kinds.{nameless_parts}
 use Rattle.chi_typing.specs.declared.fault.Fault.{Fault}
 use Rattle.chi_typing.specs.declared.known.Known.{Known}
 use Rattle.chi_typing.specs.declared.known.Known.TheVariants as known
+use Rattle.chi_typing.specs.declared.known.NameKind.{NameKind}
 use Rattle.chi_typing.specs.declared.known.NameKind.TheVariants as kind
 use Rattle.chi_typing.specs.declared.meant.Made.{Made}
 use Rattle.chi_typing.specs.declared.predefined.Predefined.{Predefined}
@@ -100,14 +101,14 @@ constant m = if is_drawn (out-Ty m.ty) then Some (as_they_are op.Constant (m ∷
 
 -- ---- two arguments
 
--- without the element at an index
-abbrev pub deleted_by : Ty-F Ty → Made → Made → Option Made
-deleted_by (Ty-F.ListOf element) list index =
-    if is_int (out-Ty index.ty) then Some (as_they_are op.Del (list ∷ index ∷ []) list.ty) else None
-deleted_by _ list index = None
+abbrev pub is_list : Ty-F Ty → Bool
+is_list (Ty-F.ListOf element) = true
+is_list _ = false
 
+-- without the element at an index
 abbrev pub deleted : Made → Made → Option Made
-deleted list index = deleted_by (out-Ty list.ty) list index
+deleted list index =
+    if is_list (out-Ty list.ty) && is_int (out-Ty index.ty) then Some (as_they_are op.Del (list ∷ index ∷ []) list.ty) else None
 
 -- between two ints, or between two numbers as reals
 abbrev pub uniform : Made → Made → Option Made
@@ -120,15 +121,25 @@ abbrev pub common_number : Ty → List Made → Option Ty
 common_number t [] = Some t
 common_number t (m ∷ ms) = option_and_then (λ u. common_number u ms) (number_of (out-Ty t) (out-Ty m.ty))
 
+abbrev pub common_numbers : List Made → Option Ty
+common_numbers [] = None
+common_numbers (m ∷ ms) = common_number m.ty ms
+
 abbrev pub extreme : OpName → List Made → Option Made
-extreme name [] = None
-extreme name (m ∷ ms) =
-    option_map (λ t. made (expression.Op name (map (λ each. converted each t) (m ∷ ms))) t) (common_number m.ty ms)
+extreme name ms = option_map (λ t. made (expression.Op name (map (λ m. converted m t) ms)) t) (common_numbers ms)
 
 -- ---- ranges
 
 abbrev pub range : List Made → Option Made
 range bounds = if list_all (λ m. is_int (out-Ty m.ty)) bounds then Some (as_they_are op.Range bounds (ty.ListOf ty.Int)) else None
+
+-- ---- chances
+
+abbrev pub bernoulli : List Made → Option Made
+bernoulli ms = wanting op.Bernoulli (ty.Real ∷ []) (ty.Dist ty.Bool) ms
+
+abbrev pub binomial : List Made → Option Made
+binomial ms = wanting op.Binomial (ty.Int ∷ ty.Real ∷ []) (ty.Dist ty.Int) ms
 
 -- ---- the table
 
@@ -158,40 +169,53 @@ is_count name.Exponential count = false
 is_count name.Ready count = nat_eq count 1
 is_count name.Finished count = nat_eq count 1
 
+-- the one argument
+abbrev pub only : List Made → Option Made
+only (m ∷ []) = Some m
+only _ = None
+
 abbrev pub one : (Made → Option Made) → List Made → Option Made
-one f (m ∷ []) = f m
-one f _ = None
+one f ms = option_and_then f (only ms)
+
+-- the two arguments
+abbrev pub pair : List Made → Option (Made × Made)
+pair (a ∷ b ∷ []) = Some (a, b)
+pair _ = None
 
 abbrev pub two : (Made → Made → Option Made) → List Made → Option Made
-two f (a ∷ b ∷ []) = f a b
-two f _ = None
+two f ms = option_and_then (λ ab. f ab.0 ab.1) (pair ms)
+
+-- what a name makes of its one argument, by the type of this
+abbrev pub of_single : Predefined → Made → Option Made
+of_single name.Abs m = absolute m
+of_single name.Sign m = sign m
+of_single name.Size m = counted op.Size ty.Int m
+of_single name.Empty m = counted op.Empty ty.Bool m
+of_single name.Pop m = popped m
+of_single name.Enumerate m = enumerated m
+of_single name.DictKeys m = keys m
+of_single name.DictValues m = values m
+of_single name.Constant m = constant m
+of_single _ m = None
 
 -- What a predefined name makes of its arguments. `insert` has a rule of its own, since its third argument is a name, and
 -- `exponential` isn't defined for any.
 abbrev pub predefined : Predefined → List Made → Option Made
-predefined name.Abs ms = one absolute ms
-predefined name.Sign ms = one sign ms
 predefined name.Min ms = extreme op.Min ms
 predefined name.Max ms = extreme op.Max ms
 predefined name.Floor ms = wanting op.Floor (ty.Real ∷ []) ty.Int ms
 predefined name.Ceil ms = wanting op.Ceil (ty.Real ∷ []) ty.Int ms
 predefined name.Round ms = wanting op.Round (ty.Real ∷ []) ty.Int ms
-predefined name.Size ms = one (counted op.Size ty.Int) ms
-predefined name.Empty ms = one (counted op.Empty ty.Bool) ms
-predefined name.Pop ms = one popped ms
 predefined name.Del ms = two deleted ms
 predefined name.Insert ms = None
 predefined name.Range ms = range ms
-predefined name.Enumerate ms = one enumerated ms
-predefined name.DictKeys ms = one keys ms
-predefined name.DictValues ms = one values ms
-predefined name.Constant ms = one constant ms
 predefined name.Uniform ms = two uniform ms
-predefined name.Bernoulli ms = wanting op.Bernoulli (ty.Real ∷ []) (ty.Dist ty.Bool) ms
-predefined name.Binomial ms = wanting op.Binomial (ty.Int ∷ ty.Real ∷ []) (ty.Dist ty.Int) ms
+predefined name.Bernoulli ms = bernoulli ms
+predefined name.Binomial ms = binomial ms
 predefined name.Exponential ms = None
 predefined name.Ready ms = wanting op.Ready (ty.Timer ∷ []) ty.Bool ms
 predefined name.Finished ms = wanting op.Finished (ty.Inst ∷ []) ty.Bool ms
+predefined p ms = one (of_single p) ms
 
 -- ---- insertion by a function
 
@@ -212,11 +236,19 @@ abbrev pub inserted_in : Ty-F Ty → Made → Made → Known → Option Made
 inserted_in (Ty-F.ListOf element) list x k = inserted_by element list x k
 inserted_in _ list x k = None
 
+abbrev pub is_function : NameKind → Bool
+is_function kind.Function = true
+is_function _ = false
+
+abbrev pub is_untyped_function : Known → Bool
+is_untyped_function (known.Untyped k) = is_function k
+is_untyped_function _ = false
+
 -- A function one of whose types breaks a rule has no type, and so no rule that needs it is broken.
 abbrev pub insertion : Place → Made → Made → Option Known → Typed Made
 insertion place list x None = refused PREDEFINED place
-insertion place list x (Some (known.Untyped kind.Function)) = untyped []
-insertion place list x (Some k) = settled PREDEFINED place (inserted_in (out-Ty list.ty) list x k)
+insertion place list x (Some k) =
+    if is_untyped_function k then untyped [] else settled PREDEFINED place (inserted_in (out-Ty list.ty) list x k)
 
 -- what stands third in an insertion is a name, and what is known of it; a predefined name is no function's
 abbrev pub insertion_of : Place → Option Made → Option Made → Option Known → Typed Made
@@ -232,12 +264,29 @@ predefined_rule site name.Finished place = running_rule site place
 predefined_rule site name.Insert place = calling_rule site place
 predefined_rule site p place = []
 
+-- the first two of three arguments
+abbrev pub before_third : List (Option Made) → Option (Option Made × Option Made)
+before_third (list ∷ x ∷ third ∷ []) = Some (list, x)
+before_third _ = None
+
+abbrev pub insert_parts : Place → Option (Option Made × Option Made) → Option Known → Typed Made
+insert_parts place None k = refused PREDEFINED place
+insert_parts place (Some parts) k = insertion_of place parts.0 parts.1 k
+
 -- the first two arguments of an insertion, and what is known of the name that stands third
 abbrev pub insert_call : Place → List (Option Made) → Option Known → Typed Made
-insert_call place (list ∷ x ∷ third ∷ []) k = insertion_of place list x k
-insert_call place _ k = refused PREDEFINED place
+insert_call place arguments k = insert_parts place (before_third arguments) k
+
+-- the arguments of what isn't an insertion
+abbrev pub plain_call : Place → Predefined → List (Option Made) → Typed Made
+plain_call place p arguments = of_all PREDEFINED place (is_count p (length arguments)) (predefined p) (all_made arguments)
+
+abbrev pub is_insert : Predefined → Bool
+is_insert name.Insert = true
+is_insert _ = false
+
+abbrev pub predefined_made : Place → Predefined → List (Option Made) → Option Known → Typed Made
+predefined_made place p arguments k = if is_insert p then insert_call place arguments k else plain_call place p arguments
 
 abbrev pub predefined_call : Site → Place → Predefined → List (Option Made) → Option Known → Typed Made
-predefined_call site place name.Insert arguments k = barred (predefined_rule site name.Insert place) (insert_call place arguments k)
-predefined_call site place p arguments k =
-    barred (predefined_rule site p place) (of_all PREDEFINED place (is_count p (length arguments)) (predefined p) (all_made arguments))
+predefined_call site place p arguments k = barred (predefined_rule site p place) (predefined_made place p arguments k)

@@ -3,6 +3,5 @@ pub mod Faults
 pub mod Names
 pub mod Predefined
 pub mod Typed
-pub mod TypeTrees
 pub mod TypeLaws
 pub mod TypeRules

@@ -1,0 +1,10 @@
+pub mod Calling
+pub mod Containers
+pub mod Exact
+pub mod ExprEquations
+pub mod Induction
+pub mod Kept
+pub mod Nodes
+pub mod Opened
+pub mod Parts
+pub mod TypeEquations

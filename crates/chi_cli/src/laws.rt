@@ -1,0 +1,26 @@
+//! Laws of the definitions. Nothing here runs.
+
+ghost use Rattle.std.specs.Prelude.{◌≡◌, ◌≢◌, ℕ, List, Result, Ok, Err};
+ghost use Rattle.chi_types.specs.declared.ty.Ty.{Ty};
+ghost use Rattle.chi_value.specs.declared.value.Value.{Value};
+ghost use Rattle.chi_core.specs.Kinds.{kinds_of};
+ghost use Rattle.chi_core.specs.Of.{AreOf, at_start};
+ghost use Rattle.chi_cli.specs.declared.fault.CliFault.{CliFault};
+ghost use Rattle.chi_cli.specs.declared.fault.CliFault.TheVariants as fault;
+ghost use Rattle.chi_cli.specs.declared.request.Request.{Request};
+ghost use Rattle.chi_cli.specs.Answers.{IsAnswer};
+ghost use Rattle.chi_cli.specs.Arguments.{values_of};
+
+/// Want of memory aside, words have one answer.
+#[tactic(auto, using(crate::proofs::OneAnswer::one_answer))]
+pub fn one_request_law()
+    ensures { (words : List (List ℕ)) → (answer other : Result Request CliFault) → IsAnswer words answer → IsAnswer words other
+        → answer ≢ Err fault.NoMemory → other ≢ Err fault.NoMemory → answer ≡ other }
+{}
+
+/// The values that texts are for parameters are of the parameters' kinds, where a run begins.
+#[tactic(auto, using(crate::proofs::Kinded::values_are_kinded))]
+pub fn values_are_of_parameters()
+    ensures { (names : List (List (List ℕ))) → (params : List Ty) → (args : List (List ℕ)) → (values : List Value)
+        → values_of params args ≡ Ok values → AreOf (at_start names) values (kinds_of params) }
+{}

@@ -1,0 +1,10 @@
+pub mod Places
+pub mod Homes
+pub mod Targets
+pub mod Assignments
+pub mod Walks
+pub mod Channels
+pub mod Elements
+pub mod Endings
+pub mod Writes
+pub mod Values

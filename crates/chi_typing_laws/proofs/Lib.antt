@@ -1,0 +1,13 @@
+pub mod Casts
+pub mod Comparisons
+pub mod Containers
+pub mod Conversions
+pub mod Expressions
+pub mod Has
+pub mod Names
+pub mod Operators
+pub mod Parts
+pub mod PredefinedCalls
+pub mod Sites
+pub mod TypeKinds
+pub mod Types

@@ -1,0 +1,2 @@
+//! What the checker makes of a program is sound.
+#![tactic(auto)]
