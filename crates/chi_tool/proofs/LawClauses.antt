@@ -1,9 +1,9 @@
 -- The laws that the promises rest on, as their functions' contracts give them.
-use Rattle.std.proofs.Common.{◌≡◌, ℕ, ◌<◌, List, Result, Option, Some}
-use Rattle.std.specs.Prelude.{◌^◌, ℤ, Bool, Ok}
-use Rattle.chi_cli.specs.declared.request.Pick.{Pick}
-use Rattle.chi_cli.specs.declared.request.Request.TheVariants as request
-use Rattle.chi_cli.specs.Arguments.{arguments_of}
+use Rattle.std.proofs.Common.{◌≡◌, ℕ, List, Result, Some}
+use Rattle.std.specs.Prelude.{Ok}
+use Rattle.chi_cli.specs.declared.request.Request.{Request}
+use Rattle.chi_cli.specs.Arguments.{values_of}
+use Rattle.chi_cli.specs.Ranges.{IsInRange}
 use Rattle.chi_cli.specs.Requests.{request_of}
 use Rattle.chi_io.specs.Shelf.{Files}
 use Rattle.chi_token.specs.declared.place.Spanned.{Spanned}
@@ -39,17 +39,15 @@ pub record RunLaw : Type 0 where
 abbrev pub SoundLaw : Type 0
 SoundLaw = (tree : Program) (core : Core) → built tree ≡ Some core → Sound core
 
--- a bound that is asked for is within what is counted
-abbrev pub BoundLaw : Type 0
-BoundLaw =
-    (words : List (List ℕ)) (file : List ℕ) (texts : List (List ℕ)) (seed bound : ℕ) (until : Option ℤ) (pick : Pick) (trace : Bool)
-    → request_of words ≡ Ok (request.Sim file texts seed bound until pick trace) → bound < 2 ^ 63
+-- the numbers of a request are in their ranges
+abbrev pub RangeLaw : Type 0
+RangeLaw = (words : List (List ℕ)) (asked : Request) → request_of words ≡ Ok asked → IsInRange asked
 
 -- the values that texts mean are of the kinds of the parameters
 abbrev pub ValuesLaw : Type 0
 ValuesLaw =
     (names : List (List (List ℕ))) (params : List Ty) (texts : List (List ℕ)) (values : List Value)
-    → arguments_of params texts ≡ Ok values → AreOf (at_start names) values (kinds_of params)
+    → values_of params texts ≡ Ok values → AreOf (at_start names) values (kinds_of params)
 
 -- words and files have one report
 pub record ReportLaw : Type 0 where

@@ -2,7 +2,7 @@
 use Rattle.std.proofs.Common.{◌≡◌, ℕ, ◌<◌, ◌≤◌, List, Option, Some, None, length, ◌⊎◌, inl, inr, sym, ◌∙◌, ap, subst, refl, arith}
 use Rattle.std.specs.Prelude.{Result, Ok, Err, slice_get}
 use Rattle.chi_cli.specs.declared.args.ArgFault.{ArgFault}
-use Rattle.chi_cli.specs.Arguments.{arguments_of}
+use Rattle.chi_cli.specs.Arguments.{values_of}
 use Rattle.chi_io.specs.Shelf.{Files}
 use Rattle.chi_lex.specs.declared.lexer.TheConstants.{MOST_BYTES}
 use Rattle.chi_core.specs.declared.program.Core.{Core}
@@ -19,7 +19,7 @@ use Rattle.chi_tool.specs.Running.{IsRunOf, run_report}
 use Rattle.chi_tool.specs.Settings.{IsBounded, settings_with}
 use Rattle.chi_tool.specs.Sources.{ComesTo}
 use Rattle.chi_tool.specs.Words.{Wish, nothing, unbuilt, of_task, wish_of}
-use Rattle.chi_tool.proofs.LawClauses.{AnswerLaw, RunLaw, SoundLaw, ValuesLaw, BoundLaw}
+use Rattle.chi_tool.proofs.LawClauses.{AnswerLaw, RunLaw, SoundLaw, ValuesLaw, RangeLaw}
 use Rattle.chi_tool.proofs.Runs.{asked_settings}
 use Rattle.chi_tool.proofs.Sources.{Comes, source_comes, one_refusal, refused_or_comes, one_core}
 use Rattle.chi_tool.proofs.Wishes.{IsBoundedWish, bounded_wish}
@@ -28,7 +28,7 @@ module _ (answers : AnswerLaw) (runs : RunLaw) (sound : SoundLaw) (fit : ValuesL
   -- there is one
 
   arguments_some : (a : Asked) → IsBounded (Simulate a) → (source : List ℕ) (core : Core) → ComesTo source core → (d : ProcDef) → slice_get core.procs core.model ≡ Some d
-      → (o : Result (List Value) ArgFault) → arguments_of d.params a.texts ≡ o → (r : Report) × IsReportOfRun core a r
+      → (o : Result (List Value) ArgFault) → values_of d.params a.texts ≡ o → (r : Report) × IsReportOfRun core a r
   arguments_some a bounded source core comes d is (Ok values) read =
       let told = runs.some source core comes (settings_with a values) (asked_settings fit core a values d is read bounded) in
       (run_report core told.0, run values (record { model = d; is = is; read = read }) (record { told = told.0; run = told.1; is = refl }))
@@ -39,7 +39,7 @@ module _ (answers : AnswerLaw) (runs : RunLaw) (sound : SoundLaw) (fit : ValuesL
   program_some (Simulate a) bounded source core comes =
       let s : Sound core = sound comes.tree core comes.built in
       let m = s.model in
-      arguments_some a bounded source core comes m.0 m.1 (arguments_of m.0.params a.texts) refl
+      arguments_some a bounded source core comes m.0 m.1 (values_of m.0.params a.texts) refl
   program_some Check bounded source core comes = (accepted, refl)
 
   come_to_some : (purpose : Purpose) → IsBounded purpose → (source : List ℕ) → Comes source → (r : Report) × IsReportOfSource source purpose r
@@ -62,7 +62,7 @@ module _ (answers : AnswerLaw) (runs : RunLaw) (sound : SoundLaw) (fit : ValuesL
   wish_some unbuilt bounded files = (not_built, refl)
   wish_some (of_task t) bounded files = file_some t.purpose bounded (files t.file)
 
-  pub report_some : BoundLaw → (words : List (List ℕ)) (files : Files) → (r : Report) × IsReport words files r
+  pub report_some : RangeLaw → (words : List (List ℕ)) (files : Files) → (r : Report) × IsReport words files r
   report_some bounds words files = wish_some (wish_of words) (bounded_wish bounds words) files
 
   -- and no other
@@ -70,14 +70,14 @@ module _ (answers : AnswerLaw) (runs : RunLaw) (sound : SoundLaw) (fit : ValuesL
   one_reading : (core : Core) (texts : List (List ℕ)) (values : List Value) (wanted : ℕ) (fault : ArgFault) → Means core texts values → Misfits core texts wanted fault → ⊥
   one_reading core texts values wanted fault p q =
       let same : p.model ≡ q.model = cc (p.is, q.is) in
-      let there : arguments_of q.model.params texts ≡ Ok values = subst (λ (d : ProcDef). arguments_of d.params texts ≡ Ok values) same p.read in
+      let there : values_of q.model.params texts ≡ Ok values = subst (λ (d : ProcDef). values_of d.params texts ≡ Ok values) same p.read in
       let both : ◌≡◌ {A = Result (List Value) ArgFault} (Ok values) (Err fault) = sym there ∙ q.read in
       cc
 
   run_one : (core : Core) (a : Asked) (r s : Report) → IsReportOfRun core a r → IsReportOfRun core a s → r ≡ s
   run_one core a r s (unfit wanted fault p e) (unfit counted other q f) =
       let same : p.model ≡ q.model = cc (p.is, q.is) in
-      let there : arguments_of q.model.params a.texts ≡ Err fault = subst (λ (d : ProcDef). arguments_of d.params a.texts ≡ Err fault) same p.read in
+      let there : values_of q.model.params a.texts ≡ Err fault = subst (λ (d : ProcDef). values_of d.params a.texts ≡ Err fault) same p.read in
       let both : ◌≡◌ {A = Result (List Value) ArgFault} (Err fault) (Err other) = sym there ∙ q.read in
       let counts : wanted ≡ counted = p.count ∙ ap (λ (d : ProcDef). length d.params) same ∙ sym q.count in
       let faults : fault ≡ other = cc in
@@ -86,7 +86,7 @@ module _ (answers : AnswerLaw) (runs : RunLaw) (sound : SoundLaw) (fit : ValuesL
   run_one core a r s (run values p of) (unfit wanted fault q f) = absurd (one_reading core a.texts values wanted fault p q)
   run_one core a r s (run values p of) (run given q also) =
       let same : p.model ≡ q.model = cc (p.is, q.is) in
-      let there : arguments_of q.model.params a.texts ≡ Ok values = subst (λ (d : ProcDef). arguments_of d.params a.texts ≡ Ok values) same p.read in
+      let there : values_of q.model.params a.texts ≡ Ok values = subst (λ (d : ProcDef). values_of d.params a.texts ≡ Ok values) same p.read in
       let both : ◌≡◌ {A = Result (List Value) ArgFault} (Ok values) (Ok given) = sym there ∙ q.read in
       let lists : given ≡ values = cc in
       let ran : IsRunOf core (settings_with a values) also.told = subst (λ (xs : List Value). IsRunOf core (settings_with a xs) also.told) lists also.run in

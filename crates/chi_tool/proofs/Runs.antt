@@ -5,7 +5,7 @@ use Rattle.std.specs.Prelude.{slice_get, ℤ, ◌^◌, ◌-◌, Option, Result, 
 use Rattle.chi_base.specs.declared.no_memory.NoMemory.{NoMemory}
 use Rattle.chi_cli.specs.declared.request.Pick as words
 use Rattle.chi_cli.specs.declared.request.Pick.TheVariants as pick
-use Rattle.chi_cli.specs.Arguments.{arguments_of}
+use Rattle.chi_cli.specs.Arguments.{values_of}
 use Rattle.chi_value.specs.declared.value.Value.{Value}
 use Rattle.chi_core.specs.declared.program.Core.{Core}
 use Rattle.chi_core.specs.declared.program.ProcDef.{ProcDef}
@@ -17,7 +17,9 @@ use Rattle.chi_runs.specs.Picked.{PickedAlways}
 use Rattle.chi_sched.specs.Policies.{Answers, first, last, spread}
 use Rattle.chi_tool.specs.declared.report.Reported.{Reported}
 use Rattle.chi_tool.specs.declared.task.Asked.{Asked}
+use Rattle.chi_tool.specs.declared.task.Purpose.{Purpose}
 use Rattle.chi_tool.specs.declared.task.Purpose.TheVariants.{Simulate}
+use Rattle.chi_tool.specs.Report.{IsReportOfProgram, IsReportOfSource, program}
 use Rattle.chi_tool.specs.Reported.{report_in}
 use Rattle.chi_tool.specs.Running.{IsRunOf, IsRunReport, MayHave}
 use Rattle.chi_tool.specs.Settings.{Settings, IsBounded, policy_of, settings_with}
@@ -37,7 +39,7 @@ named_lawful (pick.Spread salt) question count early some few = mod-lt _ some
 
 -- settings that are asked for may be had
 pub asked_settings : ValuesLaw → (core : Core) (a : Asked) (values : List Value) (d : ProcDef) → slice_get core.procs core.model ≡ Some d
-    → arguments_of d.params a.texts ≡ Ok values → IsBounded (Simulate a) → MayHave core (settings_with a values)
+    → values_of d.params a.texts ≡ Ok values → IsBounded (Simulate a) → MayHave core (settings_with a values)
 asked_settings fit core a values d is read bounded = record {
   model = d;
   is = is;
@@ -83,3 +85,9 @@ pub formula_ran : (p : words.Pick) (core : Core) (seed bound : ℕ) (arguments :
     → IfOk result (λ r. IsRunReport core (record { seed = seed; bound = bound; pick = policy_of p; arguments = arguments; until = until }) (report_in r))
 formula_ran p core seed bound arguments until (Ok r) is = is (policy_of p) (formula_given (policy_of p) (named_lawful p))
 formula_ran p core seed bound arguments until (Err lost) is = tt
+
+-- the report of a source that comes to a program
+pub program_reported : (source : List ℕ) (core : Core) (purpose : Purpose) (result : Result Reported NoMemory) → ComesTo source core
+    → IfOk result (λ r. IsReportOfProgram core purpose (report_in r)) → IfOk result (λ r. IsReportOfSource source purpose (report_in r))
+program_reported source core purpose (Ok r) comes is = program core comes is
+program_reported source core purpose (Err lost) comes is = tt

@@ -15,7 +15,7 @@ use Rattle.chi_tool.specs.Settings.{settings_with}
 use Rattle.chi_tool.specs.Sources.{by_lexer, by_parser, by_form}
 use Rattle.chi_tool.specs.Words.{Wish, nothing, unbuilt, of_task, wish_of}
 use Rattle.chi_tool.proofs.Causes.{status_ap, source_program, done_exactly, exit_exactly, deadlock_exactly, fault_exactly, out_of_steps_exactly, stopped_exactly, lexical_exactly, syntax_exactly, not_built_exactly, unfit_exactly, ends_complete}
-use Rattle.chi_tool.proofs.LawClauses.{RunLaw, SoundLaw, ReportLaw, ValuesLaw, BoundLaw}
+use Rattle.chi_tool.proofs.LawClauses.{RunLaw, SoundLaw, ReportLaw, ValuesLaw, RangeLaw}
 use Rattle.chi_tool.proofs.Promises.{MeetsOne, where_told, served_told, usage_told, unbuilt_told, IsLost, lost_told, goes_stopped, asks_something}
 use Rattle.chi_tool.proofs.Runs.{asked_settings}
 use Rattle.chi_tool.proofs.Wishes.{IsBoundedWish, bounded_wish}
@@ -145,7 +145,7 @@ module _ (law : ReportLaw) (call : Call) (told : (files : Files) → call.shelf.
     log_failed = breaks.log_failed;
   }
 
-  complete : RunLaw → ValuesLaw → BoundLaw → IsComplete call
+  complete : RunLaw → ValuesLaw → RangeLaw → IsComplete call
   complete runs fit bounds =
       where_told call.shelf.files (λ files is none a source asked core comes arguments means.
       let bounded = subst IsBoundedWish asked.asked (bounded_wish bounds call.words) in
@@ -159,7 +159,7 @@ served-causes law call t asked s =
     (λ out log. ((λ is. absurd (served_request call t s is)), λ none. absurd (asks_something (wish_of call.words) t asked none)))
     (λ is. let P : Wish → Type 0 = CannotBeRead call.shelf in subst P (sym asked) (served_unread call t s is))
 
-pub served-complete : RunLaw → ValuesLaw → BoundLaw → ReportLaw → (call : Call) (t : Task) → wish_of call.words ≡ of_task t
+pub served-complete : RunLaw → ValuesLaw → RangeLaw → ReportLaw → (call : Call) (t : Task) → wish_of call.words ≡ of_task t
     → Serves t.file t.purpose call.shelf call.status call.out call.log → IsComplete call
 served-complete runs fit bounds law call t asked s = complete law call (λ files told. served_told law call t files asked told s) runs fit bounds
 
@@ -180,7 +180,7 @@ usage-causes law call none d =
     causes law call (λ files told. usage_told call files none d) (delivered_breaks _ _ _ _ call.out call.log (λ e. omega arith) d)
     (usage_exactly call none d) (refusal_unread call usage (λ e. omega arith) d)
 
-pub usage-complete : RunLaw → ValuesLaw → BoundLaw → ReportLaw → (call : Call) → wish_of call.words ≡ nothing → DeliversReport usage call.status call.out call.log → IsComplete call
+pub usage-complete : RunLaw → ValuesLaw → RangeLaw → ReportLaw → (call : Call) → wish_of call.words ≡ nothing → DeliversReport usage call.status call.out call.log → IsComplete call
 usage-complete runs fit bounds law call none d = complete law call (λ files told. usage_told call files none d) runs fit bounds
 
 other_wish : (w : Wish) → w ≡ unbuilt → w ≡ nothing → ⊥
@@ -193,7 +193,7 @@ unbuilt-causes law call asked d =
     ((λ is. absurd (delivered_status _ 3 _ _ _ call.out call.log (λ h. omega arith) (λ h. omega arith) d is)), λ none. absurd (other_wish (wish_of call.words) asked none)))
     (refusal_unread call not_built (λ e. omega arith) d)
 
-pub unbuilt-complete : RunLaw → ValuesLaw → BoundLaw → ReportLaw → (call : Call) → wish_of call.words ≡ unbuilt → DeliversReport not_built call.status call.out call.log → IsComplete call
+pub unbuilt-complete : RunLaw → ValuesLaw → RangeLaw → ReportLaw → (call : Call) → wish_of call.words ≡ unbuilt → DeliversReport not_built call.status call.out call.log → IsComplete call
 unbuilt-complete runs fit bounds law call asked d = complete law call (λ files told. unbuilt_told call files asked d) runs fit bounds
 
 -- memory was wanting before the words were read
@@ -207,5 +207,5 @@ lost-causes law call l =
     (λ out log. ((λ is. let lost = l.status in absurd (omega arith)), λ none. inr l.status))
     (λ is. let lost = l.status in absurd (omega arith))
 
-pub lost-complete : RunLaw → ValuesLaw → BoundLaw → ReportLaw → (call : Call) → IsLost call → IsComplete call
+pub lost-complete : RunLaw → ValuesLaw → RangeLaw → ReportLaw → (call : Call) → IsLost call → IsComplete call
 lost-complete runs fit bounds law call l = complete law call (λ files told. lost_told law call files l) runs fit bounds

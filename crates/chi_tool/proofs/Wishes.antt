@@ -1,14 +1,13 @@
 -- The bounds of what words ask for.
-use Rattle.std.proofs.Common.{◌≡◌, ℕ, ◌<◌, List, refl}
-use Rattle.std.specs.Prelude.{◌^◌, ℤ, Option, Bool, true, false, Result, Ok, Err}
+use Rattle.std.proofs.Common.{◌≡◌, ℕ, ◌<◌, ◌≤◌, List, refl, arith}
+use Rattle.std.specs.Prelude.{◌^◌, true, false, Result, Ok, Err}
 use Rattle.chi_cli.specs.declared.fault.CliFault.{CliFault}
 use Rattle.chi_cli.specs.declared.request.Request.{Request}
 use Rattle.chi_cli.specs.declared.request.Request.TheVariants as request
-use Rattle.chi_cli.specs.declared.request.Pick.{Pick}
 use Rattle.chi_cli.specs.Requests.{request_of}
 use Rattle.chi_tool.specs.Settings.{IsBounded}
 use Rattle.chi_tool.specs.Words.{Wish, nothing, unbuilt, of_task, wish_by, wish_of}
-use Rattle.chi_tool.proofs.LawClauses.{BoundLaw}
+use Rattle.chi_tool.proofs.LawClauses.{RangeLaw}
 
 -- what is asked for is within what is counted
 abbrev pub IsBoundedWish : Wish → Type 0
@@ -16,13 +15,16 @@ IsBoundedWish nothing = Unit {0}
 IsBoundedWish unbuilt = Unit {0}
 IsBoundedWish (of_task t) = IsBounded t.purpose
 
-by_reading : BoundLaw → (words : List (List ℕ)) (o : Result Request CliFault) → request_of words ≡ o → IsBoundedWish (wish_by o)
+counted : (bound : ℕ) → bound ≤ 1_000_000_000_000_000 → bound < 2 ^ 63
+counted bound most = omega arith
+
+by_reading : RangeLaw → (words : List (List ℕ)) (o : Result Request CliFault) → request_of words ≡ o → IsBoundedWish (wish_by o)
 by_reading law words (Err fault) is = tt
-by_reading law words (Ok (request.Sim file texts seed bound until pick false)) is = law words file texts seed bound until pick false is
+by_reading law words (Ok (request.Sim file texts seed bound until pick false)) is = counted bound (law words _ is).1
 by_reading law words (Ok (request.Sim file texts seed bound until pick true)) is = tt
 by_reading law words (Ok (request.Check file)) is = tt
 by_reading law words (Ok (request.Load n)) is = tt
 by_reading law words (Ok (request.TraceUp file)) is = tt
 
-pub bounded_wish : BoundLaw → (words : List (List ℕ)) → IsBoundedWish (wish_of words)
+pub bounded_wish : RangeLaw → (words : List (List ℕ)) → IsBoundedWish (wish_of words)
 bounded_wish law words = by_reading law words (request_of words) refl

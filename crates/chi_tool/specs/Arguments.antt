@@ -1,7 +1,7 @@
 -- The arguments of a program's model, by the texts that the words give.
 use Rattle.std.specs.Prelude.{◌≡◌, ℕ, List, Some, Ok, Err, length, slice_get}
 use Rattle.chi_cli.specs.declared.args.ArgFault.{ArgFault}
-use Rattle.chi_cli.specs.Arguments.{arguments_of}
+use Rattle.chi_cli.specs.Arguments.{values_of}
 use Rattle.chi_core.specs.declared.program.Core.{Core}
 use Rattle.chi_core.specs.declared.program.ProcDef.{ProcDef}
 use Rattle.chi_value.specs.declared.value.Value.{Value}
@@ -10,11 +10,11 @@ use Rattle.chi_value.specs.declared.value.Value.{Value}
 pub record Means (core : Core) (texts : List (List ℕ)) (values : List Value) : Type 0 where
   pub model : ProcDef
   pub is : slice_get core.procs core.model ≡ Some model
-  pub read : arguments_of model.params texts ≡ Ok values
+  pub read : values_of model.params texts ≡ Ok values
 
 -- the texts don't fit the model's parameters
 pub record Misfits (core : Core) (texts : List (List ℕ)) (wanted : ℕ) (fault : ArgFault) : Type 0 where
   pub model : ProcDef
   pub is : slice_get core.procs core.model ≡ Some model
-  pub read : arguments_of model.params texts ≡ Err fault
+  pub read : values_of model.params texts ≡ Err fault
   pub count : wanted ≡ length model.params

@@ -14,7 +14,7 @@ ghost use Rattle.chi_tool.specs.Settings.{Settings};
 ghost use Rattle.chi_tool.specs.Sources.{ComesTo};
 ghost use Rattle.chi_tree.specs.declared.definition.Program.{Program};
 
-use chi_cli::{arguments_law, requests_law};
+use chi_cli::{numbers_are_in_range, values_are_of_parameters};
 use chi_form::built_law;
 use chi_grammar_laws::answer_law;
 use chi_kinded::kinded_law;
@@ -38,8 +38,8 @@ pub fn report_law()
     answer_law();
     built_law();
     one_run_law();
-    requests_law();
-    arguments_law();
+    numbers_are_in_range();
+    values_are_of_parameters();
 }
 
 /// What a source is as a program has only tokens that some bytes spell: its names have the letters of names, and

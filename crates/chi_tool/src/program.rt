@@ -18,7 +18,7 @@ use crate::settings::Settings;
 use crate::status::ACCEPTED;
 use crate::task::{Asked, Purpose};
 use chi_base::NoMemory;
-use chi_cli::{ArgFault, Pick, arguments_law, read_args};
+use chi_cli::{ArgFault, Pick, read_args, values_are_of_parameters};
 use chi_core::{Core, ProcDef};
 use chi_num::Real;
 use chi_sched::{First, Last, Spread};
@@ -109,9 +109,12 @@ fn run_model(
     requires bound { asked.now.bound < 2 ^ 63 }
     ensures { IfOk result (λ r. IsReportOfRun core.now asked.now (report_in r)) }
 {
-    arguments_law();
+    values_are_of_parameters();
     let params = model.params.as_slice();
     let texts = asked.texts.as_slice();
+    if u32::try_from(params.len()).is_err() {
+        return Err(NoMemory);
+    }
     match read_args(alloc, params, texts) {
         Ok(arguments) => run_asked(alloc, core, arguments, asked),
         Err(ArgFault::NoMemory) => Err(NoMemory),

@@ -7,7 +7,7 @@ use crate::laws::{one_run_law, report_law};
 use crate::serve::serve;
 use crate::status::{NO_MEMORY, NO_REQUEST, NOT_BUILT};
 use crate::words::task_of;
-use chi_cli::{CliFault, read_words, requests_law};
+use chi_cli::{CliFault, numbers_are_in_range, read_words, values_are_of_parameters};
 use chi_io::{Shelf, Sink};
 use std::alloc::Global;
 
@@ -50,7 +50,8 @@ pub fn chi<H: Shelf, O: Sink, L: Sink>(
 {
     report_law();
     one_run_law();
-    requests_law();
+    numbers_are_in_range();
+    values_are_of_parameters();
     match read_words(alloc, words) {
         Ok(request) => match task_of(request) {
             Some(task) => serve(alloc, &task, shelf, out, log),
