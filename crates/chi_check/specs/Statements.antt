@@ -255,7 +255,7 @@ module _ (home : Home) where
   abbrev pub write_in : Names → Place → Bool → List ℕ → Place → List Expr → Typed CStat
   write_in names place ends_line format format_place values =
       barred (running_rule home place)
-        (after (all_faults (values_in names values)) (write_of place.line format_place (pieces_of (ended ends_line format)) (written_in names values)))
+      (after (all_faults (values_in names values)) (write_of place.line format_place (pieces_of (ended ends_line format)) (written_in names values)))
 
   -- ---- the other statements of one line
 

@@ -63,7 +63,7 @@ type_exact place (known.Xper number) h = refused_exact Meant _ place
 call_exact : (site : Site) (place : Place) (k : Known) (ms : List Made) → Has k → ExactTyped (call_of site place (Some k) (typed_parts ms))
 call_exact site place (known.Func number params result) ms h =
     barred_exact (calling_rule site place) (function_call place number params result (typed_parts ms)) (subst (λ o. ExactTyped (of_all CALL_ARGUMENTS place (nat_eq (length (typed_parts ms)) (length params)) (called number params result) o)) (sym (typed_all ms))
-      (of_all_exact CALL_ARGUMENTS place (nat_eq (length (typed_parts ms)) (length params)) (called number params result) ms))
+    (of_all_exact CALL_ARGUMENTS place (nat_eq (length (typed_parts ms)) (length params)) (called number params result) ms))
 call_exact site place (known.Untyped n) ms h = absurd (h n refl)
 call_exact site place (known.Kind t) ms h = refused_exact Made _ place
 call_exact site place (known.Var slot t) ms h = refused_exact Made _ place
@@ -162,14 +162,14 @@ module _ (T : Made → Type 0) (U : Meant → Type 0) (site : Site) (names : Nam
   known_call_good name None fs ms e g = list_good T T (call_of site name.place None) (λ ms n. refl) (λ xs h. cons_nil _ _) fs ms g
   known_call_good name (Some v) fs ms e g =
       list_good T T (call_of site name.place (Some v)) (λ ms. call_none site name.place v ms (has name.text v e))
-        (λ xs h. node_good T _ (call_exact site name.place v xs (has name.text v e)) (λ m. k.call name v xs m e h)) fs ms g
+      (λ xs h. node_good T _ (call_exact site name.place v xs (has name.text v e)) (λ m. k.call name v xs m e h)) fs ms g
 
   by_good : (name : Name) (p : Option Predefined) (fs : List Fault) (ms : List (Option Made)) → Good (Each T) fs (all_made ms)
       → Good T (fs ++ (call_by site names name p ms).faults) (call_by site names name p ms).made
   by_good name None fs ms g = known_call_good name (known_in names name.text) fs ms refl g
   by_good name (Some p) fs ms g =
       list_good T T (λ ms. predefined_call site name.place p ms None) (predefined_none site name.place p)
-        (λ xs h. node_good T _ (predefined_exact site name.place p xs) (λ m. k.predefined_name p name.place xs m h)) fs ms g
+      (λ xs h. node_good T _ (predefined_exact site name.place p xs) (λ m. k.predefined_name p name.place xs m h)) fs ms g
 
   with_good : (name : Name) (ts : List (Typed Made)) → AllGood T ts → GoodTyped T (called_with site names name ts)
   with_good name ts g = by_good name (predefined_of name.text) (all_faults ts) (map made_of ts) (all_good T ts g)
@@ -192,8 +192,8 @@ module _ (T : Made → Type 0) (U : Meant → Type 0) (site : Site) (names : Nam
   inserted_on place by (Some v) e list x g h =
       let is = function_is names by v e in
       node_good T (predefined_call site place predefined.Insert (Some list ∷ Some x ∷ None ∷ []) (Some v))
-        (barred_exact (rule.predefined_rule site predefined.Insert place) (insertion place list x (Some v)) (insertion_exact place list x v (has is.0 v is.1)))
-        (λ m. k.insertion place list x is.0 v m g h is.1)
+      (barred_exact (rule.predefined_rule site predefined.Insert place) (insertion place list x (Some v)) (insertion_exact place list x v (has is.0 v is.1)))
+      (λ m. k.insertion place list x is.0 v m g h is.1)
 
   unmade : (place : Place) (a b : Option Made) (o : Option Known) → (insertion_of place a b o).made ≡ None → (predefined_call site place predefined.Insert (a ∷ b ∷ None ∷ []) o).made ≡ None
   unmade place a b o = barred_none (rule.predefined_rule site predefined.Insert place) (insertion_of place a b o)

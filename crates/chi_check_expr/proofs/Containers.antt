@@ -93,7 +93,7 @@ module _ (T : Made → Type 0) where
       → Good T (fs ++ (dict_of place ks vs).faults) (dict_of place ks vs).made
   dict_on place fs ks vs (Some xs) (Some ys) e f g k =
       more_good T fs _ _ g.0 (subst (λ ks. GoodTyped T (dict_of place ks vs)) (sym (all_typed ks xs e)) (subst (λ vs. GoodTyped T (dict_of place (typed_parts xs) vs)) (sym (all_typed vs ys f))
-        (node_good T _ (dict_whole place xs ys) (λ m. k xs ys m g.1 g.2))))
+      (node_good T _ (dict_whole place xs ys) (λ m. k xs ys m g.1 g.2))))
   dict_on place fs ks vs (Some xs) None e f g k = less_good T fs _ _ g ((λ i. (dict_parts place (e i) (f i)).made))
   dict_on place fs ks vs None (Some ys) e f g k = less_good T fs _ _ g ((λ i. (dict_parts place (e i) (f i)).made))
   dict_on place fs ks vs None None e f g k = less_good T fs _ _ g ((λ i. (dict_parts place (e i) (f i)).made))
@@ -142,8 +142,8 @@ module _ (T : Made → Type 0) where
   slice_good place fs m b g h k =
       let c = each_bound made_of b in
       slice_on place (sliced (is_some c.from) (is_some c.upto) (is_some c.by)) fs (all_faults (given b)) m (all_made (given c)) g
-        (subst (λ ms. Good (Each T) (all_faults (given b)) (all_made ms)) (sym (given_made b.from b.upto b.by)) (all_good T (given b) (bounds_on b.from b.upto b.by h.0 h.1 h.2)))
-        (λ x xs m. k x c xs m)
+      (subst (λ ms. Good (Each T) (all_faults (given b)) (all_made ms)) (sym (given_made b.from b.upto b.by)) (all_good T (given b) (bounds_on b.from b.upto b.by h.0 h.1 h.2)))
+      (λ x xs m. k x c xs m)
 
 -- ---- the fields of a tuple
 

@@ -20,14 +20,41 @@ Anything a = Unit {0}
 
 pub keeps_anything : (site : Site) (names : Names) → Keeps site names Anything Anything
 keeps_anything site names = record {
-  int = λ _ _ _. tt; real = λ _ _ _. tt; text = λ _. tt; bool = λ _. tt; time = λ _ _ _. tt; name = λ _ _ _ _ _. tt;
-  chain = λ _ _ _ _ _ _ _ _. tt; prefix = λ _ _ _ _ _ _. tt; relation = λ _ _ _ _ _ _ _ _. tt; power = λ _ _ _ _ _ _ _. tt; cast = λ _ _ _ _ _ _. tt;
-  index = λ _ _ _ _ _ _ _. tt; slice = λ _ _ _ _ _ _ _ _. tt; field = λ _ _ _ _ _. tt;
-  call = λ _ _ _ _ _ _ _. tt; predefined_name = λ _ _ _ _ _ _. tt; insertion = λ _ _ _ _ _ _ _ _ _ _. tt;
-  tuple = λ _ _ _ _ _. tt; list = λ _ _ _ _ _. tt; set = λ _ _ _ _ _. tt; dict = λ _ _ _ _ _ _ _. tt;
-  empty_list = λ _ _ _ _ _. tt; empty_set = λ _ _ _ _ _. tt; empty_dict = λ _ _ _ _ _ _ _. tt;
-  word = λ _ _ _ _. tt; named_type = λ _ _ _ _ _. tt; list_type = λ _ _ _ _ _. tt; sized_list = λ _ _ _ _ _ _ _ _. tt; set_type = λ _ _ _ _ _. tt;
-  dict_type = λ _ _ _ _ _ _ _. tt; dist = λ _ _ _ _ _. tt; tuple_type = λ _ _ _ _ _ _. tt; chan = λ _ _ _ _ _ _. tt; void_chan = λ _ _ _ _. tt }
+  int = λ _ _ _. tt;
+  real = λ _ _ _. tt;
+  text = λ _. tt;
+  bool = λ _. tt;
+  time = λ _ _ _. tt;
+  name = λ _ _ _ _ _. tt;
+  chain = λ _ _ _ _ _ _ _ _. tt;
+  prefix = λ _ _ _ _ _ _. tt;
+  relation = λ _ _ _ _ _ _ _ _. tt;
+  power = λ _ _ _ _ _ _ _. tt;
+  cast = λ _ _ _ _ _ _. tt;
+  index = λ _ _ _ _ _ _ _. tt;
+  slice = λ _ _ _ _ _ _ _ _. tt;
+  field = λ _ _ _ _ _. tt;
+  call = λ _ _ _ _ _ _ _. tt;
+  predefined_name = λ _ _ _ _ _ _. tt;
+  insertion = λ _ _ _ _ _ _ _ _ _ _. tt;
+  tuple = λ _ _ _ _ _. tt;
+  list = λ _ _ _ _ _. tt;
+  set = λ _ _ _ _ _. tt;
+  dict = λ _ _ _ _ _ _ _. tt;
+  empty_list = λ _ _ _ _ _. tt;
+  empty_set = λ _ _ _ _ _. tt;
+  empty_dict = λ _ _ _ _ _ _ _. tt;
+  word = λ _ _ _ _. tt;
+  named_type = λ _ _ _ _ _. tt;
+  list_type = λ _ _ _ _ _. tt;
+  sized_list = λ _ _ _ _ _ _ _ _. tt;
+  set_type = λ _ _ _ _ _. tt;
+  dict_type = λ _ _ _ _ _ _ _. tt;
+  dist = λ _ _ _ _ _. tt;
+  tuple_type = λ _ _ _ _ _ _. tt;
+  chan = λ _ _ _ _ _ _. tt;
+  void_chan = λ _ _ _ _. tt;
+}
 
 module _ {A : Type 0} (T : A → Type 0) where
   made_where : (fs : List Fault) (m : Option A) → Good T fs m → fs ≡ [] → (a : A) × (m ≡ Some a)

@@ -30,7 +30,6 @@ use Rattle.chi_check_expr.specs.Expressions.{chained, parted, expr_typed}
 use Rattle.chi_check_expr.specs.Typing.{read, taken, paired, linked, reading, typing}
 use Rattle.chi_check_expr.proofs.Opened.{read_is, map_typed, noted_one, noted_two}
 
-
 module _ (site : Site) (names : Names) where
   Chain_typed : (e : Expr) (first : Expr) (links : List Link) → e ≡ expr.Chain first links → typing site names e ≡ after (typing site names first).faults (chained (typing site names first).made (map (linked site names) links))
   Chain_typed e first links h = ap typed_of (read_is site names e (Expr-F.Chain first links) (ap out-Expr h ∙ expr.outs-Chain first links))

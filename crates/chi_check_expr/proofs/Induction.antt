@@ -81,13 +81,13 @@ module _ (T : Made → Type 0) (U : Meant → Type 0) (site : Site) (names : Nam
   chain_good fs left (l ∷ ls) g h =
       let both = chain_of l.operator l.place left l.operand.made in
       let now : Good T ((fs ++ l.operand.faults) ++ both.faults) both.made =
-          two_good T T T (chain_of l.operator l.place) (λ b. refl) (λ a. refl) (λ a b x y. node_good T (chain_of l.operator l.place (Some a) (Some b)) (settled_exact OPERATOR l.place (binary l.operator a b)) (λ m. k.chain l.operator l.place a b m x y)) (typed fs left) l.operand g h.0 in
+      two_good T T T (chain_of l.operator l.place) (λ b. refl) (λ a. refl) (λ a b x y. node_good T (chain_of l.operator l.place (Some a) (Some b)) (settled_exact OPERATOR l.place (binary l.operator a b)) (λ m. k.chain l.operator l.place a b m x y)) (typed fs left) l.operand g h.0 in
       again fs l.operand.faults both.faults (chained both.made ls).faults (chained both.made ls).made (chain_good ((fs ++ l.operand.faults) ++ both.faults) both.made ls now h.1)
 
   part_good : (fs : List Fault) (whole : Option Made) (t : Taken) → Good T fs whole → GoodTaken t → Good T (fs ++ (part_of whole t).faults) (part_of whole t).made
   part_good fs whole (index place i) g h =
       subst (λ xs. Good T xs (index_of place whole i.made).made) (append_assoc fs i.faults (index_of place whole i.made).faults)
-        (two_good T T T (index_of place) (λ b. refl) (λ a. refl) (λ a b x y. node_good T (index_of place (Some a) (Some b)) (settled_exact INDEX place (indexed a b)) (λ m. k.index place a b m x y)) (typed fs whole) i g h)
+      (two_good T T T (index_of place) (λ b. refl) (λ a. refl) (λ a b x y. node_good T (index_of place (Some a) (Some b)) (settled_exact INDEX place (indexed a b)) (λ m. k.index place a b m x y)) (typed fs whole) i g h)
   part_good fs whole (slice place b) g h =
       subst (λ xs. Good T xs (part_of whole (slice place b)).made) (append_assoc fs _ _) (slice_good T place fs whole b g h k.slice)
   part_good fs whole (field name) g h =
@@ -99,7 +99,7 @@ module _ (T : Made → Type 0) (U : Meant → Type 0) (site : Site) (names : Nam
   parts_good fs whole (t ∷ ts) g h =
       let part = part_of whole t in
       subst (λ xs. Good T xs (parted part.made ts).made) (append_assoc fs part.faults (parted part.made ts).faults)
-        (parts_good (fs ++ part.faults) part.made ts (part_good fs whole t g h.0) h.1)
+      (parts_good (fs ++ part.faults) part.made ts (part_good fs whole t g h.0) h.1)
 
   -- ---- the induction
 
@@ -155,7 +155,7 @@ module _ (T : Made → Type 0) (U : Meant → Type 0) (site : Site) (names : Nam
   expr_good (Expr-F.Chain a ls) = chain_good (typing site names a.0).faults (typing site names a.0).made (map (linked site names) (map (λ y. y.0) ls)) a.1 (links_such ls)
   expr_good (Expr-F.Prefix sign place a) =
       one_good T T (prefix_of site sign place) (barred_none (prefix_rule site sign place) (prefix_made sign place None) refl)
-        (λ a x. node_good T (prefix_of site sign place (Some a)) (barred_exact (prefix_rule site sign place) (prefix_made sign place (Some a)) (settled_exact OPERATOR place (prefixed sign a))) (λ m. k.prefix sign place a m x)) (typing site names a.0) a.1
+      (λ a x. node_good T (prefix_of site sign place (Some a)) (barred_exact (prefix_rule site sign place) (prefix_made sign place (Some a)) (settled_exact OPERATOR place (prefixed sign a))) (λ m. k.prefix sign place a m x)) (typing site names a.0) a.1
   expr_good (Expr-F.Relation a sign place b) =
       two_good T T T (relation_of sign place) (λ b. refl) (λ a. refl) (λ a b x y. node_good T (relation_of sign place (Some a) (Some b)) (settled_exact OPERATOR place (related sign a b)) (λ m. k.relation sign place a b m x y)) (typing site names a.0) (typing site names b.0) a.1 b.1
   expr_good (Expr-F.Power a place b) =
@@ -170,7 +170,7 @@ module _ (T : Made → Type 0) (U : Meant → Type 0) (site : Site) (names : Nam
   expr_good (Expr-F.Call name es) = call_good T U site names clean k name (map (read site names) (map (λ y. y.0) es)) (all_such es)
   expr_good (Expr-F.Cast word place a) =
       one_good T T (cast_of site word place) (barred_none (timer_rule site word place None) (cast_made word place None) refl)
-        (λ a x. node_good T (cast_of site word place (Some a)) (barred_exact (timer_rule site word place (Some a)) (cast_made word place (Some a)) (settled_exact PREDEFINED place (cast word a))) (λ m. k.cast word place a m x)) (typing site names a.0) a.1
+      (λ a x. node_good T (cast_of site word place (Some a)) (barred_exact (timer_rule site word place (Some a)) (cast_made word place (Some a)) (settled_exact PREDEFINED place (cast word a))) (λ m. k.cast word place a m x)) (typing site names a.0) a.1
   expr_good (Expr-F.Round place a) = a.1
   expr_good (Expr-F.TupleOf place es) =
       parts_of literals.tuple_of place (map typed_of (map (read site names) (map (λ y. y.0) es))) (tuple_none place) (λ xs h. node_good T _ (tuple_whole place xs) (λ m. k.tuple place xs m h)) (all_such es)
@@ -208,7 +208,7 @@ module _ (T : Made → Type 0) (U : Meant → Type 0) (site : Site) (names : Nam
   type_good (TypeTree-F.Tuple place fs) sizes =
       let fields = map (formal site names) (map (λ y. y.0) fs) in
       one_good (Each (FieldOk U)) U (types.tuple_of place (map (λ f. f.name) fields)) refl (λ ps x. node_good U _ (unless_exact _ _) (λ m. k.tuple_type place (map (λ f. f.name) fields) ps m x))
-        (record { faults = field_faults fields; made = parts_from None fields }) (fields_good U fields (fields_such fs))
+      (record { faults = field_faults fields; made = parts_from None fields }) (fields_good U fields (fields_such fs))
   type_good (TypeTree-F.Chan place way None) sizes = node_good U (types.void_chan_of place way) (unless_exact _ _) (k.void_chan place way)
   type_good (TypeTree-F.Chan place way (Some t)) sizes =
       one_good U U (types.chan_of place way) refl (λ u x. node_good U _ (unless_exact _ _) (λ m. k.chan place way u m x)) (reading site names t.0 false) (t.1 false)

@@ -52,7 +52,7 @@ module _ (site : Site) (names : Names) where
 
   merged : (ty : Option TypeTree) (name : Name)
       → formal_step (map-Formal Expr Postfix TypeTree Entry Link Formal Read Taken Reading Paired Linked Field (read site names) (taken site names) (reading site names) (paired site names) (linked site names) (formal site names) (record { ty = ty; name = name }))
-        ≡ field_of (option_map (λ t. reading site names t false) ty) name
+      ≡ field_of (option_map (λ t. reading site names t false) ty) name
   merged None name = refl
   merged (Some t) name = refl
 

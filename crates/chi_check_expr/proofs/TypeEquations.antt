@@ -21,7 +21,6 @@ use Rattle.chi_check_expr.specs.TypeTrees.{field_faults, parts_from}
 use Rattle.chi_check_expr.specs.Typing.{read, formal, reading, typing}
 use Rattle.chi_check_expr.proofs.Opened.{reading_is, noted_one, noted_two}
 
-
 module _ (site : Site) (names : Names) where
   Word_typed : (t : TypeTree) (sizes : Bool) (word : TypeWord) (place : Place) → t ≡ type.Word word place → reading site names t sizes ≡ word_of place word
   Word_typed t sizes word place h = ap (λ (r : Reading). r sizes) (reading_is site names t (TypeTree-F.Word word place) (ap out-TypeTree h ∙ type.outs-Word word place))

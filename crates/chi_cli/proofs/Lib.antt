@@ -1,4 +1,5 @@
 pub mod Digits
+pub mod InRange
 pub mod Joining
 pub mod Kinded
 pub mod OneAnswer

@@ -10,12 +10,19 @@ ghost use Rattle.chi_cli.specs.declared.fault.CliFault.TheVariants as fault;
 ghost use Rattle.chi_cli.specs.declared.request.Request.{Request};
 ghost use Rattle.chi_cli.specs.Answers.{IsAnswer};
 ghost use Rattle.chi_cli.specs.Arguments.{values_of};
+ghost use Rattle.chi_cli.specs.Ranges.{IsInRange};
+ghost use Rattle.chi_cli.specs.Requests.{request_of};
 
 /// Want of memory aside, words have one answer.
 #[tactic(auto, using(crate::proofs::OneAnswer::one_answer))]
 pub fn one_request_law()
     ensures { (words : List (List ℕ)) → (answer other : Result Request CliFault) → IsAnswer words answer → IsAnswer words other
         → answer ≢ Err fault.NoMemory → other ≢ Err fault.NoMemory → answer ≡ other }
+{}
+
+/// The numbers of a request are in their ranges.
+pub fn numbers_are_in_range()
+    ensures { (words : List (List ℕ)) → (request : Request) → request_of words ≡ Ok request → IsInRange request }
 {}
 
 /// The values that texts are for parameters are of the parameters' kinds, where a run begins.

@@ -15,7 +15,10 @@ mod words;
 
 pub use args::ArgFault;
 pub use fault::CliFault;
-pub use laws::{one_request_law, values_are_of_parameters};
+pub use laws::{numbers_are_in_range, one_request_law, values_are_of_parameters};
 pub use reading::read_args;
 pub use request::{Pick, Request};
 pub use words::read_words;
+
+#[cfg(test)]
+mod tests;

@@ -63,7 +63,7 @@ module _ (scope : Scope) (set : Set) where
       let c = chosen (is_plain t && fits a.ty t) (made (expression.Op op.In (converted a t ∷ b.core ∷ [])) ty.Bool) m e in
       let both = and_parts _ _ c.0 in
       operation_sound scope set op.In _ (kind_of t ∷ K ∷ []) ty.Bool Ty-F.Bool m (r both.0) (always scope.role op.In _ refl) kind_bool
-          (two_of scope set _ _ _ _ (fits_has scope set a t both.1 h) (subst (Has scope set b.core) is k.kind)) (sound_bool _) c.1
+      (two_of scope set _ _ _ _ (fits_has scope set a t both.1 h) (subst (Has scope set b.core) is k.kind)) (sound_bool _) c.1
 
   membership_by : (a b m : Made) → Sounds scope set a → Sounds scope set b → (layer : Ty-F Ty) → out-Ty b.ty ≡ layer → (t : Ty) → member_type layer ≡ Some t → member_of a b t ≡ Some m → Sounds scope set m
   membership_by a b m h k (Ty-F.ListOf u) p t is e =

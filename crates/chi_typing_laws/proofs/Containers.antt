@@ -88,8 +88,8 @@ module _ (scope : Scope) (set : Set) where
   tuple_sound place ms m h e =
       let ts : List Ty = map (λ m. m.ty) ms in
       literal_sound place [] build.TupleOf (map (λ m. m.core) ms) (ty.TupleOf (nameless_parts ts)) (tuple_of (map erased ts)) m (kind_of_tuple ts)
-          (has_tuple scope set (map (λ m. m.core) ms) (map erased ts) (subst (Have scope set (map (λ m. m.core) ms)) (types_kinds ms) (cores_have scope set ms h)))
-          (sound_tuple _ (nameless_parts ts) (sound_nameless _ ts (each_type ms h))) e
+      (has_tuple scope set (map (λ m. m.core) ms) (map erased ts) (subst (Have scope set (map (λ m. m.core) ms)) (types_kinds ms) (cores_have scope set ms h)))
+      (sound_tuple _ (nameless_parts ts) (sound_nameless _ ts (each_type ms h))) e
 
   pub list_sound : (place : Place) (ms : List Made) (o : Option Ty) (m : Made) → Each (Sounds scope set) ms → joined_all ms ≡ o → (list_joined place ms o).made ≡ Some m → Sounds scope set m
   list_sound place ms None m h j e = absurd (cc)
@@ -107,7 +107,7 @@ module _ (scope : Scope) (set : Set) where
       let both = joined_sound ms t h j in
       let plain = plain_made place t build.SetOf (all_converted t ms) (ty.SetOf t) m e in
       literal_sound place (plain_type_rule place t) build.SetOf (all_converted t ms) (ty.SetOf t) (Ty-F.SetOf (erased t)) m (kind_set t)
-          (has_set scope set (all_converted t ms) (erased t) (plain_erased t plain) (all_have scope set t ms both.0 h)) (sound_set _ t plain both.1) e
+      (has_set scope set (all_converted t ms) (erased t) (plain_erased t plain) (all_have scope set t ms both.0 h)) (sound_set _ t plain both.1) e
 
   -- so many entries
   entries_have : (key has : Ty) (ks vs : List Made) → AllServe scope set key ks → AllServe scope set has vs → Each (Sounds scope set) ks → Each (Sounds scope set) vs
@@ -115,9 +115,11 @@ module _ (scope : Scope) (set : Set) where
   entries_have key has [] vs p q h j = (0, have_none scope set)
   entries_have key has (k ∷ ks) [] p q h j = (0, have_none scope set)
   entries_have key has (k ∷ ks) (v ∷ vs) p q h j =
-      let rest = entries_have key has ks vs p.1 q.1 h.1 j.1 in
-      (suc rest.0, have_one scope set (converted k key) (converted v has ∷ entries key has ks vs) _ _ (converts scope set k key p.0 h.0)
-          (have_one scope set (converted v has) (entries key has ks vs) _ _ (converts scope set v has q.0 j.0) rest.1))
+      let rest = entries_have key has ks vs p.1 q.1 h.1 j.1 in (
+        suc rest.0,
+        have_one scope set (converted k key) (converted v has ∷ entries key has ks vs) _ _ (converts scope set k key p.0 h.0)
+            (have_one scope set (converted v has) (entries key has ks vs) _ _ (converts scope set v has q.0 j.0) rest.1),
+      )
 
   pub dictionary_sound : (place : Place) (ks vs : List Made) (o p : Option Ty) (m : Made) → Each (Sounds scope set) ks → Each (Sounds scope set) vs → joined_all ks ≡ o → joined_all vs ≡ p
       → (dict_joined place ks vs o p).made ≡ Some m → Sounds scope set m
@@ -129,7 +131,7 @@ module _ (scope : Scope) (set : Set) where
       let plain = plain_made place key build.DictOf (entries key has ks vs) (ty.DictOf key has) m e in
       let each = entries_have key has ks vs keys.0 values.0 h k in
       literal_sound place (plain_type_rule place key) build.DictOf (entries key has ks vs) (ty.DictOf key has) (Ty-F.DictOf (erased key) (erased has)) m (kind_dictionary key has)
-          (has_dictionary scope set (entries key has ks vs) (erased key) (erased has) each.0 (plain_erased key plain) each.1) (sound_dictionary _ key has plain keys.1 values.1) e
+      (has_dictionary scope set (entries key has ks vs) (erased key) (erased has) each.0 (plain_erased key plain) each.1) (sound_dictionary _ key has plain keys.1 values.1) e
 
   -- ---- empty ones
 
@@ -141,10 +143,10 @@ module _ (scope : Scope) (set : Set) where
   empty_set_sound place element m s e =
       let plain = plain_made place element.ty build.SetOf [] (ty.SetOf element.ty) m e in
       literal_sound place (plain_type_rule place element.ty) build.SetOf [] (ty.SetOf element.ty) (Ty-F.SetOf (erased element.ty)) m (kind_set element.ty)
-          (has_set scope set [] (erased element.ty) (plain_erased element.ty plain) (have_none scope set)) (sound_set _ element.ty plain s) e
+      (has_set scope set [] (erased element.ty) (plain_erased element.ty plain) (have_none scope set)) (sound_set _ element.ty plain s) e
 
   pub empty_dictionary_sound : (place : Place) (key has : Meant) (m : Made) → SoundIn scope.core key.ty → SoundIn scope.core has.ty → (empty_dict place (Some key) (Some has)).made ≡ Some m → Sounds scope set m
   empty_dictionary_sound place key has m s r e =
       let plain = plain_made place key.ty build.DictOf [] (ty.DictOf key.ty has.ty) m e in
       literal_sound place (plain_type_rule place key.ty) build.DictOf [] (ty.DictOf key.ty has.ty) (Ty-F.DictOf (erased key.ty) (erased has.ty)) m (kind_dictionary key.ty has.ty)
-          (has_dictionary scope set [] (erased key.ty) (erased has.ty) 0 (plain_erased key.ty plain) (have_none scope set)) (sound_dictionary _ key.ty has.ty plain s r) e
+      (has_dictionary scope set [] (erased key.ty) (erased has.ty) 0 (plain_erased key.ty plain) (have_none scope set)) (sound_dictionary _ key.ty has.ty plain s r) e

@@ -128,4 +128,4 @@ module _ (scope : Scope) (set : Set) where
       → kind_of t ≡ T → kind_of result ≡ K → SoundIn scope.core result → Serves a.ty t → Serves b.ty t → Sounds a → Sounds b → both_as name t a b result ≡ m → Sounds m
   both_sound name t a b result T K m row may of is s p q h k e =
       operation_sound name (converted a t ∷ converted b t ∷ []) (T ∷ T ∷ []) result K m row may is
-          (two_of _ _ T T (subst (Has scope set _) of (converts a t p h)) (subst (Has scope set _) of (converts b t q k))) s e
+      (two_of _ _ T T (subst (Has scope set _) of (converts a t p h)) (subst (Has scope set _) of (converts b t q k))) s e

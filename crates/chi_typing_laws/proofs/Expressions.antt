@@ -1,9 +1,7 @@
 -- Expressions and types that come to something are sound: each rule keeps that, and so do all trees.
-use Rattle.std.proofs.Common.{◌≡◌, ℕ, suc, Bool, true, false, cond, List, [], ◌∷◌, map, length, Option, Some, None, refl, sym, ap, subst, ◌∙◌}
-use Rattle.std.specs.Option.{option_and_then}
-use Rattle.std.specs.Prelude.{option_map, is_some, nat_eq}
+use Rattle.std.proofs.Common.{◌≡◌, ℕ, suc, Bool, true, false, cond, List, [], ◌∷◌, length, Option, Some, None, refl, ap, subst}
+use Rattle.std.specs.Prelude.{option_map, nat_eq}
 use Rattle.chi_token.specs.declared.place.Place.{Place}
-use Rattle.chi_tree.specs.declared.type_tree.Name.{Name}
 use Rattle.chi_types.specs.declared.ty.Ty.{Ty, out-Ty}
 use Rattle.chi_core.specs.Scopes.{Scope}
 use Rattle.chi_core.specs.SetSlots.{Known as Set}
@@ -17,20 +15,19 @@ use Rattle.chi_typing.specs.declared.meant.Made.{Made}
 use Rattle.chi_typing.specs.declared.meant.Meant.{Meant}
 use Rattle.chi_typing.specs.declared.predefined.Predefined.{Predefined}
 use Rattle.chi_typing.specs.declared.predefined.Predefined.TheVariants as predefined_name
+use Rattle.chi_typing.specs.declared.rules.TheConstants.{CALL_ARGUMENTS, PREDEFINED}
 use Rattle.chi_typing.specs.declared.site.Site.{Site}
 use Rattle.chi_typing.specs.Names.{Names, known_in}
-use Rattle.chi_typing.specs.Typed.{Typed}
-use Rattle.chi_expr_rules.specs.Nodes.{settled, of_two, of_all, barred, all_made}
+use Rattle.chi_expr_rules.specs.Nodes.{of_all, all_made}
 use Rattle.chi_expr_rules.specs.Sites.{calling_rule}
 use Rattle.chi_expr_rules.specs.Operators.{binary, power}
 use Rattle.chi_expr_rules.specs.Comparisons.{related}
 use Rattle.chi_expr_rules.specs.Calls.{called, function_call, untyped_call, call_of}
-use Rattle.chi_expr_rules.specs.PredefinedCalls.{is_count, predefined, before_third, insertion_of, insert_parts, insert_call, plain_call, is_insert, predefined_rule, predefined_made, predefined_call}
-use Rattle.chi_expr_rules.specs.Parts.{Bounds, given, indexed, sliced, slice_of, field}
+use Rattle.chi_expr_rules.specs.PredefinedCalls.{is_count, predefined, before_third, insert_parts, insert_call, plain_call, is_insert, predefined_rule, predefined_made, predefined_call}
+use Rattle.chi_expr_rules.specs.Parts.{indexed, field}
 use Rattle.chi_expr_rules.specs.Containers as literals
 use Rattle.chi_check_expr.proofs.Kept.{Each, FieldOk, typed_parts, Keeps}
 use Rattle.chi_typing_laws.specs.Standing.{IsSite, AllStand, SoundMade, SoundMeant}
-use Rattle.chi_typing_laws.proofs.Conversions.{some_is}
 use Rattle.chi_typing_laws.proofs.Sites.{may_call_there, settled_made, barred_made}
 use Rattle.chi_typing_laws.proofs.Operators.{binary_sound, power_sound, prefix_sound}
 use Rattle.chi_typing_laws.proofs.Comparisons.{related_sound}
@@ -73,8 +70,8 @@ module _ (scope : Scope) (set : Set) (s : Site) (names : Names) (at : IsSite s s
   call_by : (name : List ℕ) (place : Place) (k : Known) (ms : List Made) (m : Made) → known_in names name ≡ Some k → Each T ms → (call_of s place (Some k) (typed_parts ms)).made ≡ Some m → T m
   call_by name place (known.Func number params result) ms m found hs e =
       let both = barred_made (calling_rule s place) (function_call place number params result (typed_parts ms)) m e in
-      let whole = subst (λ o. (of_all _ place (nat_eq (length (typed_parts ms)) (length params)) (called number params result) o).made ≡ Some m) (all_typed ms) both.1 in
-      called_sound scope set number params result ms m (may_call_there s scope.role place at both.0) (all name _ found) hs (all_of _ place _ (called number params result) ms m whole).1
+      let whole = subst (λ (o : Option (List Made)). (of_all CALL_ARGUMENTS place (nat_eq (length (typed_parts ms)) (length params)) (called number params result) o).made ≡ Some m) (all_typed ms) both.1 in
+      called_sound scope set number params result ms m (may_call_there s scope.role place at both.0) (all name _ found) hs (all_of CALL_ARGUMENTS place _ (called number params result) ms m whole).1
   call_by name place (known.Untyped k) ms m found hs e = absurd (untyped_never place k m e)
   call_by name place (known.Var slot t) ms m found hs e = absurd (cc)
   call_by name place (known.Fixed slot t) ms m found hs e = absurd (cc)
@@ -100,8 +97,8 @@ module _ (scope : Scope) (set : Set) (s : Site) (names : Names) (at : IsSite s s
       by : (b : Bool) → predefined_rule s p place ≡ [] → (cond b (insert_call place (typed_parts ms) None) (plain_call place p (typed_parts ms))).made ≡ Some m → T m
       by true rule e = absurd (none_inserted place (before_third (typed_parts ms)) m e)
       by false rule e =
-          let whole = subst (λ o. (of_all _ place (is_count p (length (typed_parts ms))) (predefined p) o).made ≡ Some m) (all_typed ms) e in
-          let counted = all_of _ place _ (predefined p) ms m whole in
+          let whole = subst (λ (o : Option (List Made)). (of_all PREDEFINED place (is_count p (length (typed_parts ms))) (predefined p) o).made ≡ Some m) (all_typed ms) e in
+          let counted = all_of PREDEFINED place (is_count p (length (typed_parts ms))) (predefined p) ms m whole in
           predefined_sound scope set p s place ms m at rule (subst (λ n. is_count p n ≡ true) (length_typed ms) counted.0) hs counted.1
 
   insertion_by : (place : Place) (list x : Made) (by : List ℕ) (k : Known) (m : Made) → T list → T x → known_in names by ≡ Some k
@@ -109,12 +106,6 @@ module _ (scope : Scope) (set : Set) (s : Site) (names : Names) (at : IsSite s s
   insertion_by place list x by k m h j found e =
       let both = barred_made (calling_rule s place) (predefined_made place predefined_name.Insert (Some list ∷ Some x ∷ None ∷ []) (Some k)) m e in
       insertion_sound scope set place list x k m (may_call_there s scope.role place at both.0) (all by k found) h j both.1
-
-  slice_by : (place : Place) (whole : Made) (b : Bounds (Option Made)) (bounds : List Made) (m : Made) → T whole → Each T bounds → all_made (given b) ≡ Some bounds → (slice_of place (Some whole) b).made ≡ Some m → T m
-  slice_by place whole b bounds m h hs are e =
-      let f : Made → List Made → Option Made = sliced (is_some b.from) (is_some b.upto) (is_some b.by) in
-      let there = subst (λ o. (of_two _ place f (Some whole) o).made ≡ Some m) are e in
-      sliced_sound scope set b whole bounds m are h hs (settled_made _ place (f whole bounds) m there)
 
   each_part : (parts : List (List ℕ × Ty)) → Each (FieldOk U) parts → SoundParts (length scope.core.names.kinds) parts
   each_part [] h = sound.no_part
@@ -134,16 +125,16 @@ module _ (scope : Scope) (set : Set) (s : Site) (names : Names) (at : IsSite s s
     power = λ place a b m h k e. power_sound scope set a b m h k (settled_made _ place (power a b) m e);
     cast = λ word place a m h e. cast_sound scope set s word place a m at h e;
     index = λ place whole i m h k e. indexed_sound scope set whole i m h k (settled_made _ place (indexed whole i) m e);
-    slice = slice_by;
+    slice = λ whole b bounds m h hs are e. sliced_sound scope set b whole bounds m are h hs e;
     field = λ name whole m h e. field_sound scope set name.text whole m h (settled_made _ name.place (field name.text whole) m e);
     call = λ name k ms m found hs e. call_by name.text name.place k ms m found hs e;
     predefined_name = predefined_by;
     insertion = insertion_by;
-    tuple = λ place ms m hs e. tuple_sound scope set place ms m hs (subst (λ o. (literals.tuple_parts place o).made ≡ Some m) (all_typed ms) e);
-    list = λ place ms m hs e. list_sound scope set place ms (literals.joined_all ms) m hs refl (subst (λ o. (literals.list_parts place o).made ≡ Some m) (all_typed ms) e);
-    set = λ place ms m hs e. set_sound scope set place ms (literals.joined_all ms) m hs refl (subst (λ o. (literals.set_parts place o).made ≡ Some m) (all_typed ms) e);
+    tuple = λ place ms m hs e. tuple_sound scope set place ms m hs (subst (λ (o : Option (List Made)). (literals.tuple_parts place o).made ≡ Some m) (all_typed ms) e);
+    list = λ place ms m hs e. list_sound scope set place ms (literals.joined_all ms) m hs refl (subst (λ (o : Option (List Made)). (literals.list_parts place o).made ≡ Some m) (all_typed ms) e);
+    set = λ place ms m hs e. set_sound scope set place ms (literals.joined_all ms) m hs refl (subst (λ (o : Option (List Made)). (literals.set_parts place o).made ≡ Some m) (all_typed ms) e);
     dict = λ place ks vs m hs js e. dictionary_sound scope set place ks vs (literals.joined_all ks) (literals.joined_all vs) m hs js refl refl
-        (subst (λ o. (literals.dict_parts place (Some ks) o).made ≡ Some m) (all_typed vs) (subst (λ o. (literals.dict_parts place o (all_made (typed_parts vs))).made ≡ Some m) (all_typed ks) e));
+        (subst (λ (o : Option (List Made)). (literals.dict_parts place (Some ks) o).made ≡ Some m) (all_typed vs) (subst (λ (o : Option (List Made)). (literals.dict_parts place o (all_made (typed_parts vs))).made ≡ Some m) (all_typed ks) e));
     empty_list = λ place element m h e. empty_list_sound scope set place element m h.ty e;
     empty_set = λ place element m h e. empty_set_sound scope set place element m h.ty e;
     empty_dict = λ place key value m h k e. empty_dictionary_sound scope set place key value m h.ty k.ty e;

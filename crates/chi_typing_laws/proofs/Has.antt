@@ -1,5 +1,7 @@
 -- Expressions with their streams are of kinds by their parts: a rule for each construct.
-use Rattle.std.proofs.Common.{◌≡◌, ℕ, ◌<◌, ◌%◌, Bool, true, false, List, [], ◌∷◌, map, Some, refl, sym, ap, subst, ◌∙◌, arith}
+use Rattle.std.proofs.Common.{◌≡◌, ℕ, ◌<◌, ◌%◌, ◌^◌, Bool, true, false, cond, nat_lt, List, [], ◌∷◌, ◌++◌, map, Some, refl, sym, ap, subst, ◌∙◌, arith}
+use Rattle.std.proofs.lemmas.Bool.{and_parts, ltb-true}
+use Rattle.std.specs.List.{list_all}
 use Rattle.std.specs.Prelude.{slice_get, length, IsTrue, ◌+◌}
 use Rattle.std.proofs.Math.Nat.{mod-lt}
 use Rattle.chi_dist.specs.Draws.{stream_count}
@@ -22,7 +24,7 @@ use Rattle.chi_core.specs.Scopes.{Scope, may_read, may_call, may_apply, may_make
 use Rattle.chi_core.specs.SetSlots.{Known as Set}
 use Rattle.chi_core.specs.SoundExpressions as sound
 use Rattle.chi_core.specs.SoundExpressions.{HasKind, HaveKinds, LiteralKind, no_expression, one_expression, stream_operand, entry_kinds}
-use Rattle.chi_streams.specs.Streams.{Counted, Counting, each, operation, expression_step, of_expression, of_expressions}
+use Rattle.chi_streams.specs.Streams.{Counted, Counting, expression_step, of_expression, of_expressions}
 use Rattle.chi_typing_laws.specs.Texts.{is_short, texts_step, texts_are_short}
 use Rattle.chi_typing_laws.specs.Standing.{Has}
 
@@ -69,7 +71,7 @@ module _ (scope : Scope) (set : Set) where
   has_text bytes = has_at _ _ Ty-F.Text (expression.outs-Lit (value.Text bytes)) (λ short count.
       let few : nat_lt (length bytes) (2 ^ 32) ≡ true = sym (ap is_short (value.outs-Text bytes)) ∙ short in
       at _ _ Ty-F.Text (expression.outs-Lit (value.Text bytes)) (sound.literal (value.Text bytes) Ty-F.Text
-          (subst (λ (o : Value-F Value). LiteralKind scope.core.names.kinds o Ty-F.Text) (sym (value.outs-Text bytes)) (sound.text bytes (ltb-true _ _ few)))))
+      (subst (λ (o : Value-F Value). LiteralKind scope.core.names.kinds o Ty-F.Text) (sym (value.outs-Text bytes)) (sound.text bytes (ltb-true _ _ few)))))
 
   pub has_variable : (slot : ℕ) (T : Kind) → IsTrue (set slot) → slice_get scope.slots slot ≡ Some T → Has scope set (expression.Var slot) T
   has_variable slot T s is = has_at _ _ T (expression.outs-Var slot) (λ short count. at _ _ T (expression.outs-Var slot) (sound.variable slot T s is))
@@ -79,7 +81,7 @@ module _ (scope : Scope) (set : Set) where
 
   operation_has : (b : Bool) (name : OpName) (es : Counted (List CExpr)) (Ts : List Kind) (T : Kind) → has_stream name ≡ b → OpKind name Ts T → IsTrue (may_apply scope.role name Ts)
       → HaveKinds scope set es.part Ts
-      → HasKind scope set (out-CExpr (cond b (record { next = es.next + 1; part = expression.Op name (es.part ++ stream_operand (es.next % stream_count) ∷ []) }) (record { next = es.next; part = expression.Op name es.part })).part) T
+      → HasKind scope set (out-CExpr (cond {A = Counted CExpr} b (record { next = es.next + 1; part = expression.Op name (es.part ++ stream_operand (es.next % stream_count) ∷ []) }) (record { next = es.next; part = expression.Op name es.part })).part) T
   operation_has true name es Ts T is row may h =
       at _ _ T (expression.outs-Op name _) (sound.distribution name _ es.part Ts T (es.next % stream_count) refl row is h (stream_below es.next))
   operation_has false name es Ts T is row may h = at _ _ T (expression.outs-Op name es.part) (sound.operation name es.part Ts T row is may h)

@@ -11,3 +11,4 @@ pub mod PredefinedCalls
 pub mod Sites
 pub mod TypeKinds
 pub mod Types
+pub mod Whole

@@ -93,7 +93,7 @@ module _ (scope : Scope) (set : Set) where
       sound_made scope set (expression.Const number) t m (some_is _ m e) (subst (λ t. Has scope set (expression.Const number) (kind_of t)) st.typed (has_constant scope set number st.c st.is st.read)) st.ty
   name_sound place (known.Value enumeration position) m st e =
       literal_sound (value.Choice enumeration position) _ (ty.Choice enumeration) (Ty-F.Choice enumeration) m (value.outs-Choice enumeration position) (kind_choice enumeration) (literal.choice enumeration position st.name st.is)
-          (subst (SoundType _) (sym (ty.outs-Choice enumeration)) (sound.choice enumeration (enumeration_there _ enumeration position st.name st.is))) (some_is _ m e)
+      (subst (SoundType _) (sym (ty.outs-Choice enumeration)) (sound.choice enumeration (enumeration_there _ enumeration position st.name st.is))) (some_is _ m e)
   name_sound place (known.Untyped k) m st e = absurd (untyped_never place k m e)
   name_sound place (known.Kind t) m st e = absurd (cc)
   name_sound place (known.Func number params result) m st e = absurd (cc)
@@ -113,5 +113,5 @@ module _ (scope : Scope) (set : Set) where
   called_sound number params result ms m may st h e =
       let f = mapped (λ es. made (expression.Call number es) result) (passed ms params) m e in
       sound_made scope set (expression.Call number f.0) result m f.2
-          (subst (λ t. Has scope set (expression.Call number f.0) (kind_of t)) st.gives (has_call scope set number f.0 st.f st.is may (subst (Have scope set f.0) (sym st.takes) (passed_have scope set ms params f.0 h f.1))))
-          st.ty
+      (subst (λ t. Has scope set (expression.Call number f.0) (kind_of t)) st.gives (has_call scope set number f.0 st.f st.is may (subst (Have scope set f.0) (sym st.takes) (passed_have scope set ms params f.0 h f.1))))
+      st.ty

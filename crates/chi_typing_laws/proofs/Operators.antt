@@ -73,6 +73,7 @@ module _ (scope : Scope) (set : Set) where
           (subst (SoundIn scope.core) (sym is) (sound_int _)) p q h k e
       of t (inr is) p q e = both_sound scope set name t a b t Ty-F.Real Ty-F.Real m rows.reals (always scope.role name _ (rows.still _)) (ap kind_of is ∙ kind_real) (ap kind_of is ∙ kind_real)
           (subst (SoundIn scope.core) (sym is) (sound_real _)) p q h k e
+
       by : (t : Ty) → Numeric a.ty b.ty t → both_as name t a b t ≡ m → Sounds scope set m
       by t n e = of t n.number n.left n.right e
 

@@ -71,9 +71,9 @@ bounds_kinds b ms e = made_kinds Ty-F.Int (given b) ms e ∙ given_kinds b.from 
 -- ---- parts by their names
 
 -- the part of a number, among the kinds too
-record PartAt (parts : List (List ℕ × Ty)) (number : ℕ) (t : Ty) : Type 0 where
-  place : slice_get (nameless (map (beside erased) parts)) number ≡ Some ([], erased t)
-  sound_part : (n : ℕ) → SoundParts n parts → SoundType n (out-Ty t)
+pub record PartAt (parts : List (List ℕ × Ty)) (number : ℕ) (t : Ty) : Type 0 where
+  pub place : slice_get (nameless (map (beside erased) parts)) number ≡ Some ([], erased t)
+  pub sound_part : (n : ℕ) → SoundParts n parts → SoundType n (out-Ty t)
 
 first_sound : (n : ℕ) (all : List (List ℕ × Ty)) (p : List ℕ × Ty) (ps : List (List ℕ × Ty)) → all ≡ p ∷ ps → SoundParts n all → SoundType n (out-Ty p.1) × SoundParts n ps
 first_sound n _ p ps h sound.no_part = absurd (cc)
@@ -82,10 +82,10 @@ first_sound n _ p ps h (sound.one_part q qs s r) =
     let rest : qs ≡ ps = cc in
     (subst (λ p. SoundType n (out-Ty p.1)) first s, subst (SoundParts n) rest r)
 
-abbrev Placed : List (List ℕ × Ty) → ℕ → ℕ × Ty → Type 0
+abbrev pub Placed : List (List ℕ × Ty) → ℕ → ℕ × Ty → Type 0
 Placed parts from found = (number : ℕ) × (found.0 ≡ from + number) × PartAt parts number found.1
 
-position_is : (name : List ℕ) (parts : List (List ℕ × Ty)) (from : ℕ) (found : ℕ × Ty) → position_from from name parts ≡ Some found → Placed parts from found
+pub position_is : (name : List ℕ) (parts : List (List ℕ × Ty)) (from : ℕ) (found : ℕ × Ty) → position_from from name parts ≡ Some found → Placed parts from found
 position_is name [] from found e = absurd (cc)
 position_is name (p ∷ ps) from found e = by (bytes_eq name p.0) (position_is name ps (suc from) found) e
   where
@@ -110,7 +110,7 @@ module _ (scope : Scope) (set : Set) where
   looked_up_sound key has a b m is s h k e =
       let c = chosen (fits b.ty key) (made (expression.Op op.Lookup (a.core ∷ converted b key ∷ [])) has) m e in
       operation_sound scope set op.Lookup _ _ has (kind_of has) m (row.look_up (erased key) (erased has)) (always scope.role op.Lookup _ refl) refl
-          (two_of scope set _ _ _ _ (subst (Has scope set a.core) is h.kind) (fits_has scope set b key c.0 k)) s c.1
+      (two_of scope set _ _ _ _ (subst (Has scope set a.core) is h.kind) (fits_has scope set b key c.0 k)) s c.1
 
   indexed_sound_by : (a b m : Made) → Sounds scope set a → Sounds scope set b → (layer : Ty-F Ty) → out-Ty a.ty ≡ layer → indexed_by layer a b ≡ Some m → Sounds scope set m
   indexed_sound_by a b m h k (Ty-F.ListOf t) p e = element_sound t (Ty-F.ListOf (erased t)) a b m (row.index_list (erased t)) (kind_at a.ty _ p) (element_of_list _ a.ty t p h.ty) h k e
@@ -148,9 +148,9 @@ module _ (scope : Scope) (set : Set) where
       let at = position_is name parts 0 found e in
       let number : at.0 ≡ found.0 = omega (arith, at.1) in
       sound_made scope set (expression.Part a.core found.0) found.1 m is
-          (has_part scope set a.core found.0 (nameless (map (beside erased) parts)) ([], erased found.1) (subst (Has scope set a.core) (kind_at a.ty _ p) h.kind)
-              (subst (λ number. slice_get (nameless (map (beside erased) parts)) number ≡ Some ([], erased found.1)) number at.2.place))
-          (at.2.sound_part _ (parts_of_tuple _ a.ty parts p h.ty))
+      (has_part scope set a.core found.0 (nameless (map (beside erased) parts)) ([], erased found.1) (subst (Has scope set a.core) (kind_at a.ty _ p) h.kind)
+      (subst (λ number. slice_get (nameless (map (beside erased) parts)) number ≡ Some ([], erased found.1)) number at.2.place))
+      (at.2.sound_part _ (parts_of_tuple _ a.ty parts p h.ty))
   field_by name a m h _ p found e is = absurd (cc)
 
   pub field_sound : (name : List ℕ) (a m : Made) → Sounds scope set a → field name a ≡ Some m → Sounds scope set m

@@ -30,7 +30,7 @@ use Rattle.chi_typing.specs.TypeRules.{is_int, is_drawn}
 use Rattle.chi_expr_rules.specs.Nodes.{settled}
 use Rattle.chi_expr_rules.specs.Conversions.{made, converted, wanting, as_they_are, both_as}
 use Rattle.chi_expr_rules.specs.Operators.{number_of}
-use Rattle.chi_expr_rules.specs.PredefinedCalls.{tuple, absolute_by, absolute, sign_by, is_counted, counted, popped_type, popped, enumerated_by, keys_by, values_by, constant, deleted_by, uniform, common_number, extreme, range, one, two, is_count, predefined, tells_order, inserted_by, inserted_in, is_untyped_function, insertion, predefined_rule}
+use Rattle.chi_expr_rules.specs.PredefinedCalls.{tuple, absolute_by, absolute, sign_by, is_counted, counted, popped_type, popped, enumerated_by, keys_by, values_by, constant, is_list, deleted, uniform, common_number, extreme, range, one, two, is_count, predefined, tells_order, inserted_by, inserted_in, is_untyped_function, insertion, predefined_rule}
 use Rattle.chi_typing_laws.specs.Standing.{Has, IsSite, Stands}
 use Rattle.chi_typing_laws.proofs.Has.{Have, has_insertion}
 use Rattle.chi_typing_laws.proofs.TypeKinds.{Serves, serves_itself, serves_still, kind_bool, kind_int, kind_real, kind_timer, kind_instance, kind_list, kind_dist, sound_bool, sound_int, sound_real, sound_list, sound_dist, sound_tuple, sound_nameless, element_of_list, element_of_set, parts_of_dictionary}
@@ -141,13 +141,13 @@ module _ (scope : Scope) (set : Set) where
   keys_sound : (a m : Made) → Sounds scope set a → (layer : Ty-F Ty) → out-Ty a.ty ≡ layer → keys_by layer a ≡ Some m → Sounds scope set m
   keys_sound a m h (Ty-F.DictOf key has) p e =
       of_kind scope set op.DictKeys (ty.ListOf key) (Ty-F.DictOf (erased key) (erased has)) _ (row.keys_of_dictionary (erased key) (erased has)) (always scope.role op.DictKeys _ refl) (kind_list key)
-          (sound_list _ key (parts_of_dictionary _ a.ty key has p h.ty).0) a m (kind_at a.ty _ p) h (some_is _ m e)
+      (sound_list _ key (parts_of_dictionary _ a.ty key has p h.ty).0) a m (kind_at a.ty _ p) h (some_is _ m e)
   keys_sound a m h _ p e = absurd (cc)
 
   values_sound : (a m : Made) → Sounds scope set a → (layer : Ty-F Ty) → out-Ty a.ty ≡ layer → values_by layer a ≡ Some m → Sounds scope set m
   values_sound a m h (Ty-F.DictOf key has) p e =
       of_kind scope set op.DictValues (ty.ListOf has) (Ty-F.DictOf (erased key) (erased has)) _ (row.values_of_dictionary (erased key) (erased has)) (always scope.role op.DictValues _ refl) (kind_list has)
-          (sound_list _ has (parts_of_dictionary _ a.ty key has p h.ty).1) a m (kind_at a.ty _ p) h (some_is _ m e)
+      (sound_list _ has (parts_of_dictionary _ a.ty key has p h.ty).1) a m (kind_at a.ty _ p) h (some_is _ m e)
   values_sound a m h _ p e = absurd (cc)
 
   -- a distribution of what is constant
@@ -171,13 +171,17 @@ module _ (scope : Scope) (set : Set) where
 
   -- ---- two arguments
 
-  deleted_sound : (a b m : Made) → Sounds scope set a → Sounds scope set b → (layer : Ty-F Ty) → out-Ty a.ty ≡ layer → deleted_by layer a b ≡ Some m → Sounds scope set m
-  deleted_sound a b m h k (Ty-F.ListOf t) p e =
-      let c = chosen (is_int (out-Ty b.ty)) (as_they_are op.Del (a ∷ b ∷ []) a.ty) m e in
+  deleted_by : (a b m : Made) → Sounds scope set a → Sounds scope set b → (layer : Ty-F Ty) → out-Ty a.ty ≡ layer → is_list layer ≡ true → kind_of b.ty ≡ Ty-F.Int → as_they_are op.Del (a ∷ b ∷ []) a.ty ≡ m → Sounds scope set m
+  deleted_by a b m h k (Ty-F.ListOf t) p is int e =
       let list : kind_of a.ty ≡ Ty-F.ListOf (erased t) = kind_at a.ty _ p in
-      let int = int_kind b.ty c.0 in
-      as_they_are_sound scope set op.Del (a ∷ b ∷ []) a.ty _ _ m (row.delete_element (erased t)) (always scope.role op.Del _ refl) (λ i. list i ∷ int i ∷ []) list h.ty (h, (k, tt)) c.1
-  deleted_sound a b m h k _ p e = absurd (cc)
+      as_they_are_sound scope set op.Del (a ∷ b ∷ []) a.ty _ _ m (row.delete_element (erased t)) (always scope.role op.Del _ refl) (λ i. list i ∷ int i ∷ []) list h.ty (h, (k, tt)) e
+  deleted_by a b m h k _ p is int e = absurd (cc)
+
+  deleted_sound : (a b m : Made) → Sounds scope set a → Sounds scope set b → deleted a b ≡ Some m → Sounds scope set m
+  deleted_sound a b m h k e =
+      let c = chosen (is_list (out-Ty a.ty) && is_int (out-Ty b.ty)) (as_they_are op.Del (a ∷ b ∷ []) a.ty) m e in
+      let both = and_parts _ _ c.0 in
+      deleted_by a b m h k (out-Ty a.ty) refl both.0 (int_kind b.ty both.1) c.1
 
   erased_real : erased ty.Real ≡ ty.Real
   erased_real = whole_of ty.Real ty.Real _ kind_real ty.rolls-Real
@@ -188,10 +192,10 @@ module _ (scope : Scope) (set : Set) where
   uniform_of : (a b m : Made) → Sounds scope set a → Sounds scope set b → (t : Ty) → Numeric a.ty b.ty t → (t ≡ ty.Int) ⊎ (t ≡ ty.Real) → both_as op.Uniform t a b (ty.Dist t) ≡ m → Sounds scope set m
   uniform_of a b m h k t n (inl is) e =
       both_sound scope set op.Uniform t a b (ty.Dist t) Ty-F.Int (Ty-F.Dist ty.Int) m row.uniform_int (always scope.role op.Uniform _ refl) (ap kind_of is ∙ kind_int) (dist_kind t ty.Int is erased_int)
-          (sound_dist _ t (subst (SoundIn scope.core) (sym is) (sound_int _))) n.left n.right h k e
+      (sound_dist _ t (subst (SoundIn scope.core) (sym is) (sound_int _))) n.left n.right h k e
   uniform_of a b m h k t n (inr is) e =
       both_sound scope set op.Uniform t a b (ty.Dist t) Ty-F.Real (Ty-F.Dist ty.Real) m row.uniform_real (always scope.role op.Uniform _ refl) (ap kind_of is ∙ kind_real) (dist_kind t ty.Real is erased_real)
-          (sound_dist _ t (subst (SoundIn scope.core) (sym is) (sound_real _))) n.left n.right h k e
+      (sound_dist _ t (subst (SoundIn scope.core) (sym is) (sound_real _))) n.left n.right h k e
 
   uniform_sound : (a b m : Made) → Sounds scope set a → Sounds scope set b → uniform a b ≡ Some m → Sounds scope set m
   uniform_sound a b m h k e =
@@ -223,11 +227,11 @@ module _ (scope : Scope) (set : Set) where
   extreme_of name ints reals still a b ms m t (inl is) h e =
       let kind : kind_of t ≡ Ty-F.Int = ap kind_of is ∙ kind_int in
       operation_sound scope set name (map (λ m. converted m t) (a ∷ b ∷ ms)) (several (length ms) Ty-F.Int) t Ty-F.Int m (ints (length ms)) (always scope.role name _ (still _)) kind
-          (subst (Have scope set (map (λ m. converted m t) (a ∷ b ∷ ms))) (ap (λ (T : Kind). T ∷ T ∷ map {A = Made} (λ m. T) ms) kind ∙ ap (λ (rest : List Kind). Ty-F.Int ∷ Ty-F.Int ∷ rest) (several_kinds Ty-F.Int ms)) h) (subst (SoundIn scope.core) (sym is) (sound_int _)) e
+      (subst (Have scope set (map (λ m. converted m t) (a ∷ b ∷ ms))) (ap (λ (T : Kind). T ∷ T ∷ map {A = Made} (λ m. T) ms) kind ∙ ap (λ (rest : List Kind). Ty-F.Int ∷ Ty-F.Int ∷ rest) (several_kinds Ty-F.Int ms)) h) (subst (SoundIn scope.core) (sym is) (sound_int _)) e
   extreme_of name ints reals still a b ms m t (inr is) h e =
       let kind : kind_of t ≡ Ty-F.Real = ap kind_of is ∙ kind_real in
       operation_sound scope set name (map (λ m. converted m t) (a ∷ b ∷ ms)) (several (length ms) Ty-F.Real) t Ty-F.Real m (reals (length ms)) (always scope.role name _ (still _)) kind
-          (subst (Have scope set (map (λ m. converted m t) (a ∷ b ∷ ms))) (ap (λ (T : Kind). T ∷ T ∷ map {A = Made} (λ m. T) ms) kind ∙ ap (λ (rest : List Kind). Ty-F.Real ∷ Ty-F.Real ∷ rest) (several_kinds Ty-F.Real ms)) h) (subst (SoundIn scope.core) (sym is) (sound_real _)) e
+      (subst (Have scope set (map (λ m. converted m t) (a ∷ b ∷ ms))) (ap (λ (T : Kind). T ∷ T ∷ map {A = Made} (λ m. T) ms) kind ∙ ap (λ (rest : List Kind). Ty-F.Real ∷ Ty-F.Real ∷ rest) (several_kinds Ty-F.Real ms)) h) (subst (SoundIn scope.core) (sym is) (sound_real _)) e
 
   one_kind : (T : Kind) (t : Ty) (ms : List Made) → map {A = CExpr} (λ e. T) (map (λ m. converted m t) ms) ≡ map {A = Made} (λ m. T) ms
   one_kind T t [] = refl
@@ -242,7 +246,7 @@ module _ (scope : Scope) (set : Set) where
       let g = chained (λ u. common_number u ms) (number_of (out-Ty a.ty) (out-Ty b.ty)) f.0 f.1 in
       let serve = common_serve a.ty (b ∷ ms) f.0 f.1 in
       extreme_of name ints reals still a b ms m f.0 (common_is g.0 ms f.0 (numbers_are a.ty b.ty g.0 g.1).number g.2)
-          (subst (Have scope set (map (λ m. converted m f.0) (a ∷ b ∷ ms))) (one_kind (kind_of f.0) f.0 (a ∷ b ∷ ms)) (all_have scope set f.0 (a ∷ b ∷ ms) serve h)) f.2
+      (subst (Have scope set (map (λ m. converted m f.0) (a ∷ b ∷ ms))) (one_kind (kind_of f.0) f.0 (a ∷ b ∷ ms)) (all_have scope set f.0 (a ∷ b ∷ ms) serve h)) f.2
 
   -- ---- ranges
 
@@ -290,7 +294,7 @@ module _ (scope : Scope) (set : Set) where
   predefined_sound name.Size s place ms m at rule count h e = one_sound (counted op.Size ty.Int) size_sound ms m h e
   predefined_sound name.Empty s place ms m at rule count h e = one_sound (counted op.Empty ty.Bool) empty_sound ms m h e
   predefined_sound name.Pop s place ms m at rule count h e = one_sound popped popped_sound ms m h e
-  predefined_sound name.Del s place ms m at rule count h e = two_sound (λ a b. deleted_by (out-Ty a.ty) a b) (λ a b m h k. deleted_sound a b m h k (out-Ty a.ty) refl) ms m h e
+  predefined_sound name.Del s place ms m at rule count h e = two_sound deleted deleted_sound ms m h e
   predefined_sound name.Insert s place ms m at rule count h e = absurd (cc)
   predefined_sound name.Range s place ms m at rule count h e = range_sound ms m count h e
   predefined_sound name.Enumerate s place ms m at rule count h e = one_sound (λ m. enumerated_by (out-Ty m.ty) m) (λ a m h. enumerated_sound a m h (out-Ty a.ty) refl) ms m h e
@@ -300,10 +304,10 @@ module _ (scope : Scope) (set : Set) where
   predefined_sound name.Uniform s place ms m at rule count h e = two_sound uniform uniform_sound ms m h e
   predefined_sound name.Bernoulli s place ms m at rule count h e =
       wanting_sound scope set op.Bernoulli (ty.Real ∷ []) (ty.Dist ty.Bool) _ (Ty-F.Dist ty.Bool) ms m row.bernoulli_bool (always scope.role op.Bernoulli _ refl) (λ i. kind_real i ∷ [])
-          (dist_kind ty.Bool ty.Bool refl (whole_of ty.Bool ty.Bool _ kind_bool ty.rolls-Bool)) (sound_dist _ ty.Bool (sound_bool _)) h e
+      (dist_kind ty.Bool ty.Bool refl (whole_of ty.Bool ty.Bool _ kind_bool ty.rolls-Bool)) (sound_dist _ ty.Bool (sound_bool _)) h e
   predefined_sound name.Binomial s place ms m at rule count h e =
       wanting_sound scope set op.Binomial (ty.Int ∷ ty.Real ∷ []) (ty.Dist ty.Int) _ (Ty-F.Dist ty.Int) ms m row.binomial_int (always scope.role op.Binomial _ refl) (λ i. kind_int i ∷ kind_real i ∷ [])
-          (dist_kind ty.Int ty.Int refl erased_int) (sound_dist _ ty.Int (sound_int _)) h e
+      (dist_kind ty.Int ty.Int refl erased_int) (sound_dist _ ty.Int (sound_int _)) h e
   predefined_sound name.Exponential s place ms m at rule count h e = absurd (cc)
   predefined_sound name.Ready s place ms m at rule count h e =
       wanting_sound scope set op.Ready (ty.Timer ∷ []) ty.Bool _ Ty-F.Bool ms m row.ready_timer (may_run s scope.role place op.Ready _ at rule) (λ i. kind_timer i ∷ []) kind_bool (sound_bool _) h e
@@ -331,8 +335,8 @@ module _ (scope : Scope) (set : Set) where
       let kinds = ordered_kinds t params result both.1 in
       let is : kind_of list.ty ≡ Ty-F.ListOf (erased t) = kind_at list.ty _ p in
       sound_made scope set _ list.ty m c.1
-          (subst (Has scope set _) (sym is) (has_insertion scope set list.core (converted x t) number (erased t) st.f st.is may (st.takes ∙ kinds.0) (ap kind_of st.gives ∙ kinds.1) (subst (Has scope set list.core) is h.kind) (fits_has scope set x t both.0 j)))
-          h.ty
+      (subst (Has scope set _) (sym is) (has_insertion scope set list.core (converted x t) number (erased t) st.f st.is may (st.takes ∙ kinds.0) (ap kind_of st.gives ∙ kinds.1) (subst (Has scope set list.core) is h.kind) (fits_has scope set x t both.0 j)))
+      h.ty
   inserted_by_sound t list x _ m p may st h j e = absurd (cc)
 
   inserted_sound : (list x : Made) (k : Known) (m : Made) → may_call scope.role ≡ true → Stands scope set k → Sounds scope set list → Sounds scope set x → (layer : Ty-F Ty) → out-Ty list.ty ≡ layer

@@ -198,7 +198,7 @@ module _ (scope : Scope) (set : Set) where
   repeated_has (size ∷ sizes) each t u e h k =
       let w = unwrapped (length sizes) t u e in
       repeated_has sizes (expression.Repeat size each) t w.0 w.1 h.1
-          (subst (Has scope set (expression.Repeat size each)) (sym (kind_at w.0 _ (is_list_of w.0 u w.2))) (has_repetition scope set size each (erased u) h.0 k))
+      (subst (Has scope set (expression.Repeat size each)) (sym (kind_at w.0 _ (is_list_of w.0 u w.2))) (has_repetition scope set size each (erased u) h.0 k))
 
   pub default_sound : (m : Meant) (e : CExpr) → SoundMeant scope set m → may_make_default scope.role (kind_of m.ty) ≡ true → default_of m.ty m.sizes ≡ Some e → Has scope set e (kind_of m.ty)
   default_sound m e h may is =
@@ -208,4 +208,4 @@ module _ (scope : Scope) (set : Set) where
       let shaped = shapes_have_kinds _ g.0 f.0 s g.2 in
       let may_there : may_make_default scope.role (kind_of g.0) ≡ true = default_same scope.role _ _ (channels_within (length m.sizes) m.ty g.0 g.1) may in
       subst (λ e. Has scope set e (kind_of m.ty)) f.2
-          (repeated_has m.sizes (expression.Default f.0) m.ty g.0 g.1 h.sizes (has_default scope set f.0 (kind_of g.0) shaped (may_default _ scope.role f.0 (kind_of g.0) shaped may_there)))
+      (repeated_has m.sizes (expression.Default f.0) m.ty g.0 g.1 h.sizes (has_default scope set f.0 (kind_of g.0) shaped (may_default _ scope.role f.0 (kind_of g.0) shaped may_there)))

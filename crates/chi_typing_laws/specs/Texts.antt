@@ -1,5 +1,5 @@
 -- Text literals that a value can have.
-use Rattle.std.specs.Prelude.{ℕ, ◌^◌, nat_lt, Bool, true, ◌&&◌, length}
+use Rattle.std.specs.Prelude.{◌^◌, nat_lt, Bool, true, ◌&&◌, length}
 use Rattle.std.specs.List.{list_all}
 use Rattle.chi_value.specs.declared.value.Value.{Value, Value-F, out-Value}
 use Rattle.chi_value.specs.Plain.{itself}

@@ -1,0 +1,146 @@
+-- The numbers of a request are in their ranges.
+use Rattle.std.proofs.Common.{◌≡◌, ℕ, ◌^◌, ◌*◌, ◌≤◌, ◌<◌, ◌&&◌, ◌++◌, ℤ, pos, Bool, true, false, nat_le, List, [], ◌∷◌, length, Option, Some, None, Result, Ok, Err, if◌then◌else◌, refl, sym, ap, ◌∙◌, subst, arith, rules}
+use Rattle.std.proofs.lemmas.Bool.{and_parts, leb-true}
+use Rattle.std.specs.Prelude.{IfOk, IfSome, int_lt, is_some, option_map}
+use Rattle.std.specs.Result.{result_ok}
+use Rattle.std.specs.Str.Parse.{digits_value}
+use Rattle.chi_num.specs.Decimal.{number_of, signed}
+use Rattle.chi_num.specs.Nearest.{nearest}
+use Rattle.chi_num.specs.Results.{fits, rounded}
+use Rattle.chi_num.specs.TextNumbers.{Meant, means, out_of_range, answer_of, decimals_of, after_digits, front_digits, has_minus, in_range, real_meant, units_meant, unsigned}
+use Rattle.chi_cli.specs.declared.command.Command.{Command}
+use Rattle.chi_cli.specs.declared.command.Command.TheVariants as command
+use Rattle.chi_cli.specs.declared.command.OptionName.{OptionName}
+use Rattle.chi_cli.specs.declared.command.OptionName.TheVariants as option
+use Rattle.chi_cli.specs.declared.fault.CliFault.{CliFault}
+use Rattle.chi_cli.specs.declared.fault.CliFault.TheVariants as fault
+use Rattle.chi_cli.specs.declared.policy.PolicyName.{PolicyName}
+use Rattle.chi_cli.specs.declared.policy.PolicyName.TheVariants as policy
+use Rattle.chi_cli.specs.declared.request.Request.{Request}
+use Rattle.chi_cli.specs.Commands.{Text, command_named}
+use Rattle.chi_cli.specs.Numbers.{is_numeral, number_in, number_or, time_in, time_or_none, within}
+use Rattle.chi_cli.specs.Ranges.{IsInRange, IsPick, IsTime}
+use Rattle.chi_cli.specs.Requests.{asked, check, command_request, each_once, load, load_of, one_word, pick_of, policy_or_first, request_of, run_asked, said_request, sim, sim_of_file, trace_up, value_given}
+use Rattle.chi_cli.specs.Splitting.{Said, split}
+
+abbrev Between : ℕ → ℕ → ℕ → Type 0
+Between least most n = (least ≤ n) × (n ≤ most)
+
+kept_within : (least most number n : ℕ) (kept : Bool) → (nat_le least number && nat_le number most) ≡ kept → (if kept then Some number else None) ≡ Some n → Between least most n
+kept_within least most number n true is e =
+    let same : number ≡ n = cc in
+    let parts : (nat_le least number ≡ true) × (nat_le number most ≡ true) = and_parts (nat_le least number) (nat_le number most) is in
+    subst (Between least most) same (leb-true least number parts.0, leb-true number most parts.1)
+kept_within least most number n false is e = absurd (cc)
+
+numeral_within : (least most : ℕ) (text : Text) (n : ℕ) (numeral : Bool) → (if numeral then within least most (digits_value 10 text) else None) ≡ Some n → Between least most n
+numeral_within least most text n true e = kept_within least most (digits_value 10 text) n (nat_le least (digits_value 10 text) && nat_le (digits_value 10 text) most) refl e
+numeral_within least most text n false e = absurd (cc)
+
+given_within : (default least most : ℕ) (o : Option Text) (n : ℕ) → Between least most default → number_or default least most o ≡ Some n → Between least most n
+given_within default least most None n known e = let same : default ≡ n = cc in subst (Between least most) same known
+given_within default least most (Some text) n known e = numeral_within least most text n (is_numeral text) e
+
+held : (z time : ℤ) (held : Bool) → result_ok (answer_of (if held then means z else out_of_range)) ≡ Some time → z ≡ time
+held z time true e = cc
+held z time false e = absurd (cc)
+
+not_below : (n : ℕ) → int_lt (pos n) (pos 0) ≡ false
+not_below n = search rules
+
+rounded_above : (n d : ℕ) → rounded (pos n) (pos d) ≡ pos (nearest n d)
+rounded_above n d = ap (λ (below : Bool). signed below (nearest n d)) (not_below n)
+
+above_zero : (whole : List ℕ) (decimals : Option (List ℕ)) (time : ℤ) → result_ok (answer_of (units_meant false whole decimals)) ≡ Some time → IsTime time
+above_zero whole None time e = absurd (cc)
+above_zero [] (Some decimals) time e = absurd (cc)
+above_zero (c ∷ cs) (Some decimals) time e =
+    let number : ℕ = number_of ((c ∷ cs) ++ decimals) * 1_000_000_000 in
+    let divisor : ℕ = 10 ^ length decimals in
+    (nearest number divisor, sym (held (rounded (pos number) (pos divisor)) time (fits (rounded (pos number) (pos divisor))) e) ∙ rounded_above number divisor)
+
+time_kept : (text : Text) (time : ℤ) (minus : Bool) → has_minus text ≡ minus → (if minus then None else result_ok (answer_of (real_meant text))) ≡ Some time → IsTime time
+time_kept text time true is e = absurd (cc)
+time_kept text time false is e =
+    above_zero (front_digits (unsigned text)) (decimals_of (after_digits (unsigned text))) time
+    (subst (λ (minus : Bool). result_ok (answer_of (units_meant minus (front_digits (unsigned text)) (decimals_of (after_digits (unsigned text))))) ≡ Some time) is e)
+
+time_given : (o : Option Text) (until : Option ℤ) → time_or_none o ≡ Some until → IfSome until IsTime
+time_given None None e = tt
+time_given None (Some time) e = absurd (cc)
+time_given (Some text) until e = each (time_in text) refl until e where
+  each : (o : Option ℤ) → time_in text ≡ o → (until : Option ℤ) → option_map (λ time. Some time) o ≡ Some until → IfSome until IsTime
+  each None is until e = absurd (cc)
+  each (Some time) is None e = absurd (cc)
+  each (Some time) is (Some other) e = let same : time_in text ≡ Some other = cc in time_kept text other (has_minus text) refl same
+
+salted : (policy : PolicyName) (salt : ℕ) → salt < 2 ^ 64 → IsPick (pick_of policy salt)
+salted policy.First salt fits = tt
+salted policy.Last salt fits = tt
+salted policy.Spread salt fits = fits
+
+abbrev most_word : ℕ
+most_word = 18_446_744_073_709_551_615
+
+run_in_range : (file : Text) (args : List Text) (policy : PolicyName) (trace : Bool) (seed bound salt : Option ℕ) (until : Option (Option ℤ))
+    → ((n : ℕ) → seed ≡ Some n → n ≤ most_word) → ((n : ℕ) → bound ≡ Some n → n ≤ 1_000_000_000_000_000) → ((n : ℕ) → salt ≡ Some n → n ≤ most_word)
+    → ((t : Option ℤ) → until ≡ Some t → IfSome t IsTime) → IfOk (run_asked file args policy trace seed bound salt until) IsInRange
+run_in_range file args policy trace (Some seed) (Some bound) (Some salt) (Some until) a b c d =
+    let fits : seed ≤ most_word = a seed refl in
+    let salt_fits : salt ≤ most_word = c salt refl in
+    (omega arith, b bound refl, d until refl, salted policy salt (omega arith))
+run_in_range file args policy trace None bound salt until a b c d = tt
+run_in_range file args policy trace (Some seed) None salt until a b c d = tt
+run_in_range file args policy trace (Some seed) (Some bound) None until a b c d = tt
+run_in_range file args policy trace (Some seed) (Some bound) (Some salt) None a b c d = tt
+
+file_in_range : (file : Text) (args : List Text) (p : Option PolicyName) (options : List (OptionName × Text)) → IfOk (sim_of_file file args p options) IsInRange
+file_in_range file args None options = tt
+file_in_range file args (Some p) options = run_in_range file args p (is_some (value_given option.Trace options))
+    (number_or 0 0 most_word (value_given option.Seed options)) (number_or 10_000_000 0 1_000_000_000_000_000 (value_given option.Steps options))
+    (number_or 0 0 most_word (value_given option.Salt options)) (time_or_none (value_given option.Until options))
+    (λ n e. (given_within 0 0 most_word (value_given option.Seed options) n (omega arith, omega arith) e).1)
+    (λ n e. (given_within 10_000_000 0 1_000_000_000_000_000 (value_given option.Steps options) n (omega arith, omega arith) e).1)
+    (λ n e. (given_within 0 0 most_word (value_given option.Salt options) n (omega arith, omega arith) e).1)
+    (λ t e. time_given (value_given option.Until options) t e)
+
+sim_in_range : (plain : List Text) (options : List (OptionName × Text)) → IfOk (sim plain options) IsInRange
+sim_in_range [] options = tt
+sim_in_range (file ∷ args) options = file_in_range file args (policy_or_first (value_given option.Policy options)) options
+
+load_in_range : (o : Option Text) → IfOk (load o) IsInRange
+load_in_range None = tt
+load_in_range (Some size) = each (number_in 1 1_000 size) refl where
+  each : (o : Option ℕ) → number_in 1 1_000 size ≡ o → IfOk (load_of o) IsInRange
+  each None is = tt
+  each (Some n) is = numeral_within 1 1_000 size n (is_numeral size) is
+
+asked_in_range : (c : Command) (said : Said) → IfOk (asked c said) IsInRange
+asked_in_range command.Sim said = sim_in_range said.plain said.options
+asked_in_range command.Check said = each (one_word said.plain) where
+  each : (o : Option Text) → IfOk (check o) IsInRange
+  each None = tt
+  each (Some file) = tt
+asked_in_range command.Load said = load_in_range (one_word said.plain)
+asked_in_range command.TraceUp said = each (one_word said.plain) where
+  each : (o : Option Text) → IfOk (trace_up o) IsInRange
+  each None = tt
+  each (Some file) = tt
+
+said_in_range : (c : Command) (o : Option Said) → IfOk (said_request c o) IsInRange
+said_in_range c None = tt
+said_in_range c (Some said) = each (each_once said.options) where
+  each : (once : Bool) → IfOk (if once then asked c said else Err fault.Usage) IsInRange
+  each true = asked_in_range c said
+  each false = tt
+
+command_in_range : (o : Option Command) (words : List Text) → IfOk (command_request o words) IsInRange
+command_in_range None words = tt
+command_in_range (Some c) words = said_in_range c (split c words)
+
+request_in_range : (words : List Text) → IfOk (request_of words) IsInRange
+request_in_range [] = tt
+request_in_range (name ∷ words) = command_in_range (command_named name) words
+
+pub numbers_in_range : (words : List Text) (request : Request) → request_of words ≡ Ok request → IsInRange request
+numbers_in_range words request e = subst (λ (answer : Result Request CliFault). IfOk answer IsInRange) e (request_in_range words)

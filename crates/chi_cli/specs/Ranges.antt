@@ -1,0 +1,22 @@
+-- The ranges of a request's numbers.
+use Rattle.std.specs.Prelude.{◌≡◌, ℕ, ◌^◌, ◌≤◌, ◌<◌, ℤ, pos, List, Option, IfSome}
+use Rattle.chi_cli.specs.declared.request.Pick.{Pick}
+use Rattle.chi_cli.specs.declared.request.Pick.TheVariants as pick
+use Rattle.chi_cli.specs.declared.request.Request.{Request}
+use Rattle.chi_cli.specs.declared.request.Request.TheVariants as request
+
+abbrev pub IsPick : Pick → Type 0
+IsPick pick.First = Unit {0}
+IsPick pick.Last = Unit {0}
+IsPick (pick.Spread salt) = salt < 2 ^ 64
+
+-- a stopping time isn't before 0.0
+abbrev pub IsTime : ℤ → Type 0
+IsTime time = (units : ℕ) × (time ≡ pos units)
+
+-- the seed and the salt fit 64 bits, the bound on steps is at most 10^15, and the size of a factory is from 1 to 1,000
+abbrev pub IsInRange : Request → Type 0
+IsInRange (request.Sim file args seed bound until pick trace) =
+    (seed < 2 ^ 64) × (bound ≤ 1_000_000_000_000_000) × IfSome until IsTime × IsPick pick
+IsInRange (request.Load n) = (1 ≤ n) × (n ≤ 1_000)
+IsInRange _ = Unit {0}

@@ -1,0 +1,28 @@
+//! The lines of a trace: an event of a run to its line, and back.
+#![tactic(auto)]
+
+mod detail;
+mod event;
+mod fault;
+mod laws;
+mod line;
+mod name;
+mod numeral;
+mod parts;
+mod read;
+mod time;
+
+pub use event::{Detail, Event};
+pub use fault::TraceFault;
+pub use laws::{first_lines_law, lines_1_law, lines_law};
+pub use line::{line_of, line_up};
+pub use read::{read_line, read_line_1};
+
+/// The first line of a trace of version 2, without its line feed.
+pub const FIRST_LINE: &str = "trace 2";
+
+/// The first line of a trace of version 1, without its line feed.
+pub const FIRST_LINE_1: &str = "trace 1";
+
+#[cfg(test)]
+mod tests;
