@@ -1,11 +1,13 @@
 -- The program that a source comes to has one run.
-use Rattle.std.proofs.Common.{◌≡◌, ℕ, ◌<◌, List, Some, refl, arith}
+use Rattle.std.proofs.Common.{◌≡◌, ℕ, ◌<◌, true, List, length, Some, refl, arith}
 use Rattle.std.proofs.Math.Nat.{mod-lt}
 use Rattle.std.specs.Prelude.{slice_get, ℤ, ◌^◌, ◌-◌, Option, Result, Ok, Err, IfOk}
 use Rattle.chi_base.specs.declared.no_memory.NoMemory.{NoMemory}
 use Rattle.chi_cli.specs.declared.request.Pick as words
 use Rattle.chi_cli.specs.declared.request.Pick.TheVariants as pick
-use Rattle.chi_cli.specs.Arguments.{values_of}
+use Rattle.chi_cli.specs.declared.args.ArgFault.{ArgFault}
+use Rattle.chi_cli.specs.declared.args.ArgFault.TheVariants as arg
+use Rattle.chi_cli.specs.Arguments.{values_of, IsRefused}
 use Rattle.chi_value.specs.declared.value.Value.{Value}
 use Rattle.chi_core.specs.declared.program.Core.{Core}
 use Rattle.chi_core.specs.declared.program.ProcDef.{ProcDef}
@@ -19,7 +21,9 @@ use Rattle.chi_tool.specs.declared.report.Reported.{Reported}
 use Rattle.chi_tool.specs.declared.task.Asked.{Asked}
 use Rattle.chi_tool.specs.declared.task.Purpose.{Purpose}
 use Rattle.chi_tool.specs.declared.task.Purpose.TheVariants.{Simulate}
-use Rattle.chi_tool.specs.Report.{IsReportOfProgram, IsReportOfSource, program}
+use Rattle.chi_tool.specs.Arguments.{is_misfit}
+use Rattle.chi_tool.specs.Refusals.{unfit_arguments}
+use Rattle.chi_tool.specs.Report.{IsReportOfRun, unfit, run, IsReportOfProgram, IsReportOfSource, program}
 use Rattle.chi_tool.specs.Reported.{report_in}
 use Rattle.chi_tool.specs.Running.{IsRunOf, IsRunReport, MayHave}
 use Rattle.chi_tool.specs.Settings.{Settings, IsBounded, policy_of, settings_with}
@@ -51,15 +55,15 @@ asked_settings fit core a values d is read bounded = record {
 pub run_some : PickedAlways → SoundLaw → (source : List ℕ) (core : Core) → ComesTo source core → (s : Settings) → MayHave core s → (told : Told) × IsRunOf core s told
 run_some always sound source core comes s may =
     let p = always core (sound comes.tree core comes.built) (start core s.arguments s.seed s.until)
-            (record {
-              model = may.model;
-              is = may.is;
-              arguments = s.arguments;
-              fit = may.arguments;
-              seed = s.seed;
-              until = s.until;
-              begins = refl;
-            }) s.pick may.lawful s.bound may.bound in
+    (record {
+      model = may.model;
+      is = may.is;
+      arguments = s.arguments;
+      fit = may.arguments;
+      seed = s.seed;
+      until = s.until;
+      begins = refl;
+    }) s.pick may.lawful s.bound may.bound in
     (p.0, p.1.0)
 
 -- a run from its beginning is the run of the program with its settings
@@ -91,3 +95,23 @@ pub program_reported : (source : List ℕ) (core : Core) (purpose : Purpose) (re
     → IfOk result (λ r. IsReportOfProgram core purpose (report_in r)) → IfOk result (λ r. IsReportOfSource source purpose (report_in r))
 program_reported source core purpose (Ok r) comes is = program core comes is
 program_reported source core purpose (Err lost) comes is = tt
+
+-- the report of a model's run, with the arguments that were read, or the refusal of these
+
+module _ (core : Core) (a : Asked) (d : ProcDef) (is : slice_get core.procs core.model ≡ Some d) where
+  pub model_ran : (values : List Value) (result : Result Reported NoMemory) → values_of d.params a.texts ≡ Ok values
+      → IfOk result (λ r. IsRunReport core (settings_with a values) (report_in r)) → IfOk result (λ r. IsReportOfRun core a (report_in r))
+  model_ran values (Ok r) read ran = run values (record { model = d; is = is; read = read }) ran
+  model_ran values (Err lost) read ran = tt
+
+  misfit : (fault : ArgFault) (result : Result Reported NoMemory) → values_of d.params a.texts ≡ Err fault
+      → IfOk result (λ r. report_in r ≡ unfit_arguments (length d.params) (length a.texts) fault) → IfOk result (λ r. IsReportOfRun core a (report_in r))
+  misfit fault (Ok r) read told = unfit (length d.params) fault (record { model = d; is = is; read = read; count = refl }) told
+  misfit fault (Err lost) read told = tt
+
+  pub model_refused : (fault : ArgFault) (result : Result Reported NoMemory) → is_misfit fault ≡ true → IsRefused (values_of d.params a.texts) fault
+      → IfOk result (λ r. report_in r ≡ unfit_arguments (length d.params) (length a.texts) fault) → IfOk result (λ r. IsReportOfRun core a (report_in r))
+  model_refused arg.Count result other refused told = misfit arg.Count result refused told
+  model_refused (arg.Kind k) result other refused told = misfit (arg.Kind k) result refused told
+  model_refused (arg.Text k) result other refused told = misfit (arg.Text k) result refused told
+  model_refused arg.NoMemory result other refused told = absurd (cc)

@@ -1,12 +1,14 @@
 -- The bounds of what words ask for.
-use Rattle.std.proofs.Common.{◌≡◌, ℕ, ◌<◌, ◌≤◌, List, refl, arith}
+use Rattle.std.proofs.Common.{◌≡◌, ℕ, ◌<◌, ◌≤◌, List, Some, None, refl, sym, ◌∙◌, ap, arith}
 use Rattle.std.specs.Prelude.{◌^◌, true, false, Result, Ok, Err}
 use Rattle.chi_cli.specs.declared.fault.CliFault.{CliFault}
 use Rattle.chi_cli.specs.declared.request.Request.{Request}
 use Rattle.chi_cli.specs.declared.request.Request.TheVariants as request
-use Rattle.chi_cli.specs.Requests.{request_of}
+use Rattle.chi_cli.specs.declared.fault.CliFault.TheVariants as fault
+use Rattle.chi_cli.specs.Requests.{request_of, IsRefused}
 use Rattle.chi_tool.specs.Settings.{IsBounded}
-use Rattle.chi_tool.specs.Words.{Wish, nothing, unbuilt, of_task, wish_by, wish_of}
+use Rattle.chi_tool.specs.declared.task.Task.{Task}
+use Rattle.chi_tool.specs.Words.{Wish, nothing, unbuilt, of_task, task_of, is_refusal, wish_by_task, wish_by, wish_of}
 use Rattle.chi_tool.proofs.LawClauses.{RangeLaw}
 
 -- what is asked for is within what is counted
@@ -28,3 +30,18 @@ by_reading law words (Ok (request.TraceUp file)) is = tt
 
 pub bounded_wish : RangeLaw → (words : List (List ℕ)) → IsBoundedWish (wish_of words)
 bounded_wish law words = by_reading law words (request_of words) refl
+
+-- what words ask for, by what reading them answers
+
+module _ (words : List (List ℕ)) where
+  pub wish_task : (asked : Request) (t : Task) → request_of words ≡ Ok asked → Some t ≡ task_of asked → wish_of words ≡ of_task t
+  wish_task asked t read is = ap wish_by read ∙ ap wish_by_task (sym is)
+
+  pub wish_unbuilt : (asked : Request) → request_of words ≡ Ok asked → None ≡ task_of asked → wish_of words ≡ unbuilt
+  wish_unbuilt asked read is = ap wish_by read ∙ ap wish_by_task (sym is)
+
+  pub wish_nothing : (f : CliFault) → is_refusal f ≡ true → IsRefused (request_of words) f → wish_of words ≡ nothing
+  wish_nothing fault.Usage is refused = ap wish_by refused
+  wish_nothing fault.Command is refused = ap wish_by refused
+  wish_nothing fault.BadNumber is refused = ap wish_by refused
+  wish_nothing fault.NoMemory is refused = absurd (cc)

@@ -1,6 +1,7 @@
 -- What words ask for.
-use Rattle.std.specs.Prelude.{ℕ, true, false, List, Option, Some, None, Result, Ok, Err}
+use Rattle.std.specs.Prelude.{ℕ, Bool, true, false, List, Option, Some, None, Result, Ok, Err}
 use Rattle.chi_cli.specs.declared.fault.CliFault.{CliFault}
+use Rattle.chi_cli.specs.declared.fault.CliFault.TheVariants as fault
 use Rattle.chi_cli.specs.declared.request.Request.{Request}
 use Rattle.chi_cli.specs.declared.request.Request.TheVariants as request
 use Rattle.chi_cli.specs.Requests.{request_of}
@@ -36,3 +37,10 @@ wish_by (Err fault) = nothing
 
 abbrev pub wish_of : List (List ℕ) → Wish
 wish_of words = wish_by (request_of words)
+
+-- words are refused; want of memory is no refusal of theirs
+abbrev pub is_refusal : CliFault → Bool
+is_refusal fault.Usage = true
+is_refusal fault.Command = true
+is_refusal fault.BadNumber = true
+is_refusal fault.NoMemory = false

@@ -1,5 +1,6 @@
 ghost use Rattle.std.specs.Prelude.{◌≡◌, ◌++◌, codes, OnOk, IfOk};
 ghost use Rattle.std.specs.Fmt.{decimal};
+ghost use Rattle.chi_tool.specs.Arguments.{is_misfit};
 ghost use Rattle.chi_tool.specs.Refusals.{arguments_text, unfit_arguments};
 ghost use Rattle.chi_tool.specs.Reported.{report_in};
 
@@ -61,4 +62,14 @@ pub fn unfit(
 {
     let text = text_of(alloc, wanted as u64, given as u64, fault)?;
     refused(alloc, ARGUMENTS, &text)
+}
+
+/// Whether arguments are refused, where there was memory to read them.
+pub fn is_misfit(fault: ArgFault) -> bool
+    ensures { result ≡ is_misfit fault }
+{
+    match fault {
+        ArgFault::Count | ArgFault::Kind(_) | ArgFault::Text(_) => true,
+        ArgFault::NoMemory => false,
+    }
 }

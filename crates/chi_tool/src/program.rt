@@ -10,7 +10,7 @@ ghost use Rattle.chi_tool.specs.Reported.{report_in};
 ghost use Rattle.chi_tool.specs.Running.{IsRunReport};
 ghost use Rattle.chi_tool.specs.Settings.{IsBounded, settings_with};
 
-use crate::arguments::unfit;
+use crate::arguments::{is_misfit, unfit};
 use crate::refusal::refused;
 use crate::report::Reported;
 use crate::run::run;
@@ -18,7 +18,7 @@ use crate::settings::Settings;
 use crate::status::ACCEPTED;
 use crate::task::{Asked, Purpose};
 use chi_base::NoMemory;
-use chi_cli::{ArgFault, Pick, read_args, values_are_of_parameters};
+use chi_cli::{Pick, read_args, values_are_of_parameters};
 use chi_core::{Core, ProcDef};
 use chi_num::Real;
 use chi_sched::{First, Last, Spread};
@@ -48,7 +48,10 @@ fn run_asked(
     ensures { IfOk result (λ r. IsRunReport core.now (settings_with asked.now arguments.items) (report_in r)) }
 {
     let Asked {
-        seed, bound, pick, ..
+        seed,
+        bound,
+        pick,
+        ..
     } = asked;
     let (seed, bound, until) = (*seed, *bound, units_of(asked.until));
     match *pick {
@@ -117,8 +120,12 @@ fn run_model(
     }
     match read_args(alloc, params, texts) {
         Ok(arguments) => run_asked(alloc, core, arguments, asked),
-        Err(ArgFault::NoMemory) => Err(NoMemory),
-        Err(fault) => unfit(alloc, params.len(), texts.len(), fault),
+        Err(fault) => {
+            if !is_misfit(fault) {
+                return Err(NoMemory);
+            }
+            unfit(alloc, params.len(), texts.len(), fault)
+        }
     }
 }
 

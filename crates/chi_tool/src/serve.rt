@@ -10,7 +10,7 @@ use crate::program::report_of_program;
 use crate::report::Reported;
 use crate::source::{Source, read};
 use crate::status::{NO_MEMORY, NOT_READ};
-use crate::task::{Purpose, Task};
+use crate::task::Purpose;
 use chi_base::NoMemory;
 use chi_io::{Fetch, Shelf, Sink};
 use chi_lex::MOST_BYTES;
@@ -28,22 +28,23 @@ fn report_of(alloc: Global, source: &[u8], purpose: &Purpose) -> Result<Reported
     }
 }
 
-/// Fetches the file, and delivers its report or its refusal.
+/// Fetches the file of this name, and delivers its report or its refusal.
 pub fn serve<H: Shelf, O: Sink, L: Sink>(
     alloc: Global,
-    task: &Task,
+    name: &[u8],
+    purpose: &Purpose,
     shelf: &mut H,
     out: &mut O,
     log: &mut L,
 ) -> u8
     requires out_goes { O.stopped out.old ≡ false }
     requires log_goes { L.stopped log.old ≡ false }
-    requires bounded { IsBounded task.now.purpose }
-    ensures { Serves task.now.file task.now.purpose (shelf_use H.files H.faults shelf.old shelf.new) result
+    requires bounded { IsBounded purpose.now }
+    ensures { Serves name.now purpose.now (shelf_use H.files H.faults shelf.old shelf.new) result
         (sink_use O.taken O.faults O.stopped out.old out.new) (sink_use L.taken L.faults L.stopped log.old log.new) }
 {
-    match shelf.fetch(alloc, task.file.as_slice(), MOST_BYTES as u64) {
-        Fetch::Bytes(source) => match report_of(alloc, &source, &task.purpose) {
+    match shelf.fetch(alloc, name, MOST_BYTES as u64) {
+        Fetch::Bytes(source) => match report_of(alloc, &source, purpose) {
             Ok(report) => deliver(report.status, out, &report.out, log, &report.log),
             Err(_) => NO_MEMORY,
         },

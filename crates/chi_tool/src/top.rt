@@ -6,8 +6,8 @@ use crate::deliver::deliver;
 use crate::laws::{one_run_law, report_law};
 use crate::serve::serve;
 use crate::status::{NO_MEMORY, NO_REQUEST, NOT_BUILT};
-use crate::words::task_of;
-use chi_cli::{CliFault, numbers_are_in_range, read_words, values_are_of_parameters};
+use crate::words::{is_refusal, task_of};
+use chi_cli::{numbers_are_in_range, read_words, values_are_of_parameters};
 use chi_io::{Shelf, Sink};
 use std::alloc::Global;
 
@@ -54,16 +54,18 @@ pub fn chi<H: Shelf, O: Sink, L: Sink>(
     values_are_of_parameters();
     match read_words(alloc, words) {
         Ok(request) => match task_of(request) {
-            Some(task) => serve(alloc, &task, shelf, out, log),
+            Some(task) => {
+                let name = task.file.as_slice();
+                serve(alloc, name, &task.purpose, shelf, out, log)
+            }
             None => deliver(NOT_BUILT, out, b"", log, b"form not built\n"),
         },
-        Err(CliFault::NoMemory) => NO_MEMORY,
-        Err(_) => deliver(
-            NO_REQUEST,
-            out,
-            b"",
-            log,
-            b"usage: chi COMMAND [OPTIONS] FILE [ARGS]\n",
-        ),
+        Err(fault) => {
+            if !is_refusal(fault) {
+                return NO_MEMORY;
+            }
+            let usage = b"usage: chi COMMAND [OPTIONS] FILE [ARGS]\n";
+            deliver(NO_REQUEST, out, b"", log, usage)
+        }
     }
 }

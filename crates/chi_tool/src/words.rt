@@ -1,8 +1,8 @@
 ghost use Rattle.std.specs.Prelude.{◌≡◌};
-ghost use Rattle.chi_tool.specs.Words.{task_of};
+ghost use Rattle.chi_tool.specs.Words.{is_refusal, task_of};
 
 use crate::task::{Asked, Purpose, Task};
-use chi_cli::Request;
+use chi_cli::{CliFault, Request};
 
 /// What a request wants to be done, unless that isn't built yet.
 pub fn task_of(request: Request) -> Option<Task>
@@ -35,5 +35,15 @@ pub fn task_of(request: Request) -> Option<Task>
             purpose: Purpose::Check,
         }),
         Request::Sim { trace: true, .. } | Request::Load { .. } | Request::TraceUp { .. } => None,
+    }
+}
+
+/// Whether words are refused, where there was memory to read them.
+pub fn is_refusal(fault: CliFault) -> bool
+    ensures { result ≡ is_refusal fault }
+{
+    match fault {
+        CliFault::Usage | CliFault::Command | CliFault::BadNumber => true,
+        CliFault::NoMemory => false,
     }
 }

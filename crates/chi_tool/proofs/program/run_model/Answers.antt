@@ -1,0 +1,7 @@
+use Rattle.chi_tool.proofs.Runs.{model_ran}
+use Rattle.chi_tool.proofs.program.run_model.Goals as goal
+
+pub returns-in-Ok : goal.returns-in-Ok
+returns-in-Ok c =
+    let read = rw (c.as_slice-params.ensures.same, c.as_slice-texts.ensures.same) at c.in-Ok.ensures.values in
+    model_ran c.args.core.now c.args.asked.now c.args.model.now c.requires.model c.in-Ok.arguments.items c.run_asked.result read c.run_asked.ensures
