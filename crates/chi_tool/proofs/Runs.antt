@@ -1,5 +1,5 @@
 -- The program that a source comes to has one run.
-use Rattle.std.proofs.Common.{◌≡◌, ℕ, ◌<◌, Bool, true, false, not, List, length, Some, refl, sym, arith}
+use Rattle.std.proofs.Common.{◌≡◌, ℕ, ◌<◌, true, List, length, Some, refl, arith}
 use Rattle.std.proofs.Math.Nat.{mod-lt}
 use Rattle.std.specs.Prelude.{slice_get, ℤ, ◌^◌, ◌-◌, Option, Result, Ok, Err, IfOk}
 use Rattle.chi_base.specs.declared.no_memory.NoMemory.{NoMemory}
@@ -95,11 +95,6 @@ pub program_reported : (source : List ℕ) (core : Core) (purpose : Purpose) (re
     → IfOk result (λ r. IsReportOfProgram core purpose (report_in r)) → IfOk result (λ r. IsReportOfSource source purpose (report_in r))
 program_reported source core purpose (Ok r) comes is = program core comes is
 program_reported source core purpose (Err lost) comes is = tt
-
--- a test that doesn't fail
-pub told_true : (test told : Bool) → test ≡ told → not test ≡ false → told ≡ true
-told_true true told same fails = sym same
-told_true false told same fails = absurd (cc)
 
 -- the report of a model's run, with the arguments that were read, or the refusal of these
 

@@ -1,4 +1,5 @@
-use Rattle.chi_tool.proofs.Runs.{model_ran, model_refused, told_true}
+use Rattle.std.proofs.Common.{sym, ◌∙◌}
+use Rattle.chi_tool.proofs.Runs.{model_ran, model_refused}
 use Rattle.chi_tool.proofs.program.run_model.Goals as goal
 
 pub returns-in-Ok : goal.returns-in-Ok
@@ -11,4 +12,4 @@ returns-else-not-is_misfit c =
     let refused = rw (c.as_slice-params.ensures.same, c.as_slice-texts.ensures.same) at c.in-Err.ensures.fault in
     let told = rw (c.as_slice-params.ensures.same, c.as_slice-texts.ensures.same) at c.unfit.ensures in
     model_refused c.args.core.now c.args.asked.now c.args.model.now c.requires.model c.in-Err.fault c.unfit.result
-    (told_true c.is_misfit.result _ c.is_misfit.ensures c.if-not-is_misfit.false) refused told
+    (sym c.is_misfit.ensures ∙ c.if-not-is_misfit.false) refused told

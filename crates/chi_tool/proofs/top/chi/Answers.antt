@@ -1,9 +1,10 @@
-use Rattle.std.proofs.Common.{subst}
+use Rattle.std.proofs.Common.{refl, sym, subst, ◌∙◌}
 use Rattle.chi_cli.specs.Saying.{texts}
 use Rattle.chi_tool.proofs.LawClauses.{RunLaw, ReportLaw}
-use Rattle.chi_tool.proofs.Promises.{served-headline, unbuilt-headline}
-use Rattle.chi_tool.proofs.Served.{served-causes, served-complete, unbuilt-causes, unbuilt-complete}
-use Rattle.chi_tool.proofs.Wishes.{IsBoundedWish, bounded_wish, wish_task, wish_unbuilt}
+use Rattle.chi_tool.proofs.Promises.{IsLost, served-headline, unbuilt-headline, usage-headline, lost-headline}
+use Rattle.chi_tool.proofs.Served.{served-causes, served-complete, unbuilt-causes, unbuilt-complete, usage-causes, usage-complete, lost-causes, lost-complete}
+use Rattle.chi_tool.proofs.Sinks.{still}
+use Rattle.chi_tool.proofs.Wishes.{IsBoundedWish, bounded_wish, wish_task, wish_unbuilt, wish_nothing}
 use Rattle.chi_tool.proofs.top.chi.Goals as goal
 
 pub serve-requires-clause-bounded : goal.serve-requires-clause-bounded
@@ -40,3 +41,33 @@ returns-in-None-clause-complete g c =
     let law : ReportLaw = record { some = c.report_law.ensures.some; one = c.report_law.ensures.one } in
     let runs : RunLaw = record { some = c.one_run_law.ensures.some; one = c.one_run_law.ensures.one } in
     unbuilt-complete runs c.values_are_of_parameters.ensures c.numbers_are_in_range.ensures law _ (wish_unbuilt (texts c.args.words.now) c.in-Ok.request c.in-Ok.ensures.request c.in-None.ensures) c.deliver.ensures
+
+pub returns-then-not-is_refusal-clause-headline : goal.returns-then-not-is_refusal-clause-headline
+returns-then-not-is_refusal-clause-headline g c =
+    let law : ReportLaw = record { some = c.report_law.ensures.some; one = c.report_law.ensures.one } in
+    lost-headline law _ (record { status = refl; out = record { took = still _; goes = c.requires.out_goes }; log = record { took = still _; goes = c.requires.log_goes } })
+
+pub returns-then-not-is_refusal-clause-causes : goal.returns-then-not-is_refusal-clause-causes
+returns-then-not-is_refusal-clause-causes g c =
+    let law : ReportLaw = record { some = c.report_law.ensures.some; one = c.report_law.ensures.one } in
+    lost-causes law _ (record { status = refl; out = record { took = still _; goes = c.requires.out_goes }; log = record { took = still _; goes = c.requires.log_goes } })
+
+pub returns-then-not-is_refusal-clause-complete : goal.returns-then-not-is_refusal-clause-complete
+returns-then-not-is_refusal-clause-complete g c =
+    let law : ReportLaw = record { some = c.report_law.ensures.some; one = c.report_law.ensures.one } in
+    let runs : RunLaw = record { some = c.one_run_law.ensures.some; one = c.one_run_law.ensures.one } in
+    lost-complete runs c.values_are_of_parameters.ensures c.numbers_are_in_range.ensures law _ (record { status = refl; out = record { took = still _; goes = c.requires.out_goes }; log = record { took = still _; goes = c.requires.log_goes } })
+
+pub returns-else-not-is_refusal-clause-headline : goal.returns-else-not-is_refusal-clause-headline
+returns-else-not-is_refusal-clause-headline g c = usage-headline _ (wish_nothing (texts c.args.words.now) c.in-Err.fault (sym c.is_refusal.ensures ∙ c.if-not-is_refusal.false) c.in-Err.ensures.fault) c.deliver-in-Err.ensures
+
+pub returns-else-not-is_refusal-clause-causes : goal.returns-else-not-is_refusal-clause-causes
+returns-else-not-is_refusal-clause-causes g c =
+    let law : ReportLaw = record { some = c.report_law.ensures.some; one = c.report_law.ensures.one } in
+    usage-causes law _ (wish_nothing (texts c.args.words.now) c.in-Err.fault (sym c.is_refusal.ensures ∙ c.if-not-is_refusal.false) c.in-Err.ensures.fault) c.deliver-in-Err.ensures
+
+pub returns-else-not-is_refusal-clause-complete : goal.returns-else-not-is_refusal-clause-complete
+returns-else-not-is_refusal-clause-complete g c =
+    let law : ReportLaw = record { some = c.report_law.ensures.some; one = c.report_law.ensures.one } in
+    let runs : RunLaw = record { some = c.one_run_law.ensures.some; one = c.one_run_law.ensures.one } in
+    usage-complete runs c.values_are_of_parameters.ensures c.numbers_are_in_range.ensures law _ (wish_nothing (texts c.args.words.now) c.in-Err.fault (sym c.is_refusal.ensures ∙ c.if-not-is_refusal.false) c.in-Err.ensures.fault) c.deliver-in-Err.ensures
