@@ -32,11 +32,21 @@ fn words_are_read(rt: HostRuntime) -> Result<(), Fail> {
         (&["run", "m.chi"], "", USAGE, 3),
         (&["sim", "-x"], "", USAGE, 3),
         (&["sim", "--steps", "x", "m.chi"], "", USAGE, 3),
-        (&["sim", "--seed", "1", "--seed", "1", "m.chi"], "", USAGE, 3),
+        (
+            &["sim", "--seed", "1", "--seed", "1", "m.chi"],
+            "",
+            USAGE,
+            3,
+        ),
         (&["sim", "--policy", "best", "m.chi"], "", USAGE, 3),
         (&["sim", "-"], "", "no such file\n", 4),
         (&["sim", ""], "", "no such file\n", 4),
-        (&["sim", "m.chi", "m.chi"], "", "arguments: wanted 0, given 1\n", 23),
+        (
+            &["sim", "m.chi", "m.chi"],
+            "",
+            "arguments: wanted 0, given 1\n",
+            23,
+        ),
         (&["check"], "", USAGE, 3),
         (&["check", "m.chi"], "", "accepted\n", 0),
         (&["load", "0"], "", USAGE, 3),
@@ -49,9 +59,24 @@ fn words_are_read(rt: HostRuntime) -> Result<(), Fail> {
 fn a_run_stops_at_its_bound(rt: HostRuntime) -> Result<(), Fail> {
     let rows: [Row; 4] = [
         (&["sim", "--steps", "1", "m.chi"], "It works!\n", DONE, 0),
-        (&["sim", "m.chi", "--steps=0"], "", "out of steps at time 0.0\n", 13),
-        (&["sim", "--steps", "1000000000000000", "m.chi"], "It works!\n", DONE, 0),
-        (&["sim", "--steps", "1000000000000001", "m.chi"], "", USAGE, 3),
+        (
+            &["sim", "m.chi", "--steps=0"],
+            "",
+            "out of steps at time 0.0\n",
+            13,
+        ),
+        (
+            &["sim", "--steps", "1000000000000000", "m.chi"],
+            "It works!\n",
+            DONE,
+            0,
+        ),
+        (
+            &["sim", "--steps", "1000000000000001", "m.chi"],
+            "",
+            USAGE,
+            3,
+        ),
     ];
     expect_words(&rt, WORKS, &rows)
 }
@@ -65,8 +90,18 @@ fn a_policy_picks(rt: HostRuntime) -> Result<(), Fail> {
         (&["sim", "m.chi"], "1\n2\n", DONE, 0),
         (&["sim", "--policy", "first", "m.chi"], "1\n2\n", DONE, 0),
         (&["sim", "--policy=last", "m.chi"], "2\n1\n", DONE, 0),
-        (&["sim", "--policy", "spread", "--salt", "0", "m.chi"], "1\n2\n", DONE, 0),
-        (&["sim", "--seed", "18446744073709551615", "m.chi"], "1\n2\n", DONE, 0),
+        (
+            &["sim", "--policy", "spread", "--salt", "0", "m.chi"],
+            "1\n2\n",
+            DONE,
+            0,
+        ),
+        (
+            &["sim", "--seed", "18446744073709551615", "m.chi"],
+            "1\n2\n",
+            DONE,
+            0,
+        ),
     ];
     expect_words(&rt, source, &rows)
 }
@@ -75,10 +110,30 @@ fn a_policy_picks(rt: HostRuntime) -> Result<(), Fail> {
 fn a_run_stops_before_its_time_passes(rt: HostRuntime) -> Result<(), Fail> {
     let source = "model M(): delay 2.0; writeln(\"two\"); delay 2.0; writeln(\"four\") end";
     let rows: [Row; 5] = [
-        (&["sim", "--until", "1.5", "m.chi"], "", "stopped at time 1.5\n", 14),
-        (&["sim", "--until", "2.0", "m.chi"], "two\n", "stopped at time 2.0\n", 14),
-        (&["sim", "--until", "3", "m.chi"], "two\n", "stopped at time 3.0\n", 14),
-        (&["sim", "--until", "4.0", "m.chi"], "two\nfour\n", "completed at time 4.0\n", 0),
+        (
+            &["sim", "--until", "1.5", "m.chi"],
+            "",
+            "stopped at time 1.5\n",
+            14,
+        ),
+        (
+            &["sim", "--until", "2.0", "m.chi"],
+            "two\n",
+            "stopped at time 2.0\n",
+            14,
+        ),
+        (
+            &["sim", "--until", "3", "m.chi"],
+            "two\n",
+            "stopped at time 3.0\n",
+            14,
+        ),
+        (
+            &["sim", "--until", "4.0", "m.chi"],
+            "two\nfour\n",
+            "completed at time 4.0\n",
+            0,
+        ),
         (&["sim", "--until", "-1.0", "m.chi"], "", USAGE, 3),
     ];
     expect_words(&rt, source, &rows)
@@ -88,7 +143,12 @@ fn a_run_stops_before_its_time_passes(rt: HostRuntime) -> Result<(), Fail> {
 fn what_is_checked_is_refused_as_what_is_run(rt: HostRuntime) -> Result<(), Fail> {
     let check: [Row; 1] = [(&["check", "m.chi"], "", "line 1 column 12: bad byte\n", 20)];
     expect_words(&rt, "model M(): @ end", &check)?;
-    let check: [Row; 1] = [(&["check", "m.chi"], "", "line 1 column 12: syntax at token 5\n", 21)];
+    let check: [Row; 1] = [(
+        &["check", "m.chi"],
+        "",
+        "line 1 column 12: syntax at token 5\n",
+        21,
+    )];
     expect_words(&rt, "model M(): end", &check)?;
     let check: [Row; 2] = [
         (&["check", "m.chi"], "", "form not built\n", 22),
