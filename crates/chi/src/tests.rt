@@ -2,6 +2,7 @@
 
 mod refusals;
 mod runs;
+mod words;
 
 use chi_io::{MemShelf, MemSink};
 use chi_tool::chi;
@@ -110,43 +111,6 @@ fn expect_written(
 }
 
 const WORKS: &str = "model M(): write(\"It works!\\n\") end";
-
-const USAGE: Wanted = Wanted {
-    out: "",
-    log: "usage: chi COMMAND [OPTIONS] FILE [ARGS]\n",
-    status: 3,
-};
-
-const MISSING: Wanted = Wanted {
-    out: "",
-    log: "no such file\n",
-    status: 4,
-};
-
-#[test]
-fn words_are_read(rt: HostRuntime) -> Result<(), Fail> {
-    let rows: [(&[&str], Wanted); 8] = [
-        (&[], USAGE),
-        (&["sim"], USAGE),
-        (&["run", "m.chi"], USAGE),
-        (&["sim", "-x"], USAGE),
-        (&["sim", "m.chi", "m.chi"], USAGE),
-        (&["sim", "--steps", "x", "m.chi"], USAGE),
-        (&["sim", "-"], MISSING),
-        (&["sim", ""], MISSING),
-    ];
-    for (words, wanted) in rows {
-        expect(
-            &rt,
-            rt.alloc(),
-            words,
-            WORKS.as_bytes(),
-            "the words",
-            wanted,
-        )?;
-    }
-    Ok(())
-}
 
 /// Runs the first model over objects that fail at the calls of these numbers.
 fn expect_failing(

@@ -1,16 +1,27 @@
 -- The laws that the promises rest on, as their functions' contracts give them.
-use Rattle.std.proofs.Common.{◌≡◌, ℕ, List, Result}
+use Rattle.std.proofs.Common.{◌≡◌, ℕ, List, Result, Some}
+use Rattle.std.specs.Prelude.{Ok}
+use Rattle.chi_cli.specs.declared.request.Request.{Request}
+use Rattle.chi_cli.specs.Arguments.{values_of}
+use Rattle.chi_cli.specs.Ranges.{IsInRange}
+use Rattle.chi_cli.specs.Requests.{request_of}
 use Rattle.chi_io.specs.Shelf.{Files}
 use Rattle.chi_token.specs.declared.place.Spanned.{Spanned}
 use Rattle.chi_grammar.specs.declared.fault.ParseFault.{ParseFault}
 use Rattle.chi_tree.specs.declared.definition.Program.{Program}
 use Rattle.chi_grammar_laws.specs.Answers.{IsAnswer}
 use Rattle.chi_core.specs.declared.program.Core.{Core}
+use Rattle.chi_core.specs.Kinds.{kinds_of}
+use Rattle.chi_core.specs.Of.{at_start, AreOf}
 use Rattle.chi_core.specs.Runs.{Told}
+use Rattle.chi_core.specs.Sound.{Sound}
+use Rattle.chi_form.specs.Form.{built}
+use Rattle.chi_types.specs.declared.ty.Ty.{Ty}
+use Rattle.chi_value.specs.declared.value.Value.{Value}
 use Rattle.chi_tool.specs.Refusals.{Report}
 use Rattle.chi_tool.specs.Report.{IsReport}
-use Rattle.chi_tool.specs.Running.{IsRunOf}
-use Rattle.chi_tool.specs.Settings.{plain_settings}
+use Rattle.chi_tool.specs.Running.{IsRunOf, MayHave}
+use Rattle.chi_tool.specs.Settings.{Settings}
 use Rattle.chi_tool.specs.Sources.{ComesTo}
 
 -- tokens are one program, or have one fault
@@ -19,11 +30,24 @@ pub record AnswerLaw : Type 0 where
   pub one : (tokens : List Spanned) (result other : Result Program ParseFault)
       → IsAnswer tokens result → IsAnswer tokens other → result ≡ other
 
--- the program that a source comes to has one run
+-- the program that a source comes to has one run with settings that it may have
 pub record RunLaw : Type 0 where
-  pub some : (source : List ℕ) (core : Core) → ComesTo source core → (told : Told) × IsRunOf core plain_settings told
-  pub one : (source : List ℕ) (core : Core) → ComesTo source core → (told other : Told)
-      → IsRunOf core plain_settings told → IsRunOf core plain_settings other → told ≡ other
+  pub some : (source : List ℕ) (core : Core) → ComesTo source core → (s : Settings) → MayHave core s → (told : Told) × IsRunOf core s told
+  pub one : (core : Core) (s : Settings) (told other : Told) → IsRunOf core s told → IsRunOf core s other → told ≡ other
+
+-- the program that a source comes to is sound
+abbrev pub SoundLaw : Type 0
+SoundLaw = (tree : Program) (core : Core) → built tree ≡ Some core → Sound core
+
+-- the numbers of a request are in their ranges
+abbrev pub RangeLaw : Type 0
+RangeLaw = (words : List (List ℕ)) (asked : Request) → request_of words ≡ Ok asked → IsInRange asked
+
+-- the values that texts mean are of the kinds of the parameters
+abbrev pub ValuesLaw : Type 0
+ValuesLaw =
+    (names : List (List (List ℕ))) (params : List Ty) (texts : List (List ℕ)) (values : List Value)
+    → values_of params texts ≡ Ok values → AreOf (at_start names) values (kinds_of params)
 
 -- words and files have one report
 pub record ReportLaw : Type 0 where

@@ -3,6 +3,8 @@ pub mod TokenLaw
 pub mod Sinks
 pub mod LawClauses
 pub mod Sources
+pub mod Runs
+pub mod Wishes
 pub mod Reports
 pub mod Promises
 pub mod Cases
@@ -11,4 +13,3 @@ pub mod Causes
 pub mod Served
 pub mod Readings
 pub mod Turns
-pub mod Runs

@@ -4,11 +4,11 @@ use Rattle.std.specs.Prelude.{IfSome, IsSomeAnd}
 use Rattle.chi_io.specs.Counts.{Rose, Stood}
 use Rattle.chi_io.specs.Shelf.{Files}
 use Rattle.chi_lex.specs.declared.lexer.TheConstants.{MOST_BYTES}
-use Rattle.chi_tool.specs.Words.{Request, Sim, request_of}
-use Rattle.chi_tool.specs.Refusals.{Report, usage, no_such_file, file_too_long}
+use Rattle.chi_tool.specs.declared.task.Task.{Task}
+use Rattle.chi_tool.specs.Words.{Wish, nothing, unbuilt, of_task, wish_of}
+use Rattle.chi_tool.specs.Refusals.{Report, usage, not_built, no_such_file, file_too_long}
 use Rattle.chi_tool.specs.Report as report
-use Rattle.chi_tool.specs.Report.{IsReportOfFile, IsReportOfRequest, IsReport}
-use Rattle.chi_tool.specs.Settings.{plain_settings}
+use Rattle.chi_tool.specs.Report.{IsReportOfFile, IsReportOfWish, IsReport}
 use Rattle.chi_tool.specs.Call.{Call, SinkUse, Took, TookFront, TookSome, SinkStood, ShelfRose}
 use Rattle.chi_tool.specs.Headline.{NothingFailed, IsReported, IsReportedOrLost, IsReportedInFront, IsRefusedByFault, Meets, IsUsage, Headline}
 use Rattle.chi_tool.specs.Delivery.{TookWhole, Delivers, whole, out_broke, log_broke, DeliversReport, Serves, reported, missing, long, failed, lost}
@@ -102,33 +102,33 @@ by_report call files r is s = (r, is, meets r call s)
 by_any : ReportLaw → (call : Call) (files : Files) → ((r : Report) → Stands r call) → MeetsOne call files
 by_any law call files s = let p = law.some call.words files in by_report call files p.0 p.1 (s p.0)
 
-pub is_report : (call : Call) (name : List ℕ) (files : Files) (o : Option (List ℕ)) (r : Report) → request_of call.words ≡ Some (Sim name)
-    → files name ≡ o → IsReportOfFile o plain_settings r → IsReport call.words files r
-is_report call name files o r asked there is =
-    let at_request : Option Request → Type 0 = λ q. IsReportOfRequest q files r in
-    let at_file : Option (List ℕ) → Type 0 = λ x. IsReportOfFile x plain_settings r in
-    subst at_request (sym asked) (subst at_file (sym there) is)
+pub is_report : (call : Call) (t : Task) (files : Files) (o : Option (List ℕ)) (r : Report) → wish_of call.words ≡ of_task t
+    → files t.file ≡ o → IsReportOfFile o t.purpose r → IsReport call.words files r
+is_report call t files o r asked there is =
+    let at_wish : Wish → Type 0 = λ w. IsReportOfWish w files r in
+    let at_file : Option (List ℕ) → Type 0 = λ x. IsReportOfFile x t.purpose r in
+    subst at_wish (sym asked) (subst at_file (sym there) is)
 
-pub served_told : ReportLaw → (call : Call) (name : List ℕ) (files : Files) → request_of call.words ≡ Some (Sim name) → call.shelf.files ≡ Some files
-    → Serves name call.shelf call.status call.out call.log → MeetsOne call files
-served_told law call name files asked told (reported source within is r of d) =
-    let P : Option Files → Type 0 = λ o. IfSome o (λ f. f name ≡ Some source) in
-    by_report call files r (is_report call name files (Some source) r asked (subst P told is) (report.fetched source refl within of)) (delivered d)
-served_told law call name files asked told (missing (inr rose) d) = by_any law call files (λ r. misread rose no_such_file (inl refl) d)
-served_told law call name files asked told (missing (inl lacks) d) =
-    let P : Option Files → Type 0 = λ o. IsSomeAnd o (λ f. f name ≡ None) in
-    by_report call files no_such_file (is_report call name files None no_such_file asked (subst P told lacks) (report.missing refl refl)) (delivered d)
-served_told law call name files asked told (long (inr rose) d) = by_any law call files (λ r. misread rose file_too_long (inr refl) d)
-served_told law call name files asked told (long (inl exceeds) d) =
-    let P : Option Files → Type 0 = λ o. IsSomeAnd o (λ f. IsSomeAnd (f name) (λ source. MOST_BYTES < length source)) in
-    by_file (files name) refl (subst P told exceeds)
+pub served_told : ReportLaw → (call : Call) (t : Task) (files : Files) → wish_of call.words ≡ of_task t → call.shelf.files ≡ Some files
+    → Serves t.file t.purpose call.shelf call.status call.out call.log → MeetsOne call files
+served_told law call t files asked told (reported source within is r of d) =
+    let P : Option Files → Type 0 = λ o. IfSome o (λ f. f t.file ≡ Some source) in
+    by_report call files r (is_report call t files (Some source) r asked (subst P told is) (report.fetched source refl within of)) (delivered d)
+served_told law call t files asked told (missing (inr rose) d) = by_any law call files (λ r. misread rose no_such_file (inl refl) d)
+served_told law call t files asked told (missing (inl lacks) d) =
+    let P : Option Files → Type 0 = λ o. IsSomeAnd o (λ f. f t.file ≡ None) in
+    by_report call files no_such_file (is_report call t files None no_such_file asked (subst P told lacks) (report.missing refl refl)) (delivered d)
+served_told law call t files asked told (long (inr rose) d) = by_any law call files (λ r. misread rose file_too_long (inr refl) d)
+served_told law call t files asked told (long (inl exceeds) d) =
+    let P : Option Files → Type 0 = λ o. IsSomeAnd o (λ f. IsSomeAnd (f t.file) (λ source. MOST_BYTES < length source)) in
+    by_file (files t.file) refl (subst P told exceeds)
   where
-    by_file : (o : Option (List ℕ)) → files name ≡ o → IsSomeAnd o (λ source. MOST_BYTES < length source) → MeetsOne call files
+    by_file : (o : Option (List ℕ)) → files t.file ≡ o → IsSomeAnd o (λ source. MOST_BYTES < length source) → MeetsOne call files
     by_file None there e = absurd e
     by_file (Some source) there e =
-        by_report call files file_too_long (is_report call name files (Some source) file_too_long asked there (report.long source refl e refl)) (delivered d)
-served_told law call name files asked told (failed rose status out log) = by_any law call files (λ r. silent rose status out log)
-served_told law call name files asked told (lost status out log) = by_any law call files (λ r. wanting status out log)
+        by_report call files file_too_long (is_report call t files (Some source) file_too_long asked there (report.long source refl e refl)) (delivered d)
+served_told law call t files asked told (failed rose status out log) = by_any law call files (λ r. silent rose status out log)
+served_told law call t files asked told (lost status out log) = by_any law call files (λ r. wanting status out log)
 
 -- what holds where the shelf tells its files
 pub where_told : {P : Files → Type 0} (o : Option Files) → ((files : Files) → o ≡ Some files → P files) → IfSome o P
@@ -144,28 +144,42 @@ delivered_stopped status result output lines out log (whole s o l) stopped = abs
 delivered_stopped status result output lines out log (out_broke s o l) stopped = l.took
 delivered_stopped status result output lines out log (log_broke s o l) stopped = absurd (goes_stopped out o.goes stopped)
 
-served_stopped : (call : Call) (name : List ℕ) → Serves name call.shelf call.status call.out call.log → call.out.stopped ≡ true → Took call.log []
-served_stopped call name (reported source within is r of d) stopped = delivered_stopped _ _ _ _ call.out call.log d stopped
-served_stopped call name (missing cause d) stopped = delivered_stopped _ _ _ _ call.out call.log d stopped
-served_stopped call name (long cause d) stopped = delivered_stopped _ _ _ _ call.out call.log d stopped
-served_stopped call name (failed rose status out log) stopped = log.took
-served_stopped call name (lost status out log) stopped = log.took
+served_stopped : (call : Call) (t : Task) → Serves t.file t.purpose call.shelf call.status call.out call.log → call.out.stopped ≡ true → Took call.log []
+served_stopped call t (reported source within is r of d) stopped = delivered_stopped _ _ _ _ call.out call.log d stopped
+served_stopped call t (missing cause d) stopped = delivered_stopped _ _ _ _ call.out call.log d stopped
+served_stopped call t (long cause d) stopped = delivered_stopped _ _ _ _ call.out call.log d stopped
+served_stopped call t (failed rose status out log) stopped = log.took
+served_stopped call t (lost status out log) stopped = log.took
 
-pub not_none : (o : Option Request) (request : Request) → o ≡ Some request → o ≡ None → ⊥
-not_none o request some none = cc
+pub asks_something : (w : Wish) (t : Task) → w ≡ of_task t → w ≡ nothing → ⊥
+asks_something w t asked none = cc
 
-pub served-headline : ReportLaw → (call : Call) (name : List ℕ) → request_of call.words ≡ Some (Sim name)
-    → Serves name call.shelf call.status call.out call.log → Headline call
-served-headline law call name asked s = record {
-  report = where_told call.shelf.files (λ files told. served_told law call name files asked told s);
-  no_request = λ none. absurd (not_none (request_of call.words) (Sim name) asked none);
-  out_stopped = served_stopped call name s;
+pub served-headline : ReportLaw → (call : Call) (t : Task) → wish_of call.words ≡ of_task t
+    → Serves t.file t.purpose call.shelf call.status call.out call.log → Headline call
+served-headline law call t asked s = record {
+  report = where_told call.shelf.files (λ files told. served_told law call t files asked told s);
+  no_request = λ none. absurd (asks_something (wish_of call.words) t asked none);
+  out_stopped = served_stopped call t s;
 }
 
-pub usage_told : (call : Call) (files : Files) → request_of call.words ≡ None → DeliversReport usage call.status call.out call.log → MeetsOne call files
+pub usage_told : (call : Call) (files : Files) → wish_of call.words ≡ nothing → DeliversReport usage call.status call.out call.log → MeetsOne call files
 usage_told call files none d =
-    let at_request : Option Request → Type 0 = λ q. IsReportOfRequest q files usage in
-    by_report call files usage (subst at_request (sym none) refl) (delivered d)
+    let at_wish : Wish → Type 0 = λ w. IsReportOfWish w files usage in
+    by_report call files usage (subst at_wish (sym none) refl) (delivered d)
+
+pub unbuilt_told : (call : Call) (files : Files) → wish_of call.words ≡ unbuilt → DeliversReport not_built call.status call.out call.log → MeetsOne call files
+unbuilt_told call files asked d =
+    let at_wish : Wish → Type 0 = λ w. IsReportOfWish w files not_built in
+    by_report call files not_built (subst at_wish (sym asked) refl) (delivered d)
+
+-- memory was wanting before the words were read
+pub record IsLost (call : Call) : Type 0 where
+  pub status : call.status ≡ 6
+  pub out : TookWhole call.out []
+  pub log : TookWhole call.log []
+
+pub lost_told : ReportLaw → (call : Call) (files : Files) → IsLost call → MeetsOne call files
+lost_told law call files l = by_any law call files (λ r. wanting l.status l.out l.log)
 
 -- the refusal of words, delivered
 usage_read : (call : Call) → DeliversReport usage call.status call.out call.log → call.status ≡ 4 → ⊥
@@ -185,9 +199,33 @@ usage_kept call d = record {
   read = usage_read call d;
 }
 
-pub usage-headline : (call : Call) → request_of call.words ≡ None → DeliversReport usage call.status call.out call.log → Headline call
+pub usage-headline : (call : Call) → wish_of call.words ≡ nothing → DeliversReport usage call.status call.out call.log → Headline call
 usage-headline call none d = record {
   report = where_told call.shelf.files (λ files told. usage_told call files none d);
   no_request = λ same. usage_kept call d;
   out_stopped = delivered_stopped _ _ _ _ call.out call.log d;
+}
+
+asks_unbuilt : (w : Wish) → w ≡ unbuilt → w ≡ nothing → ⊥
+asks_unbuilt w asked none = cc
+
+pub unbuilt-headline : (call : Call) → wish_of call.words ≡ unbuilt → DeliversReport not_built call.status call.out call.log → Headline call
+unbuilt-headline call asked d = record {
+  report = where_told call.shelf.files (λ files told. unbuilt_told call files asked d);
+  no_request = λ none. absurd (asks_unbuilt (wish_of call.words) asked none);
+  out_stopped = delivered_stopped _ _ _ _ call.out call.log d;
+}
+
+usage_lost : (call : Call) → IsLost call → IsUsage call
+usage_lost call l = record {
+  whole = λ out log. inl l.status;
+  front = record { out = none_front call.out [] l.out.took; log = none_front call.log usage.log l.log.took };
+  read = λ is. let lost = l.status in omega arith;
+}
+
+pub lost-headline : ReportLaw → (call : Call) → IsLost call → Headline call
+lost-headline law call l = record {
+  report = where_told call.shelf.files (λ files told. lost_told law call files l);
+  no_request = λ none. usage_lost call l;
+  out_stopped = λ stopped. absurd (goes_stopped call.out l.out.goes stopped);
 }

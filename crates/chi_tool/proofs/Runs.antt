@@ -1,54 +1,70 @@
 -- The program that a source comes to has one run.
-use Rattle.std.proofs.Common.{◌≡◌, ℕ, List, [], Some, None, sym, subst, refl, arith}
-use Rattle.std.specs.Prelude.{slice_get, ℤ, Option, Result, Ok, Err, IfOk}
+use Rattle.std.proofs.Common.{◌≡◌, ℕ, ◌<◌, true, List, length, Some, refl, arith}
+use Rattle.std.proofs.Math.Nat.{mod-lt}
+use Rattle.std.specs.Prelude.{slice_get, ℤ, ◌^◌, ◌-◌, Option, Result, Ok, Err, IfOk}
 use Rattle.chi_base.specs.declared.no_memory.NoMemory.{NoMemory}
+use Rattle.chi_cli.specs.declared.request.Pick as words
+use Rattle.chi_cli.specs.declared.request.Pick.TheVariants as pick
+use Rattle.chi_cli.specs.declared.args.ArgFault.{ArgFault}
+use Rattle.chi_cli.specs.declared.args.ArgFault.TheVariants as arg
+use Rattle.chi_cli.specs.Arguments.{values_of, IsRefused}
 use Rattle.chi_value.specs.declared.value.Value.{Value}
-use Rattle.chi_tree.specs.declared.definition.Program.{Program}
 use Rattle.chi_core.specs.declared.program.Core.{Core}
 use Rattle.chi_core.specs.declared.program.ProcDef.{ProcDef}
 use Rattle.chi_core.specs.Beginning.{Beginning, start}
-use Rattle.chi_core.specs.Kinds.{kinds_of}
-use Rattle.chi_core.specs.Of.{at_start, AreOf, none_of}
 use Rattle.chi_core.specs.Picks.{Pick, IsLawful}
 use Rattle.chi_core.specs.Runs.{Told}
-use Rattle.chi_core.specs.Sound.{Sound}
-use Rattle.chi_form.specs.Form.{built, HasPlainModel}
 use Rattle.chi_plain.specs.Stage.{Stage, Begun}
 use Rattle.chi_runs.specs.Picked.{PickedAlways}
-use Rattle.chi_sched.specs.Policies.{Answers, first}
+use Rattle.chi_sched.specs.Policies.{Answers, first, last, spread}
 use Rattle.chi_tool.specs.declared.report.Reported.{Reported}
-use Rattle.chi_tool.specs.Report.{IsReportOfSource, run}
+use Rattle.chi_tool.specs.declared.task.Asked.{Asked}
+use Rattle.chi_tool.specs.declared.task.Purpose.{Purpose}
+use Rattle.chi_tool.specs.declared.task.Purpose.TheVariants.{Simulate}
+use Rattle.chi_tool.specs.Arguments.{is_misfit}
+use Rattle.chi_tool.specs.Refusals.{unfit_arguments}
+use Rattle.chi_tool.specs.Report.{IsReportOfRun, unfit, run, IsReportOfProgram, IsReportOfSource, program}
 use Rattle.chi_tool.specs.Reported.{report_in}
-use Rattle.chi_tool.specs.Running.{IsRunOf, IsRunReport}
-use Rattle.chi_tool.specs.Settings.{Settings, plain_settings}
+use Rattle.chi_tool.specs.Running.{IsRunOf, IsRunReport, MayHave}
+use Rattle.chi_tool.specs.Settings.{Settings, IsBounded, policy_of, settings_with}
 use Rattle.chi_tool.specs.Sources.{ComesTo}
 use Rattle.chi_tool.specs.Turns.{RunsTo}
+use Rattle.chi_tool.proofs.LawClauses.{SoundLaw, ValuesLaw}
 
--- no arguments fit a model without parameters
-pub none_fit : (core : Core) → HasPlainModel core → (d : ProcDef) → slice_get core.procs core.model ≡ Some d
-    → AreOf (at_start core.names.kinds) [] (kinds_of d.params)
-none_fit core plain d is = subst (λ params. AreOf (at_start core.names.kinds) [] (kinds_of params)) (sym (plain d is)) none_of
+-- what the three formulas pick is one of the choices
 
-first_lawful : IsLawful first
-first_lawful question count early some few = some
+last_below : (count : ℕ) → 0 < count → count - 1 < count
+last_below count some = omega arith
 
-module _ (always : PickedAlways) (sound : (tree : Program) (core : Core) → built tree ≡ Some core → Sound core)
-    (plain : (tree : Program) (core : Core) → built tree ≡ Some core → HasPlainModel core) where
-  pub run_some : (source : List ℕ) (core : Core) → ComesTo source core → (told : Told) × IsRunOf core plain_settings told
-  run_some source core comes =
-      let s = sound comes.tree core comes.built in
-      let m = s.model in
-      let p = always core s (start core [] 0 None)
-      (record {
-        model = m.0;
-        is = m.1;
-        arguments = [];
-        fit = none_fit core (plain comes.tree core comes.built) m.0 m.1;
-        seed = 0;
-        until = None;
-        begins = refl;
-      }) first first_lawful 10_000_000 (omega arith) in
-      (p.0, p.1.0)
+named_lawful : (p : words.Pick) → IsLawful (policy_of p)
+named_lawful pick.First question count early some few = some
+named_lawful pick.Last question count early some few = last_below count some
+named_lawful (pick.Spread salt) question count early some few = mod-lt _ some
+
+-- settings that are asked for may be had
+pub asked_settings : ValuesLaw → (core : Core) (a : Asked) (values : List Value) (d : ProcDef) → slice_get core.procs core.model ≡ Some d
+    → values_of d.params a.texts ≡ Ok values → IsBounded (Simulate a) → MayHave core (settings_with a values)
+asked_settings fit core a values d is read bounded = record {
+  model = d;
+  is = is;
+  arguments = fit core.names.kinds d.params a.texts values read;
+  lawful = named_lawful a.pick;
+  bound = bounded;
+}
+
+pub run_some : PickedAlways → SoundLaw → (source : List ℕ) (core : Core) → ComesTo source core → (s : Settings) → MayHave core s → (told : Told) × IsRunOf core s told
+run_some always sound source core comes s may =
+    let p = always core (sound comes.tree core comes.built) (start core s.arguments s.seed s.until)
+    (record {
+      model = may.model;
+      is = may.is;
+      arguments = s.arguments;
+      fit = may.arguments;
+      seed = s.seed;
+      until = s.until;
+      begins = refl;
+    }) s.pick may.lawful s.bound may.bound in
+    (p.0, p.1.0)
 
 -- a run from its beginning is the run of the program with its settings
 pub begun_ran : (core : Core) (seed bound : ℕ) (arguments : List Value) (until : Option ℤ) (stage : Stage) (gives : ℕ → ℕ → ℕ → Type 0) (result : Result Reported NoMemory)
@@ -62,20 +78,40 @@ begun_ran core seed bound arguments until stage gives (Ok r) begun ran =
     record { told = told.0; run = told.1; is = told.2 }
 begun_ran core seed bound arguments until stage gives (Err lost) begun ran = tt
 
--- what the policy of the first choice gives
-abbrev gives_first : ℕ → ℕ → ℕ → Type 0
-gives_first question count answer = answer ≡ first question count
+-- a formula answers as its policy does
+formula_given : (pick : Pick) → IsLawful pick → Answers (λ question count answer. answer ≡ pick question count) pick
+formula_given pick lawful question count asked = (lawful question count asked.numbered asked.some asked.counted, refl)
 
-first_given : Answers gives_first first
-first_given question count asked = (asked.some, refl)
+-- the report of a run with a formula as its policy
+pub formula_ran : (p : words.Pick) (core : Core) (seed bound : ℕ) (arguments : List Value) (until : Option ℤ) (result : Result Reported NoMemory)
+    → IfOk result (λ r. (pick : Pick) → Answers (λ question count answer. answer ≡ policy_of p question count) pick
+    → IsRunReport core (record { seed = seed; bound = bound; pick = pick; arguments = arguments; until = until }) (report_in r))
+    → IfOk result (λ r. IsRunReport core (record { seed = seed; bound = bound; pick = policy_of p; arguments = arguments; until = until }) (report_in r))
+formula_ran p core seed bound arguments until (Ok r) is = is (policy_of p) (formula_given (policy_of p) (named_lawful p))
+formula_ran p core seed bound arguments until (Err lost) is = tt
 
 -- the report of a source that comes to a program
-pub run_reported : (source : List ℕ) (core : Core) (seed bound : ℕ) (arguments : List Value) (until : Option ℤ) (result : Result Reported NoMemory)
-    → ComesTo source core → seed ≡ 0 → bound ≡ 10_000_000 → arguments ≡ [] → until ≡ None
-    → IfOk result (λ r. (pick : Pick) → Answers gives_first pick
-    → IsRunReport core (record { seed = seed; bound = bound; pick = pick; arguments = arguments; until = until }) (report_in r))
-    → IfOk result (λ r. IsReportOfSource source plain_settings (report_in r))
-run_reported source core seed bound arguments until (Ok r) comes s b a u is =
-    let P : Settings → Type 0 = λ settings. IsRunReport core settings (report_in r) in
-    run core comes (subst P (λ i. record { seed = s i; bound = b i; pick = first; arguments = a i; until = u i }) (is first first_given))
-run_reported source core seed bound arguments until (Err lost) comes s b a u is = tt
+pub program_reported : (source : List ℕ) (core : Core) (purpose : Purpose) (result : Result Reported NoMemory) → ComesTo source core
+    → IfOk result (λ r. IsReportOfProgram core purpose (report_in r)) → IfOk result (λ r. IsReportOfSource source purpose (report_in r))
+program_reported source core purpose (Ok r) comes is = program core comes is
+program_reported source core purpose (Err lost) comes is = tt
+
+-- the report of a model's run, with the arguments that were read, or the refusal of these
+
+module _ (core : Core) (a : Asked) (d : ProcDef) (is : slice_get core.procs core.model ≡ Some d) where
+  pub model_ran : (values : List Value) (result : Result Reported NoMemory) → values_of d.params a.texts ≡ Ok values
+      → IfOk result (λ r. IsRunReport core (settings_with a values) (report_in r)) → IfOk result (λ r. IsReportOfRun core a (report_in r))
+  model_ran values (Ok r) read ran = run values (record { model = d; is = is; read = read }) ran
+  model_ran values (Err lost) read ran = tt
+
+  misfit : (fault : ArgFault) (result : Result Reported NoMemory) → values_of d.params a.texts ≡ Err fault
+      → IfOk result (λ r. report_in r ≡ unfit_arguments (length d.params) (length a.texts) fault) → IfOk result (λ r. IsReportOfRun core a (report_in r))
+  misfit fault (Ok r) read told = unfit (length d.params) fault (record { model = d; is = is; read = read; count = refl }) told
+  misfit fault (Err lost) read told = tt
+
+  pub model_refused : (fault : ArgFault) (result : Result Reported NoMemory) → is_misfit fault ≡ true → IsRefused (values_of d.params a.texts) fault
+      → IfOk result (λ r. report_in r ≡ unfit_arguments (length d.params) (length a.texts) fault) → IfOk result (λ r. IsReportOfRun core a (report_in r))
+  model_refused arg.Count result other refused told = misfit arg.Count result refused told
+  model_refused (arg.Kind k) result other refused told = misfit (arg.Kind k) result refused told
+  model_refused (arg.Text k) result other refused told = misfit (arg.Text k) result refused told
+  model_refused arg.NoMemory result other refused told = absurd (cc)

@@ -1,20 +1,24 @@
 -- When each status comes of a call, by how it was served.
-use Rattle.std.proofs.Common.{◌≡◌, ◌≢◌, ℕ, ◌<◌, ◌≤◌, true, false, List, Option, Some, None, length, ◌⊎◌, inl, inr, sym, ◌∙◌, subst, arith}
+use Rattle.std.proofs.Common.{◌≡◌, ◌≢◌, ℕ, ◌<◌, ◌≤◌, true, false, List, Option, Some, None, length, ◌⊎◌, inl, inr, sym, ◌∙◌, subst, refl, arith}
 use Rattle.std.specs.Prelude.{IsSomeAnd}
 use Rattle.chi_io.specs.Shelf.{Files}
 use Rattle.chi_lex.specs.declared.lexer.TheConstants.{MOST_BYTES}
 use Rattle.chi_tool.specs.Call.{Call, SinkUse}
 use Rattle.chi_tool.specs.Delivery.{Delivers, whole, out_broke, log_broke, DeliversReport, Serves, reported, missing, long, failed, lost}
-use Rattle.chi_tool.specs.Headline.{IsUnfit, CannotBeRead, IsExactly, StoppedByFailure, Causes, IsComplete}
-use Rattle.chi_tool.specs.Refusals.{Report, usage}
-use Rattle.chi_tool.specs.Report.{IsReportOfSource, refused, run}
-use Rattle.chi_tool.specs.Settings.{plain_settings}
+use Rattle.chi_tool.specs.declared.task.Purpose.{Purpose}
+use Rattle.chi_tool.specs.declared.task.Purpose.TheVariants.{Simulate}
+use Rattle.chi_tool.specs.declared.task.Task.{Task}
+use Rattle.chi_tool.specs.Headline.{IsNoSource, CannotBeRead, IsExactly, StoppedByFailure, Causes, IsComplete}
+use Rattle.chi_tool.specs.Refusals.{Report, usage, not_built}
+use Rattle.chi_tool.specs.Report.{IsReportOfSource, refused, program}
+use Rattle.chi_tool.specs.Settings.{settings_with}
 use Rattle.chi_tool.specs.Sources.{by_lexer, by_parser, by_form}
-use Rattle.chi_tool.specs.Words.{Request, Sim, request_of}
-use Rattle.chi_tool.proofs.Causes.{status_ap, completed_exactly, exit_exactly, deadlock_exactly, fault_exactly, out_of_steps_exactly, stopped_exactly, lexical_exactly, syntax_exactly, unbuilt_exactly, ends_complete}
-use Rattle.chi_tool.proofs.LawClauses.{RunLaw, ReportLaw}
-use Rattle.chi_tool.proofs.Promises.{MeetsOne, where_told, served_told, usage_told, goes_stopped, not_none}
-use Rattle.chi_tool.proofs.Verdicts.{status_bound}
+use Rattle.chi_tool.specs.Words.{Wish, nothing, unbuilt, of_task, wish_of}
+use Rattle.chi_tool.proofs.Causes.{status_ap, source_program, done_exactly, exit_exactly, deadlock_exactly, fault_exactly, out_of_steps_exactly, stopped_exactly, lexical_exactly, syntax_exactly, not_built_exactly, unfit_exactly, ends_complete}
+use Rattle.chi_tool.proofs.LawClauses.{RunLaw, SoundLaw, ReportLaw, ValuesLaw, RangeLaw}
+use Rattle.chi_tool.proofs.Promises.{MeetsOne, where_told, served_told, usage_told, unbuilt_told, IsLost, lost_told, goes_stopped, asks_something}
+use Rattle.chi_tool.proofs.Runs.{asked_settings}
+use Rattle.chi_tool.proofs.Wishes.{IsBoundedWish, bounded_wish}
 
 -- the status of a source's report is none of the refusals around it
 record IsOfSource (n : ℕ) : Type 0 where
@@ -26,15 +30,16 @@ of_source : (n m : ℕ) → n ≡ m → (m ≡ 0) ⊎ (10 ≤ m) → IsOfSource 
 of_source n m e (inl z) = record { is_request = λ h. omega arith; is_read = λ h. omega arith; is_written = λ h. omega arith }
 of_source n m e (inr low) = record { is_request = λ h. omega arith; is_read = λ h. omega arith; is_written = λ h. omega arith }
 
-source_status : (source : List ℕ) (r : Report) → IsReportOfSource source plain_settings r → IsOfSource r.status
-source_status source r (refused (by_lexer fault has e)) = of_source r.status 20 (status_ap r _ e) (inr (omega arith))
-source_status source r (refused (by_parser tokens fault has e)) = of_source r.status 21 (status_ap r _ e) (inr (omega arith))
-source_status source r (refused (by_form has e)) = of_source r.status 22 (status_ap r _ e) (inr (omega arith))
-source_status source r (run core comes of) = of_source r.status _ (status_ap r _ of.is) (low (status_bound of.told.ending.verdict))
+source_status : (source : List ℕ) (purpose : Purpose) (r : Report) → IsReportOfSource source purpose r → IsOfSource r.status
+source_status source purpose r (refused (by_lexer fault has e)) = of_source r.status 20 (status_ap r _ e) (inr (omega arith))
+source_status source purpose r (refused (by_parser tokens fault has e)) = of_source r.status 21 (status_ap r _ e) (inr (omega arith))
+source_status source purpose r (refused (by_form has e)) = of_source r.status 22 (status_ap r _ e) (inr (omega arith))
+source_status source purpose r (program core comes of) = of_source r.status r.status refl (low (source_program core purpose r of))
   where
-    low : {m : ℕ} → (m ≡ 0) ⊎ ((10 ≤ m) × (m ≤ 14)) → (m ≡ 0) ⊎ (10 ≤ m)
+    low : (r.status ≡ 0) ⊎ (((10 ≤ r.status) × (r.status ≤ 14)) ⊎ (r.status ≡ 23)) → (r.status ≡ 0) ⊎ (10 ≤ r.status)
     low (inl z) = inl z
-    low (inr b) = inr b.0
+    low (inr (inl b)) = inr b.0
+    low (inr (inr e)) = inr (omega arith)
 
 -- a status that a delivery doesn't have by itself tells which of the sinks broke off
 delivered_status : (status n : ℕ) (output lines : List ℕ) (result : ℕ) (out log : SinkUse) → status ≢ n → n ≢ 5
@@ -78,52 +83,52 @@ delivered_breaks status output lines result out log other (log_broke s o l) = re
   log_failed = λ stopped. l.rose;
 }
 
-served_breaks : (call : Call) (name : List ℕ) → Serves name call.shelf call.status call.out call.log → Breaks call.status call.out call.log
-served_breaks call name (reported source within is r of d) = delivered_breaks _ _ _ _ call.out call.log (source_status source r of).is_written d
-served_breaks call name (missing cause d) = delivered_breaks _ _ _ _ call.out call.log (λ e. omega arith) d
-served_breaks call name (long cause d) = delivered_breaks _ _ _ _ call.out call.log (λ e. omega arith) d
-served_breaks call name (failed rose status out log) = unbroken _ call.out call.log (λ is. omega arith) out.goes log.goes
-served_breaks call name (lost status out log) = unbroken _ call.out call.log (λ is. omega arith) out.goes log.goes
+served_breaks : (call : Call) (t : Task) → Serves t.file t.purpose call.shelf call.status call.out call.log → Breaks call.status call.out call.log
+served_breaks call t (reported source within is r of d) = delivered_breaks _ _ _ _ call.out call.log (source_status source t.purpose r of).is_written d
+served_breaks call t (missing cause d) = delivered_breaks _ _ _ _ call.out call.log (λ e. omega arith) d
+served_breaks call t (long cause d) = delivered_breaks _ _ _ _ call.out call.log (λ e. omega arith) d
+served_breaks call t (failed rose status out log) = unbroken _ call.out call.log (λ is. omega arith) out.goes log.goes
+served_breaks call t (lost status out log) = unbroken _ call.out call.log (λ is. omega arith) out.goes log.goes
 
-served_request : (call : Call) (name : List ℕ) → Serves name call.shelf call.status call.out call.log → call.status ≢ 3
-served_request call name (reported source within is r of d) e =
-    delivered_status _ 3 _ _ _ call.out call.log (source_status source r of).is_request (λ h. omega arith) d e
-served_request call name (missing cause d) e = delivered_status _ 3 _ _ _ call.out call.log (λ h. omega arith) (λ h. omega arith) d e
-served_request call name (long cause d) e = delivered_status _ 3 _ _ _ call.out call.log (λ h. omega arith) (λ h. omega arith) d e
-served_request call name (failed rose status out log) e = omega arith
-served_request call name (lost status out log) e = omega arith
+served_request : (call : Call) (t : Task) → Serves t.file t.purpose call.shelf call.status call.out call.log → call.status ≢ 3
+served_request call t (reported source within is r of d) e =
+    delivered_status _ 3 _ _ _ call.out call.log (source_status source t.purpose r of).is_request (λ h. omega arith) d e
+served_request call t (missing cause d) e = delivered_status _ 3 _ _ _ call.out call.log (λ h. omega arith) (λ h. omega arith) d e
+served_request call t (long cause d) e = delivered_status _ 3 _ _ _ call.out call.log (λ h. omega arith) (λ h. omega arith) d e
+served_request call t (failed rose status out log) e = omega arith
+served_request call t (lost status out log) e = omega arith
 
-unfit_missing : (name : List ℕ) (o : Option Files) → IsSomeAnd o (λ f. f name ≡ None) → IsSomeAnd o (λ f. IsUnfit (f name))
+unfit_missing : (name : List ℕ) (o : Option Files) → IsSomeAnd o (λ f. f name ≡ None) → IsSomeAnd o (λ f. IsNoSource (f name))
 unfit_missing name None h = h
-unfit_missing name (Some files) h = let P : Option (List ℕ) → Type 0 = IsUnfit in subst P (sym h) tt
+unfit_missing name (Some files) h = let P : Option (List ℕ) → Type 0 = IsNoSource in subst P (sym h) tt
 
 unfit_long : (name : List ℕ) (o : Option Files) → IsSomeAnd o (λ f. IsSomeAnd (f name) (λ source. MOST_BYTES < length source))
-    → IsSomeAnd o (λ f. IsUnfit (f name))
+    → IsSomeAnd o (λ f. IsNoSource (f name))
 unfit_long name None h = h
 unfit_long name (Some files) h = by_file (files name) h
   where
-    by_file : (o : Option (List ℕ)) → IsSomeAnd o (λ source. MOST_BYTES < length source) → IsUnfit o
+    by_file : (o : Option (List ℕ)) → IsSomeAnd o (λ source. MOST_BYTES < length source) → IsNoSource o
     by_file None e = absurd e
     by_file (Some source) e = e
 
-served_unread : (call : Call) (name : List ℕ) → Serves name call.shelf call.status call.out call.log → call.status ≡ 4
-    → CannotBeRead call.shelf (Some (Sim name))
-served_unread call name (reported source within is r of d) e =
-    absurd (delivered_status _ 4 _ _ _ call.out call.log (source_status source r of).is_read (λ h. omega arith) d e)
-served_unread call name (missing (inl lacks) d) e = inr (unfit_missing name call.shelf.files lacks)
-served_unread call name (missing (inr rose) d) e = inl rose
-served_unread call name (long (inl exceeds) d) e = inr (unfit_long name call.shelf.files exceeds)
-served_unread call name (long (inr rose) d) e = inl rose
-served_unread call name (failed rose status out log) e = inl rose
-served_unread call name (lost status out log) e = absurd (omega arith)
+served_unread : (call : Call) (t : Task) → Serves t.file t.purpose call.shelf call.status call.out call.log → call.status ≡ 4
+    → CannotBeRead call.shelf (of_task t)
+served_unread call t (reported source within is r of d) e =
+    absurd (delivered_status _ 4 _ _ _ call.out call.log (source_status source t.purpose r of).is_read (λ h. omega arith) d e)
+served_unread call t (missing (inl lacks) d) e = inr (unfit_missing t.file call.shelf.files lacks)
+served_unread call t (missing (inr rose) d) e = inl rose
+served_unread call t (long (inl exceeds) d) e = inr (unfit_long t.file call.shelf.files exceeds)
+served_unread call t (long (inr rose) d) e = inl rose
+served_unread call t (failed rose status out log) e = inl rose
+served_unread call t (lost status out log) e = absurd (omega arith)
 
 -- the parts of the causes that rest on how the call was served
 module _ (law : ReportLaw) (call : Call) (told : (files : Files) → call.shelf.files ≡ Some files → MeetsOne call files) where
   causes : Breaks call.status call.out call.log
-      → (call.out.stopped ≡ false → call.log.stopped ≡ false → IsExactly call 3 (request_of call.words ≡ None))
-      → (call.status ≡ 4 → CannotBeRead call.shelf (request_of call.words)) → Causes call
+      → (call.out.stopped ≡ false → call.log.stopped ≡ false → IsExactly call 3 (wish_of call.words ≡ nothing))
+      → (call.status ≡ 4 → CannotBeRead call.shelf (wish_of call.words)) → Causes call
   causes breaks request unread = record {
-    completed = where_told call.shelf.files (λ files is none. completed_exactly law call files (told files is) none);
+    done = where_told call.shelf.files (λ files is none. done_exactly law call files (told files is) none);
     exit = where_told call.shelf.files (λ files is none. exit_exactly law call files (told files is) none);
     deadlock = where_told call.shelf.files (λ files is none. deadlock_exactly law call files (told files is) none);
     fault = where_told call.shelf.files (λ files is none. fault_exactly law call files (told files is) none);
@@ -131,7 +136,8 @@ module _ (law : ReportLaw) (call : Call) (told : (files : Files) → call.shelf.
     stopped = where_told call.shelf.files (λ files is none. stopped_exactly law call files (told files is) none);
     lexical = where_told call.shelf.files (λ files is none. lexical_exactly law call files (told files is) none);
     syntax = where_told call.shelf.files (λ files is none. syntax_exactly law call files (told files is) none);
-    not_built = where_told call.shelf.files (λ files is none. unbuilt_exactly law call files (told files is) none);
+    not_built = where_told call.shelf.files (λ files is none. not_built_exactly law call files (told files is) none);
+    arguments = where_told call.shelf.files (λ files is none. unfit_exactly law call files (told files is) none);
     no_request = request;
     not_read = unread;
     not_written = (breaks.stops, breaks.tells);
@@ -139,35 +145,67 @@ module _ (law : ReportLaw) (call : Call) (told : (files : Files) → call.shelf.
     log_failed = breaks.log_failed;
   }
 
-  complete : RunLaw → IsComplete call
-  complete runs =
-      where_told call.shelf.files (λ files is none source asked core comes. ends_complete law call files (told files is) none runs source asked core comes)
+  complete : RunLaw → ValuesLaw → RangeLaw → IsComplete call
+  complete runs fit bounds =
+      where_told call.shelf.files (λ files is none a source asked core comes arguments means.
+      let bounded = subst IsBoundedWish asked.asked (bounded_wish bounds call.words) in
+      let ran = runs.some source core comes (settings_with a arguments) (asked_settings fit core a arguments means.model means.is means.read bounded) in
+      (ran.0, ran.1, ends_complete law call files (told files is) none a source asked core comes arguments means ran.0 ran.1))
 
-pub served-causes : ReportLaw → (call : Call) (name : List ℕ) → request_of call.words ≡ Some (Sim name)
-    → Serves name call.shelf call.status call.out call.log → Causes call
-served-causes law call name asked s =
-    causes law call (λ files told. served_told law call name files asked told s) (served_breaks call name s)
-    (λ out log. ((λ is. absurd (served_request call name s is)), λ none. absurd (not_none (request_of call.words) (Sim name) asked none)))
-    (λ is. let P : Option Request → Type 0 = CannotBeRead call.shelf in subst P (sym asked) (served_unread call name s is))
+pub served-causes : ReportLaw → (call : Call) (t : Task) → wish_of call.words ≡ of_task t
+    → Serves t.file t.purpose call.shelf call.status call.out call.log → Causes call
+served-causes law call t asked s =
+    causes law call (λ files told. served_told law call t files asked told s) (served_breaks call t s)
+    (λ out log. ((λ is. absurd (served_request call t s is)), λ none. absurd (asks_something (wish_of call.words) t asked none)))
+    (λ is. let P : Wish → Type 0 = CannotBeRead call.shelf in subst P (sym asked) (served_unread call t s is))
 
-pub served-complete : RunLaw → ReportLaw → (call : Call) (name : List ℕ) → request_of call.words ≡ Some (Sim name)
-    → Serves name call.shelf call.status call.out call.log → IsComplete call
-served-complete runs law call name asked s = complete law call (λ files told. served_told law call name files asked told s) runs
+pub served-complete : RunLaw → ValuesLaw → RangeLaw → ReportLaw → (call : Call) (t : Task) → wish_of call.words ≡ of_task t
+    → Serves t.file t.purpose call.shelf call.status call.out call.log → IsComplete call
+served-complete runs fit bounds law call t asked s = complete law call (λ files told. served_told law call t files asked told s) runs fit bounds
 
-usage_exactly : (call : Call) → request_of call.words ≡ None → DeliversReport usage call.status call.out call.log
-    → call.out.stopped ≡ false → call.log.stopped ≡ false → IsExactly call 3 (request_of call.words ≡ None)
+-- a refusal that is told by the words alone
+
+usage_exactly : (call : Call) → wish_of call.words ≡ nothing → DeliversReport usage call.status call.out call.log
+    → call.out.stopped ≡ false → call.log.stopped ≡ false → IsExactly call 3 (wish_of call.words ≡ nothing)
 usage_exactly call none (whole s o l) out log = ((λ is. none), λ h. inl s)
 usage_exactly call none (out_broke s o l) out log = absurd (goes_stopped call.out out o.stopped)
 usage_exactly call none (log_broke s o l) out log = absurd (goes_stopped call.log log l.stopped)
 
-usage_unread : (call : Call) → DeliversReport usage call.status call.out call.log → call.status ≡ 4
-    → CannotBeRead call.shelf (request_of call.words)
-usage_unread call d is = absurd (delivered_status _ 4 _ _ _ call.out call.log (λ h. omega arith) (λ h. omega arith) d is)
+refusal_unread : (call : Call) (refusal : Report) → refusal.status ≢ 4 → DeliversReport refusal call.status call.out call.log → call.status ≡ 4
+    → CannotBeRead call.shelf (wish_of call.words)
+refusal_unread call refusal other d is = absurd (delivered_status _ 4 _ _ _ call.out call.log other (λ h. omega arith) d is)
 
-pub usage-causes : ReportLaw → (call : Call) → request_of call.words ≡ None → DeliversReport usage call.status call.out call.log → Causes call
+pub usage-causes : ReportLaw → (call : Call) → wish_of call.words ≡ nothing → DeliversReport usage call.status call.out call.log → Causes call
 usage-causes law call none d =
     causes law call (λ files told. usage_told call files none d) (delivered_breaks _ _ _ _ call.out call.log (λ e. omega arith) d)
-    (usage_exactly call none d) (usage_unread call d)
+    (usage_exactly call none d) (refusal_unread call usage (λ e. omega arith) d)
 
-pub usage-complete : RunLaw → ReportLaw → (call : Call) → request_of call.words ≡ None → DeliversReport usage call.status call.out call.log → IsComplete call
-usage-complete runs law call none d = complete law call (λ files told. usage_told call files none d) runs
+pub usage-complete : RunLaw → ValuesLaw → RangeLaw → ReportLaw → (call : Call) → wish_of call.words ≡ nothing → DeliversReport usage call.status call.out call.log → IsComplete call
+usage-complete runs fit bounds law call none d = complete law call (λ files told. usage_told call files none d) runs fit bounds
+
+other_wish : (w : Wish) → w ≡ unbuilt → w ≡ nothing → ⊥
+other_wish w asked none = cc
+
+pub unbuilt-causes : ReportLaw → (call : Call) → wish_of call.words ≡ unbuilt → DeliversReport not_built call.status call.out call.log → Causes call
+unbuilt-causes law call asked d =
+    causes law call (λ files told. unbuilt_told call files asked d) (delivered_breaks _ _ _ _ call.out call.log (λ e. omega arith) d)
+    (λ out log.
+    ((λ is. absurd (delivered_status _ 3 _ _ _ call.out call.log (λ h. omega arith) (λ h. omega arith) d is)), λ none. absurd (other_wish (wish_of call.words) asked none)))
+    (refusal_unread call not_built (λ e. omega arith) d)
+
+pub unbuilt-complete : RunLaw → ValuesLaw → RangeLaw → ReportLaw → (call : Call) → wish_of call.words ≡ unbuilt → DeliversReport not_built call.status call.out call.log → IsComplete call
+unbuilt-complete runs fit bounds law call asked d = complete law call (λ files told. unbuilt_told call files asked d) runs fit bounds
+
+-- memory was wanting before the words were read
+
+lost_breaks : (call : Call) → IsLost call → Breaks call.status call.out call.log
+lost_breaks call l = let lost = l.status in unbroken _ call.out call.log (λ is. omega arith) l.out.goes l.log.goes
+
+pub lost-causes : ReportLaw → (call : Call) → IsLost call → Causes call
+lost-causes law call l =
+    causes law call (λ files told. lost_told law call files l) (lost_breaks call l)
+    (λ out log. ((λ is. let lost = l.status in absurd (omega arith)), λ none. inr l.status))
+    (λ is. let lost = l.status in absurd (omega arith))
+
+pub lost-complete : RunLaw → ValuesLaw → RangeLaw → ReportLaw → (call : Call) → IsLost call → IsComplete call
+lost-complete runs fit bounds law call l = complete law call (λ files told. lost_told law call files l) runs fit bounds

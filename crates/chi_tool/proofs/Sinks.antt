@@ -1,5 +1,5 @@
 -- What a sink took: all, a front, or nothing.
-use Rattle.std.proofs.Common.{◌≡◌, ℕ, ◌<◌, List, [], ◌++◌, Option, Some, None, length, ap, refl, arith, length-append, append-nil}
+use Rattle.std.proofs.Common.{◌≡◌, ℕ, ◌<◌, List, [], ◌++◌, Option, Some, None, length, ap, refl, sym, arith, length-append, append-nil}
 use Rattle.std.specs.Prelude.{IsSomeAnd}
 use Rattle.chi_io.specs.Sink.{Grew}
 use Rattle.chi_tool.specs.Call.{SinkUse, Took, TookFront, TookSome}
@@ -34,3 +34,8 @@ none_whole sink b =
     let lengths : length (b.took.0 ++ rest) ≡ 0 = ap length b.took.1.1 in
     let l = b.took.1.2 in
     omega (arith, simp length-append at lengths)
+
+-- a sink that isn't put to took nothing
+pub still : (tells : Option (List ℕ)) → Grew tells tells []
+still None = refl
+still (Some bytes) = ap Some (sym (append-nil bytes))

@@ -4,7 +4,7 @@ use Rattle.chi_io.specs.Sink.{GrewByProperFront}
 use Rattle.chi_lex.specs.declared.lexer.TheConstants.{MOST_BYTES}
 use Rattle.chi_tool.specs.Refusals.{Report, no_such_file, file_too_long}
 use Rattle.chi_tool.specs.Report.{IsReportOfSource}
-use Rattle.chi_tool.specs.Settings.{plain_settings}
+use Rattle.chi_tool.specs.declared.task.Purpose.{Purpose}
 use Rattle.chi_tool.specs.Statuses as statuses
 use Rattle.chi_tool.specs.Call.{SinkUse, ShelfUse, Took, SinkRose, ShelfRose}
 
@@ -30,12 +30,12 @@ abbrev pub DeliversReport : Report → ℕ → SinkUse → SinkUse → Type 0
 DeliversReport r result out log = Delivers r.status r.out r.log result out log
 
 -- a file is served: its report is delivered, or its refusal is, or the shelf failed, or memory is wanting
-pub data Serves (name : List ℕ) (shelf : ShelfUse) (result : ℕ) (out log : SinkUse) : Type 0 where
+pub data Serves (name : List ℕ) (purpose : Purpose) (shelf : ShelfUse) (result : ℕ) (out log : SinkUse) : Type 0 where
   reported : (source : List ℕ) → length source ≤ MOST_BYTES → IfSome shelf.files (λ files. files name ≡ Some source)
-      → (r : Report) → IsReportOfSource source plain_settings r → DeliversReport r result out log → Serves name shelf result out log
+      → (r : Report) → IsReportOfSource source purpose r → DeliversReport r result out log → Serves name purpose shelf result out log
   missing : IsSomeAnd shelf.files (λ files. files name ≡ None) ⊎ ShelfRose shelf
-      → DeliversReport no_such_file result out log → Serves name shelf result out log
+      → DeliversReport no_such_file result out log → Serves name purpose shelf result out log
   long : IsSomeAnd shelf.files (λ files. IsSomeAnd (files name) (λ source. MOST_BYTES < length source)) ⊎ ShelfRose shelf
-      → DeliversReport file_too_long result out log → Serves name shelf result out log
-  failed : ShelfRose shelf → result ≡ statuses.not_read → TookWhole out [] → TookWhole log [] → Serves name shelf result out log
-  lost : result ≡ statuses.no_memory → TookWhole out [] → TookWhole log [] → Serves name shelf result out log
+      → DeliversReport file_too_long result out log → Serves name purpose shelf result out log
+  failed : ShelfRose shelf → result ≡ statuses.not_read → TookWhole out [] → TookWhole log [] → Serves name purpose shelf result out log
+  lost : result ≡ statuses.no_memory → TookWhole out [] → TookWhole log [] → Serves name purpose shelf result out log

@@ -12,11 +12,16 @@ use Rattle.chi_core.specs.declared.verdict.Verdict.{Verdict}
 use Rattle.chi_core.specs.declared.verdict.Verdict.TheVariants as verdict
 use Rattle.chi_core.specs.Runs.{Told}
 use Rattle.chi_value.specs.declared.value.Value.{Value}
-use Rattle.chi_tool.specs.Words.{Request, Sim, request_of}
+use Rattle.chi_cli.specs.declared.args.ArgFault.{ArgFault}
+use Rattle.chi_tool.specs.declared.task.Asked.{Asked}
+use Rattle.chi_tool.specs.declared.task.Purpose.{Purpose}
+use Rattle.chi_tool.specs.declared.task.Purpose.TheVariants.{Simulate, Check}
+use Rattle.chi_tool.specs.Words.{Wish, nothing, unbuilt, of_task, task, wish_of}
+use Rattle.chi_tool.specs.Arguments.{Means, Misfits}
 use Rattle.chi_tool.specs.Refusals.{Report, usage, no_such_file, file_too_long}
 use Rattle.chi_tool.specs.Report.{IsReport}
 use Rattle.chi_tool.specs.Running.{IsRunOf}
-use Rattle.chi_tool.specs.Settings.{plain_settings}
+use Rattle.chi_tool.specs.Settings.{settings_with}
 use Rattle.chi_tool.specs.Sources.{IsNoProgram, IsNotBuilt, ComesTo}
 use Rattle.chi_tool.specs.Statuses as statuses
 use Rattle.chi_tool.specs.Statuses.{status_of}
@@ -72,20 +77,20 @@ pub record IsUsage (call : Call) : Type 0 where
 pub record Headline (call : Call) : Type 0 where
   -- where the shelf tells its files, there is a report of the words and files that the call meets
   pub report : IfSome call.shelf.files (λ files. (r : Report) × IsReport call.words files r × Meets r call)
-  pub no_request : request_of call.words ≡ None → IsUsage call
+  pub no_request : wish_of call.words ≡ nothing → IsUsage call
   -- once the output is stopped, nothing is logged
   pub out_stopped : call.out.stopped ≡ true → Took call.log []
 
--- the words ask for a file of which this is the content, within the limit
-pub record IsAskedSource (call : Call) (files : Files) (source : List ℕ) : Type 0 where
+-- the words ask for this to be done with a file of which this is the content, within the limit
+pub record IsAskedSource (call : Call) (files : Files) (purpose : Purpose) (source : List ℕ) : Type 0 where
   pub name : List ℕ
-  pub asked : request_of call.words ≡ Some (Sim name)
+  pub asked : wish_of call.words ≡ of_task (task name purpose)
   pub there : files name ≡ Some source
   pub within : length source ≤ MOST_BYTES
 
--- the words ask for a source of which P holds
-abbrev pub AsksFor : Call → Files → (List ℕ → Type 0) → Type 0
-AsksFor call files P = (source : List ℕ) × IsAskedSource call files source × P source
+-- the words ask for something with a source of which P holds
+abbrev pub AsksFor : Call → Files → (Purpose → List ℕ → Type 0) → Type 0
+AsksFor call files P = (purpose : Purpose) × (source : List ℕ) × IsAskedSource call files purpose source × P purpose source
 
 -- the asked source has a lexical fault
 abbrev pub HasLexicalFault : List ℕ → Type 0
@@ -95,13 +100,42 @@ HasLexicalFault source = (fault : LexFault) × lexical.HasFault source fault
 abbrev pub HasSyntaxFault : List ℕ → Type 0
 HasSyntaxFault source = (tokens : List Spanned) × (fault : ParseFault) × IsNoProgram source tokens fault
 
--- it comes to a program whose run, as the policy picks it, ends with a verdict of which P holds
-pub record EndsAs (P : Verdict → Type 0) (source : List ℕ) : Type 0 where
+-- it comes to a program whose run, as the words ask for it, ends with a verdict of which P holds
+pub record EndsAs (P : Verdict → Type 0) (a : Asked) (source : List ℕ) : Type 0 where
   pub core : Core
   pub program : ComesTo source core
+  pub arguments : List Value
+  pub fit : Means core a.texts arguments
   pub told : Told
-  pub run : IsRunOf core plain_settings told
+  pub run : IsRunOf core (settings_with a arguments) told
   pub ends : P told.ending.verdict
+
+-- a run is asked for, and ends so
+abbrev pub Ends : (Verdict → Type 0) → Purpose → List ℕ → Type 0
+Ends P (Simulate a) source = EndsAs P a source
+Ends P Check source = ⊥
+
+-- a check is asked for, and the source comes to a program
+abbrev pub IsAccepted : Purpose → List ℕ → Type 0
+IsAccepted (Simulate a) source = ⊥
+IsAccepted Check source = (core : Core) × ComesTo source core
+
+-- a run has completed, or a program is accepted
+abbrev pub IsDone : Purpose → List ℕ → Type 0
+IsDone purpose source = Ends (λ v. v ≡ verdict.Completed) purpose source ⊎ IsAccepted purpose source
+
+-- it comes to a program whose parameters the given arguments don't fit
+pub record IsUnfit (a : Asked) (source : List ℕ) : Type 0 where
+  pub core : Core
+  pub program : ComesTo source core
+  pub wanted : ℕ
+  pub fault : ArgFault
+  pub misfits : Misfits core a.texts wanted fault
+
+-- a run is asked for, with such arguments
+abbrev pub HasUnfitArguments : Purpose → List ℕ → Type 0
+HasUnfitArguments (Simulate a) source = IsUnfit a source
+HasUnfitArguments Check source = ⊥
 
 abbrev pub IsExit : Verdict → Type 0
 IsExit v = (x : Option Value) × (v ≡ verdict.Exit x)
@@ -110,21 +144,30 @@ abbrev pub IsFault : Verdict → Type 0
 IsFault v = (kind : FaultKind) × (name : List ℕ) × (line : ℕ) × (v ≡ verdict.Fault kind name line)
 
 -- the file that the words ask for can't be read: the shelf failed, or the file isn't there or is too long
-abbrev pub IsUnfit : Option (List ℕ) → Type 0
-IsUnfit None = Unit {0}
-IsUnfit (Some source) = MOST_BYTES < length source
+abbrev pub IsNoSource : Option (List ℕ) → Type 0
+IsNoSource None = Unit {0}
+IsNoSource (Some source) = MOST_BYTES < length source
 
-abbrev pub CannotBeRead : ShelfUse → Option Request → Type 0
-CannotBeRead shelf None = ⊥
-CannotBeRead shelf (Some (Sim name)) = ShelfRose shelf ⊎ IsSomeAnd shelf.files (λ files. IsUnfit (files name))
+abbrev pub CannotBeRead : ShelfUse → Wish → Type 0
+CannotBeRead shelf nothing = ⊥
+CannotBeRead shelf unbuilt = ⊥
+CannotBeRead shelf (of_task t) = ShelfRose shelf ⊎ IsSomeAnd shelf.files (λ files. IsNoSource (files t.file))
 
 -- the status is this one exactly where the cause holds, unless memory is wanting
 abbrev pub IsExactly : Call → ℕ → Type 0 → Type 0
 IsExactly call n cause = (call.status ≡ n → cause) × (cause → (call.status ≡ n) ⊎ (call.status ≡ statuses.no_memory))
 
--- the same of a cause in the source that is asked for, where the shelf tells its files and nothing fails
-abbrev pub IsExactlyOf : Call → ℕ → (List ℕ → Type 0) → Type 0
-IsExactlyOf call n P = IfSome call.shelf.files (λ files. NothingFailed call → IsExactly call n (AsksFor call files P))
+-- the same of a cause in the files, where the shelf tells them and nothing fails
+abbrev pub IsExactlyIn : Call → ℕ → (Files → Type 0) → Type 0
+IsExactlyIn call n P = IfSome call.shelf.files (λ files. NothingFailed call → IsExactly call n (P files))
+
+-- of a cause in the source that is asked for
+abbrev pub IsExactlyOf : Call → ℕ → (Purpose → List ℕ → Type 0) → Type 0
+IsExactlyOf call n P = IsExactlyIn call n (λ files. AsksFor call files P)
+
+-- what is asked for isn't built, or the source's form isn't
+abbrev pub AsksForUnbuilt : Call → Files → Type 0
+AsksForUnbuilt call files = (wish_of call.words ≡ unbuilt) ⊎ AsksFor call files (λ purpose. IsNotBuilt)
 
 -- a sink that is stopped has failed
 abbrev pub StoppedByFailure : SinkUse → Type 0
@@ -132,25 +175,27 @@ StoppedByFailure sink = sink.stopped ≡ true → SinkRose sink
 
 -- when each status comes
 pub record Causes (call : Call) : Type 0 where
-  pub completed : IsExactlyOf call statuses.completed (EndsAs (λ v. v ≡ verdict.Completed))
-  pub exit : IsExactlyOf call statuses.exited (EndsAs IsExit)
-  pub deadlock : IsExactlyOf call statuses.deadlocked (EndsAs (λ v. v ≡ verdict.Deadlock))
-  pub fault : IsExactlyOf call statuses.faulted (EndsAs IsFault)
-  pub out_of_steps : IsExactlyOf call statuses.out_of_steps (EndsAs (λ v. v ≡ verdict.OutOfSteps))
-  pub stopped : IsExactlyOf call statuses.stopped (EndsAs (λ v. v ≡ verdict.Stopped))
-  pub lexical : IsExactlyOf call statuses.lexical HasLexicalFault
-  pub syntax : IsExactlyOf call statuses.syntax HasSyntaxFault
-  pub not_built : IsExactlyOf call statuses.not_built IsNotBuilt
-  pub no_request : call.out.stopped ≡ false → call.log.stopped ≡ false → IsExactly call statuses.no_request (request_of call.words ≡ None)
-  pub not_read : call.status ≡ statuses.not_read → CannotBeRead call.shelf (request_of call.words)
+  pub done : IsExactlyOf call statuses.completed IsDone
+  pub exit : IsExactlyOf call statuses.exited (Ends IsExit)
+  pub deadlock : IsExactlyOf call statuses.deadlocked (Ends (λ v. v ≡ verdict.Deadlock))
+  pub fault : IsExactlyOf call statuses.faulted (Ends IsFault)
+  pub out_of_steps : IsExactlyOf call statuses.out_of_steps (Ends (λ v. v ≡ verdict.OutOfSteps))
+  pub stopped : IsExactlyOf call statuses.stopped (Ends (λ v. v ≡ verdict.Stopped))
+  pub lexical : IsExactlyOf call statuses.lexical (λ purpose. HasLexicalFault)
+  pub syntax : IsExactlyOf call statuses.syntax (λ purpose. HasSyntaxFault)
+  pub not_built : IsExactlyIn call statuses.not_built (AsksForUnbuilt call)
+  pub arguments : IsExactlyOf call statuses.arguments HasUnfitArguments
+  pub no_request : call.out.stopped ≡ false → call.log.stopped ≡ false → IsExactly call statuses.no_request (wish_of call.words ≡ nothing)
+  pub not_read : call.status ≡ statuses.not_read → CannotBeRead call.shelf (wish_of call.words)
   pub not_written : (call.status ≡ statuses.not_written) ↔ ((call.out.stopped ≡ true) ⊎ (call.log.stopped ≡ true))
   -- each sink by its own count
   pub out_failed : StoppedByFailure call.out
   pub log_failed : StoppedByFailure call.log
 
--- a program that is asked for is run to its end: the status is that of its verdict, unless memory is wanting
+-- a program that is asked to be run, with arguments that fit, is run to its end: the status is that of its verdict, unless
+-- memory is wanting
 abbrev pub IsComplete : Call → Type 0
 IsComplete call =
-    IfSome call.shelf.files (λ files. NothingFailed call → (source : List ℕ) → IsAskedSource call files source
-    → (core : Core) → ComesTo source core
-    → (told : Told) × IsRunOf core plain_settings told × ((call.status ≡ status_of told.ending.verdict) ⊎ (call.status ≡ statuses.no_memory)))
+    IfSome call.shelf.files (λ files. NothingFailed call → (a : Asked) (source : List ℕ) → IsAskedSource call files (Simulate a) source
+    → (core : Core) → ComesTo source core → (arguments : List Value) → Means core a.texts arguments
+    → (told : Told) × IsRunOf core (settings_with a arguments) told × ((call.status ≡ status_of told.ending.verdict) ⊎ (call.status ≡ statuses.no_memory)))

@@ -1,6 +1,7 @@
 pub mod Words
 pub mod Statuses
 pub mod Settings
+pub mod Arguments
 pub mod Syntax
 pub mod Refusals
 pub mod Sources

@@ -1,5 +1,8 @@
 -- Reports, and those that are nothing but the line of a refusal.
 use Rattle.std.specs.Prelude.{ℕ, List, [], ◌∷◌, ◌++◌, codes}
+use Rattle.std.specs.Fmt.{decimal}
+use Rattle.chi_cli.specs.declared.args.ArgFault.{ArgFault}
+use Rattle.chi_cli.specs.declared.args.ArgFault.TheVariants as arg
 use Rattle.chi_token.specs.declared.place.Spanned.{Spanned}
 use Rattle.chi_lex.specs.declared.fault.LexFault.{LexFault}
 use Rattle.chi_lex.specs.declared.fault.LexFault.TheVariants as fault
@@ -44,3 +47,17 @@ syntax source tokens fault = refused statuses.syntax (syntax_text source tokens 
 
 abbrev pub not_built : Report
 not_built = refused statuses.not_built (codes "form not built")
+
+-- the line of a fault of arguments, of which so many are wanted and so many are given; want of memory is none
+abbrev pub arguments_text : ℕ → ℕ → ArgFault → List ℕ
+arguments_text wanted given arg.Count = codes "arguments: wanted " ++ decimal wanted ++ codes ", given " ++ decimal given
+arguments_text wanted given (arg.Kind k) = codes "argument " ++ decimal k ++ codes ": type"
+arguments_text wanted given (arg.Text k) = codes "argument " ++ decimal k ++ codes ": text"
+arguments_text wanted given arg.NoMemory = []
+
+abbrev pub unfit_arguments : ℕ → ℕ → ArgFault → Report
+unfit_arguments wanted given fault = refused statuses.arguments (arguments_text wanted given fault)
+
+-- no refusal: a program that was to be checked breaks no rule
+abbrev pub accepted : Report
+accepted = refused statuses.accepted (codes "accepted")

@@ -34,7 +34,12 @@ status_of (verdict.Fault kind name line) = faulted
 status_of verdict.OutOfSteps = out_of_steps
 status_of verdict.Stopped = stopped
 
--- there is none: the words are no request
+-- or there is none: a program that was to be checked is accepted
+
+abbrev pub accepted : ℕ
+accepted = 0
+
+-- the words are no request
 
 abbrev pub no_request : ℕ
 no_request = 3
@@ -54,10 +59,15 @@ lexical = 20
 abbrev pub syntax : ℕ
 syntax = 21
 
--- the program's form isn't built yet
+-- the program's form isn't built yet, or what the words ask for isn't
 
 abbrev pub not_built : ℕ
 not_built = 22
+
+-- the arguments don't fit the model's parameters
+
+abbrev pub arguments : ℕ
+arguments = 23
 
 -- or the report isn't delivered: a sink failed
 

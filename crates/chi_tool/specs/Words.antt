@@ -1,18 +1,46 @@
--- Which words are a request, and for what.
-use Rattle.std.specs.Prelude.{ℕ, ◌==◌, ◌&&◌, Bool, true, not, bytes_eq, codes, List, [], ◌∷◌, Option, Some, None, if◌then◌else◌}
+-- What words ask for.
+use Rattle.std.specs.Prelude.{ℕ, Bool, true, false, List, Option, Some, None, Result, Ok, Err}
+use Rattle.chi_cli.specs.declared.fault.CliFault.{CliFault}
+use Rattle.chi_cli.specs.declared.fault.CliFault.TheVariants as fault
+use Rattle.chi_cli.specs.declared.request.Request.{Request}
+use Rattle.chi_cli.specs.declared.request.Request.TheVariants as request
+use Rattle.chi_cli.specs.Requests.{request_of}
+use Rattle.chi_tool.specs.declared.task.Task.{Task}
+use Rattle.chi_tool.specs.declared.task.Purpose.{Purpose}
+use Rattle.chi_tool.specs.declared.task.Purpose.TheVariants.{Simulate, Check}
 
--- to simulate the file of this name
-pub data Request : Type 0 where
-  Sim : List ℕ → Request
+abbrev pub task : List ℕ → Purpose → Task
+task file purpose = record { file = file; purpose = purpose }
 
--- a word that begins with `-` and has more bytes is meant for an option
-abbrev pub is_plain_word : List ℕ → Bool
-is_plain_word [] = true
-is_plain_word (c ∷ []) = true
-is_plain_word (c ∷ d ∷ cs) = not (c == 45)
+-- A run without a trace, and a check. A run with one, made sources and traces of old aren't built yet.
+abbrev pub task_of : Request → Option Task
+task_of (request.Sim file texts seed bound until pick false) =
+    Some (task file (Simulate (record { seed = seed; bound = bound; pick = pick; texts = texts; until = until })))
+task_of (request.Sim file texts seed bound until pick true) = None
+task_of (request.Check file) = Some (task file Check)
+task_of (request.Load n) = None
+task_of (request.TraceUp file) = None
 
--- `sim` and the name of a file
-abbrev pub request_of : List (List ℕ) → Option Request
-request_of (command ∷ file ∷ []) =
-    if bytes_eq command (codes "sim") && is_plain_word file then Some (Sim file) else None
-request_of _ = None
+-- nothing, since the words are no request; what isn't built yet; or something with a file
+pub data Wish : Type 0 where
+  nothing : Wish
+  unbuilt : Wish
+  of_task : Task → Wish
+
+abbrev pub wish_by_task : Option Task → Wish
+wish_by_task None = unbuilt
+wish_by_task (Some t) = of_task t
+
+abbrev pub wish_by : Result Request CliFault → Wish
+wish_by (Ok asked) = wish_by_task (task_of asked)
+wish_by (Err fault) = nothing
+
+abbrev pub wish_of : List (List ℕ) → Wish
+wish_of words = wish_by (request_of words)
+
+-- words are refused; want of memory is no refusal of theirs
+abbrev pub is_refusal : CliFault → Bool
+is_refusal fault.Usage = true
+is_refusal fault.Command = true
+is_refusal fault.BadNumber = true
+is_refusal fault.NoMemory = false

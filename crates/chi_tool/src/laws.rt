@@ -9,21 +9,21 @@ ghost use Rattle.chi_token.specs.declared.place.Spanned.{Spanned};
 ghost use Rattle.chi_token.specs.Tokens.{IsToken};
 ghost use Rattle.chi_tool.specs.Refusals.{Report};
 ghost use Rattle.chi_tool.specs.Report.{IsReport};
-ghost use Rattle.chi_tool.specs.Running.{IsRunOf};
-ghost use Rattle.chi_tool.specs.Settings.{plain_settings};
+ghost use Rattle.chi_tool.specs.Running.{IsRunOf, MayHave};
+ghost use Rattle.chi_tool.specs.Settings.{Settings};
 ghost use Rattle.chi_tool.specs.Sources.{ComesTo};
 ghost use Rattle.chi_tree.specs.declared.definition.Program.{Program};
 
+use chi_cli::{numbers_are_in_range, values_are_of_parameters};
 use chi_form::built_law;
 use chi_grammar_laws::answer_law;
 use chi_kinded::kinded_law;
 use chi_runs::picked_law;
 
-/// The program that a source comes to has exactly one run.
+/// The program that a source comes to has exactly one run with settings that it may have.
 pub fn one_run_law()
-    ensures some { (source : List ℕ) (core : Core) → ComesTo source core → (told : Told) × IsRunOf core plain_settings told }
-    ensures one { (source : List ℕ) (core : Core) → ComesTo source core → (told other : Told)
-        → IsRunOf core plain_settings told → IsRunOf core plain_settings other → told ≡ other }
+    ensures some { (source : List ℕ) (core : Core) → ComesTo source core → (s : Settings) → MayHave core s → (told : Told) × IsRunOf core s told }
+    ensures one { (core : Core) (s : Settings) (told other : Told) → IsRunOf core s told → IsRunOf core s other → told ≡ other }
 {
     built_law();
     picked_law();
@@ -36,7 +36,10 @@ pub fn report_law()
         → IsReport words files r → IsReport words files other → r ≡ other }
 {
     answer_law();
+    built_law();
     one_run_law();
+    numbers_are_in_range();
+    values_are_of_parameters();
 }
 
 /// What a source is as a program has only tokens that some bytes spell: its names have the letters of names, and

@@ -1,8 +1,10 @@
 //! The top call: from words and files to a status and every byte that is written.
 #![tactic(auto)]
 
+mod arguments;
 mod deliver;
 mod laws;
+mod program;
 mod refusal;
 mod report;
 mod run;
@@ -11,6 +13,7 @@ mod settings;
 mod source;
 mod status;
 mod syntax;
+mod task;
 mod top;
 mod words;
 

@@ -3,27 +3,28 @@ ghost use Rattle.chi_tool.specs.Call.{sink_use, shelf_use};
 ghost use Rattle.chi_tool.specs.Delivery.{Serves};
 ghost use Rattle.chi_tool.specs.Report.{IsReportOfSource};
 ghost use Rattle.chi_tool.specs.Reported.{report_in};
-ghost use Rattle.chi_tool.specs.Settings.{plain_settings};
+ghost use Rattle.chi_tool.specs.Settings.{IsBounded};
 
 use crate::deliver::deliver;
+use crate::program::report_of_program;
 use crate::report::Reported;
-use crate::run::run;
-use crate::settings::Settings;
 use crate::source::{Source, read};
 use crate::status::{NO_MEMORY, NOT_READ};
+use crate::task::Purpose;
 use chi_base::NoMemory;
 use chi_io::{Fetch, Shelf, Sink};
 use chi_lex::MOST_BYTES;
 use std::alloc::Global;
 
-/// The report of a source: its refusal, or the run of its program.
-fn report_of(alloc: Global, source: &[u8]) -> Result<Reported, NoMemory>
-    requires { length source.now ≤ MOST_BYTES }
-    ensures { IfOk result (λ r. IsReportOfSource source.now plain_settings (report_in r)) }
+/// The report of a source: its refusal, or that of its program.
+fn report_of(alloc: Global, source: &[u8], purpose: &Purpose) -> Result<Reported, NoMemory>
+    requires within { length source.now ≤ MOST_BYTES }
+    requires bounded { IsBounded purpose.now }
+    ensures { IfOk result (λ r. IsReportOfSource source.now purpose.now (report_in r)) }
 {
     match read(alloc, source)? {
         Source::Refused(refusal) => Ok(refusal),
-        Source::Program(core) => run(alloc, &core, Settings::plain(alloc)),
+        Source::Program(core) => report_of_program(alloc, &core, purpose),
     }
 }
 
@@ -31,17 +32,19 @@ fn report_of(alloc: Global, source: &[u8]) -> Result<Reported, NoMemory>
 pub fn serve<H: Shelf, O: Sink, L: Sink>(
     alloc: Global,
     name: &[u8],
+    purpose: &Purpose,
     shelf: &mut H,
     out: &mut O,
     log: &mut L,
 ) -> u8
     requires out_goes { O.stopped out.old ≡ false }
     requires log_goes { L.stopped log.old ≡ false }
-    ensures { Serves name.now (shelf_use H.files H.faults shelf.old shelf.new) result
+    requires bounded { IsBounded purpose.now }
+    ensures { Serves name.now purpose.now (shelf_use H.files H.faults shelf.old shelf.new) result
         (sink_use O.taken O.faults O.stopped out.old out.new) (sink_use L.taken L.faults L.stopped log.old log.new) }
 {
     match shelf.fetch(alloc, name, MOST_BYTES as u64) {
-        Fetch::Bytes(source) => match report_of(alloc, &source) {
+        Fetch::Bytes(source) => match report_of(alloc, &source, purpose) {
             Ok(report) => deliver(report.status, out, &report.out, log, &report.log),
             Err(_) => NO_MEMORY,
         },

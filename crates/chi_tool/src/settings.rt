@@ -1,11 +1,6 @@
-ghost use Rattle.std.specs.Prelude.{◌≡◌};
-ghost use Rattle.chi_tool.specs.Settings.{plain_settings};
-
-use chi_sched::First;
 use chi_value::Value;
-use std::alloc::Global;
 
-/// What a run is asked for with, beside its program.
+/// What a program is run with.
 #[derive(Debug, Drop)]
 pub struct Settings<P> {
     /// Of its draws.
@@ -18,22 +13,4 @@ pub struct Settings<P> {
     pub arguments: Vec<Value>,
     /// The stopping time, in units of a real.
     pub until: Option<i64>,
-}
-
-impl Settings<First> {
-    /// Those of a run for which the words ask no others.
-    pub fn plain(alloc: Global) -> Settings<First>
-        ensures seed { result.seed ≡ plain_settings.seed }
-        ensures bound { result.bound ≡ plain_settings.bound }
-        ensures arguments { result.arguments.items ≡ plain_settings.arguments }
-        ensures until { result.until ≡ plain_settings.until }
-    {
-        Settings {
-            seed: 0,
-            bound: 10_000_000,
-            policy: First,
-            arguments: Vec::new(alloc),
-            until: None,
-        }
-    }
 }

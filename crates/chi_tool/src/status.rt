@@ -6,6 +6,9 @@ use chi_core::Verdict;
 /// The run completed.
 const COMPLETED: u8 = 0;
 
+/// A program that was to be checked is accepted.
+pub const ACCEPTED: u8 = 0;
+
 /// The words are no request.
 pub const NO_REQUEST: u8 = 3;
 
@@ -39,8 +42,11 @@ pub const LEXICAL: u8 = 20;
 /// The source's tokens are no program.
 pub const SYNTAX: u8 = 21;
 
-/// The program's form isn't built yet.
+/// The program's form isn't built yet, or what the words ask for isn't.
 pub const NOT_BUILT: u8 = 22;
+
+/// The arguments don't fit the model's parameters.
+pub const ARGUMENTS: u8 = 23;
 
 /// The status of a run.
 pub fn status_of(verdict: &Verdict) -> u8

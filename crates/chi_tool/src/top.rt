@@ -5,8 +5,9 @@ ghost use Rattle.chi_tool.specs.Headline.{Headline, Causes, IsComplete};
 use crate::deliver::deliver;
 use crate::laws::{one_run_law, report_law};
 use crate::serve::serve;
-use crate::status::NO_REQUEST;
-use crate::words::asked_file;
+use crate::status::{NO_MEMORY, NO_REQUEST, NOT_BUILT};
+use crate::words::{is_refusal, task_of};
+use chi_cli::{numbers_are_in_range, read_words, values_are_of_parameters};
 use chi_io::{Shelf, Sink};
 use std::alloc::Global;
 
@@ -49,14 +50,22 @@ pub fn chi<H: Shelf, O: Sink, L: Sink>(
 {
     report_law();
     one_run_law();
-    match asked_file(words) {
-        Some(file) => serve(alloc, file.as_bytes(), shelf, out, log),
-        None => deliver(
-            NO_REQUEST,
-            out,
-            b"",
-            log,
-            b"usage: chi COMMAND [OPTIONS] FILE [ARGS]\n",
-        ),
+    numbers_are_in_range();
+    values_are_of_parameters();
+    match read_words(alloc, words) {
+        Ok(request) => match task_of(request) {
+            Some(task) => {
+                let name = task.file.as_slice();
+                serve(alloc, name, &task.purpose, shelf, out, log)
+            }
+            None => deliver(NOT_BUILT, out, b"", log, b"form not built\n"),
+        },
+        Err(fault) => {
+            if !is_refusal(fault) {
+                return NO_MEMORY;
+            }
+            let usage = b"usage: chi COMMAND [OPTIONS] FILE [ARGS]\n";
+            deliver(NO_REQUEST, out, b"", log, usage)
+        }
     }
 }

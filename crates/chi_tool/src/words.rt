@@ -1,21 +1,49 @@
-ghost use Rattle.std.specs.Prelude.{◌≡◌, map, option_map, IsTrue};
-ghost use Rattle.chi_tool.specs.Words.{Sim, is_plain_word, request_of};
+ghost use Rattle.std.specs.Prelude.{◌≡◌};
+ghost use Rattle.chi_tool.specs.Words.{is_refusal, task_of};
 
-fn is_plain(word: &str) -> bool
-    ensures { result ≡ is_plain_word word.now }
+use crate::task::{Asked, Purpose, Task};
+use chi_cli::{CliFault, Request};
+
+/// What a request wants to be done, unless that isn't built yet.
+pub fn task_of(request: Request) -> Option<Task>
+    ensures { result ≡ task_of request }
 {
-    match word.as_bytes() {
-        [b'-', _, ..] => false,
-        _ => true,
+    match request {
+        Request::Sim {
+            file,
+            args,
+            seed,
+            bound,
+            until,
+            pick,
+            trace: false,
+        } => {
+            let asked = Asked {
+                seed,
+                bound,
+                pick,
+                texts: args,
+                until,
+            };
+            Some(Task {
+                file,
+                purpose: Purpose::Simulate(asked),
+            })
+        }
+        Request::Check { file } => Some(Task {
+            file,
+            purpose: Purpose::Check,
+        }),
+        Request::Sim { trace: true, .. } | Request::Load { .. } | Request::TraceUp { .. } => None,
     }
 }
 
-/// The file that the words ask to simulate.
-pub fn asked_file<'a>(words: &[&'a str]) -> Option<&'a str>
-    ensures { option_map (λ file. Sim file.now) result ≡ request_of (map (λ word. word.now) words.now) }
+/// Whether words are refused, where there was memory to read them.
+pub fn is_refusal(fault: CliFault) -> bool
+    ensures { result ≡ is_refusal fault }
 {
-    match words {
-        [command, file] if command.as_bytes() == b"sim".as_slice() && is_plain(file) => Some(*file),
-        _ => None,
+    match fault {
+        CliFault::Usage | CliFault::Command | CliFault::BadNumber => true,
+        CliFault::NoMemory => false,
     }
 }

@@ -1,35 +1,73 @@
-use Rattle.std.proofs.Common.{sym}
+use Rattle.std.proofs.Common.{refl, sym, subst, ◌∙◌}
+use Rattle.chi_cli.specs.Saying.{texts}
 use Rattle.chi_tool.proofs.LawClauses.{RunLaw, ReportLaw}
-use Rattle.chi_tool.proofs.Promises.{served-headline, usage-headline}
-use Rattle.chi_tool.proofs.Served.{served-causes, served-complete, usage-causes, usage-complete}
+use Rattle.chi_tool.proofs.Promises.{IsLost, served-headline, unbuilt-headline, usage-headline, lost-headline}
+use Rattle.chi_tool.proofs.Served.{served-causes, served-complete, unbuilt-causes, unbuilt-complete, usage-causes, usage-complete, lost-causes, lost-complete}
+use Rattle.chi_tool.proofs.Sinks.{still}
+use Rattle.chi_tool.proofs.Wishes.{IsBoundedWish, bounded_wish, wish_task, wish_unbuilt, wish_nothing}
 use Rattle.chi_tool.proofs.top.chi.Goals as goal
+
+pub serve-requires-clause-bounded : goal.serve-requires-clause-bounded
+serve-requires-clause-bounded g c =
+    subst IsBoundedWish (wish_task (texts c.args.words.now) c.in-Ok.request c.in-Some.task c.in-Ok.ensures.request c.in-Some.ensures) (bounded_wish c.numbers_are_in_range.ensures (texts c.args.words.now))
 
 pub returns-in-Some-clause-headline : goal.returns-in-Some-clause-headline
 returns-in-Some-clause-headline g c =
     let law : ReportLaw = record { some = c.report_law.ensures.some; one = c.report_law.ensures.one } in
-    served-headline law _ _ (sym c.in-Some.ensures) (rw c.as_bytes.ensures.value at c.serve.ensures)
+    served-headline law _ c.in-Some.task (wish_task (texts c.args.words.now) c.in-Ok.request c.in-Some.task c.in-Ok.ensures.request c.in-Some.ensures) (rw (c.as_slice-name.ensures.same) at c.serve.ensures)
 
 pub returns-in-Some-clause-causes : goal.returns-in-Some-clause-causes
 returns-in-Some-clause-causes g c =
     let law : ReportLaw = record { some = c.report_law.ensures.some; one = c.report_law.ensures.one } in
-    served-causes law _ _ (sym c.in-Some.ensures) (rw c.as_bytes.ensures.value at c.serve.ensures)
+    served-causes law _ c.in-Some.task (wish_task (texts c.args.words.now) c.in-Ok.request c.in-Some.task c.in-Ok.ensures.request c.in-Some.ensures) (rw (c.as_slice-name.ensures.same) at c.serve.ensures)
 
 pub returns-in-Some-clause-complete : goal.returns-in-Some-clause-complete
 returns-in-Some-clause-complete g c =
     let law : ReportLaw = record { some = c.report_law.ensures.some; one = c.report_law.ensures.one } in
     let runs : RunLaw = record { some = c.one_run_law.ensures.some; one = c.one_run_law.ensures.one } in
-    served-complete runs law _ _ (sym c.in-Some.ensures) (rw c.as_bytes.ensures.value at c.serve.ensures)
+    served-complete runs c.values_are_of_parameters.ensures c.numbers_are_in_range.ensures law _ c.in-Some.task (wish_task (texts c.args.words.now) c.in-Ok.request c.in-Some.task c.in-Ok.ensures.request c.in-Some.ensures)
+    (rw (c.as_slice-name.ensures.same) at c.serve.ensures)
 
 pub returns-in-None-clause-headline : goal.returns-in-None-clause-headline
-returns-in-None-clause-headline g c = usage-headline _ (sym c.in-None.ensures) c.deliver.ensures
+returns-in-None-clause-headline g c = unbuilt-headline _ (wish_unbuilt (texts c.args.words.now) c.in-Ok.request c.in-Ok.ensures.request c.in-None.ensures) c.deliver.ensures
 
 pub returns-in-None-clause-causes : goal.returns-in-None-clause-causes
 returns-in-None-clause-causes g c =
     let law : ReportLaw = record { some = c.report_law.ensures.some; one = c.report_law.ensures.one } in
-    usage-causes law _ (sym c.in-None.ensures) c.deliver.ensures
+    unbuilt-causes law _ (wish_unbuilt (texts c.args.words.now) c.in-Ok.request c.in-Ok.ensures.request c.in-None.ensures) c.deliver.ensures
 
 pub returns-in-None-clause-complete : goal.returns-in-None-clause-complete
 returns-in-None-clause-complete g c =
     let law : ReportLaw = record { some = c.report_law.ensures.some; one = c.report_law.ensures.one } in
     let runs : RunLaw = record { some = c.one_run_law.ensures.some; one = c.one_run_law.ensures.one } in
-    usage-complete runs law _ (sym c.in-None.ensures) c.deliver.ensures
+    unbuilt-complete runs c.values_are_of_parameters.ensures c.numbers_are_in_range.ensures law _ (wish_unbuilt (texts c.args.words.now) c.in-Ok.request c.in-Ok.ensures.request c.in-None.ensures) c.deliver.ensures
+
+pub returns-then-not-is_refusal-clause-headline : goal.returns-then-not-is_refusal-clause-headline
+returns-then-not-is_refusal-clause-headline g c =
+    let law : ReportLaw = record { some = c.report_law.ensures.some; one = c.report_law.ensures.one } in
+    lost-headline law _ (record { status = refl; out = record { took = still _; goes = c.requires.out_goes }; log = record { took = still _; goes = c.requires.log_goes } })
+
+pub returns-then-not-is_refusal-clause-causes : goal.returns-then-not-is_refusal-clause-causes
+returns-then-not-is_refusal-clause-causes g c =
+    let law : ReportLaw = record { some = c.report_law.ensures.some; one = c.report_law.ensures.one } in
+    lost-causes law _ (record { status = refl; out = record { took = still _; goes = c.requires.out_goes }; log = record { took = still _; goes = c.requires.log_goes } })
+
+pub returns-then-not-is_refusal-clause-complete : goal.returns-then-not-is_refusal-clause-complete
+returns-then-not-is_refusal-clause-complete g c =
+    let law : ReportLaw = record { some = c.report_law.ensures.some; one = c.report_law.ensures.one } in
+    let runs : RunLaw = record { some = c.one_run_law.ensures.some; one = c.one_run_law.ensures.one } in
+    lost-complete runs c.values_are_of_parameters.ensures c.numbers_are_in_range.ensures law _ (record { status = refl; out = record { took = still _; goes = c.requires.out_goes }; log = record { took = still _; goes = c.requires.log_goes } })
+
+pub returns-else-not-is_refusal-clause-headline : goal.returns-else-not-is_refusal-clause-headline
+returns-else-not-is_refusal-clause-headline g c = usage-headline _ (wish_nothing (texts c.args.words.now) c.in-Err.fault (sym c.is_refusal.ensures ∙ c.if-not-is_refusal.false) c.in-Err.ensures.fault) c.deliver-in-Err.ensures
+
+pub returns-else-not-is_refusal-clause-causes : goal.returns-else-not-is_refusal-clause-causes
+returns-else-not-is_refusal-clause-causes g c =
+    let law : ReportLaw = record { some = c.report_law.ensures.some; one = c.report_law.ensures.one } in
+    usage-causes law _ (wish_nothing (texts c.args.words.now) c.in-Err.fault (sym c.is_refusal.ensures ∙ c.if-not-is_refusal.false) c.in-Err.ensures.fault) c.deliver-in-Err.ensures
+
+pub returns-else-not-is_refusal-clause-complete : goal.returns-else-not-is_refusal-clause-complete
+returns-else-not-is_refusal-clause-complete g c =
+    let law : ReportLaw = record { some = c.report_law.ensures.some; one = c.report_law.ensures.one } in
+    let runs : RunLaw = record { some = c.one_run_law.ensures.some; one = c.one_run_law.ensures.one } in
+    usage-complete runs c.values_are_of_parameters.ensures c.numbers_are_in_range.ensures law _ (wish_nothing (texts c.args.words.now) c.in-Err.fault (sym c.is_refusal.ensures ∙ c.if-not-is_refusal.false) c.in-Err.ensures.fault) c.deliver-in-Err.ensures

@@ -1,0 +1,158 @@
+//! What words ask for: commands, options and arguments.
+
+use crate::tests::{WORKS, Wanted, expect};
+use std::process::Abort;
+use std::test::Fail;
+
+/// Words of the command line, and what the call writes and answers.
+type Row = (&'static [&'static str], &'static str, &'static str, u8);
+
+const USAGE: &str = "usage: chi COMMAND [OPTIONS] FILE [ARGS]\n";
+
+const DONE: &str = "completed at time 0.0\n";
+
+fn expect_words(rt: &impl Abort, source: &str, rows: &[Row]) -> Result<(), Fail> {
+    for (words, out, log, status) in rows {
+        let wanted = Wanted {
+            out,
+            log,
+            status: *status,
+        };
+        let about = words.last().copied().unwrap_or("nothing");
+        expect(rt, rt.alloc(), words, source.as_bytes(), about, wanted)?;
+    }
+    Ok(())
+}
+
+#[test]
+fn words_are_read(rt: HostRuntime) -> Result<(), Fail> {
+    let rows: [Row; 14] = [
+        (&[], "", USAGE, 3),
+        (&["sim"], "", USAGE, 3),
+        (&["run", "m.chi"], "", USAGE, 3),
+        (&["sim", "-x"], "", USAGE, 3),
+        (&["sim", "--steps", "x", "m.chi"], "", USAGE, 3),
+        (
+            &["sim", "--seed", "1", "--seed", "1", "m.chi"],
+            "",
+            USAGE,
+            3,
+        ),
+        (&["sim", "--policy", "best", "m.chi"], "", USAGE, 3),
+        (&["sim", "-"], "", "no such file\n", 4),
+        (&["sim", ""], "", "no such file\n", 4),
+        (
+            &["sim", "m.chi", "m.chi"],
+            "",
+            "arguments: wanted 0, given 1\n",
+            23,
+        ),
+        (&["check"], "", USAGE, 3),
+        (&["check", "m.chi"], "", "accepted\n", 0),
+        (&["load", "0"], "", USAGE, 3),
+        (&["load", "3"], "", "form not built\n", 22),
+    ];
+    expect_words(&rt, WORKS, &rows)
+}
+
+#[test]
+fn a_run_stops_at_its_bound(rt: HostRuntime) -> Result<(), Fail> {
+    let rows: [Row; 4] = [
+        (&["sim", "--steps", "1", "m.chi"], "It works!\n", DONE, 0),
+        (
+            &["sim", "m.chi", "--steps=0"],
+            "",
+            "out of steps at time 0.0\n",
+            13,
+        ),
+        (
+            &["sim", "--steps", "1000000000000000", "m.chi"],
+            "It works!\n",
+            DONE,
+            0,
+        ),
+        (
+            &["sim", "--steps", "1000000000000001", "m.chi"],
+            "",
+            USAGE,
+            3,
+        ),
+    ];
+    expect_words(&rt, WORKS, &rows)
+}
+
+#[test]
+fn a_policy_picks(rt: HostRuntime) -> Result<(), Fail> {
+    let source = "proc S(chan! int a; int n): a!n end \
+         proc R(chan? int a): int x; a?x; writeln(\"%d\", x); a?x; writeln(\"%d\", x) end \
+         model M(): chan int a; start S(a, 1), S(a, 2), R(a) end";
+    let rows: [Row; 5] = [
+        (&["sim", "m.chi"], "1\n2\n", DONE, 0),
+        (&["sim", "--policy", "first", "m.chi"], "1\n2\n", DONE, 0),
+        (&["sim", "--policy=last", "m.chi"], "2\n1\n", DONE, 0),
+        (
+            &["sim", "--policy", "spread", "--salt", "0", "m.chi"],
+            "1\n2\n",
+            DONE,
+            0,
+        ),
+        (
+            &["sim", "--seed", "18446744073709551615", "m.chi"],
+            "1\n2\n",
+            DONE,
+            0,
+        ),
+    ];
+    expect_words(&rt, source, &rows)
+}
+
+#[test]
+fn a_run_stops_before_its_time_passes(rt: HostRuntime) -> Result<(), Fail> {
+    let source = "model M(): delay 2.0; writeln(\"two\"); delay 2.0; writeln(\"four\") end";
+    let rows: [Row; 5] = [
+        (
+            &["sim", "--until", "1.5", "m.chi"],
+            "",
+            "stopped at time 1.5\n",
+            14,
+        ),
+        (
+            &["sim", "--until", "2.0", "m.chi"],
+            "two\n",
+            "stopped at time 2.0\n",
+            14,
+        ),
+        (
+            &["sim", "--until", "3", "m.chi"],
+            "two\n",
+            "stopped at time 3.0\n",
+            14,
+        ),
+        (
+            &["sim", "--until", "4.0", "m.chi"],
+            "two\nfour\n",
+            "completed at time 4.0\n",
+            0,
+        ),
+        (&["sim", "--until", "-1.0", "m.chi"], "", USAGE, 3),
+    ];
+    expect_words(&rt, source, &rows)
+}
+
+#[test]
+fn what_is_checked_is_refused_as_what_is_run(rt: HostRuntime) -> Result<(), Fail> {
+    let check: [Row; 1] = [(&["check", "m.chi"], "", "line 1 column 12: bad byte\n", 20)];
+    expect_words(&rt, "model M(): @ end", &check)?;
+    let check: [Row; 1] = [(
+        &["check", "m.chi"],
+        "",
+        "line 1 column 12: syntax at token 5\n",
+        21,
+    )];
+    expect_words(&rt, "model M(): end", &check)?;
+    let check: [Row; 2] = [
+        (&["check", "m.chi"], "", "form not built\n", 22),
+        (&["trace-up", "m.chi"], "", "form not built\n", 22),
+    ];
+    expect_words(&rt, "model M(): exit end", &check)
+}
