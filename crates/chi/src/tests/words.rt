@@ -1,6 +1,7 @@
 //! What words ask for: commands, options and arguments.
 
 use crate::tests::{WORKS, Wanted, expect};
+use std::alloc::Global;
 use std::process::Abort;
 use std::test::Fail;
 
@@ -11,7 +12,7 @@ const USAGE: &str = "usage: chi COMMAND [OPTIONS] FILE [ARGS]\n";
 
 const DONE: &str = "completed at time 0.0\n";
 
-fn expect_words(rt: &impl Abort, source: &str, rows: &[Row]) -> Result<(), Fail> {
+fn expect_words(rt: &impl Abort, alloc: Global, source: &str, rows: &[Row]) -> Result<(), Fail> {
     for (words, out, log, status) in rows {
         let wanted = Wanted {
             out,
@@ -19,7 +20,7 @@ fn expect_words(rt: &impl Abort, source: &str, rows: &[Row]) -> Result<(), Fail>
             status: *status,
         };
         let about = words.last().copied().unwrap_or("nothing");
-        expect(rt, rt.alloc(), words, source.as_bytes(), about, wanted)?;
+        expect(rt, alloc, words, source.as_bytes(), about, wanted)?;
     }
     Ok(())
 }
@@ -52,7 +53,7 @@ fn words_are_read(rt: HostRuntime) -> Result<(), Fail> {
         (&["load", "0"], "", USAGE, 3),
         (&["load", "3"], "", "form not built\n", 22),
     ];
-    expect_words(&rt, WORKS, &rows)
+    expect_words(&rt, rt.alloc(), WORKS, &rows)
 }
 
 #[test]
@@ -78,7 +79,7 @@ fn a_run_stops_at_its_bound(rt: HostRuntime) -> Result<(), Fail> {
             3,
         ),
     ];
-    expect_words(&rt, WORKS, &rows)
+    expect_words(&rt, rt.alloc(), WORKS, &rows)
 }
 
 #[test]
@@ -103,7 +104,7 @@ fn a_policy_picks(rt: HostRuntime) -> Result<(), Fail> {
             0,
         ),
     ];
-    expect_words(&rt, source, &rows)
+    expect_words(&rt, rt.alloc(), source, &rows)
 }
 
 #[test]
@@ -136,23 +137,23 @@ fn a_run_stops_before_its_time_passes(rt: HostRuntime) -> Result<(), Fail> {
         ),
         (&["sim", "--until", "-1.0", "m.chi"], "", USAGE, 3),
     ];
-    expect_words(&rt, source, &rows)
+    expect_words(&rt, rt.alloc(), source, &rows)
 }
 
 #[test]
 fn what_is_checked_is_refused_as_what_is_run(rt: HostRuntime) -> Result<(), Fail> {
     let check: [Row; 1] = [(&["check", "m.chi"], "", "line 1 column 12: bad byte\n", 20)];
-    expect_words(&rt, "model M(): @ end", &check)?;
+    expect_words(&rt, rt.alloc(), "model M(): @ end", &check)?;
     let check: [Row; 1] = [(
         &["check", "m.chi"],
         "",
         "line 1 column 12: syntax at token 5\n",
         21,
     )];
-    expect_words(&rt, "model M(): end", &check)?;
+    expect_words(&rt, rt.alloc(), "model M(): end", &check)?;
     let check: [Row; 2] = [
         (&["check", "m.chi"], "", "form not built\n", 22),
         (&["trace-up", "m.chi"], "", "form not built\n", 22),
     ];
-    expect_words(&rt, "model M(): exit end", &check)
+    expect_words(&rt, rt.alloc(), "model M(): exit end", &check)
 }
