@@ -1,0 +1,4 @@
+pub mod Barred
+pub mod Before
+pub mod Given
+pub mod Numbers
