@@ -27,5 +27,5 @@ pub use nodes::{all_made, settle};
 pub use operator_nodes::{chain_of, power_of, prefix_of, relation_of};
 pub use operators::{binary, is_bool, number_of, power, prefixed};
 pub use part_nodes::{field_of, index_of, slice_of};
-pub use parts::{are_ints, field, indexed, is_int, sliced};
+pub use parts::{are_ints, element_at, field, indexed, is_int, looked_up, sliced};
 pub use sites::{note_calling, note_running, note_running_if};
