@@ -1,5 +1,5 @@
 -- Private to proofs. The bounds of a slice that are given, one by one.
-use Rattle.std.proofs.Common.{◌≡◌, List, [], ◌∷◌, ◌++◌, Option, Some, None, refl}
+use Rattle.std.proofs.Common.{◌≡◌, [], ◌++◌, Option, Some, None, refl}
 use Rattle.chi_typing.specs.declared.meant.Made.{Made}
 use Rattle.chi_expr_rules.specs.Parts.{if_given, given}
 

@@ -1,5 +1,5 @@
 -- Private to proofs. What is read from the digits of a number.
-use Rattle.std.proofs.Common.{◌≡◌, ℕ, ℤ, List, Option, Some, None, Result, Ok, Err, refl, ap}
+use Rattle.std.proofs.Common.{◌≡◌, ℕ, ℤ, List, Some, None, Ok, Err, refl, ap}
 use Rattle.chi_num.specs.declared.read.fault.ReadFault.{ReadFault}
 use Rattle.chi_num.specs.TextNumbers.{Meant, means, no_form, out_of_range, answer_of, int_meant, real_meant}
 use Rattle.chi_types.specs.declared.ty.Ty.TheVariants as ty

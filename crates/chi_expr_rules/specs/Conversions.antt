@@ -1,5 +1,5 @@
 -- What stands in the core where a value serves for one of another type.
-use Rattle.std.specs.Prelude.{Bool, true, false, List, [], ◌∷◌, map, Option, Some, None, option_map, if◌then◌else◌}
+use Rattle.std.specs.Prelude.{List, [], ◌∷◌, map, Option, Some, None, option_map, if◌then◌else◌}
 use Rattle.chi_types.specs.declared.ty.Ty.{Ty, out-Ty}
 use Rattle.chi_types.specs.declared.ty.Ty.TheVariants as ty
 use Rattle.chi_types.specs.Fits.{fits, widens}

@@ -123,12 +123,7 @@ pub fn wanting(
 }
 
 /// An operation on one operand as it is.
-pub fn on_one(
-    alloc: Global,
-    name: OpName,
-    operand: CExpr,
-    outcome: Ty,
-) -> Result<Made, NoMemory>
+pub fn on_one(alloc: Global, name: OpName, operand: CExpr, outcome: Ty) -> Result<Made, NoMemory>
     ensures { IfOk result (λ m. m ≡ spec.made (expression.Op name (operand ∷ [])) outcome) }
 {
     let core = CExpr::Op(name, list_of_one(alloc, operand)?);

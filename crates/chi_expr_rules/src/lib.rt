@@ -18,8 +18,8 @@ pub use calls::call_of;
 pub use casts::{cast, cast_of};
 pub use comparisons::related;
 pub use conversions::{
-    all_converted, both_as, compared, converted, list_of_one, list_of_two, on_one, on_two, passed, wanting,
-    with_cores,
+    all_converted, both_as, compared, converted, list_of_one, list_of_two, on_one, on_two, passed,
+    wanting, with_cores,
 };
 pub use literals::{bool_literal, int_literal, real_literal, text_literal};
 pub use named::{named_value, time_of};

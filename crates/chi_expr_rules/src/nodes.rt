@@ -11,12 +11,7 @@ use std::alloc::Global;
 
 /// What the rule makes, or the rule is broken there.
 #[tactic(auto, using(chi_typing::proofs::Firsts::first_of_none))]
-pub fn settle(
-    made: Option<Made>,
-    rule: u8,
-    place: Place,
-    kept: &mut Option<Fault>,
-) -> Option<Made>
+pub fn settle(made: Option<Made>, rule: u8, place: Place, kept: &mut Option<Fault>) -> Option<Made>
     ensures made { result ≡ (spec.settled rule place made).made }
     ensures noted { kept.new ≡ first_of kept.old (spec.settled rule place made).faults }
 {
@@ -30,10 +25,7 @@ pub fn settle(
 }
 
 /// All parts, where each has a type.
-pub fn all_made(
-    alloc: Global,
-    parts: Items<Option<Made>>,
-) -> Result<Option<Items<Made>>, NoMemory>
+pub fn all_made(alloc: Global, parts: Items<Option<Made>>) -> Result<Option<Items<Made>>, NoMemory>
     ensures { IfOk result (λ all. all ≡ spec.all_made parts) }
 {
     let mut all = Vec::new(alloc);

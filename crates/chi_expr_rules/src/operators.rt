@@ -165,16 +165,17 @@ fn divide(alloc: Global, a: Made, b: Made) -> Result<Option<Made>, NoMemory>
     ensures { IfOk result (λ m. m ≡ spec.divide a b) }
 {
     let operands = list_of_two(alloc, a, b)?;
-    wanting(alloc, OpName::Divide, &[Ty::Real, Ty::Real], Ty::Real, operands)
+    wanting(
+        alloc,
+        OpName::Divide,
+        &[Ty::Real, Ty::Real],
+        Ty::Real,
+        operands,
+    )
 }
 
 /// What an operator of a chain makes of its operands.
-pub fn binary(
-    alloc: Global,
-    operator: Operator,
-    a: Made,
-    b: Made,
-) -> Result<Option<Made>, NoMemory>
+pub fn binary(alloc: Global, operator: Operator, a: Made, b: Made) -> Result<Option<Made>, NoMemory>
     ensures { IfOk result (λ m. m ≡ spec.binary operator a b) }
 {
     match operator {

@@ -45,13 +45,7 @@ pub fn element_at(
 }
 
 /// What a key of a dictionary has.
-fn with_key(
-    alloc: Global,
-    key: &Ty,
-    value: Ty,
-    whole: Made,
-    index: Made,
-) -> Result<Made, NoMemory>
+fn with_key(alloc: Global, key: &Ty, value: Ty, whole: Made, index: Made) -> Result<Made, NoMemory>
     ensures { IfOk result (λ m. m ≡ spec.with_key key.now value whole index) }
 {
     let index = converted(alloc, index, key)?;
@@ -73,11 +67,43 @@ pub fn looked_up(
     Ok(Some(with_key(alloc, &key, value, whole, index)?))
 }
 
-/// What an index makes of what it stands after. A stub so far: it answers want of memory.
-pub fn indexed(_alloc: Global, whole: Made, index: Made) -> Result<Option<Made>, NoMemory>
+/// What an index takes: an element, or what a key has.
+#[derive(Debug, Drop)]
+pub(crate) enum Contents {
+    Element(Ty),
+    /// The type of the keys, and that of the values.
+    Entry(Ty, Ty),
+    Nothing,
+}
+
+fn contents_of(alloc: Global, ty: &Ty) -> Result<Contents, NoMemory>
+    ensures { IfOk result (λ w. w ≡ spec.contents_of (out-Ty ty.now)) }
+{
+    match ty {
+        Ty::Text => Ok(Contents::Element(Ty::Text)),
+        Ty::ListOf(element) => {
+            let element = element.get().copy(alloc)?;
+            Ok(Contents::Element(element))
+        }
+        Ty::DictOf(key, value) => {
+            let key = key.get().copy(alloc)?;
+            let value = value.get().copy(alloc)?;
+            Ok(Contents::Entry(key, value))
+        }
+        _ => Ok(Contents::Nothing),
+    }
+}
+
+/// What an index makes of what it stands after.
+#[tactic(auto, using(crate::proofs::Indexing::indexed_by_contents))]
+pub fn indexed(alloc: Global, whole: Made, index: Made) -> Result<Option<Made>, NoMemory>
     ensures { IfOk result (λ m. m ≡ spec.indexed whole index) }
 {
-    Err(NoMemory)
+    match contents_of(alloc, &whole.ty)? {
+        Contents::Element(element) => element_at(alloc, element, whole, index),
+        Contents::Entry(key, value) => looked_up(alloc, key, value, whole, index),
+        Contents::Nothing => Ok(None),
+    }
 }
 
 fn has_slices(ty: &Ty) -> bool
