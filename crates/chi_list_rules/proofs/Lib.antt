@@ -1,3 +1,3 @@
-pub mod Arguments
 pub mod Before
 pub mod Entries
+pub mod ShortLists

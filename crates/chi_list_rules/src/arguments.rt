@@ -8,7 +8,7 @@ use chi_typing::{Made, Predefined};
 use std::alloc::Global;
 
 /// The one argument.
-#[tactic(auto, using(crate::proofs::Arguments::only_of_one, crate::proofs::Arguments::only_of_others))]
+#[tactic(auto, using(crate::proofs::ShortLists::only_of_one, crate::proofs::ShortLists::only_of_others))]
 pub(crate) fn only(alloc: Global, arguments: Items<Made>) -> Result<Option<Made>, NoMemory>
     ensures { IfOk result (λ m. m ≡ spec.only arguments) }
 {
@@ -21,7 +21,7 @@ pub(crate) fn only(alloc: Global, arguments: Items<Made>) -> Result<Option<Made>
 }
 
 /// The two arguments.
-#[tactic(auto, using(crate::proofs::Arguments::pair_of_two, crate::proofs::Arguments::pair_of_others))]
+#[tactic(auto, using(crate::proofs::ShortLists::pair_of_two, crate::proofs::ShortLists::pair_of_others))]
 pub(crate) fn pair(
     alloc: Global,
     arguments: Items<Made>,
@@ -38,7 +38,7 @@ pub(crate) fn pair(
 }
 
 /// The first two of three arguments, each of which may have no type.
-#[tactic(auto, using(crate::proofs::Arguments::first_two_of_three, crate::proofs::Arguments::first_two_of_others))]
+#[tactic(auto, using(crate::proofs::ShortLists::first_two_of_three, crate::proofs::ShortLists::first_two_of_others))]
 pub(crate) fn before_third(
     alloc: Global,
     arguments: Items<Option<Made>>,
