@@ -1,10 +1,14 @@
+pub mod CallEquations
 pub mod Calling
 pub mod Containers
 pub mod Exact
 pub mod ExprEquations
+pub mod HasDefaults
 pub mod Induction
 pub mod Kept
 pub mod Nodes
 pub mod Opened
+pub mod PartEquations
 pub mod Parts
 pub mod TypeEquations
+pub mod Unmade
