@@ -6,6 +6,7 @@ pub mod ExprEquations
 pub mod HasDefaults
 pub mod Induction
 pub mod Kept
+pub mod Loops
 pub mod Nodes
 pub mod Opened
 pub mod PartEquations
