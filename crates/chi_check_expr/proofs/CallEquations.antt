@@ -1,7 +1,12 @@
 -- Private to proofs. What a call comes to, and a name that stands for a function.
 use Rattle.std.proofs.Common.{ℕ, ◌≡◌, Bool, true, false, cond, List, [], ◌∷◌, ◌++◌, map, length, get_or, Option, Some, None, refl, sym, ap, ◌∙◌, arith}
 use Rattle.chi_tree.specs.declared.type_tree.Name.{Name}
-use Rattle.chi_tree.specs.declared.expr.Expr.{Expr, Expr-F, out-Expr}
+use Rattle.chi_tree.specs.declared.type_tree.TypeTree.{TypeTree}
+use Rattle.chi_tree.specs.declared.type_tree.Formal.{Formal}
+use Rattle.chi_tree.specs.declared.expr.Expr.{Expr, Expr-F, out-Expr, roll-Expr, roll-out-Expr, map-Expr}
+use Rattle.chi_tree.specs.declared.expr.Postfix.{Postfix}
+use Rattle.chi_tree.specs.declared.expr.Entry.{Entry}
+use Rattle.chi_tree.specs.declared.expr.Link.{Link}
 use Rattle.chi_tree.specs.declared.expr.Expr.TheVariants as expr
 use Rattle.chi_typing.specs.declared.fault.Fault.{Fault}
 use Rattle.chi_typing.specs.declared.known.Known.{Known}
@@ -13,8 +18,9 @@ use Rattle.chi_typing.specs.Predefined.{predefined_of, is_predefined}
 use Rattle.chi_typing.specs.Typed.{Typed}
 use Rattle.chi_check_expr.specs.Calls as calls
 use Rattle.chi_check_expr.specs.Calls.{is_insertion, function_known, inserted, call_by, called_with, called}
-use Rattle.chi_check_expr.specs.Reads.{Read, typed_of, made_of, all_faults}
-use Rattle.chi_check_expr.specs.Typing.{read, typing}
+use Rattle.chi_check_expr.specs.Reads.{Read, Taken, Reading, Paired, Linked, Field, typed_of, made_of, all_faults}
+use Rattle.chi_check_expr.specs.Expressions.{expr_step}
+use Rattle.chi_check_expr.specs.Typing.{read, taken, reading, paired, linked, formal, typing}
 use Rattle.chi_check_expr.proofs.Opened.{read_is, map_typed, noted_one, noted_two}
 
 module _ (site : Site) (names : Names) where
@@ -26,6 +32,15 @@ module _ (site : Site) (names : Names) where
 
   pub name_known : (e : Expr) (name : Name) → e ≡ expr.Named name → is_predefined name.text ≡ false → known_in names name.text ≡ function_known names (read site names e).name
   name_known e name h p = sym (ap (function_known names) (named_read e name h) ∙ ap (λ b. cond b None (known_in names name.text)) p)
+
+  unnamed_layer : (o : Expr-F Expr Postfix TypeTree Entry Link Formal) → ((name : Name) → o ≡ Expr-F.Named name → ⊥)
+      → function_known names (expr_step site names (map-Expr Expr Postfix TypeTree Entry Link Formal Read Taken Reading Paired Linked Field (read site names) (taken site names) (reading site names) (paired site names) (linked site names) (formal site names) o)).name ≡ None
+  unnamed_layer (Expr-F.Named name) h = absurd (h name refl)
+  unnamed_layer _ h = refl
+
+  pub unnamed : (e : Expr) → ((name : Name) → e ≡ expr.Named name → ⊥) → None ≡ function_known names (read site names e).name
+  unnamed e h = sym (ap (λ (r : Read). function_known names r.name) (read_is site names e (out-Expr e) refl)
+      ∙ unnamed_layer (out-Expr e) (λ name p. h name (sym (roll-out-Expr e) ∙ ap roll-Expr p ∙ expr.rolls-Named name)))
 
   Call_typed : (e : Expr) (name : Name) (arguments : List Expr) → e ≡ expr.Call name arguments → typing site names e ≡ calls.call site names name (map (read site names) arguments)
   Call_typed e name arguments h = ap typed_of (read_is site names e (Expr-F.Call name arguments) (ap out-Expr h ∙ expr.outs-Call name arguments))

@@ -1,3 +1,4 @@
+pub mod Answered
 pub mod CallEquations
 pub mod Calling
 pub mod Containers

@@ -13,6 +13,7 @@ use chi_typing::{Fault, Made, Meant, Scope, Site, TypeFault, default_of};
 use std::alloc::Global;
 
 /// The core and the type of an expression.
+#[tactic(auto, using(crate::proofs::Answered::expr_made, crate::proofs::Answered::expr_unmade))]
 pub fn type_expr(
     alloc: Global,
     tree: &Expr,
@@ -35,6 +36,7 @@ pub fn type_expr(
 
 /// The type that a type tree means, and the expression of its default. `local` says that it is that of
 /// a local variable, whose lists may have sizes.
+#[tactic(auto, using(crate::proofs::Answered::type_made, crate::proofs::Answered::type_unmade, crate::proofs::HasDefaults::meant_default))]
 pub fn type_tree(
     alloc: Global,
     tree: &TypeTree,

@@ -8,7 +8,8 @@ ghost use Rattle.chi_check_expr.specs.Calls as spec;
 ghost use Rattle.chi_check_expr.specs.Typing.{read};
 
 use chi_base::{Items, NoMemory};
-use chi_expr_rules::{call_of, predefined_call};
+use chi_expr_rules::call_of;
+use chi_list_rules::predefined_call;
 use chi_tree::{Expr, Name};
 use chi_typing::{Fault, Known, Made, Predefined, Scope, Site, is_predefined, predefined_of};
 use std::alloc::Global;

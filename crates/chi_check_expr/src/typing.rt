@@ -1,6 +1,8 @@
 //! The walk over expressions and types. Each arm types the parts, all of them whatever the first came to, and
 //! then calls the rule of its node. What is kept is the first broken rule so far.
 
+#![tactic(none)]
+
 ghost use Rattle.std.specs.Prelude.{◌≡◌, [], ◌∷◌, map, Option, None, IfOk, OnOk, option_map};
 ghost use Rattle.chi_typing.specs.Faults.{first_of};
 ghost use Rattle.chi_typing.specs.Names.{known_in};
@@ -15,6 +17,7 @@ use crate::calls::{call, insert, is_insertion};
 use crate::fields::{note_first, type_meant, with_field};
 use chi_base::{Boxed, Items, NoMemory};
 use chi_expr_rules as rule;
+use chi_list_rules as list_rule;
 use chi_token::Bytes;
 use chi_tree::{Entry, Expr, Formal, Link, Name, Postfix, TypeTree};
 use chi_types::Ty;
@@ -95,32 +98,32 @@ pub fn type_in(
         Expr::Round { place: _, inner } => Ok(type_in(alloc, inner.get(), scope, site, kept)?),
         Expr::TupleOf { place, parts } => {
             let parts = type_all(alloc, parts.as_slice(), scope, site, kept)?;
-            Ok(rule::tuple_of(alloc, *place, parts, kept)?)
+            Ok(list_rule::tuple_of(alloc, *place, parts, kept)?)
         }
         Expr::ListOf { place, elements } => {
             let elements = type_all(alloc, elements.as_slice(), scope, site, kept)?;
-            Ok(rule::list_of(alloc, *place, elements, kept)?)
+            Ok(list_rule::list_of(alloc, *place, elements, kept)?)
         }
         Expr::SetOf { place, elements } => {
             let elements = type_all(alloc, elements.as_slice(), scope, site, kept)?;
-            Ok(rule::set_of(alloc, *place, elements, kept)?)
+            Ok(list_rule::set_of(alloc, *place, elements, kept)?)
         }
         Expr::DictOf { place, entries } => {
             let (keys, values) = type_entries(alloc, entries.as_slice(), scope, site, kept)?;
-            Ok(rule::dict_of(alloc, *place, keys, values, kept)?)
+            Ok(list_rule::dict_of(alloc, *place, keys, values, kept)?)
         }
         Expr::EmptyList { place, element } => {
             let element = mean_in(alloc, element.get(), scope, site, false, kept)?;
-            Ok(rule::empty_list(alloc, *place, element, kept)?)
+            Ok(list_rule::empty_list(alloc, *place, element, kept)?)
         }
         Expr::EmptySet { place, element } => {
             let element = mean_in(alloc, element.get(), scope, site, false, kept)?;
-            Ok(rule::empty_set(alloc, *place, element, kept)?)
+            Ok(list_rule::empty_set(alloc, *place, element, kept)?)
         }
         Expr::EmptyDict { place, key, value } => {
             let key = mean_in(alloc, key.get(), scope, site, false, kept)?;
             let value = mean_in(alloc, value.get(), scope, site, false, kept)?;
-            Ok(rule::empty_dict(alloc, *place, key, value, kept)?)
+            Ok(list_rule::empty_dict(alloc, *place, key, value, kept)?)
         }
     }
 }

@@ -23,9 +23,11 @@ abbrev pub element_at : Ty → Made → Made → Option Made
 element_at element whole index = if is_int (out-Ty index.ty) then Some (as_they_are op.Index (whole ∷ index ∷ []) element) else None
 
 -- what a key has
+abbrev pub with_key : Ty → Ty → Made → Made → Made
+with_key key value whole index = made (expression.Op op.Lookup (whole.core ∷ converted index key ∷ [])) value
+
 abbrev pub looked_up : Ty → Ty → Made → Made → Option Made
-looked_up key value whole index =
-    if fits index.ty key then Some (made (expression.Op op.Lookup (whole.core ∷ converted index key ∷ [])) value) else None
+looked_up key value whole index = if fits index.ty key then Some (with_key key value whole index) else None
 
 abbrev pub indexed_by : Ty-F Ty → Made → Made → Option Made
 indexed_by (Ty-F.ListOf element) whole index = element_at element whole index
