@@ -1,7 +1,7 @@
 use Rattle.std.proofs.Common.{◌≡◌, ℕ, sym, ◌∙◌, ap, arith}
 use Rattle.chi_check_expr.proofs.ExprEquations.{made_Chain, noted_Chain, made_Prefix, noted_Prefix, made_Relation, noted_Relation, made_Power, noted_Power, made_Part, noted_Part, made_Int, noted_Int, made_Real, noted_Real, made_Text, noted_Text, made_Bool, noted_Bool, made_Time, noted_Time, made_Named, noted_Named, made_Cast, noted_Cast, made_Round, noted_Round, made_TupleOf, noted_TupleOf, made_ListOf, noted_ListOf, made_SetOf, noted_SetOf, made_DictOf, noted_DictOf, made_EmptyList, noted_EmptyList, made_EmptySet, noted_EmptySet, made_EmptyDict, noted_EmptyDict}
 use Rattle.chi_check_expr.proofs.TypeEquations.{made_Word, noted_Word, made_Defined, noted_Defined, made_List_plain, noted_List_plain, made_List_sized, noted_List_sized, made_Set, noted_Set, made_Dist, noted_Dist, made_Dict, noted_Dict, made_Tuple, noted_Tuple, made_Chan_void, noted_Chan_void, made_Chan_of, noted_Chan_of}
-use Rattle.chi_check_expr.proofs.CallEquations.{made_Call, noted_Call, made_inserted, noted_inserted, made_plain, noted_plain, made_other, noted_other}
+use Rattle.chi_check_expr.proofs.CallEquations.{made_Call, noted_Call, three_items, made_inserted, noted_inserted, made_plain, noted_plain, made_other, noted_other}
 use Rattle.chi_check_expr.proofs.PartEquations.{made_Index, noted_Index, made_Slice, noted_Slice, made_Field, noted_Field, made_untyped, noted_untyped, made_typed, noted_typed}
 use Rattle.chi_check_expr.proofs.Loops.{links_made, links_noted, links_end, parts_made, parts_noted, parts_end, all_made_more, all_noted, all_end, keys_more, values_more, entries_noted, entries_end, first_noted, fields_made, fields_noted, fields_end}
 use Rattle.chi_check_expr.proofs.typing.+typing.Goals as goal
@@ -315,6 +315,48 @@ pub mean_in-returns-in_ok-chan_of-in-Chan-default-default-Some-clause-noted : go
 mean_in-returns-in_ok-chan_of-in-Chan-default-default-Some-clause-noted t c =
     let e = noted_Chan_of c.args.site c.args.scope.now c.args.kept.now c.args.tree.now c.args.sizes _ _ _ c.in-Chan-default-default-Some.is in
     cc (e, c.in_ok-carried-in-Chan-default-default-Some.ensures.noted, c.in_ok-carried-in-Chan-default-default-Some.ensures.made, c.in_ok-chan_of-in-Chan-default-default-Some.ensures.noted)
+
+-- ---- calls
+
+pub type_call-returns-in_ok-insert-in-len3-clause-made : goal.type_call-returns-in_ok-insert-in-len3-clause-made
+type_call-returns-in_ok-insert-in-len3-clause-made t c =
+    let i = sym c.is_insertion.ensures ∙ c.if-is_insertion.true in
+    let h = three_items c.args.arguments.now c.list-item.result c.element-item.result c.third-item.result c.in-len3.is c.list-item.is c.element-item.is c.third-item.is in
+    let e = made_inserted c.args.site c.args.scope.now c.args.name.now c.args.arguments.now _ _ _ h i in
+    cc (e, c.in_ok-list-in-len3.ensures.made, c.in_ok-element-in-len3.ensures.made, c.in_ok-insert-in-len3.ensures.made)
+
+pub type_call-returns-in_ok-insert-in-len3-clause-noted : goal.type_call-returns-in_ok-insert-in-len3-clause-noted
+type_call-returns-in_ok-insert-in-len3-clause-noted t c =
+    let i = sym c.is_insertion.ensures ∙ c.if-is_insertion.true in
+    let h = three_items c.args.arguments.now c.list-item.result c.element-item.result c.third-item.result c.in-len3.is c.list-item.is c.element-item.is c.third-item.is in
+    let e = noted_inserted c.args.site c.args.scope.now c.args.kept.now c.args.name.now c.args.arguments.now _ _ _ h i in
+    let a = c.in_ok-list-in-len3.ensures in
+    let b = c.in_ok-element-in-len3.ensures in
+    cc (e, a.made, a.noted, b.made, b.noted, c.in_ok-insert-in-len3.ensures.noted)
+
+pub type_call-returns-in_ok-call-in-len3-clause-made : goal.type_call-returns-in_ok-call-in-len3-clause-made
+type_call-returns-in_ok-call-in-len3-clause-made t c =
+    let i = sym c.is_insertion.ensures ∙ c.if-is_insertion.false in
+    let e = made_plain c.args.site c.args.scope.now c.args.name.now c.args.arguments.now i in
+    cc (e, c.in_ok-parts-in-len3.ensures.made, c.in_ok-call-in-len3.ensures.made)
+
+pub type_call-returns-in_ok-call-in-len3-clause-noted : goal.type_call-returns-in_ok-call-in-len3-clause-noted
+type_call-returns-in_ok-call-in-len3-clause-noted t c =
+    let i = sym c.is_insertion.ensures ∙ c.if-is_insertion.false in
+    let e = noted_plain c.args.site c.args.scope.now c.args.kept.now c.args.name.now c.args.arguments.now i in
+    let p = c.in_ok-parts-in-len3.ensures in
+    cc (e, p.made, p.noted, c.in_ok-call-in-len3.ensures.noted)
+
+pub type_call-returns-in_ok-call-in_default-clause-made : goal.type_call-returns-in_ok-call-in_default-clause-made
+type_call-returns-in_ok-call-in_default-clause-made t c =
+    let e = made_other c.args.site c.args.scope.now c.args.name.now c.args.arguments.now c.in_default.not-len3 in
+    cc (e, c.in_ok-parts-in_default.ensures.made, c.in_ok-call-in_default.ensures.made)
+
+pub type_call-returns-in_ok-call-in_default-clause-noted : goal.type_call-returns-in_ok-call-in_default-clause-noted
+type_call-returns-in_ok-call-in_default-clause-noted t c =
+    let e = noted_other c.args.site c.args.scope.now c.args.kept.now c.args.name.now c.args.arguments.now c.in_default.not-len3 in
+    let p = c.in_ok-parts-in_default.ensures in
+    cc (e, p.made, p.noted, c.in_ok-call-in_default.ensures.noted)
 
 -- ---- parts of a whole
 
