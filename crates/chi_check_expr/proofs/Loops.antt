@@ -1,5 +1,5 @@
 -- Private to proofs. The loops over parts: what is left after one more.
-use Rattle.std.proofs.Common.{ℕ, zero, suc, false, ◌≡◌, ◌+◌, ◌<◌, ◌≤◌, List, [], ◌∷◌, ◌++◌, map, drop, length, get_or, Option, Some, None, refl, sym, ap, ◌∙◌, arith, add-one, drop-cons, append_assoc}
+use Rattle.std.proofs.Common.{ℕ, zero, suc, false, ◌≡◌, ◌+◌, ◌<◌, ◌≤◌, List, [], ◌∷◌, ◌++◌, map, drop, length, get_or, Option, Some, None, refl, sym, ap, ◌∙◌, arith, add-one, drop-cons, append_assoc, append-nil}
 use Rattle.std.specs.Prelude.{option_map}
 use Rattle.std.specs.Option.{option_and_then}
 use Rattle.chi_token.specs.declared.place.Place.{Place}
@@ -60,6 +60,9 @@ module _ (site : Site) (names : Names) where
   pub links_end : (kept : Option Fault) (left : Option Made) (ls : List Link) (i : ℕ) → length ls ≤ i → first_of kept (chained left (map (linked site names) (drop i ls))).faults ≡ kept
   links_end kept left ls i h = ap (λ ls. first_of kept (chained left (map (linked site names) ls)).faults) (nothing_left ls i h) ∙ first_of_none kept [] refl
 
+  pub links_left : (left : Option Made) (ls : List Link) (i : ℕ) → length ls ≤ i → (chained left (map (linked site names) (drop i ls))).made ≡ left
+  links_left left ls i h = ap (λ ls. (chained left (map (linked site names) ls)).made) (nothing_left ls i h)
+
   -- ---- parts of a whole
 
   pub parts_made : (whole : Option Made) (ps : List Postfix) (i : ℕ) (p : Postfix) → i < length ps → p ≡ get_or ps i p
@@ -73,6 +76,9 @@ module _ (site : Site) (names : Names) where
   pub parts_end : (kept : Option Fault) (whole : Option Made) (ps : List Postfix) (i : ℕ) → length ps ≤ i → first_of kept (parted whole (map (taken site names) (drop i ps))).faults ≡ kept
   parts_end kept whole ps i h = ap (λ ps. first_of kept (parted whole (map (taken site names) ps)).faults) (nothing_left ps i h) ∙ first_of_none kept [] refl
 
+  pub parts_left : (whole : Option Made) (ps : List Postfix) (i : ℕ) → length ps ≤ i → (parted whole (map (taken site names) (drop i ps))).made ≡ whole
+  parts_left whole ps i h = ap (λ ps. (parted whole (map (taken site names) ps)).made) (nothing_left ps i h)
+
   -- ---- several expressions
 
   pub all_made_more : (done : List (Option Made)) (es : List Expr) (i : ℕ) (e : Expr) → i < length es → e ≡ get_or es i e
@@ -85,6 +91,9 @@ module _ (site : Site) (names : Names) where
 
   pub all_end : (kept : Option Fault) (es : List Expr) (i : ℕ) → length es ≤ i → first_of kept (all_faults (map (typing site names) (drop i es))) ≡ kept
   all_end kept es i h = ap (λ es. first_of kept (all_faults (map (typing site names) es))) (nothing_left es i h) ∙ first_of_none kept [] refl
+
+  pub all_left : (done : List (Option Made)) (es : List Expr) (i : ℕ) → length es ≤ i → done ++ map made_of (map (typing site names) (drop i es)) ≡ done
+  all_left done es i h = ap (λ es. done ++ map made_of (map (typing site names) es)) (nothing_left es i h) ∙ append-nil done
 
   -- ---- entries
 
@@ -106,6 +115,12 @@ module _ (site : Site) (names : Names) where
   pub entries_end : (kept : Option Fault) (es : List Entry) (i : ℕ) → length es ≤ i → first_of kept (entry_faults (map (paired site names) (drop i es))) ≡ kept
   entries_end kept es i h = ap (λ es. first_of kept (entry_faults (map (paired site names) es))) (nothing_left es i h) ∙ first_of_none kept [] refl
 
+  pub keys_left : (done : List (Option Made)) (es : List Entry) (i : ℕ) → length es ≤ i → done ++ map key_made (map (paired site names) (drop i es)) ≡ done
+  keys_left done es i h = ap (λ es. done ++ map key_made (map (paired site names) es)) (nothing_left es i h) ∙ append-nil done
+
+  pub values_left : (done : List (Option Made)) (es : List Entry) (i : ℕ) → length es ≤ i → done ++ map value_made (map (paired site names) (drop i es)) ≡ done
+  values_left done es i h = ap (λ es. done ++ map value_made (map (paired site names) es)) (nothing_left es i h) ∙ append-nil done
+
   -- ---- fields
 
   pub fields_noted : (kept : Option Fault) (fs : List Formal) (i : ℕ) (f : Formal) → i < length fs → f ≡ get_or fs i f
@@ -114,6 +129,13 @@ module _ (site : Site) (names : Names) where
 
   pub fields_end : (kept : Option Fault) (fs : List Formal) (i : ℕ) → length fs ≤ i → first_of kept (each_field_faults (map (formal site names) (drop i fs))) ≡ kept
   fields_end kept fs i h = ap (λ fs. first_of kept (each_field_faults (map (formal site names) fs))) (nothing_left fs i h) ∙ first_of_none kept [] refl
+
+  joined_nothing : (done : Option (List (List ℕ × Ty))) → joined_on done (Some []) ≡ done
+  joined_nothing None = refl
+  joined_nothing (Some done) = ap Some (append-nil done)
+
+  pub fields_left : (done : Option (List (List ℕ × Ty))) (last : Option Ty) (fs : List Formal) (i : ℕ) → length fs ≤ i → joined_on done (parts_from last (map (formal site names) (drop i fs))) ≡ done
+  fields_left done last fs i h = ap (λ fs. joined_on done (parts_from last (map (formal site names) fs))) (nothing_left fs i h) ∙ joined_nothing done
 
   one_more : (name : List ℕ) (done : Option (List (List ℕ × Ty))) (t : Option Ty) (rest : Ty → Option (List (List ℕ × Ty)))
       → joined_on done (option_and_then (λ t. option_map (λ parts. (name, t) ∷ parts) (rest t)) t) ≡ joined_on (option_and_then (λ done. option_map (λ t. done ++ (name, t) ∷ []) t) done) (option_and_then rest t)

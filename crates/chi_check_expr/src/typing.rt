@@ -1,8 +1,6 @@
 //! The walk over expressions and types. Each arm types the parts, all of them whatever the first came to, and
 //! then calls the rule of its node. What is kept is the first broken rule so far.
 
-#![tactic(none)]
-
 ghost use Rattle.std.specs.Prelude.{◌≡◌, [], ◌∷◌, map, Option, None, IfOk, OnOk, option_map};
 ghost use Rattle.chi_typing.specs.Faults.{first_of};
 ghost use Rattle.chi_typing.specs.Names.{known_in};

@@ -3,7 +3,7 @@ use Rattle.chi_check_expr.proofs.ExprEquations.{made_Chain, noted_Chain, made_Pr
 use Rattle.chi_check_expr.proofs.TypeEquations.{made_Word, noted_Word, made_Defined, noted_Defined, made_List_plain, noted_List_plain, made_List_sized, noted_List_sized, made_Set, noted_Set, made_Dist, noted_Dist, made_Dict, noted_Dict, made_Tuple, noted_Tuple, made_Chan_void, noted_Chan_void, made_Chan_of, noted_Chan_of}
 use Rattle.chi_check_expr.proofs.CallEquations.{made_Call, noted_Call, three_items, made_inserted, noted_inserted, made_plain, noted_plain, made_other, noted_other}
 use Rattle.chi_check_expr.proofs.PartEquations.{made_Index, noted_Index, made_Slice, noted_Slice, made_Field, noted_Field, made_untyped, noted_untyped, made_typed, noted_typed}
-use Rattle.chi_check_expr.proofs.Loops.{links_made, links_noted, links_end, parts_made, parts_noted, parts_end, all_made_more, all_noted, all_end, keys_more, values_more, entries_noted, entries_end, first_noted, fields_made, fields_noted, fields_end}
+use Rattle.chi_check_expr.proofs.Loops.{links_made, links_noted, links_end, links_left, parts_made, parts_noted, parts_end, parts_left, all_made_more, all_noted, all_end, all_left, keys_left, values_left, fields_left, keys_more, values_more, entries_noted, entries_end, first_noted, fields_made, fields_noted, fields_end}
 use Rattle.chi_check_expr.proofs.typing.+typing.Goals as goal
 
 pub type_in-returns-in_ok-type_links-in-Chain-clause-made : goal.type_in-returns-in_ok-type_links-in-Chain-clause-made
@@ -404,6 +404,11 @@ type_links-loop-link-preserved t c =
     let s = c.in_ok-left.ensures in
     record { made = cc (l.invariant.made, m, r.made, s.made); noted = cc (l.invariant.noted, n, r.made, r.noted, s.made, s.noted) }
 
+pub type_links-returns-clause-made : goal.type_links-returns-clause-made
+type_links-returns-clause-made t c =
+    let l = c.loop-link in
+    sym (l.invariant.made ∙ links_left c.args.site c.args.scope.now l.left c.args.links.now l.link-index (omega arith))
+
 pub type_links-returns-clause-noted : goal.type_links-returns-clause-noted
 type_links-returns-clause-noted t c =
     let l = c.loop-link in
@@ -417,6 +422,11 @@ type_parts-loop-postfix-preserved t c =
     let r = c.in_ok-part.ensures in
     record { made = cc (l.invariant.made, m, r.made); noted = cc (l.invariant.noted, n, r.made, r.noted) }
 
+pub type_parts-returns-clause-made : goal.type_parts-returns-clause-made
+type_parts-returns-clause-made t c =
+    let l = c.loop-postfix in
+    sym (l.invariant.made ∙ parts_left c.args.site c.args.scope.now l.part c.args.postfixes.now l.postfix-index (omega arith))
+
 pub type_parts-returns-clause-noted : goal.type_parts-returns-clause-noted
 type_parts-returns-clause-noted t c =
     let l = c.loop-postfix in
@@ -429,6 +439,12 @@ type_all-loop-part-preserved t c =
     let n = all_noted c.args.site c.args.scope.now l.kept c.args.parts.now l.part-index c.part-item.result c.loop-part-test.true c.part-item.is in
     let r = c.in_ok-made.ensures in
     record { made = cc (l.invariant.made, m, r.made, c.in_ok-push.ensures.items); noted = cc (l.invariant.noted, n, r.noted) }
+
+pub type_all-returns-in_ok-of-clause-made : goal.type_all-returns-in_ok-of-clause-made
+type_all-returns-in_ok-of-clause-made t c =
+    let l = c.loop-part in
+    let e = l.invariant.made ∙ all_left c.args.site c.args.scope.now l.all.items c.args.parts.now l.part-index (omega arith) in
+    cc (e, c.in_ok-of.ensures)
 
 pub type_all-returns-in_ok-of-clause-noted : goal.type_all-returns-in_ok-of-clause-noted
 type_all-returns-in_ok-of-clause-noted t c =
@@ -444,6 +460,18 @@ type_entries-loop-entry-preserved t c =
     let a = c.in_ok-key.ensures in
     let b = c.in_ok-value.ensures in
     record { keys = cc (l.invariant.keys, k, a.made, c.in_ok-push.ensures.items); values = cc (l.invariant.values, v, b.made, c.in_ok-push-2.ensures.items); noted = cc (l.invariant.noted, n, a.noted, b.noted) }
+
+pub type_entries-returns-in_ok-values-clause-keys : goal.type_entries-returns-in_ok-values-clause-keys
+type_entries-returns-in_ok-values-clause-keys t c =
+    let l = c.loop-entry in
+    let e = l.invariant.keys ∙ keys_left c.args.site c.args.scope.now l.keys.items c.args.entries.now l.entry-index (omega arith) in
+    cc (e, c.in_ok-keys.ensures)
+
+pub type_entries-returns-in_ok-values-clause-values : goal.type_entries-returns-in_ok-values-clause-values
+type_entries-returns-in_ok-values-clause-values t c =
+    let l = c.loop-entry in
+    let e = l.invariant.values ∙ values_left c.args.site c.args.scope.now l.values.items c.args.entries.now l.entry-index (omega arith) in
+    cc (e, c.in_ok-values.ensures)
 
 pub type_entries-returns-in_ok-values-clause-noted : goal.type_entries-returns-in_ok-values-clause-noted
 type_entries-returns-in_ok-values-clause-noted t c =
@@ -464,6 +492,11 @@ mean_fields-loop-field-preserved t c =
     let n = fields_noted c.args.site c.args.scope.now l.kept c.args.fields.now l.field-index c.field-item.result c.loop-field-test.true c.field-item.is in
     let r = c.in_ok-ty.ensures in
     record { made = cc (l.invariant.made, m, r.made, c.in_ok-parts.ensures); noted = cc (l.invariant.noted, n, r.noted) }
+
+pub mean_fields-returns-clause-made : goal.mean_fields-returns-clause-made
+mean_fields-returns-clause-made t c =
+    let l = c.loop-field in
+    sym (l.invariant.made ∙ fields_left c.args.site c.args.scope.now l.parts l.last c.args.fields.now l.field-index (omega arith))
 
 pub mean_fields-returns-clause-noted : goal.mean_fields-returns-clause-noted
 mean_fields-returns-clause-noted t c =
