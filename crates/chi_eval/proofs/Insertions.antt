@@ -1,5 +1,5 @@
 -- Insertion by a function: how far the elements are passed, and what then comes.
-use Rattle.std.proofs.Common.{◌≡◌, ◌≢◌, ℕ, suc, ◌+◌, ◌<◌, ◌≤◌, Bool, true, false, List, [], ◌∷◌, Option, Some, None, length, drop, get_or, refl, ap, sym, subst, ◌∙◌, arith}
+use Rattle.std.proofs.Common.{◌≡◌, ◌≢◌, ℕ, suc, ◌+◌, ◌<◌, ◌≤◌, Bool, true, false, List, [], ◌∷◌, Some, None, length, drop, get_or, refl, ap, sym, subst, ◌∙◌, arith}
 use Rattle.std.proofs.lemmas.List.{drop_more, drop_all}
 use Rattle.chi_value.specs.declared.value.Value.{Value, Value-F, out-Value}
 use Rattle.chi_ops.specs.Sequences.{insert_at}
@@ -16,7 +16,7 @@ use Rattle.chi_core.proofs.Equations.{eval_insert}
 use Rattle.chi_eval.specs.declared.stop.Stop.{Stop}
 use Rattle.chi_eval.specs.Calls.{before_by}
 use Rattle.chi_eval.specs.Stops.{Stops}
-use Rattle.chi_eval.proofs.Stopping.{then_stops, then_there, next_there, giving_stops}
+use Rattle.chi_eval.proofs.Stopping.{then_stops, then_there, giving_stops}
 
 -- the list, and where the element goes
 module _ (run : Run) (k : ℕ) (xs x : Value) (view : View) where

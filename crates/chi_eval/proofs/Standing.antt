@@ -1,5 +1,5 @@
 -- Where the value of an expression isn't amiss, nor is that of its parts, and each is of its kind.
-use Rattle.std.proofs.Common.{◌≡◌, ◌≢◌, ℕ, zero, suc, ◌∙◌, ◌<◌, Bool, true, false, List, [], ◌∷◌, Option, Some, None, length, map, ap, refl, slice_get, arith}
+use Rattle.std.proofs.Common.{◌≡◌, ◌≢◌, ℕ, ◌∙◌, Bool, true, false, List, Option, Some, None, map, ap, refl, slice_get}
 use Rattle.std.specs.Prelude.{nat_eq, if◌then◌else◌}
 use Rattle.std.specs.Option.{option_and_then}
 use Rattle.chi_core.specs.declared.program.FuncDef.{FuncDef}
