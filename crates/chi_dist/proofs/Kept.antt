@@ -1,5 +1,5 @@
 -- What a draw makes of a stream that is kept, and of the list of streams.
-use Rattle.std.proofs.Common.{◌≡◌, ℕ, zero, suc, ◌∷◌, ◌+◌, ◌*◌, ◌/◌, ◌^◌, ◌<◌, List, length, set, get_or, replicate, slice_get, Some, IsSomeAnd, ⊎_elim, refl, sym, ap, ◌∙◌, arith}
+use Rattle.std.proofs.Common.{◌≡◌, ℕ, zero, suc, ◌∷◌, ◌+◌, ◌*◌, ◌/◌, ◌%◌, ◌^◌, ◌<◌, List, length, set, get_or, replicate, slice_get, Some, IsSomeAnd, ⊎_elim, refl, sym, ap, ◌∙◌, arith}
 use Rattle.std.proofs.Math.Nat.{div-add-mod}
 use Rattle.std.proofs.lemmas.List.{length-map, length-replicate, get_or-map, map-set, get_or-set_same, get_or-set_other}
 use Rattle.std.proofs.lemmas.Bool.{cases_eq}
@@ -16,6 +16,20 @@ pub kept_new : (seed number state : ℕ) (words : Lcg) → words ≡ started 64 
     → state ≡ words.state → words_at number state ≡ advance 64 multiplier_64 0 (stream_of seed number)
 unfolding stream_of
 kept_new seed number state words new e = rw (e, new, advance_zero) refl
+
+-- so many words are passed at once, whose number wraps
+pub kept_after : (seed number taken state : ℕ) (start words : Lcg) → start ≡ started 64 multiplier_64 seed (increment_of 64 number)
+    → words ≡ advance 64 multiplier_64 (taken * 2 % 2 ^ 64) start → state ≡ words.state
+    → words_at number state ≡ advance 64 multiplier_64 (2 * taken) (stream_of seed number)
+unfolding stream_of
+kept_after seed number taken state start words new jumped e =
+    let s = (stream_of seed number).state in
+    let p = increment_of 64 number in
+    let whole : 2 * taken ≡ taken * 2 / 2 ^ 64 * 2 ^ 64 + taken * 2 % 2 ^ 64 = omega (arith, div-add-mod (taken * 2) (2 ^ 64)) in
+    let same : state_after 64 multiplier_64 p (2 * taken) s ≡ state_after 64 multiplier_64 p (taken * 2 % 2 ^ 64) s =
+    ap (λ n. state_after 64 multiplier_64 p n s) whole ∙ around p (taken * 2 / 2 ^ 64) (taken * 2 % 2 ^ 64) s (start_below seed number)
+    in
+    rw (e, jumped, new) (ap (words_at number) (sym same))
 
 pub kept_draws : (seed number k : ℕ) (words : Lcg) → words ≡ advance 64 multiplier_64 (2 * k) (stream_of seed number)
     → next_draw words ≡ draw seed number k

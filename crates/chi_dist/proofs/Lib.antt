@@ -3,5 +3,5 @@ mod Kept
 mod Period
 mod Rows
 mod Sampled
-mod SampledLaws
+pub mod SampledLaws
 mod Successes

@@ -119,6 +119,10 @@ pub record Draws : Type 0 where
   pub seed : ℕ
   pub taken : List ℕ
 
+-- of this seed, after so many draws taken from each stream
+abbrev pub draws_of : ℕ → List ℕ → Draws
+draws_of seed taken = record { seed = seed; taken = taken }
+
 -- before the first draw
 abbrev pub no_draws : ℕ → Draws
 no_draws seed = record { seed = seed; taken = replicate stream_count 0 }

@@ -1,6 +1,7 @@
 //! Draws from sixty-four streams of random words, and what distributions make of them.
 #![tactic(auto)]
 
+mod counted;
 mod drawn;
 mod fault;
 mod generator;
@@ -9,6 +10,7 @@ mod parameters;
 mod shares;
 mod stream;
 
+pub use counted::sample_after;
 pub use drawn::Drawn;
 pub use fault::DistFault;
 pub use generator::Generator;

@@ -28,6 +28,20 @@ impl Stream {
         }
     }
 
+    /// The stream of a seed that has this number, after so many draws, in a time that doesn't grow with them.
+    #[tactic(auto, using(crate::proofs::Kept::kept_after))]
+    pub fn after(seed: u64, number: u64, taken: u64) -> Stream
+        ensures taken { result.taken ≡ taken }
+        ensures kept { IsKept seed number result }
+    {
+        let mut words = Lcg64Xsh32::new(seed, number);
+        words.advance(taken.wrapping_mul(2));
+        Stream {
+            state: words.state(),
+            taken,
+        }
+    }
+
     /// The next draw of the stream of this number.
     #[tactic(auto, using(crate::proofs::Kept::kept_draws, crate::proofs::Kept::kept_past))]
     pub fn draw(&mut self, number: u64) -> u64

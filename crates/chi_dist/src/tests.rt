@@ -1,4 +1,4 @@
-use crate::{DistFault, Drawn, Generator};
+use crate::{DistFault, Drawn, Generator, sample_after};
 use chi_num::{Dist, Real};
 use std::process::Abort;
 
@@ -126,8 +126,42 @@ fn draws_taken(rt: &impl Abort) {
     }
 }
 
+// After so many draws, which is all that is kept, the next are those of a generator.
+fn samples_by_counts(rt: &impl Abort) {
+    let mut generator = Generator::new(42);
+    let mut taken = [0; 64];
+    for dist in [
+        Dist::UniformInt(0, 1_000, 3),
+        Dist::Binomial(5, real(ONE / 2), 3),
+        Dist::UniformInt(7, 7, 3),
+        Dist::Bernoulli(real(ONE / 2), 60),
+        Dist::UniformReal(real(0), real(ONE), 3),
+        Dist::ConstInt(1),
+    ] {
+        assert_eq!(rt;
+            sample_after(42, &mut taken, &dist),
+            generator.sample(&dist),
+            "{dist:?}"
+        );
+    }
+    assert_eq!(rt; (taken[3], taken[60], taken[0]), (7, 1, 0));
+    // Draw 2 of stream 54 of seed 42, a published word, which 64 bits scale to the number before it.
+    taken[54] = 2;
+    assert_eq!(rt;
+        sample_after(42, &mut taken, &Dist::UniformInt(i64::MIN, i64::MAX, 54)),
+        Ok(Drawn::Int(0x3fa4784bcbed606d))
+    );
+    // A stream begins again after 2^63 draws.
+    taken[54] = 2 + (1 << 63);
+    assert_eq!(rt;
+        sample_after(42, &mut taken, &Dist::UniformInt(i64::MIN, i64::MAX, 54)),
+        Ok(Drawn::Int(0x3fa4784bcbed606d))
+    );
+}
+
 #[test]
 fn samplings(rt: HostRuntime) {
     samples(&rt);
     draws_taken(&rt);
+    samples_by_counts(&rt);
 }

@@ -1,16 +1,10 @@
 pub mod Acting
 pub mod Assigned
-pub mod Bests
 pub mod Binding
-pub mod Casting
 pub mod Choosing
-pub mod Lists
-pub mod Numbers
-pub mod Operations
-pub mod Parts
-pub mod Ranges
+pub mod Insertions
+pub mod Operating
 pub mod Repeating
-pub mod Sizes
 pub mod Slots
 pub mod Spans
 pub mod Spotting
@@ -20,6 +14,4 @@ pub mod Stepped
 pub mod Stopping
 pub mod Storing
 pub mod Tasks
-pub mod Texting
-pub mod Truths
 pub mod Turns

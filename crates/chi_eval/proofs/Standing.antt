@@ -1,5 +1,5 @@
 -- Where the value of an expression isn't amiss, nor is that of its parts, and each is of its kind.
-use Rattle.std.proofs.Common.{◌≡◌, ◌≢◌, ℕ, zero, suc, ◌∙◌, ◌<◌, Bool, true, false, List, [], ◌∷◌, Option, Some, None, length, map, ap, refl, slice_get, arith}
+use Rattle.std.proofs.Common.{◌≡◌, ◌≢◌, ℕ, ◌∙◌, Bool, true, false, List, Option, Some, None, map, ap, refl, slice_get}
 use Rattle.std.specs.Prelude.{nat_eq, if◌then◌else◌}
 use Rattle.std.specs.Option.{option_and_then}
 use Rattle.chi_core.specs.declared.program.FuncDef.{FuncDef}
@@ -12,13 +12,14 @@ use Rattle.chi_core.specs.declared.expression.CExpr.{CExpr}
 use Rattle.chi_core.specs.declared.expression.CExpr.TheVariants as e
 use Rattle.chi_core.specs.declared.scene.Scene.{Scene}
 use Rattle.chi_core.specs.declared.view.View.{View}
-use Rattle.chi_core.specs.Answer.{Does, Gives, Amiss, gives, wanted, in_turn}
+use Rattle.chi_core.specs.Answer.{Does, Gives, Amiss, then_do, gives, wanted, in_turn}
 use Rattle.chi_core.specs.Reading.{truth_of, part_of}
 use Rattle.chi_core.specs.Variables.{Variables, value_at}
 use Rattle.chi_core.specs.Containers.{done}
 use Rattle.chi_core.specs.Operators.{applied}
 use Rattle.chi_core.specs.Evaluation.{Run, eval, on_truth}
 use Rattle.chi_core.proofs.Equations.{eval_var, eval_const, eval_op, eval_and, eval_or, eval_build, eval_part}
+use Rattle.chi_operate.proofs.Parts.{at_place}
 use Rattle.chi_eval.proofs.Stopping.{then_there, next_there}
 
 pub wanted_there : {A : Type 0} (o : Option A) (view : View) → wanted o view ≢ Amiss → o ≢ None
@@ -26,11 +27,6 @@ wanted_there o view h e = h (ap (λ o. wanted o view) e)
 
 on_truth_there : {A : Type 0} (o : Option Bool) (a b : Does A) (view : View) → on_truth o a b view ≢ Amiss → o ≢ None
 on_truth_there o a b view h e = h (ap (λ o. on_truth o a b view) e)
-
-pub at_place : {A : Type 0} (xs : List A) (n : ℕ) → slice_get xs n ≢ None → n < length xs
-at_place [] n h = absurd (h refl)
-at_place (x ∷ xs) zero h = omega arith
-at_place (x ∷ xs) (suc n) h = omega (arith, at_place xs n h)
 
 -- the function that takes so many arguments
 taking_is : (count : ℕ) (f : FuncDef) → taking count f ≢ None → taking count f ≡ Some f
@@ -54,13 +50,8 @@ module _ (run : Run) (scene : Scene) (variables : Variables) (view : View) (x : 
   pub const_there : (k : ℕ) → x ≡ e.Const k → eval run scene variables x view ≢ Amiss → slice_get scene.constants k ≢ None
   const_there k is h = wanted_there (slice_get scene.constants k) view (λ a. h (ap (λ x. eval run scene variables x view) is ∙ eval_const run scene variables view k ∙ a))
 
-  pub op_parts : (name : OpName) (parts : List CExpr) → x ≡ e.Op name parts → eval run scene variables x view ≢ Amiss → in_turn (map (eval run scene variables) parts) view ≢ Amiss
-  op_parts name parts is h = then_there _ (applied scene name) (λ a. h (ap (λ x. eval run scene variables x view) is ∙ eval_op run scene variables view name parts ∙ a))
-
-  pub op_there : (name : OpName) (parts : List CExpr) (values : List Value) (now : View) → x ≡ e.Op name parts → in_turn (map (eval run scene variables) parts) view ≡ Gives values now
-      → eval run scene variables x view ≢ Amiss → applied scene name values now ≢ Amiss
-  op_there name parts values now is got h =
-      next_there _ (applied scene name) values now (λ a. h (ap (λ x. eval run scene variables x view) is ∙ eval_op run scene variables view name parts ∙ a)) got
+  pub op_whole : (name : OpName) (parts : List CExpr) → x ≡ e.Op name parts → eval run scene variables x view ≢ Amiss → then_do (in_turn (map (eval run scene variables) parts) view) (applied scene name) ≢ Amiss
+  op_whole name parts is h a = h (ap (λ x. eval run scene variables x view) is ∙ eval_op run scene variables view name parts ∙ a)
 
   pub build_parts : (kind : Kind) (parts : List CExpr) → x ≡ e.Build kind parts → eval run scene variables x view ≢ Amiss → in_turn (map (eval run scene variables) parts) view ≢ Amiss
   build_parts kind parts is h = then_there _ (λ values. done (build kind values)) (λ a. h (ap (λ x. eval run scene variables x view) is ∙ eval_build run scene variables view kind parts ∙ a))
@@ -109,6 +100,6 @@ module _ (run : Run) (scene : Scene) (variables : Variables) (view : View) (x : 
   or_second a b v now t is got so false_is h c =
       or_next a b v now is got h (ap (λ o. on_truth o (gives v) (eval run scene variables b) now) (so ∙ ap Some false_is) ∙ c)
 
-pub ruleset standing = (var_there, const_there, op_parts, op_there, build_parts, build_there, part_whole, part_there, and_first, and_truth, and_second, or_first, or_truth, or_second)
+pub ruleset standing = (var_there, const_there, op_whole, build_parts, build_there, part_whole, part_there, and_first, and_truth, and_second, or_first, or_truth, or_second)
 
 pub ruleset places = (at_place, callee_place, callee_found)

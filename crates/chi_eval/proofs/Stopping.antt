@@ -2,9 +2,12 @@
 use Rattle.std.proofs.Common.{◌≡◌, ◌≢◌, ◌∙◌, ap}
 use Rattle.chi_core.specs.Answer.{Answer, Does, Gives, Amiss, then_do, giving}
 use Rattle.chi_core.specs.declared.view.View.{View}
+use Rattle.chi_operate.specs.declared.failure.Failure.{Failure}
+use Rattle.chi_operate.specs.declared.failure.Failure.TheVariants as failure
+use Rattle.chi_operate.specs.Failures.{IsFailure}
 use Rattle.chi_eval.specs.declared.stop.Stop.{Stop}
 use Rattle.chi_eval.specs.declared.stop.Stop.TheVariants.{Fault, Spent, NoMemory}
-use Rattle.chi_eval.specs.Stops.{Stops}
+use Rattle.chi_eval.specs.Stops.{Stops, stop_of_failure}
 
 pub then_stops : {A B : Type 0} (stop : Stop) (it : Answer A) (next : A → Does B) → Stops stop it → Stops stop (then_do it next)
 then_stops (Fault kind) it next e = ap (λ a. then_do a next) e
@@ -22,4 +25,9 @@ then_there it next h e = h (ap (λ a. then_do a next) e)
 pub next_there : {A B : Type 0} (it : Answer A) (next : A → Does B) (x : A) (view : View) → then_do it next ≢ Amiss → it ≡ Gives x view → next x view ≢ Amiss
 next_there it next x view h e a = h (ap (λ a. then_do a next) e ∙ a)
 
-pub ruleset stopping = (then_stops, giving_stops)
+-- why operands have no value is why what was asked for has none
+pub failure_stops : {A : Type 0} (f : Failure) (stop : Stop) (it : Answer A) → stop ≡ stop_of_failure f → IsFailure f it → Stops stop it
+failure_stops (failure.Fault kind) stop it s e = rw s e
+failure_stops failure.NoMemory stop it s e = rw s tt
+
+pub ruleset stopping = (then_stops, giving_stops, failure_stops)

@@ -1,9 +1,7 @@
 pub mod Assignments
-pub mod Best
 pub mod Bindings
 pub mod Calls
 pub mod Heads
-pub mod Operands
 pub mod Spans
 pub mod Spots
 pub mod Stops

@@ -1,10 +1,10 @@
 -- Why something has no value, or isn't done.
 use Rattle.std.specs.Prelude.{◌≡◌}
-use Rattle.chi_value.specs.declared.defaults.DefaultFault.{DefaultFault}
-use Rattle.chi_value.specs.declared.defaults.DefaultFault.TheVariants as default
 use Rattle.chi_ops.specs.declared.fault.OpFault.{OpFault}
 use Rattle.chi_ops.specs.declared.fault.OpFault.TheVariants as operation
-use Rattle.chi_core.specs.declared.fault.FaultKind.TheVariants.{TooManyChannels, IndexRange, KeyMissing, EmptyPop, TooLarge, SliceStep}
+use Rattle.chi_core.specs.declared.fault.FaultKind.TheVariants.{IndexRange, KeyMissing, EmptyPop, TooLarge, SliceStep}
+use Rattle.chi_operate.specs.declared.failure.Failure.{Failure}
+use Rattle.chi_operate.specs.declared.failure.Failure.TheVariants as failure
 use Rattle.chi_core.specs.Answer as answer
 use Rattle.chi_core.specs.Answer.{Answer, Fails}
 use Rattle.chi_eval.specs.declared.stop.Stop.{Stop}
@@ -16,10 +16,10 @@ Stops (Fault kind) it = it ≡ Fails kind
 Stops Spent it = it ≡ answer.Spent
 Stops NoMemory it = Unit {0}
 
--- what refuses a default
-abbrev pub stop_of_default : DefaultFault → Stop
-stop_of_default default.TooManyChannels = Fault TooManyChannels
-stop_of_default default.NoMemory = NoMemory
+-- why operands have no value
+abbrev pub stop_of_failure : Failure → Stop
+stop_of_failure (failure.Fault kind) = Fault kind
+stop_of_failure failure.NoMemory = NoMemory
 
 -- what refuses an operation on containers
 abbrev pub stop_of_operation : OpFault → Stop

@@ -8,12 +8,12 @@ ghost use Rattle.chi_eval.specs.Assignments.{all_stored, each_stored};
 ghost use Rattle.chi_eval.specs.Spots.{spot_in};
 ghost use Rattle.chi_eval.specs.Stops.{Stops};
 
-use crate::reading::parts_from;
 use crate::spots::{Spot, store};
 use crate::stop::Stop;
 use crate::variables::Variables;
 use chi_base::NoMemory;
 use chi_core::{CTarget, View};
+use chi_operate::parts_from;
 use chi_value::Value;
 use std::alloc::Global;
 

@@ -1,3 +1,5 @@
+use chi_core::MOST_CALLS;
+
 /// Which calls of functions there may be.
 #[derive(Clone, Copy, Debug)]
 pub enum Calls {
@@ -6,3 +8,6 @@ pub enum Calls {
     /// So many within each other.
     Within(u32),
 }
+
+/// The calls from outside of all functions.
+pub const CALLS: Calls = Calls::Within(MOST_CALLS as u32);

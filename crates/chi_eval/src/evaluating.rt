@@ -9,8 +9,10 @@ ghost use Rattle.chi_eval.specs.Stops.{Stops};
 ghost use Rattle.chi_eval.specs.Surroundings.{value_in, constant_in};
 ghost use Rattle.chi_eval.specs.Terms.{act_first, came_to};
 
-use crate::calling::{self, eval, eval_all, path_of};
-use crate::calls::Calls;
+use crate::calls::{CALLS, Calls};
+use crate::expressions::{eval, eval_all};
+use crate::items;
+use crate::places::path_of;
 use crate::spots::Spot;
 use crate::stop::Stop;
 use crate::surroundings::Surroundings;
@@ -33,7 +35,7 @@ pub fn value_of(
     ensures value { IfOk result (λ v. value_in surroundings.now variables.now e.now view.old ≡ Gives v view.new) }
     ensures stops { IfErr result (λ stop. Stops stop (value_in surroundings.now variables.now e.now view.old)) }
 {
-    Ok(eval(e, alloc, surroundings, Calls::Within(500), variables, view)?)
+    Ok(eval(e, alloc, surroundings, CALLS, variables, view)?)
 }
 
 /// The values of expressions, from left to right.
@@ -49,7 +51,7 @@ pub fn values_of(
     ensures values { IfOk result (λ vs. in_turn (map (value_in surroundings.now variables.now) es.now) view.old ≡ Gives vs.items view.new) }
     ensures stops { IfErr result (λ stop. Stops stop (in_turn (map (value_in surroundings.now variables.now) es.now) view.old)) }
 {
-    Ok(eval_all(es, alloc, surroundings, Calls::Within(500), variables, view)?)
+    Ok(eval_all(es, alloc, surroundings, CALLS, variables, view)?)
 }
 
 /// The value of a constant's expression, which calls no function.
@@ -82,14 +84,7 @@ pub fn spot_of(
     ensures stops { IfErr result (λ stop. Stops stop (spot_of (value_in surroundings.now variables.now) target.now view.old)) }
 {
     let steps = target.steps.as_slice();
-    let path = path_of(
-        steps,
-        alloc,
-        surroundings,
-        Calls::Within(500),
-        variables,
-        view,
-    )?;
+    let path = path_of(steps, alloc, surroundings, CALLS, variables, view)?;
     let slot = target.slot;
     Ok(Spot { slot, path })
 }
@@ -109,12 +104,5 @@ pub fn act<'a>(
     ensures stops { IfErr result (λ stop. Stops stop (act_first (value_in surroundings.now variables.old) variables.old term.old view.old)) }
     ensures kept { result ≡ Err Stop.Spent → (variables.new ≡ variables.old) × (term.new ≡ term.old) }
 {
-    Ok(calling::act(
-        term,
-        alloc,
-        surroundings,
-        Calls::Within(500),
-        variables,
-        view,
-    )?)
+    Ok(items::act(term, alloc, surroundings, CALLS, variables, view)?)
 }

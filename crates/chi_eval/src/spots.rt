@@ -56,7 +56,7 @@ fn store_into(
             Ok(())
         }
         [_, ..] => {
-            let old = variables.get(slot).copy(alloc)?;
+            let old = variables.take(slot);
             match put(alloc, old, path.as_slice(), value) {
                 Ok(changed) => {
                     variables.set(slot, changed);

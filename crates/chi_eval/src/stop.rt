@@ -1,7 +1,7 @@
 use chi_base::NoMemory;
 use chi_core::FaultKind;
+use chi_operate::Failure;
 use chi_ops::OpFault;
-use chi_value::DefaultFault;
 use std::alloc::{AllocError, AllocFailed};
 
 /// Why something has no value, or isn't done.
@@ -47,16 +47,16 @@ impl<T: Drop> From<AllocFailed<T>> for Stop {
     }
 }
 
-impl From<DefaultFault> for Stop {
+impl From<Failure> for Stop {
     ghost use Rattle.std.specs.Prelude.{◌≡◌};
-    ghost use Rattle.chi_eval.specs.Stops.{stop_of_default};
+    ghost use Rattle.chi_eval.specs.Stops.{stop_of_failure};
 
-    ghost from_gives = { λ fault stop. stop ≡ stop_of_default fault };
+    ghost from_gives = { λ failure stop. stop ≡ stop_of_failure failure };
 
-    fn from(fault: DefaultFault) -> Stop {
-        match fault {
-            DefaultFault::TooManyChannels => Stop::Fault(FaultKind::TooManyChannels),
-            DefaultFault::NoMemory => Stop::NoMemory,
+    fn from(failure: Failure) -> Stop {
+        match failure {
+            Failure::Fault(kind) => Stop::Fault(kind),
+            Failure::NoMemory => Stop::NoMemory,
         }
     }
 }

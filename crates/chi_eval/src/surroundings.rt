@@ -1,11 +1,15 @@
 ghost use Rattle.std.specs.Prelude.{◌≡◌, ◌≢◌, None, Some, slice_get};
 ghost use Rattle.chi_core.specs.Functions.{callee};
+ghost use Rattle.chi_operate.specs.Scenery.{scene_of};
+ghost use Rattle.chi_eval.specs.Surroundings.{scene_in};
 
 use chi_core::FuncDef;
+use chi_operate::Scenery;
 use chi_value::{Names, Value};
 
 /// What evaluations read beside variables, with the functions that they may call. It stays as it is
 /// within a step, and nothing of it is copied for one.
+#[derive(Clone, Copy, Debug)]
 pub struct Surroundings<'a> {
     pub functions: &'a [FuncDef],
     /// The names of the enumeration values.
@@ -19,8 +23,21 @@ pub struct Surroundings<'a> {
     pub finished: &'a [bool],
 }
 
+/// What operators read of it.
+pub fn scenery<'a>(s: &Surroundings<'a>) -> Scenery<'a>
+    ensures { scene_of result ≡ scene_in s.now }
+{
+    Scenery {
+        names: s.names,
+        seed: s.seed,
+        clock: s.clock,
+        constants: s.constants,
+        finished: s.finished,
+    }
+}
+
 /// The value of a constant.
-#[tactic(auto, using(crate::proofs::Standing::at_place))]
+#[tactic(auto, using(chi_operate::proofs::Parts::at_place))]
 pub fn constant<'a>(s: &Surroundings<'a>, number: u32) -> &'a Value
     requires { slice_get s.now.constants.now number ≢ None }
     ensures { slice_get s.now.constants.now number ≡ Some result.now }

@@ -1,10 +1,11 @@
 ghost use Rattle.std.specs.Prelude.{◌≡◌, ◌≢◌, ◌<◌, None, Some, IfOk, OnOk, length, slice_set};
 ghost use Rattle.std.specs.Option.{option_copied};
+ghost use Rattle.chi_value.specs.declared.value.Value.{Value};
 ghost use Rattle.chi_eval.specs.Bindings.{bound_parts};
 ghost use Rattle.chi_core.specs.Variables.{variables_of, value_at, with_slot, bound};
 
-use crate::reading::parts_from;
 use chi_base::NoMemory;
+use chi_operate::parts_from;
 use chi_value::Value;
 use std::alloc::Global;
 use std::marker::Model;
@@ -77,6 +78,20 @@ impl Variables {
         ensures { value_at self.now slot ≡ Some result.now }
     {
         match &self.slots[slot as usize] {
+            Some(value) => value,
+            None => unreachable!(),
+        }
+    }
+
+    /// The value of a slot, which is there and set. Afterwards the slot is there and not set.
+    #[tactic(auto, using(crate::proofs::Slots::taking))]
+    pub(crate) fn take(&mut self, slot: u32) -> Value
+        requires { value_at self.old slot ≢ None }
+        ensures value { value_at self.old slot ≡ Some result }
+        ensures size { length self.new ≡ length self.old }
+        ensures set_again { (x : Value) → with_slot slot x self.new ≡ with_slot slot x self.old }
+    {
+        match self.slots[slot as usize].take() {
             Some(value) => value,
             None => unreachable!(),
         }

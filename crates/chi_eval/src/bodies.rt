@@ -1,0 +1,90 @@
+//! Calls of functions, and their bodies.
+
+ghost use Rattle.std.specs.Prelude.{◌≡◌, ◌≢◌, IfOk, IfErr, map};
+ghost use Rattle.chi_core.specs.Answer.{Gives, Amiss};
+ghost use Rattle.chi_core.specs.Functions.{exec};
+ghost use Rattle.chi_core.specs.Terms.{Do};
+ghost use Rattle.chi_eval.specs.Calls.{run_by};
+ghost use Rattle.chi_eval.specs.Stops.{Stops};
+ghost use Rattle.chi_eval.specs.Surroundings.{scene_in};
+
+use crate::calls::Calls;
+use crate::items::act;
+use crate::stop::Stop;
+use crate::surroundings::{Surroundings, function};
+use crate::term::Term;
+use crate::variables::Variables;
+use chi_core::{CStat, FaultKind, View};
+use chi_value::Value;
+use std::alloc::Global;
+
+/// A call of a function.
+#[cycle(eval)]
+#[tactic(auto, using(crate::proofs::Stopping::stopping, crate::proofs::Turns::calling))]
+pub fn call(
+    number: u32,
+    arguments: Vec<Value>,
+    alloc: Global,
+    s: &Surroundings<'_>,
+    calls: Calls,
+    view: &mut View,
+) -> Result<Value, Stop>
+    requires { run_by calls s.now number arguments.items view.old ≢ Amiss }
+    ensures value { IfOk result (λ v. run_by calls s.now number arguments.items view.old ≡ Gives v view.new) }
+    ensures stops { IfErr result (λ stop. Stops stop (run_by calls s.now number arguments.items view.old)) }
+{
+    match calls {
+        Calls::Never => unreachable!(),
+        Calls::Within(more) => {
+            if more == 0 {
+                return Err(Stop::Fault(FaultKind::CallDepth));
+            }
+            let f = function(s, number, arguments.len());
+            let mut variables = Variables::new(alloc, f.slots.as_slice().len(), arguments)?;
+            Ok(run_body(
+                f.body.as_slice(),
+                alloc,
+                s,
+                Calls::Within(more - 1),
+                &mut variables,
+                view,
+            )?)
+        }
+    }
+}
+
+/// A function's body, item by item.
+#[cycle(eval)]
+#[tactic(auto, using(crate::proofs::Stopping::stopping, crate::proofs::Turns::turns))]
+fn run_body(
+    body: &[CStat],
+    alloc: Global,
+    s: &Surroundings<'_>,
+    calls: Calls,
+    variables: &mut Variables,
+    view: &mut View,
+) -> Result<Value, Stop>
+    requires { exec view.old.left (run_by calls s.now) (scene_in s.now) variables.old (map Do body.now) view.old ≢ Amiss }
+    ensures value { IfOk result (λ v. exec view.old.left (run_by calls s.now) (scene_in s.now) variables.old (map Do body.now) view.old ≡ Gives v view.new) }
+    ensures stops { IfErr result (λ stop. Stops stop (exec view.old.left (run_by calls s.now) (scene_in s.now) variables.old (map Do body.now) view.old)) }
+{
+    let mut term = Term::new(alloc, body)?;
+    for turn in 0..view.left {
+        if term.is_empty() {
+            return Err(Stop::Fault(FaultKind::NoReturn));
+        }
+        if view.left == 0 {
+            return Err(Stop::Spent);
+        }
+        view.left -= 1;
+        match act(&mut term, alloc, s, calls, variables, view)? {
+            Some(value) => return Ok(value),
+            None => {}
+        }
+    }
+    if term.is_empty() {
+        Err(Stop::Fault(FaultKind::NoReturn))
+    } else {
+        Err(Stop::Spent)
+    }
+}

@@ -1,0 +1,75 @@
+//! Insertion into lists, by a function.
+
+ghost use Rattle.std.specs.Prelude.{◌≡◌, ◌≢◌, [], ◌∷◌, IfOk, IfErr};
+ghost use Rattle.chi_value.specs.declared.value.Value.{out-Value};
+ghost use Rattle.chi_core.specs.Answer.{Gives, Amiss};
+ghost use Rattle.chi_core.specs.Evaluation.{inserted, place_before};
+ghost use Rattle.chi_eval.specs.Calls.{before_by, run_by};
+ghost use Rattle.chi_eval.specs.Stops.{Stops};
+
+use crate::bodies::call;
+use crate::calls::Calls;
+use crate::scalars::copied;
+use crate::stop::Stop;
+use crate::surroundings::Surroundings;
+use chi_base::NoMemory;
+use chi_core::View;
+use chi_operate::{inserted_at, items_in, truth_in};
+use chi_value::Value;
+use std::alloc::Global;
+
+/// A list with an element before the first of which a function says that it stands before it.
+#[cycle(eval)]
+#[tactic(auto, using(crate::proofs::Stopping::stopping, crate::proofs::Insertions::inserting))]
+pub fn insert_by(
+    xs: &Value,
+    alloc: Global,
+    s: &Surroundings<'_>,
+    calls: Calls,
+    number: u32,
+    x: &Value,
+    view: &mut View,
+) -> Result<Value, Stop>
+    requires { inserted (run_by calls s.now) number xs.now x.now (out-Value xs.now) view.old ≢ Amiss }
+    ensures value { IfOk result (λ v. inserted (run_by calls s.now) number xs.now x.now (out-Value xs.now) view.old ≡ Gives v view.new) }
+    ensures stops { IfErr result (λ stop. Stops stop (inserted (run_by calls s.now) number xs.now x.now (out-Value xs.now) view.old)) }
+{
+    let place = place_before(items_in(xs), alloc, s, calls, number, x, view)?;
+    Ok(inserted_at(alloc, xs, place, x, view)?)
+}
+
+/// How many elements come before the first of which a function says that x stands before it.
+#[cycle(eval)]
+#[tactic(auto, using(crate::proofs::Stopping::stopping, crate::proofs::Insertions::placing))]
+fn place_before(
+    items: &[Value],
+    alloc: Global,
+    s: &Surroundings<'_>,
+    calls: Calls,
+    number: u32,
+    x: &Value,
+    view: &mut View,
+) -> Result<usize, Stop>
+    requires { place_before (before_by (run_by calls s.now) number x.now) items.now view.old ≢ Amiss }
+    ensures place { IfOk result (λ n. place_before (before_by (run_by calls s.now) number x.now) items.now view.old ≡ Gives n view.new) }
+    ensures stops { IfErr result (λ stop. Stops stop (place_before (before_by (run_by calls s.now) number x.now) items.now view.old)) }
+{
+    for place in 0..items.len() {
+        let pair = two_copies(alloc, x, &items[place])?;
+        let holds = call(number, pair, alloc, s, calls, view)?;
+        if truth_in(&holds) {
+            return Ok(place);
+        }
+    }
+    Ok(items.len())
+}
+
+/// Copies of two values.
+fn two_copies(alloc: Global, x: &Value, y: &Value) -> Result<Vec<Value>, NoMemory>
+    ensures { IfOk result (λ pair. pair.items ≡ x.now ∷ y.now ∷ []) }
+{
+    let mut pair = Vec::new(alloc);
+    pair.push(copied(alloc, x)?)?;
+    pair.push(copied(alloc, y)?)?;
+    Ok(pair)
+}

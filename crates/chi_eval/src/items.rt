@@ -1,0 +1,210 @@
+//! The items of terms that functions and processes share.
+
+ghost use Rattle.std.specs.Prelude.{◌≡◌, ◌≢◌, Err, IfOk, IfErr, OnOk, drop};
+ghost use Rattle.chi_core.specs.Answer.{Gives, Amiss};
+ghost use Rattle.chi_core.specs.Terms.{On, act_stat, assigned, chosen, tested};
+ghost use Rattle.chi_core.specs.declared.statement.CStat.{out-CStat};
+ghost use Rattle.chi_eval.specs.Calls.{meaning};
+ghost use Rattle.chi_eval.specs.Stops.{Stops};
+ghost use Rattle.chi_eval.specs.Terms.{act_first, came_to};
+
+use crate::assigning::store_all;
+use crate::calls::Calls;
+use crate::expressions::{eval, eval_all};
+use crate::places::spots_of;
+use crate::stop::Stop;
+use crate::surroundings::Surroundings;
+use crate::term::{Head, Term};
+use crate::variables::Variables;
+use chi_core::{Branch, CExpr, CStat, CTarget, View};
+use chi_operate::{elements_in, truth_in};
+use chi_value::Value;
+use std::alloc::Global;
+
+/// The first item of a term.
+#[cycle(eval)]
+#[tactic(auto, using(crate::proofs::Stopping::stopping, crate::proofs::Turns::acts, crate::proofs::Acting::walking))]
+pub fn act<'a>(
+    term: &mut Term<'a>,
+    alloc: Global,
+    s: &Surroundings<'_>,
+    calls: Calls,
+    variables: &mut Variables,
+    view: &mut View,
+) -> Result<Option<Value>, Stop>
+    requires { act_first (meaning calls s.now variables.old) variables.old term.old view.old ≢ Amiss }
+    ensures value { IfOk result (λ r. act_first (meaning calls s.now variables.old) variables.old term.old view.old ≡ Gives (came_to r variables.new term.new) view.new) }
+    ensures stops { IfErr result (λ stop. Stops stop (act_first (meaning calls s.now variables.old) variables.old term.old view.old)) }
+    ensures kept { result ≡ Err Stop.Spent → (variables.new ≡ variables.old) × (term.new ≡ term.old) }
+{
+    match term.head() {
+        Head::Do(statement) => Ok(act_on(statement, alloc, s, calls, term, variables, view)?),
+        Head::Loop(line, test, block) => {
+            test_loop(test, alloc, s, calls, line, block, term, variables, view)?;
+            Ok(None)
+        }
+        Head::Walk => {
+            term.walk(alloc, variables)?;
+            Ok(None)
+        }
+        Head::End => unreachable!(),
+    }
+}
+
+/// A statement, which stands first.
+#[cycle(eval)]
+#[tactic(auto, using(crate::proofs::Stopping::stopping, crate::proofs::Acting::acting))]
+fn act_on<'a>(
+    statement: &'a CStat,
+    alloc: Global,
+    s: &Surroundings<'_>,
+    calls: Calls,
+    term: &mut Term<'a>,
+    variables: &mut Variables,
+    view: &mut View,
+) -> Result<Option<Value>, Stop>
+    requires { act_stat (meaning calls s.now variables.old) variables.old (out-CStat statement.now) (drop 1 term.old) view.old ≢ Amiss }
+    ensures value { IfOk result (λ r. act_stat (meaning calls s.now variables.old) variables.old (out-CStat statement.now) (drop 1 term.old) view.old ≡ Gives (came_to r variables.new term.new) view.new) }
+    ensures stops { IfErr result (λ stop. Stops stop (act_stat (meaning calls s.now variables.old) variables.old (out-CStat statement.now) (drop 1 term.old) view.old)) }
+    ensures kept { result ≡ Err Stop.Spent → (variables.new ≡ variables.old) × (term.new ≡ term.old) }
+{
+    match statement {
+        CStat::Declare(_, slot, e) => {
+            let value = eval(e, alloc, s, calls, variables, view)?;
+            variables.set(*slot, value);
+            term.drop_first();
+            Ok(None)
+        }
+        CStat::Assign(_, targets, values) => {
+            let places = targets.as_slice();
+            let expressions = values.as_slice();
+            assign(expressions, alloc, s, calls, places, term, variables, view)?;
+            Ok(None)
+        }
+        CStat::If(_, branches, otherwise) => {
+            let tests = branches.as_slice();
+            let last = otherwise.as_slice();
+            choose(tests, alloc, s, calls, last, term, variables, view)?;
+            Ok(None)
+        }
+        CStat::While(line, test, block) => {
+            let turn = block.as_slice();
+            test_loop(test, alloc, s, calls, *line, turn, term, variables, view)?;
+            Ok(None)
+        }
+        CStat::For(line, slots, e, block) => {
+            let container = eval(e, alloc, s, calls, variables, view)?;
+            let elements = elements_in(alloc, container)?;
+            term.drop_first();
+            term.put_walk(*line, slots.as_slice(), elements, block.as_slice())?;
+            Ok(None)
+        }
+        CStat::Break(_) => {
+            term.drop_first();
+            term.leave_loop();
+            Ok(None)
+        }
+        CStat::Continue(_) => {
+            term.drop_first();
+            term.back_to_loop();
+            Ok(None)
+        }
+        CStat::Pass(_) => {
+            term.drop_first();
+            Ok(None)
+        }
+        CStat::Return(_, e) => Ok(Some(eval(e, alloc, s, calls, variables, view)?)),
+        CStat::Exit(_, _) => unreachable!(),
+        CStat::Write(_, _, _) => unreachable!(),
+        CStat::Select(_, _) => unreachable!(),
+        CStat::Run(_, _) => unreachable!(),
+        CStat::Start(_, _) => unreachable!(),
+        CStat::Finish(_, _) => unreachable!(),
+    }
+}
+
+/// The test of a loop, whose statement or turn stands first.
+#[cycle(eval)]
+#[tactic(auto, using(crate::proofs::Stopping::stopping, crate::proofs::Acting::testing))]
+fn test_loop<'a>(
+    test: &'a CExpr,
+    alloc: Global,
+    s: &Surroundings<'_>,
+    calls: Calls,
+    line: u32,
+    block: &'a [CStat],
+    term: &mut Term<'a>,
+    variables: &Variables,
+    view: &mut View,
+) -> Result<(), Stop>
+    requires { tested (meaning calls s.now variables.now) variables.now line test.now block.now (drop 1 term.old) view.old ≢ Amiss }
+    ensures value { OnOk result (tested (meaning calls s.now variables.now) variables.now line test.now block.now (drop 1 term.old) view.old ≡ Gives (On variables.now term.new) view.new) }
+    ensures stops { IfErr result (λ stop. Stops stop (tested (meaning calls s.now variables.now) variables.now line test.now block.now (drop 1 term.old) view.old)) }
+    ensures kept { result ≡ Err Stop.Spent → term.new ≡ term.old }
+{
+    let value = eval(test, alloc, s, calls, variables, view)?;
+    term.drop_first();
+    if truth_in(&value) {
+        term.put_loop(line, test, block)?;
+        term.put_first(block)?;
+        Ok(())
+    } else {
+        Ok(())
+    }
+}
+
+/// The branches of an `if`, whose statement stands first.
+#[cycle(eval)]
+#[tactic(auto, using(crate::proofs::Stopping::stopping, crate::proofs::Choosing::choosing))]
+fn choose<'a>(
+    branches: &'a [Branch],
+    alloc: Global,
+    s: &Surroundings<'_>,
+    calls: Calls,
+    otherwise: &'a [CStat],
+    term: &mut Term<'a>,
+    variables: &Variables,
+    view: &mut View,
+) -> Result<(), Stop>
+    requires { chosen (meaning calls s.now variables.now) variables.now branches.now otherwise.now (drop 1 term.old) view.old ≢ Amiss }
+    ensures value { OnOk result (chosen (meaning calls s.now variables.now) variables.now branches.now otherwise.now (drop 1 term.old) view.old ≡ Gives (On variables.now term.new) view.new) }
+    ensures stops { IfErr result (λ stop. Stops stop (chosen (meaning calls s.now variables.now) variables.now branches.now otherwise.now (drop 1 term.old) view.old)) }
+    ensures kept { result ≡ Err Stop.Spent → term.new ≡ term.old }
+{
+    for branch in branches {
+        let holds = eval(&branch.test, alloc, s, calls, variables, view)?;
+        if truth_in(&holds) {
+            term.drop_first();
+            term.put_first(branch.block.as_slice())?;
+            return Ok(());
+        }
+    }
+    term.drop_first();
+    term.put_first(otherwise)?;
+    Ok(())
+}
+
+/// An assignment, which stands first: the values, then the targets' indexes, then the stores.
+#[cycle(eval)]
+#[tactic(auto, using(crate::proofs::Stopping::stopping, crate::proofs::Assigned::assigning))]
+fn assign(
+    values: &[CExpr],
+    alloc: Global,
+    s: &Surroundings<'_>,
+    calls: Calls,
+    targets: &[CTarget],
+    term: &mut Term<'_>,
+    variables: &mut Variables,
+    view: &mut View,
+) -> Result<(), Stop>
+    requires { assigned (meaning calls s.now variables.old) variables.old targets.now values.now (drop 1 term.old) view.old ≢ Amiss }
+    ensures value { OnOk result (assigned (meaning calls s.now variables.old) variables.old targets.now values.now (drop 1 term.old) view.old ≡ Gives (On variables.new term.new) view.new) }
+    ensures stops { IfErr result (λ stop. Stops stop (assigned (meaning calls s.now variables.old) variables.old targets.now values.now (drop 1 term.old) view.old)) }
+    ensures kept { result ≡ Err Stop.Spent → (variables.new ≡ variables.old) × (term.new ≡ term.old) }
+{
+    let xs = eval_all(values, alloc, s, calls, variables, view)?;
+    let spots = spots_of(targets, alloc, s, calls, variables, view)?;
+    store_all(alloc, targets, spots, xs, variables, view)?;
+    term.drop_first();
+    Ok(())
+}

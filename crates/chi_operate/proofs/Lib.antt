@@ -1,0 +1,13 @@
+pub mod Bests
+pub mod Bounding
+pub mod Casting
+pub mod Drawing
+pub mod Inserting
+pub mod Lists
+pub mod Numbers
+pub mod Operations
+pub mod Parts
+pub mod Ranges
+pub mod Sizes
+pub mod Texting
+pub mod Truths
