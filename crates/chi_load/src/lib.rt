@@ -4,7 +4,7 @@
 
 mod source;
 
-pub use source::{MOST_MACHINES, factory};
+pub use source::{MOST_LENGTH, MOST_MACHINES, factory};
 
 #[cfg(test)]
 mod tests;

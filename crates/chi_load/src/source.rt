@@ -1,4 +1,4 @@
-ghost use Rattle.std.specs.Prelude.{◌≡◌, ◌≤◌, IfOk};
+ghost use Rattle.std.specs.Prelude.{◌≡◌, ◌≤◌, IfOk, length};
 ghost use Rattle.chi_load.specs.Factory.{factory_source};
 
 use chi_base::NoMemory;
@@ -7,11 +7,15 @@ use std::alloc::Global;
 /// The most machines that a factory has.
 pub const MOST_MACHINES: u32 = 1_000;
 
+/// The most bytes that the source of a factory has.
+pub const MOST_LENGTH: usize = 1_024;
+
 /// The source of a factory of `n` machines in a row, through which a hundred lots go.
 pub fn factory(alloc: Global, n: u32) -> Result<Vec<u8>, NoMemory>
     requires some { 1 ≤ n }
     requires most { n ≤ MOST_MACHINES }
     ensures source { IfOk result (λ source. source.items ≡ factory_source n) }
+    ensures short { IfOk result (λ source. length source.items ≤ MOST_LENGTH) }
 {
     let channels = n + 1;
     let source = format!(in alloc;

@@ -12,7 +12,7 @@ use Rattle.chi_tool.specs.declared.task.Purpose.{Purpose}
 use Rattle.chi_tool.specs.declared.task.Purpose.TheVariants.{Simulate, Check}
 use Rattle.chi_tool.specs.Arguments.{Means}
 use Rattle.chi_tool.specs.Call.{Call}
-use Rattle.chi_tool.specs.Headline.{NothingFailed, IsReportedOrLost, AsksFor, AsksForUnbuilt, HasLexicalFault, HasSyntaxFault, IsAskedSource, EndsAs, Ends, IsDone, IsExit, IsFault, HasUnfitArguments, IsExactly}
+use Rattle.chi_tool.specs.Headline.{IsReportedOrLost, AsksFor, AsksForUnbuilt, HasLexicalFault, HasSyntaxFault, IsAskedSource, EndsAs, Ends, IsDone, IsExit, IsFault, HasUnfitArguments, IsExactly}
 use Rattle.chi_tool.specs.Refusals as refusal
 use Rattle.chi_tool.specs.Refusals.{Report}
 use Rattle.chi_tool.specs.Report.{IsReportOfSource, refused, program, IsReportOfProgram, IsReport}
@@ -21,10 +21,9 @@ use Rattle.chi_tool.specs.Running.{IsRunOf, run_report}
 use Rattle.chi_tool.specs.Settings.{settings_with}
 use Rattle.chi_tool.specs.Sources.{IsNotBuilt, by_lexer, by_parser, by_form, ComesTo}
 use Rattle.chi_tool.specs.Statuses.{status_of}
-use Rattle.chi_tool.specs.Words.{unbuilt, wish_of}
 use Rattle.chi_tool.proofs.Cases.{CaseOf, asks_nothing, asks_unbuilt, is_missing, is_long, of_source, case_of, asked_report, unbuilt_report}
-use Rattle.chi_tool.proofs.LawClauses.{RunLaw, ReportLaw}
-use Rattle.chi_tool.proofs.Promises.{MeetsOne}
+use Rattle.chi_tool.proofs.LawClauses.{ReportLaw}
+use Rattle.chi_tool.proofs.Promises.{MetOne}
 use Rattle.chi_tool.proofs.Verdicts.{status_bound, completed_by, exit_by, deadlock_by, fault_by, out_of_steps_by, stopped_by}
 
 pub status_ap : (r s : Report) → r ≡ s → r.status ≡ s.status
@@ -213,9 +212,9 @@ exactly : (r : Report) (call : Call) (n : ℕ) (cause : Type 0) → n ≢ 6 → 
 exactly r call n cause above (inl wanting) to from = ((λ is. absurd (above (sym is ∙ wanting))), λ h. inr wanting)
 exactly r call n cause above (inr met) to from = ((λ is. to (sym met.status ∙ is)), λ h. inl (met.status ∙ from h))
 
-module _ (law : ReportLaw) (call : Call) (files : Files) (one : MeetsOne call files) (none : NothingFailed call) where
+module _ (law : ReportLaw) (call : Call) (files : Files) (one : MetOne call files) where
   met : IsReportedOrLost one.0 call
-  met = one.2.whole none
+  met = one.2
 
   same_status : (s : Report) → IsReport call.words files s → one.0.status ≡ s.status
   same_status s is = status_ap one.0 s (law.one call.words files one.0 s one.1 is)

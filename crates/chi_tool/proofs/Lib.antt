@@ -11,5 +11,6 @@ pub mod Cases
 pub mod Verdicts
 pub mod Causes
 pub mod Served
+pub mod Factories
 pub mod Readings
 pub mod Turns

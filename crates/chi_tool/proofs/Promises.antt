@@ -1,22 +1,24 @@
 -- What follows of a call from how it was served.
-use Rattle.std.proofs.Common.{◌≡◌, ℕ, ◌<◌, true, false, List, [], Option, Some, None, length, ◌⊎◌, inl, inr, sym, subst, refl, arith}
+use Rattle.std.proofs.Common.{◌≡◌, ◌≢◌, ◌∙◌, ℕ, ◌<◌, true, false, List, [], Option, Some, None, length, ◌⊎◌, inl, inr, sym, subst, refl, arith}
 use Rattle.std.specs.Prelude.{IfSome, IsSomeAnd}
 use Rattle.chi_io.specs.Counts.{Rose, Stood}
 use Rattle.chi_io.specs.Shelf.{Files}
 use Rattle.chi_lex.specs.declared.lexer.TheConstants.{MOST_BYTES}
+use Rattle.chi_tool.specs.declared.task.Purpose.{Purpose}
 use Rattle.chi_tool.specs.declared.task.Task.{Task}
-use Rattle.chi_tool.specs.Words.{Wish, nothing, unbuilt, of_task, wish_of}
+use Rattle.chi_tool.specs.declared.task.Task.TheVariants.{OfFile}
+use Rattle.chi_tool.specs.Words.{Wish, nothing, unbuilt, of_task, wish_of, NamesNoFile}
 use Rattle.chi_tool.specs.Refusals.{Report, usage, not_built, no_such_file, file_too_long}
 use Rattle.chi_tool.specs.Report as report
 use Rattle.chi_tool.specs.Report.{IsReportOfFile, IsReportOfWish, IsReport}
 use Rattle.chi_tool.specs.Call.{Call, SinkUse, Took, TookFront, TookSome, SinkStood, ShelfRose}
-use Rattle.chi_tool.specs.Headline.{NothingFailed, IsReported, IsReportedOrLost, IsReportedInFront, IsRefusedByFault, Meets, IsUsage, Headline}
+use Rattle.chi_tool.specs.Headline.{NothingFailed, IsReported, IsReportedOrLost, IsReportedInFront, IsRefusedByFault, Meets, MeetsAlone, Headline, GoesWell, with_files, by_words}
 use Rattle.chi_tool.specs.Delivery.{TookWhole, Delivers, whole, out_broke, log_broke, DeliversReport, Serves, reported, missing, long, failed, lost}
 use Rattle.chi_tool.proofs.Sinks.{whole_front, none_front, broken_front, none_some, none_whole}
 use Rattle.chi_tool.proofs.LawClauses.{ReportLaw}
 
 -- how a call may stand to the report of its words and files
-data Stands (r : Report) (call : Call) : Type 0 where
+pub data Stands (r : Report) (call : Call) : Type 0 where
   delivered : DeliversReport r call.status call.out call.log → Stands r call
   misread : ShelfRose call.shelf → (refusal : Report) → (refusal ≡ no_such_file) ⊎ (refusal ≡ file_too_long)
       → Delivers 4 [] refusal.log call.status call.out call.log → Stands r call
@@ -95,40 +97,40 @@ meets r call s = record {
 abbrev pub MeetsOne : Call → Files → Type 0
 MeetsOne call files = (r : Report) × IsReport call.words files r × Meets r call
 
-by_report : (call : Call) (files : Files) (r : Report) → IsReport call.words files r → Stands r call → MeetsOne call files
+pub by_report : (call : Call) (files : Files) (r : Report) → IsReport call.words files r → Stands r call → MeetsOne call files
 by_report call files r is s = (r, is, meets r call s)
 
 -- whatever the report is
-by_any : ReportLaw → (call : Call) (files : Files) → ((r : Report) → Stands r call) → MeetsOne call files
+pub by_any : ReportLaw → (call : Call) (files : Files) → ((r : Report) → Stands r call) → MeetsOne call files
 by_any law call files s = let p = law.some call.words files in by_report call files p.0 p.1 (s p.0)
 
-pub is_report : (call : Call) (t : Task) (files : Files) (o : Option (List ℕ)) (r : Report) → wish_of call.words ≡ of_task t
-    → files t.file ≡ o → IsReportOfFile o t.purpose r → IsReport call.words files r
-is_report call t files o r asked there is =
+pub is_report : (call : Call) (name : List ℕ) (purpose : Purpose) (files : Files) (o : Option (List ℕ)) (r : Report)
+    → wish_of call.words ≡ of_task (OfFile name purpose) → files name ≡ o → IsReportOfFile o purpose r → IsReport call.words files r
+is_report call name purpose files o r asked there is =
     let at_wish : Wish → Type 0 = λ w. IsReportOfWish w files r in
-    let at_file : Option (List ℕ) → Type 0 = λ x. IsReportOfFile x t.purpose r in
+    let at_file : Option (List ℕ) → Type 0 = λ x. IsReportOfFile x purpose r in
     subst at_wish (sym asked) (subst at_file (sym there) is)
 
-pub served_told : ReportLaw → (call : Call) (t : Task) (files : Files) → wish_of call.words ≡ of_task t → call.shelf.files ≡ Some files
-    → Serves t.file t.purpose call.shelf call.status call.out call.log → MeetsOne call files
-served_told law call t files asked told (reported source within is r of d) =
-    let P : Option Files → Type 0 = λ o. IfSome o (λ f. f t.file ≡ Some source) in
-    by_report call files r (is_report call t files (Some source) r asked (subst P told is) (report.fetched source refl within of)) (delivered d)
-served_told law call t files asked told (missing (inr rose) d) = by_any law call files (λ r. misread rose no_such_file (inl refl) d)
-served_told law call t files asked told (missing (inl lacks) d) =
-    let P : Option Files → Type 0 = λ o. IsSomeAnd o (λ f. f t.file ≡ None) in
-    by_report call files no_such_file (is_report call t files None no_such_file asked (subst P told lacks) (report.missing refl refl)) (delivered d)
-served_told law call t files asked told (long (inr rose) d) = by_any law call files (λ r. misread rose file_too_long (inr refl) d)
-served_told law call t files asked told (long (inl exceeds) d) =
-    let P : Option Files → Type 0 = λ o. IsSomeAnd o (λ f. IsSomeAnd (f t.file) (λ source. MOST_BYTES < length source)) in
-    by_file (files t.file) refl (subst P told exceeds)
+pub served_told : ReportLaw → (call : Call) (name : List ℕ) (purpose : Purpose) (files : Files) → wish_of call.words ≡ of_task (OfFile name purpose) → call.shelf.files ≡ Some files
+    → Serves name purpose call.shelf call.status call.out call.log → MeetsOne call files
+served_told law call name purpose files asked told (reported source within is r of d) =
+    let P : Option Files → Type 0 = λ o. IfSome o (λ f. f name ≡ Some source) in
+    by_report call files r (is_report call name purpose files (Some source) r asked (subst P told is) (report.fetched source refl within of)) (delivered d)
+served_told law call name purpose files asked told (missing (inr rose) d) = by_any law call files (λ r. misread rose no_such_file (inl refl) d)
+served_told law call name purpose files asked told (missing (inl lacks) d) =
+    let P : Option Files → Type 0 = λ o. IsSomeAnd o (λ f. f name ≡ None) in
+    by_report call files no_such_file (is_report call name purpose files None no_such_file asked (subst P told lacks) (report.missing refl refl)) (delivered d)
+served_told law call name purpose files asked told (long (inr rose) d) = by_any law call files (λ r. misread rose file_too_long (inr refl) d)
+served_told law call name purpose files asked told (long (inl exceeds) d) =
+    let P : Option Files → Type 0 = λ o. IsSomeAnd o (λ f. IsSomeAnd (f name) (λ source. MOST_BYTES < length source)) in
+    by_file (files name) refl (subst P told exceeds)
   where
-    by_file : (o : Option (List ℕ)) → files t.file ≡ o → IsSomeAnd o (λ source. MOST_BYTES < length source) → MeetsOne call files
+    by_file : (o : Option (List ℕ)) → files name ≡ o → IsSomeAnd o (λ source. MOST_BYTES < length source) → MeetsOne call files
     by_file None there e = absurd e
     by_file (Some source) there e =
-        by_report call files file_too_long (is_report call t files (Some source) file_too_long asked there (report.long source refl e refl)) (delivered d)
-served_told law call t files asked told (failed rose status out log) = by_any law call files (λ r. silent rose status out log)
-served_told law call t files asked told (lost status out log) = by_any law call files (λ r. wanting status out log)
+        by_report call files file_too_long (is_report call name purpose files (Some source) file_too_long asked there (report.long source refl e refl)) (delivered d)
+served_told law call name purpose files asked told (failed rose status out log) = by_any law call files (λ r. silent rose status out log)
+served_told law call name purpose files asked told (lost status out log) = by_any law call files (λ r. wanting status out log)
 
 -- what holds where the shelf tells its files
 pub where_told : {P : Files → Type 0} (o : Option Files) → ((files : Files) → o ≡ Some files → P files) → IfSome o P
@@ -138,28 +140,31 @@ where_told (Some files) p = p files refl
 pub goes_stopped : (sink : SinkUse) → sink.stopped ≡ false → sink.stopped ≡ true → ⊥
 goes_stopped sink goes stopped = cc
 
-delivered_stopped : (status result : ℕ) (output lines : List ℕ) (out log : SinkUse) → Delivers status output lines result out log
+pub delivered_stopped : (status result : ℕ) (output lines : List ℕ) (out log : SinkUse) → Delivers status output lines result out log
     → out.stopped ≡ true → Took log []
 delivered_stopped status result output lines out log (whole s o l) stopped = absurd (goes_stopped out o.goes stopped)
 delivered_stopped status result output lines out log (out_broke s o l) stopped = l.took
 delivered_stopped status result output lines out log (log_broke s o l) stopped = absurd (goes_stopped out o.goes stopped)
 
-served_stopped : (call : Call) (t : Task) → Serves t.file t.purpose call.shelf call.status call.out call.log → call.out.stopped ≡ true → Took call.log []
-served_stopped call t (reported source within is r of d) stopped = delivered_stopped _ _ _ _ call.out call.log d stopped
-served_stopped call t (missing cause d) stopped = delivered_stopped _ _ _ _ call.out call.log d stopped
-served_stopped call t (long cause d) stopped = delivered_stopped _ _ _ _ call.out call.log d stopped
-served_stopped call t (failed rose status out log) stopped = log.took
-served_stopped call t (lost status out log) stopped = log.took
+served_stopped : (call : Call) (name : List ℕ) (purpose : Purpose) → Serves name purpose call.shelf call.status call.out call.log → call.out.stopped ≡ true → Took call.log []
+served_stopped call name purpose (reported source within is r of d) stopped = delivered_stopped _ _ _ _ call.out call.log d stopped
+served_stopped call name purpose (missing cause d) stopped = delivered_stopped _ _ _ _ call.out call.log d stopped
+served_stopped call name purpose (long cause d) stopped = delivered_stopped _ _ _ _ call.out call.log d stopped
+served_stopped call name purpose (failed rose status out log) stopped = log.took
+served_stopped call name purpose (lost status out log) stopped = log.took
 
 pub asks_something : (w : Wish) (t : Task) → w ≡ of_task t → w ≡ nothing → ⊥
 asks_something w t asked none = cc
 
-pub served-headline : ReportLaw → (call : Call) (t : Task) → wish_of call.words ≡ of_task t
-    → Serves t.file t.purpose call.shelf call.status call.out call.log → Headline call
-served-headline law call t asked s = record {
-  report = where_told call.shelf.files (λ files told. served_told law call t files asked told s);
-  no_request = λ none. absurd (asks_something (wish_of call.words) t asked none);
-  out_stopped = served_stopped call t s;
+names_file : (w : Wish) (name : List ℕ) (purpose : Purpose) → w ≡ of_task (OfFile name purpose) → NamesNoFile w → ⊥
+names_file w name purpose asked none = subst NamesNoFile asked none
+
+pub served-headline : ReportLaw → (call : Call) (name : List ℕ) (purpose : Purpose) → wish_of call.words ≡ of_task (OfFile name purpose)
+    → Serves name purpose call.shelf call.status call.out call.log → Headline call
+served-headline law call name purpose asked s = record {
+  report = where_told call.shelf.files (λ files told. served_told law call name purpose files asked told s);
+  by_words = λ none files. absurd (names_file (wish_of call.words) name purpose asked none);
+  out_stopped = served_stopped call name purpose s;
 }
 
 pub usage_told : (call : Call) (files : Files) → wish_of call.words ≡ nothing → DeliversReport usage call.status call.out call.log → MeetsOne call files
@@ -181,51 +186,86 @@ pub record IsLost (call : Call) : Type 0 where
 pub lost_told : ReportLaw → (call : Call) (files : Files) → IsLost call → MeetsOne call files
 lost_told law call files l = by_any law call files (λ r. wanting l.status l.out l.log)
 
--- the refusal of words, delivered
-usage_read : (call : Call) → DeliversReport usage call.status call.out call.log → call.status ≡ 4 → ⊥
-usage_read call (whole status out log) is = omega arith
-usage_read call (out_broke status out log) is = omega arith
-usage_read call (log_broke status out log) is = omega arith
+-- a report is delivered, whatever the shelf does
+alone-status : (r : Report) (call : Call) → DeliversReport r call.status call.out call.log → IsReported r call ⊎ ((call.status ≡ 5) ⊎ (call.status ≡ 6))
+alone-status r call (whole status out log) = inl (record { status = status; out = out.took; log = log.took })
+alone-status r call (out_broke status out log) = inr (inl status)
+alone-status r call (log_broke status out log) = inr (inl status)
 
-usage_front : (call : Call) → DeliversReport usage call.status call.out call.log → IsReportedInFront usage call
-usage_front call (whole status out log) = record { out = whole_front call.out [] out.took; log = whole_front call.log usage.log log.took }
-usage_front call (out_broke status out log) = absurd (none_whole call.out out)
-usage_front call (log_broke status out log) = record { out = whole_front call.out [] out.took; log = broken_front call.log usage.log log }
+alone-front : (r : Report) (call : Call) → DeliversReport r call.status call.out call.log → IsReportedInFront r call
+alone-front r call (whole status out log) = record { out = whole_front call.out r.out out.took; log = whole_front call.log r.log log.took }
+alone-front r call (out_broke status out log) = record { out = broken_front call.out r.out out; log = none_front call.log r.log log.took }
+alone-front r call (log_broke status out log) = record { out = whole_front call.out r.out out.took; log = broken_front call.log r.log log }
 
-usage_kept : (call : Call) → DeliversReport usage call.status call.out call.log → IsUsage call
-usage_kept call d = record {
-  whole = λ out log. inr (delivered_whole usage call out log d);
-  front = usage_front call d;
-  read = usage_read call d;
+alone-out_first : (r : Report) (call : Call) → DeliversReport r call.status call.out call.log → TookSome call.log → Took call.out r.out
+alone-out_first r call (whole status out log) some = out.took
+alone-out_first r call (out_broke status out log) some = absurd (none_some call.log log.took some)
+alone-out_first r call (log_broke status out log) some = out.took
+
+alone-read : (r : Report) (call : Call) → r.status ≢ 4 → DeliversReport r call.status call.out call.log → call.status ≡ 4 → ⊥
+alone-read r call other (whole status out log) is = other (sym status ∙ is)
+alone-read r call other (out_broke status out log) is = omega arith
+alone-read r call other (log_broke status out log) is = omega arith
+
+-- the report of words that name no file, delivered
+pub alone : (r : Report) (call : Call) → r.status ≢ 4 → DeliversReport r call.status call.out call.log → MeetsAlone r call
+alone r call other d = record {
+  whole = λ out log. inr (delivered_whole r call out log d);
+  status = alone-status r call d;
+  front = alone-front r call d;
+  out_first = alone-out_first r call d;
+  read = alone-read r call other d;
 }
+
+-- or memory is wanting
+pub alone_lost : (r : Report) (call : Call) → IsLost call → MeetsAlone r call
+alone_lost r call l = record {
+  whole = λ out log. inl l.status;
+  status = inr (inr l.status);
+  front = record { out = none_front call.out r.out l.out.took; log = none_front call.log r.log l.log.took };
+  out_first = λ some. absurd (none_some call.log l.log.took some);
+  read = λ is. let lost = l.status in omega arith;
+}
+
+-- what a call met by its words
+abbrev pub MeetsOneAlone : Call → Files → Type 0
+MeetsOneAlone call files = (r : Report) × IsReport call.words files r × MeetsAlone r call
+
+pub any_alone : ReportLaw → (call : Call) (files : Files) → IsLost call → MeetsOneAlone call files
+any_alone law call files l = let p = law.some call.words files in (p.0, p.1, alone_lost p.0 call l)
 
 pub usage-headline : (call : Call) → wish_of call.words ≡ nothing → DeliversReport usage call.status call.out call.log → Headline call
 usage-headline call none d = record {
   report = where_told call.shelf.files (λ files told. usage_told call files none d);
-  no_request = λ same. usage_kept call d;
+  by_words = λ same files.
+      let at_wish : Wish → Type 0 = λ w. IsReportOfWish w files usage in
+      (usage, subst at_wish (sym none) refl, alone usage call (λ e. omega arith) d);
   out_stopped = delivered_stopped _ _ _ _ call.out call.log d;
 }
-
-asks_unbuilt : (w : Wish) → w ≡ unbuilt → w ≡ nothing → ⊥
-asks_unbuilt w asked none = cc
 
 pub unbuilt-headline : (call : Call) → wish_of call.words ≡ unbuilt → DeliversReport not_built call.status call.out call.log → Headline call
 unbuilt-headline call asked d = record {
   report = where_told call.shelf.files (λ files told. unbuilt_told call files asked d);
-  no_request = λ none. absurd (asks_unbuilt (wish_of call.words) asked none);
+  by_words = λ same files.
+      let at_wish : Wish → Type 0 = λ w. IsReportOfWish w files not_built in
+      (not_built, subst at_wish (sym asked) refl, alone not_built call (λ e. omega arith) d);
   out_stopped = delivered_stopped _ _ _ _ call.out call.log d;
-}
-
-usage_lost : (call : Call) → IsLost call → IsUsage call
-usage_lost call l = record {
-  whole = λ out log. inl l.status;
-  front = record { out = none_front call.out [] l.out.took; log = none_front call.log usage.log l.log.took };
-  read = λ is. let lost = l.status in omega arith;
 }
 
 pub lost-headline : ReportLaw → (call : Call) → IsLost call → Headline call
 lost-headline law call l = record {
   report = where_told call.shelf.files (λ files told. lost_told law call files l);
-  no_request = λ none. usage_lost call l;
+  by_words = λ none files. any_alone law call files l;
   out_stopped = λ stopped. absurd (goes_stopped call.out l.out.goes stopped);
 }
+
+-- the report that is met where all goes well
+abbrev pub MetOne : Call → Files → Type 0
+MetOne call files = (r : Report) × IsReport call.words files r × IsReportedOrLost r call
+
+pub met_of : (call : Call) → Headline call → (files : Files) → GoesWell call files → MetOne call files
+met_of call h files (with_files told none) =
+    let P : Option Files → Type 0 = λ o. IfSome o (λ f. MeetsOne call f) in
+    let p : MeetsOne call files = subst P told h.report in
+    (p.0, p.1, p.2.whole none)
+met_of call h files (by_words no_file out log) = let p = h.by_words no_file files in (p.0, p.1, p.2.whole out log)

@@ -4,6 +4,7 @@ use Rattle.std.specs.Prelude.{Result, Ok, Err, slice_get}
 use Rattle.chi_cli.specs.declared.args.ArgFault.{ArgFault}
 use Rattle.chi_cli.specs.Arguments.{values_of}
 use Rattle.chi_io.specs.Shelf.{Files}
+use Rattle.chi_load.specs.Factory.{factory_source}
 use Rattle.chi_lex.specs.declared.lexer.TheConstants.{MOST_BYTES}
 use Rattle.chi_core.specs.declared.program.Core.{Core}
 use Rattle.chi_core.specs.declared.program.ProcDef.{ProcDef}
@@ -12,11 +13,12 @@ use Rattle.chi_value.specs.declared.value.Value.{Value}
 use Rattle.chi_tool.specs.declared.task.Asked.{Asked}
 use Rattle.chi_tool.specs.declared.task.Purpose.{Purpose}
 use Rattle.chi_tool.specs.declared.task.Purpose.TheVariants.{Simulate, Check}
+use Rattle.chi_tool.specs.declared.task.Task.TheVariants.{OfFile, OfFactory}
 use Rattle.chi_tool.specs.Arguments.{Means, Misfits}
 use Rattle.chi_tool.specs.Refusals.{Report, usage, not_built, no_such_file, file_too_long, unfit_arguments, accepted}
 use Rattle.chi_tool.specs.Report.{IsReportOfRun, unfit, run, IsReportOfProgram, IsReportOfSource, refused, program, IsReportOfFile, missing, long, fetched, IsReportOfWish, IsReport}
 use Rattle.chi_tool.specs.Running.{IsRunOf, run_report}
-use Rattle.chi_tool.specs.Settings.{IsBounded, settings_with}
+use Rattle.chi_tool.specs.Settings.{IsBounded, plain, settings_with}
 use Rattle.chi_tool.specs.Sources.{ComesTo}
 use Rattle.chi_tool.specs.Words.{Wish, nothing, unbuilt, of_task, wish_of}
 use Rattle.chi_tool.proofs.LawClauses.{AnswerLaw, RunLaw, SoundLaw, ValuesLaw, RangeLaw}
@@ -60,7 +62,8 @@ module _ (answers : AnswerLaw) (runs : RunLaw) (sound : SoundLaw) (fit : ValuesL
   wish_some : (w : Wish) → IsBoundedWish w → (files : Files) → (r : Report) × IsReportOfWish w files r
   wish_some nothing bounded files = (usage, refl)
   wish_some unbuilt bounded files = (not_built, refl)
-  wish_some (of_task t) bounded files = file_some t.purpose bounded (files t.file)
+  wish_some (of_task (OfFile name purpose)) bounded files = file_some purpose bounded (files name)
+  wish_some (of_task (OfFactory size)) bounded files = source_some (Simulate plain) (omega arith) (factory_source size)
 
   pub report_some : RangeLaw → (words : List (List ℕ)) (files : Files) → (r : Report) × IsReport words files r
   report_some bounds words files = wish_some (wish_of words) (bounded_wish bounds words) files
@@ -118,7 +121,8 @@ module _ (answers : AnswerLaw) (runs : RunLaw) (sound : SoundLaw) (fit : ValuesL
   wish_one : (w : Wish) (files : Files) (r s : Report) → IsReportOfWish w files r → IsReportOfWish w files s → r ≡ s
   wish_one nothing files r s p q = p ∙ sym q
   wish_one unbuilt files r s p q = p ∙ sym q
-  wish_one (of_task t) files r s p q = file_one (files t.file) t.purpose r s p q
+  wish_one (of_task (OfFile name purpose)) files r s p q = file_one (files name) purpose r s p q
+  wish_one (of_task (OfFactory size)) files r s p q = source_one (factory_source size) (Simulate plain) r s p q
 
   pub report_one : (words : List (List ℕ)) (files : Files) (r s : Report) → IsReport words files r → IsReport words files s → r ≡ s
   report_one words files r s p q = wish_one (wish_of words) files r s p q

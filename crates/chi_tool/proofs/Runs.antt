@@ -1,7 +1,7 @@
 -- The program that a source comes to has one run.
 use Rattle.std.proofs.Common.{◌≡◌, ℕ, ◌<◌, true, List, length, Some, refl, arith}
 use Rattle.std.proofs.Math.Nat.{mod-lt}
-use Rattle.std.specs.Prelude.{slice_get, ℤ, ◌^◌, ◌-◌, Option, Result, Ok, Err, IfOk}
+use Rattle.std.specs.Prelude.{slice_get, ℤ, ◌-◌, Option, Result, Ok, Err, IfOk}
 use Rattle.chi_base.specs.declared.no_memory.NoMemory.{NoMemory}
 use Rattle.chi_cli.specs.declared.request.Pick as words
 use Rattle.chi_cli.specs.declared.request.Pick.TheVariants as pick
@@ -16,7 +16,7 @@ use Rattle.chi_core.specs.Picks.{Pick, IsLawful}
 use Rattle.chi_core.specs.Runs.{Told}
 use Rattle.chi_plain.specs.Stage.{Stage, Begun}
 use Rattle.chi_runs.specs.Picked.{PickedAlways}
-use Rattle.chi_sched.specs.Policies.{Answers, first, last, spread}
+use Rattle.chi_sched.specs.Policies.{Answers}
 use Rattle.chi_tool.specs.declared.report.Reported.{Reported}
 use Rattle.chi_tool.specs.declared.task.Asked.{Asked}
 use Rattle.chi_tool.specs.declared.task.Purpose.{Purpose}

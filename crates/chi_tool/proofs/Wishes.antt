@@ -8,6 +8,7 @@ use Rattle.chi_cli.specs.declared.fault.CliFault.TheVariants as fault
 use Rattle.chi_cli.specs.Requests.{request_of, IsRefused}
 use Rattle.chi_tool.specs.Settings.{IsBounded}
 use Rattle.chi_tool.specs.declared.task.Task.{Task}
+use Rattle.chi_tool.specs.declared.task.Task.TheVariants.{OfFile, OfFactory}
 use Rattle.chi_tool.specs.Words.{Wish, nothing, unbuilt, of_task, task_of, is_refusal, wish_by_task, wish_by, wish_of}
 use Rattle.chi_tool.proofs.LawClauses.{RangeLaw}
 
@@ -15,7 +16,8 @@ use Rattle.chi_tool.proofs.LawClauses.{RangeLaw}
 abbrev pub IsBoundedWish : Wish → Type 0
 IsBoundedWish nothing = Unit {0}
 IsBoundedWish unbuilt = Unit {0}
-IsBoundedWish (of_task t) = IsBounded t.purpose
+IsBoundedWish (of_task (OfFile name purpose)) = IsBounded purpose
+IsBoundedWish (of_task (OfFactory size)) = (1 ≤ size) × (size ≤ 1_000)
 
 counted : (bound : ℕ) → bound ≤ 1_000_000_000_000_000 → bound < 2 ^ 63
 counted bound most = omega arith
@@ -25,7 +27,7 @@ by_reading law words (Err fault) is = tt
 by_reading law words (Ok (request.Sim file texts seed bound until pick false)) is = counted bound (law words _ is).1
 by_reading law words (Ok (request.Sim file texts seed bound until pick true)) is = tt
 by_reading law words (Ok (request.Check file)) is = tt
-by_reading law words (Ok (request.Load n)) is = tt
+by_reading law words (Ok (request.Load n)) is = law words _ is
 by_reading law words (Ok (request.TraceUp file)) is = tt
 
 pub bounded_wish : RangeLaw → (words : List (List ℕ)) → IsBoundedWish (wish_of words)

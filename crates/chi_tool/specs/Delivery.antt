@@ -29,6 +29,11 @@ pub data Delivers (status : ℕ) (output lines : List ℕ) (result : ℕ) (out l
 abbrev pub DeliversReport : Report → ℕ → SinkUse → SinkUse → Type 0
 DeliversReport r result out log = Delivers r.status r.out r.log result out log
 
+-- the report of a source is delivered, or memory is wanting
+pub data Tells (source : List ℕ) (purpose : Purpose) (result : ℕ) (out log : SinkUse) : Type 0 where
+  told : (r : Report) → IsReportOfSource source purpose r → DeliversReport r result out log → Tells source purpose result out log
+  untold : result ≡ statuses.no_memory → TookWhole out [] → TookWhole log [] → Tells source purpose result out log
+
 -- a file is served: its report is delivered, or its refusal is, or the shelf failed, or memory is wanting
 pub data Serves (name : List ℕ) (purpose : Purpose) (shelf : ShelfUse) (result : ℕ) (out log : SinkUse) : Type 0 where
   reported : (source : List ℕ) → length source ≤ MOST_BYTES → IfSome shelf.files (λ files. files name ≡ Some source)

@@ -2,6 +2,7 @@
 use Rattle.std.specs.Prelude.{◌≡◌, ℕ, ◌<◌, ◌≤◌, ◌⊎◌, ◌↔◌, true, false, List, [], length, Option, Some, None, IfSome, IsSomeAnd}
 use Rattle.chi_io.specs.Shelf.{Files}
 use Rattle.chi_token.specs.declared.place.Spanned.{Spanned}
+use Rattle.chi_load.specs.Factory.{factory_source}
 use Rattle.chi_lex.specs.declared.fault.LexFault.{LexFault}
 use Rattle.chi_lex.specs.declared.lexer.TheConstants.{MOST_BYTES}
 use Rattle.chi_lex.specs.Reading as lexical
@@ -16,12 +17,13 @@ use Rattle.chi_cli.specs.declared.args.ArgFault.{ArgFault}
 use Rattle.chi_tool.specs.declared.task.Asked.{Asked}
 use Rattle.chi_tool.specs.declared.task.Purpose.{Purpose}
 use Rattle.chi_tool.specs.declared.task.Purpose.TheVariants.{Simulate, Check}
-use Rattle.chi_tool.specs.Words.{Wish, nothing, unbuilt, of_task, task, wish_of}
+use Rattle.chi_tool.specs.declared.task.Task.TheVariants.{OfFile, OfFactory}
+use Rattle.chi_tool.specs.Words.{Wish, nothing, unbuilt, of_task, wish_of, NamesNoFile}
 use Rattle.chi_tool.specs.Arguments.{Means, Misfits}
-use Rattle.chi_tool.specs.Refusals.{Report, usage, no_such_file, file_too_long}
+use Rattle.chi_tool.specs.Refusals.{Report, no_such_file, file_too_long}
 use Rattle.chi_tool.specs.Report.{IsReport}
 use Rattle.chi_tool.specs.Running.{IsRunOf}
-use Rattle.chi_tool.specs.Settings.{settings_with}
+use Rattle.chi_tool.specs.Settings.{settings_with, plain}
 use Rattle.chi_tool.specs.Sources.{IsNoProgram, IsNotBuilt, ComesTo}
 use Rattle.chi_tool.specs.Statuses as statuses
 use Rattle.chi_tool.specs.Statuses.{status_of}
@@ -65,28 +67,33 @@ pub record Meets (r : Report) (call : Call) : Type 0 where
   -- the log follows the output
   pub out_first : TookSome call.log → Took call.out r.out ⊎ IsRefusedByFault call
 
--- words that are no request are refused, whatever the shelf does
-pub record IsUsage (call : Call) : Type 0 where
-  -- where no sink fails, with exactly that line, unless memory is wanting
-  pub whole : SinkStood call.out → SinkStood call.log → IsReportedOrLost usage call
-  -- and in any case with a front of it
-  pub front : IsReportedInFront usage call
+-- what it has to do with the report of words that name no file, whatever the shelf does
+pub record MeetsAlone (r : Report) (call : Call) : Type 0 where
+  -- where no sink fails, the status and every byte are the report's, unless memory is wanting
+  pub whole : SinkStood call.out → SinkStood call.log → IsReportedOrLost r call
+  -- whatever fails, the report is there whole, or the status is one of two
+  pub status : IsReported r call ⊎ ((call.status ≡ statuses.not_written) ⊎ (call.status ≡ statuses.no_memory))
+  -- and nothing else is written
+  pub front : IsReportedInFront r call
+  -- the log follows the output
+  pub out_first : TookSome call.log → Took call.out r.out
   -- and a file is never to blame
   pub read : call.status ≡ statuses.not_read → ⊥
 
 pub record Headline (call : Call) : Type 0 where
   -- where the shelf tells its files, there is a report of the words and files that the call meets
   pub report : IfSome call.shelf.files (λ files. (r : Report) × IsReport call.words files r × Meets r call)
-  pub no_request : wish_of call.words ≡ nothing → IsUsage call
+  -- where the words name no file, it is the same with whichever files
+  pub by_words : NamesNoFile (wish_of call.words) → (files : Files) → (r : Report) × IsReport call.words files r × MeetsAlone r call
   -- once the output is stopped, nothing is logged
   pub out_stopped : call.out.stopped ≡ true → Took call.log []
 
--- the words ask for this to be done with a file of which this is the content, within the limit
-pub record IsAskedSource (call : Call) (files : Files) (purpose : Purpose) (source : List ℕ) : Type 0 where
-  pub name : List ℕ
-  pub asked : wish_of call.words ≡ of_task (task name purpose)
-  pub there : files name ≡ Some source
-  pub within : length source ≤ MOST_BYTES
+-- the words ask for this to be done with this source: the content of a file, within the limit, or that of a factory
+pub data IsAskedSource (call : Call) (files : Files) (purpose : Purpose) (source : List ℕ) : Type 0 where
+  held : (name : List ℕ) → wish_of call.words ≡ of_task (OfFile name purpose) → files name ≡ Some source → length source ≤ MOST_BYTES
+      → IsAskedSource call files purpose source
+  made : (size : ℕ) → wish_of call.words ≡ of_task (OfFactory size) → source ≡ factory_source size → purpose ≡ Simulate plain
+      → IsAskedSource call files purpose source
 
 -- the words ask for something with a source of which P holds
 abbrev pub AsksFor : Call → Files → (Purpose → List ℕ → Type 0) → Type 0
@@ -151,15 +158,21 @@ IsNoSource (Some source) = MOST_BYTES < length source
 abbrev pub CannotBeRead : ShelfUse → Wish → Type 0
 CannotBeRead shelf nothing = ⊥
 CannotBeRead shelf unbuilt = ⊥
-CannotBeRead shelf (of_task t) = ShelfRose shelf ⊎ IsSomeAnd shelf.files (λ files. IsNoSource (files t.file))
+CannotBeRead shelf (of_task (OfFile file purpose)) = ShelfRose shelf ⊎ IsSomeAnd shelf.files (λ files. IsNoSource (files file))
+CannotBeRead shelf (of_task (OfFactory size)) = ⊥
 
 -- the status is this one exactly where the cause holds, unless memory is wanting
 abbrev pub IsExactly : Call → ℕ → Type 0 → Type 0
 IsExactly call n cause = (call.status ≡ n → cause) × (cause → (call.status ≡ n) ⊎ (call.status ≡ statuses.no_memory))
 
--- the same of a cause in the files, where the shelf tells them and nothing fails
+-- the shelf tells these files and nothing fails, or no sink fails and the words name no file
+pub data GoesWell (call : Call) (files : Files) : Type 0 where
+  with_files : call.shelf.files ≡ Some files → NothingFailed call → GoesWell call files
+  by_words : NamesNoFile (wish_of call.words) → SinkStood call.out → SinkStood call.log → GoesWell call files
+
+-- the same of a cause in the files, where all goes well
 abbrev pub IsExactlyIn : Call → ℕ → (Files → Type 0) → Type 0
-IsExactlyIn call n P = IfSome call.shelf.files (λ files. NothingFailed call → IsExactly call n (P files))
+IsExactlyIn call n P = (files : Files) → GoesWell call files → IsExactly call n (P files)
 
 -- of a cause in the source that is asked for
 abbrev pub IsExactlyOf : Call → ℕ → (Purpose → List ℕ → Type 0) → Type 0
@@ -196,6 +209,6 @@ pub record Causes (call : Call) : Type 0 where
 -- memory is wanting
 abbrev pub IsComplete : Call → Type 0
 IsComplete call =
-    IfSome call.shelf.files (λ files. NothingFailed call → (a : Asked) (source : List ℕ) → IsAskedSource call files (Simulate a) source
+    (files : Files) → GoesWell call files → (a : Asked) (source : List ℕ) → IsAskedSource call files (Simulate a) source
     → (core : Core) → ComesTo source core → (arguments : List Value) → Means core a.texts arguments
-    → (told : Told) × IsRunOf core (settings_with a arguments) told × ((call.status ≡ status_of told.ending.verdict) ⊎ (call.status ≡ statuses.no_memory)))
+    → (told : Told) × IsRunOf core (settings_with a arguments) told × ((call.status ≡ status_of told.ending.verdict) ⊎ (call.status ≡ statuses.no_memory))

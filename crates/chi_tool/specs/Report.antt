@@ -2,16 +2,19 @@
 use Rattle.std.specs.Prelude.{◌≡◌, ℕ, ◌<◌, ◌≤◌, List, length, Option, Some, None}
 use Rattle.chi_cli.specs.declared.args.ArgFault.{ArgFault}
 use Rattle.chi_io.specs.Shelf.{Files}
+use Rattle.chi_load.specs.Factory.{factory_source}
 use Rattle.chi_lex.specs.declared.lexer.TheConstants.{MOST_BYTES}
 use Rattle.chi_core.specs.declared.program.Core.{Core}
 use Rattle.chi_value.specs.declared.value.Value.{Value}
 use Rattle.chi_tool.specs.declared.task.Asked.{Asked}
 use Rattle.chi_tool.specs.declared.task.Purpose.{Purpose}
 use Rattle.chi_tool.specs.declared.task.Purpose.TheVariants.{Simulate, Check}
+use Rattle.chi_tool.specs.declared.task.Task.{Task}
+use Rattle.chi_tool.specs.declared.task.Task.TheVariants.{OfFile, OfFactory}
 use Rattle.chi_tool.specs.Arguments.{Means, Misfits}
 use Rattle.chi_tool.specs.Refusals.{Report, usage, not_built, no_such_file, file_too_long, unfit_arguments, accepted}
 use Rattle.chi_tool.specs.Running.{IsRunReport}
-use Rattle.chi_tool.specs.Settings.{settings_with}
+use Rattle.chi_tool.specs.Settings.{settings_with, plain}
 use Rattle.chi_tool.specs.Sources.{IsRefused, ComesTo}
 use Rattle.chi_tool.specs.Words.{Wish, nothing, unbuilt, of_task, wish_of}
 
@@ -36,10 +39,15 @@ pub data IsReportOfFile (file : Option (List ℕ)) (purpose : Purpose) (r : Repo
   long : (source : List ℕ) → file ≡ Some source → MOST_BYTES < length source → r ≡ file_too_long → IsReportOfFile file purpose r
   fetched : (source : List ℕ) → file ≡ Some source → length source ≤ MOST_BYTES → IsReportOfSource source purpose r → IsReportOfFile file purpose r
 
+-- a factory is run like its source, with nothing asked for
+abbrev pub IsReportOfTask : Task → Files → Report → Type 0
+IsReportOfTask (OfFile file purpose) files r = IsReportOfFile (files file) purpose r
+IsReportOfTask (OfFactory size) files r = IsReportOfSource (factory_source size) (Simulate plain) r
+
 abbrev pub IsReportOfWish : Wish → Files → Report → Type 0
 IsReportOfWish nothing files r = r ≡ usage
 IsReportOfWish unbuilt files r = r ≡ not_built
-IsReportOfWish (of_task t) files r = IsReportOfFile (files t.file) t.purpose r
+IsReportOfWish (of_task t) files r = IsReportOfTask t files r
 
 -- r is the report of these words and files: the first refusal among words, file, bytes, tokens, program and arguments,
 -- or what was asked for: the output and verdict of the run, or that the program is accepted

@@ -1,5 +1,5 @@
 -- What a run is asked for with, beside its program.
-use Rattle.std.specs.Prelude.{◌≡◌, ℕ, ◌^◌, ◌<◌, ℤ, List, Option}
+use Rattle.std.specs.Prelude.{ℕ, ◌^◌, ◌<◌, ℤ, List, [], Option, None}
 use Rattle.chi_cli.specs.declared.request.Pick as words
 use Rattle.chi_cli.specs.declared.request.Pick.TheVariants as pick
 use Rattle.chi_value.specs.declared.value.Value.{Value}
@@ -27,6 +27,10 @@ policy_of (pick.Spread salt) = spread salt
 -- as the words ask, with the arguments that their texts mean
 abbrev pub settings_with : Asked → List Value → Settings
 settings_with a arguments = record { seed = a.seed; bound = a.bound; pick = policy_of a.pick; arguments = arguments; until = a.until }
+
+-- where the words say nothing of it
+abbrev pub plain : Asked
+plain = record { seed = 0; bound = 10_000_000; pick = pick.First; texts = []; until = None }
 
 -- within what is counted
 abbrev pub IsBounded : Purpose → Type 0

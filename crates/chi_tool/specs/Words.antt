@@ -6,22 +6,19 @@ use Rattle.chi_cli.specs.declared.request.Request.{Request}
 use Rattle.chi_cli.specs.declared.request.Request.TheVariants as request
 use Rattle.chi_cli.specs.Requests.{request_of}
 use Rattle.chi_tool.specs.declared.task.Task.{Task}
-use Rattle.chi_tool.specs.declared.task.Purpose.{Purpose}
+use Rattle.chi_tool.specs.declared.task.Task.TheVariants as task
 use Rattle.chi_tool.specs.declared.task.Purpose.TheVariants.{Simulate, Check}
 
-abbrev pub task : List ℕ → Purpose → Task
-task file purpose = record { file = file; purpose = purpose }
-
--- A run without a trace, and a check. A run with one, made sources and traces of old aren't built yet.
+-- A run without a trace, a check, and a run of a factory. A run with a trace and traces of old aren't built yet.
 abbrev pub task_of : Request → Option Task
 task_of (request.Sim file texts seed bound until pick false) =
-    Some (task file (Simulate (record { seed = seed; bound = bound; pick = pick; texts = texts; until = until })))
+    Some (task.OfFile file (Simulate (record { seed = seed; bound = bound; pick = pick; texts = texts; until = until })))
 task_of (request.Sim file texts seed bound until pick true) = None
-task_of (request.Check file) = Some (task file Check)
-task_of (request.Load n) = None
+task_of (request.Check file) = Some (task.OfFile file Check)
+task_of (request.Load n) = Some (task.OfFactory n)
 task_of (request.TraceUp file) = None
 
--- nothing, since the words are no request; what isn't built yet; or something with a file
+-- nothing, since the words are no request; what isn't built yet; or a task
 pub data Wish : Type 0 where
   nothing : Wish
   unbuilt : Wish
@@ -37,6 +34,13 @@ wish_by (Err fault) = nothing
 
 abbrev pub wish_of : List (List ℕ) → Wish
 wish_of words = wish_by (request_of words)
+
+-- it has to do with no file
+abbrev pub NamesNoFile : Wish → Type 0
+NamesNoFile nothing = Unit {0}
+NamesNoFile unbuilt = Unit {0}
+NamesNoFile (of_task (task.OfFile file purpose)) = ⊥
+NamesNoFile (of_task (task.OfFactory size)) = Unit {0}
 
 -- words are refused; want of memory is no refusal of theirs
 abbrev pub is_refusal : CliFault → Bool

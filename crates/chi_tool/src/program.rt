@@ -4,7 +4,9 @@ ghost use Rattle.std.specs.Prelude.{◌≡◌, ◌<◌, ◌^◌, Some, IfOk, sli
 ghost use Rattle.chi_core.specs.declared.program.ProcDef.{ProcDef};
 ghost use Rattle.chi_core.specs.Kinds.{kinds_of};
 ghost use Rattle.chi_core.specs.Of.{at_start, AreOf};
+ghost use Rattle.chi_core.specs.Picks as picks;
 ghost use Rattle.chi_core.specs.Sound.{Sound};
+ghost use Rattle.chi_sched.specs.Policies.{Answers};
 ghost use Rattle.chi_tool.specs.Report.{IsReportOfRun, IsReportOfProgram};
 ghost use Rattle.chi_tool.specs.Reported.{report_in};
 ghost use Rattle.chi_tool.specs.Running.{IsRunReport};
@@ -21,7 +23,7 @@ use chi_base::NoMemory;
 use chi_cli::{Pick, read_args, values_are_of_parameters};
 use chi_core::{Core, ProcDef};
 use chi_num::Real;
-use chi_sched::{First, Last, Spread};
+use chi_sched::{Chooser, First, Last, Spread};
 use chi_value::Value;
 use std::alloc::Global;
 
@@ -34,7 +36,32 @@ fn units_of(until: Option<Real>) -> Option<i64>
     }
 }
 
-/// The report of the run that is asked for, with these arguments.
+/// The report of the run that is asked for, with these arguments and a policy that picks.
+fn run_by<P: Chooser + Drop>(
+    alloc: Global,
+    core: &Core,
+    policy: P,
+    arguments: Vec<Value>,
+    asked: &Asked,
+) -> Result<Reported, NoMemory>
+    requires sound { Sound core.now }
+    requires arguments { (d : ProcDef) → slice_get core.now.procs core.now.model ≡ Some d
+        → AreOf (at_start core.now.names.kinds) arguments.items (kinds_of d.params) }
+    requires bound { asked.now.bound < 2 ^ 63 }
+    ensures { IfOk result (λ r. (pick : picks.Pick) → Answers (P.gives policy) pick
+        → IsRunReport core.now (record { seed = asked.now.seed; bound = asked.now.bound; pick = pick; arguments = arguments.items; until = asked.now.until }) (report_in r)) }
+{
+    let settings = Settings {
+        seed: asked.seed,
+        bound: asked.bound,
+        policy,
+        arguments,
+        until: units_of(asked.until),
+    };
+    run(alloc, core, settings)
+}
+
+/// The same, with the policy that is asked for.
 fn run_asked(
     alloc: Global,
     core: &Core,
@@ -47,56 +74,10 @@ fn run_asked(
     requires bound { asked.now.bound < 2 ^ 63 }
     ensures { IfOk result (λ r. IsRunReport core.now (settings_with asked.now arguments.items) (report_in r)) }
 {
-    let Asked {
-        seed,
-        bound,
-        pick,
-        ..
-    } = asked;
-    let (seed, bound, until) = (*seed, *bound, units_of(asked.until));
-    match *pick {
-        Pick::First => {
-            let policy = First;
-            run(
-                alloc,
-                core,
-                Settings {
-                    seed,
-                    bound,
-                    policy,
-                    arguments,
-                    until,
-                },
-            )
-        }
-        Pick::Last => {
-            let policy = Last;
-            run(
-                alloc,
-                core,
-                Settings {
-                    seed,
-                    bound,
-                    policy,
-                    arguments,
-                    until,
-                },
-            )
-        }
-        Pick::Spread(salt) => {
-            let policy = Spread { salt };
-            run(
-                alloc,
-                core,
-                Settings {
-                    seed,
-                    bound,
-                    policy,
-                    arguments,
-                    until,
-                },
-            )
-        }
+    match asked.pick {
+        Pick::First => run_by(alloc, core, First, arguments, asked),
+        Pick::Last => run_by(alloc, core, Last, arguments, asked),
+        Pick::Spread(salt) => run_by(alloc, core, Spread { salt }, arguments, asked),
     }
 }
 

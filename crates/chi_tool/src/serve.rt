@@ -1,19 +1,22 @@
 ghost use Rattle.std.specs.Prelude.{◌≡◌, ◌≤◌, false, IfOk, length};
 ghost use Rattle.chi_tool.specs.Call.{sink_use, shelf_use};
-ghost use Rattle.chi_tool.specs.Delivery.{Serves};
+ghost use Rattle.chi_load.specs.Factory.{factory_source};
+ghost use Rattle.chi_tool.specs.Delivery.{Serves, Tells};
 ghost use Rattle.chi_tool.specs.Report.{IsReportOfSource};
 ghost use Rattle.chi_tool.specs.Reported.{report_in};
-ghost use Rattle.chi_tool.specs.Settings.{IsBounded};
+ghost use Rattle.chi_tool.specs.Settings.{IsBounded, plain};
+ghost use Rattle.chi_tool.specs.declared.task.Purpose.TheVariants.{Simulate};
 
 use crate::deliver::deliver;
 use crate::program::report_of_program;
 use crate::report::Reported;
 use crate::source::{Source, read};
 use crate::status::{NO_MEMORY, NOT_READ};
-use crate::task::Purpose;
+use crate::task::{Purpose, plain};
 use chi_base::NoMemory;
 use chi_io::{Fetch, Shelf, Sink};
 use chi_lex::MOST_BYTES;
+use chi_load::factory;
 use std::alloc::Global;
 
 /// The report of a source: its refusal, or that of its program.
@@ -26,6 +29,46 @@ fn report_of(alloc: Global, source: &[u8], purpose: &Purpose) -> Result<Reported
         Source::Refused(refusal) => Ok(refusal),
         Source::Program(core) => report_of_program(alloc, &core, purpose),
     }
+}
+
+/// Delivers the report of a source.
+fn tell<O: Sink, L: Sink>(
+    alloc: Global,
+    source: &[u8],
+    purpose: &Purpose,
+    out: &mut O,
+    log: &mut L,
+) -> u8
+    requires out_goes { O.stopped out.old ≡ false }
+    requires log_goes { L.stopped log.old ≡ false }
+    requires within { length source.now ≤ MOST_BYTES }
+    requires bounded { IsBounded purpose.now }
+    ensures { Tells source.now purpose.now result
+        (sink_use O.taken O.faults O.stopped out.old out.new) (sink_use L.taken L.faults L.stopped log.old log.new) }
+{
+    match report_of(alloc, source, purpose) {
+        Ok(report) => deliver(report.status, out, &report.out, log, &report.log),
+        Err(_) => NO_MEMORY,
+    }
+}
+
+/// Delivers the report of a factory of this size.
+pub fn serve_factory<O: Sink, L: Sink>(alloc: Global, size: u32, out: &mut O, log: &mut L) -> u8
+    requires out_goes { O.stopped out.old ≡ false }
+    requires log_goes { L.stopped log.old ≡ false }
+    requires some { 1 ≤ size }
+    requires most { size ≤ 1_000 }
+    ensures { Tells (factory_source size) (Simulate plain) result
+        (sink_use O.taken O.faults O.stopped out.old out.new) (sink_use L.taken L.faults L.stopped log.old log.new) }
+{
+    let Ok(source) = factory(alloc, size) else {
+        return NO_MEMORY;
+    };
+    let Ok(asked) = plain(alloc) else {
+        return NO_MEMORY;
+    };
+    let purpose = Purpose::Simulate(asked);
+    tell(alloc, &source, &purpose, out, log)
 }
 
 /// Fetches the file of this name, and delivers its report or its refusal.
@@ -44,10 +87,7 @@ pub fn serve<H: Shelf, O: Sink, L: Sink>(
         (sink_use O.taken O.faults O.stopped out.old out.new) (sink_use L.taken L.faults L.stopped log.old log.new) }
 {
     match shelf.fetch(alloc, name, MOST_BYTES as u64) {
-        Fetch::Bytes(source) => match report_of(alloc, &source, purpose) {
-            Ok(report) => deliver(report.status, out, &report.out, log, &report.log),
-            Err(_) => NO_MEMORY,
-        },
+        Fetch::Bytes(source) => tell(alloc, &source, purpose, out, log),
         Fetch::NoSuch => deliver(NOT_READ, out, b"", log, b"no such file\n"),
         Fetch::TooLong => deliver(NOT_READ, out, b"", log, b"file too long\n"),
         Fetch::Failed => NOT_READ,

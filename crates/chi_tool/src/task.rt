@@ -1,7 +1,11 @@
-use chi_base::Items;
+ghost use Rattle.std.specs.Prelude.{◌≡◌, IfOk};
+ghost use Rattle.chi_tool.specs.Settings.{plain};
+
+use chi_base::{Items, NoMemory};
 use chi_cli::Pick;
 use chi_num::Real;
 use chi_token::Bytes;
+use std::alloc::Global;
 
 /// What a run is asked for with, beside its program.
 #[derive(Debug, Drop)]
@@ -18,6 +22,22 @@ pub struct Asked {
     pub until: Option<Real>,
 }
 
+/// The bound where the words name none.
+const BOUND: u64 = 10_000_000;
+
+/// What a run is asked for with where the words say nothing of it.
+pub fn plain(alloc: Global) -> Result<Asked, NoMemory>
+    ensures { IfOk result (λ asked. asked ≡ plain) }
+{
+    Ok(Asked {
+        seed: 0,
+        bound: BOUND,
+        pick: Pick::First,
+        texts: Items::of(alloc, Vec::new(alloc))?,
+        until: None,
+    })
+}
+
 /// What is done with a source.
 #[derive(Debug, Drop)]
 pub enum Purpose {
@@ -25,9 +45,11 @@ pub enum Purpose {
     Check,
 }
 
-/// What is done, and with which file.
+/// What is done, and with what.
 #[derive(Debug, Drop)]
-pub struct Task {
-    pub file: Bytes,
-    pub purpose: Purpose,
+pub enum Task {
+    /// With the source that a file holds.
+    OfFile { file: Bytes, purpose: Purpose },
+    /// A factory of this size is run.
+    OfFactory { size: u32 },
 }

@@ -4,8 +4,9 @@ ghost use Rattle.chi_tool.specs.Headline.{Headline, Causes, IsComplete};
 
 use crate::deliver::deliver;
 use crate::laws::{one_run_law, report_law};
-use crate::serve::serve;
+use crate::serve::{serve, serve_factory};
 use crate::status::{NO_MEMORY, NO_REQUEST, NOT_BUILT};
+use crate::task::Task;
 use crate::words::{is_refusal, task_of};
 use chi_cli::{numbers_are_in_range, read_words, values_are_of_parameters};
 use chi_io::{Shelf, Sink};
@@ -54,10 +55,10 @@ pub fn chi<H: Shelf, O: Sink, L: Sink>(
     values_are_of_parameters();
     match read_words(alloc, words) {
         Ok(request) => match task_of(request) {
-            Some(task) => {
-                let name = task.file.as_slice();
-                serve(alloc, name, &task.purpose, shelf, out, log)
+            Some(Task::OfFile { file, purpose }) => {
+                serve(alloc, file.as_slice(), &purpose, shelf, out, log)
             }
+            Some(Task::OfFactory { size }) => serve_factory(alloc, size, out, log),
             None => deliver(NOT_BUILT, out, b"", log, b"form not built\n"),
         },
         Err(fault) => {

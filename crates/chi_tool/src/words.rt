@@ -25,16 +25,17 @@ pub fn task_of(request: Request) -> Option<Task>
                 texts: args,
                 until,
             };
-            Some(Task {
+            Some(Task::OfFile {
                 file,
                 purpose: Purpose::Simulate(asked),
             })
         }
-        Request::Check { file } => Some(Task {
+        Request::Check { file } => Some(Task::OfFile {
             file,
             purpose: Purpose::Check,
         }),
-        Request::Sim { trace: true, .. } | Request::Load { .. } | Request::TraceUp { .. } => None,
+        Request::Load { n } => Some(Task::OfFactory { size: n }),
+        Request::Sim { trace: true, .. } | Request::TraceUp { .. } => None,
     }
 }
 
