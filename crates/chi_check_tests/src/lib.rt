@@ -1,0 +1,5 @@
+//! Tests of the checker, over sources.
+#![tactic(auto)]
+
+#[cfg(test)]
+mod tests;
