@@ -1,9 +1,0 @@
-pub mod AlternativeSteps
-pub mod Bindings
-pub mod ElementSteps
-pub mod Folds
-pub mod Held
-pub mod Parts
-pub mod StatementSteps
-pub mod Through
-pub mod Turns

@@ -1,27 +1,11 @@
 //! Typing of programs: the core of a tree in which no rule is broken, or the first rule that is.
 #![tactic(auto)]
 
-mod blocks;
-mod bodies;
-mod check;
-mod copies;
-mod declarations;
-mod early;
-mod elements;
 mod growing;
 mod header;
-mod headers;
-mod late;
-mod lines;
-mod lists;
-mod names;
-mod naming;
 mod sketch;
 mod state;
-mod statements;
-mod values;
 
-pub use check::check;
 pub use growing::Growing;
 pub use header::Header;
 pub use sketch::{Early, Named, Sketch};

@@ -1,5 +1,0 @@
-//! Tests of the checker, over sources.
-#![tactic(auto)]
-
-#[cfg(test)]
-mod tests;
