@@ -1,16 +1,5 @@
 pub mod Pairs
-pub mod Actors
+pub mod ActorCounts
 pub mod Options
 pub mod Enabled
-pub mod Changes
-pub mod Meetings
-pub mod Named
-pub mod Owned
-pub mod Planned
-pub mod Adding
-pub mod Steps
-pub mod Finishing
-pub mod Moves
-pub mod Carrying
-pub mod Starts
 pub mod Running

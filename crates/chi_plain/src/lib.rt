@@ -2,18 +2,12 @@
 //! It is slow and plain, and keeps to the semantics step by step.
 #![tactic(auto)]
 
-mod beginning;
+mod actors;
 mod choices;
-mod configuration;
-mod deed;
 mod ending;
-mod meeting;
-mod performing;
 mod plain;
-mod planning;
 mod standing;
 mod stepped;
-mod stepping;
 
 pub use plain::Plain;
 pub use stepped::Stepped;
