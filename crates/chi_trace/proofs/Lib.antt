@@ -4,4 +4,6 @@ pub mod Forth
 pub mod LineLaws
 pub mod Names
 pub mod Numbers
+pub mod OneLine
+pub mod LogLaws
 pub mod Reading

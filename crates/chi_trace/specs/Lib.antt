@@ -1,3 +1,5 @@
 pub mod Events
 pub mod Lines
+pub mod Logs
+pub mod Ends
 pub mod Told

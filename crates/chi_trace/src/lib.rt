@@ -6,6 +6,7 @@ mod event;
 mod fault;
 mod laws;
 mod line;
+mod log;
 mod name;
 mod numeral;
 mod parts;
@@ -13,9 +14,10 @@ mod read;
 mod time;
 
 pub use event::{Detail, Event};
-pub use fault::TraceFault;
-pub use laws::{first_lines_law, lines_1_law, lines_law};
+pub use fault::{LogFault, TraceFault};
+pub use laws::{first_lines_law, lines_1_law, lines_law, logs_law};
 pub use line::{line_of, line_up};
+pub use log::{MOST_LOG_BYTES, log_up};
 pub use read::{read_line, read_line_1};
 
 /// The first line of a trace of version 2, without its line feed.

@@ -1,4 +1,6 @@
-use crate::{Detail, Event, TraceFault, line_of, line_up, read_line, read_line_1};
+use crate::{
+    Detail, Event, LogFault, TraceFault, line_of, line_up, log_up, read_line, read_line_1,
+};
 use chi_core::Label;
 use std::alloc::Global;
 use std::test::Fail;
@@ -169,5 +171,46 @@ fn only_an_advance_tells_the_clock(rt: HostRuntime) -> Result<(), Fail> {
     let mut out = Vec::new(rt.alloc());
     line_of(rt.alloc(), &wake, &mut out)?;
     assert_eq!(rt; out.as_slice(), b"2 wake 0 1 -\n".as_slice());
+    Ok(())
+}
+
+/// Logs of version 1, and what they are brought up to.
+const LOGS: [(&str, &str); 4] = [
+    ("trace 1\n", "trace 2\n"),
+    ("trace 1\ndone\n", "trace 2\ndone\n"),
+    (
+        "trace 1\n0 local 0\n1 advance 0.000000001\n2 wake 0 0\ncompleted at time 0.000000001\n",
+        "trace 2\n0 local 0 - -\n1 advance 0.000000001\n2 wake 0 0 -\ncompleted at time 0.000000001\n",
+    ),
+    ("trace 1\n7 pair 1 2 3 4\n", "trace 2\n7 pair 1 2 3 4 - -\n"),
+];
+
+/// Texts with the first line of each that doesn't fit.
+const OTHER_LOGS: [(&str, u64); 9] = [
+    ("", 1),
+    ("trace 2\n", 1),
+    ("trace 1", 1),
+    ("\ntrace 1\n", 1),
+    ("trace 1\n0 local 0", 2),
+    ("trace 1\n\n", 2),
+    ("trace 1\n0 local 0\n0 local 0 M 1\n", 3),
+    ("trace 1\ndone\nagain\n", 3),
+    ("trace 1\n0 local 0\ndone\n1 local 0\n", 4),
+];
+
+#[test]
+fn logs_are_brought_up(rt: HostRuntime) -> Result<(), Fail> {
+    for (text, wanted) in LOGS {
+        match log_up(rt.alloc(), text.as_bytes()) {
+            Ok(log) => assert_eq!(rt; log.as_slice(), wanted.as_bytes(), "of {text:?}"),
+            Err(_) => assert!(rt; false, "{text:?} is refused"),
+        }
+    }
+    for (text, wanted) in OTHER_LOGS {
+        match log_up(rt.alloc(), text.as_bytes()) {
+            Ok(_) => assert!(rt; false, "{text:?} is brought up"),
+            Err(fault) => assert_eq!(rt; fault, LogFault::Form(wanted), "of {text:?}"),
+        }
+    }
     Ok(())
 }

@@ -52,7 +52,7 @@ fn sign_of(minus: bool) -> &'static [u8]
 }
 
 /// What comes after a part with which a text begins.
-fn after<'a>(part: &[u8], text: &'a [u8]) -> Option<&'a [u8]>
+pub fn after<'a>(part: &[u8], text: &'a [u8]) -> Option<&'a [u8]>
     ensures rest { MatchOption result ((rest : List ℕ) → text.now ≢ part.now ++ rest) (λ rest. text.now ≡ part.now ++ rest.now) }
 {
     text.strip_prefix(part)
