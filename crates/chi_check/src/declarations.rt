@@ -17,7 +17,6 @@ use crate::values::value_in;
 use chi_base::{Items, NoMemory};
 use chi_check_expr::mean_in;
 use chi_core::{CExpr, CStat};
-use chi_stat_rules as rule;
 use chi_stat_rules::{Home, Walked, expr_place, site_of, type_place};
 use chi_token::Place;
 use chi_tree::{Initial, Name, TypeTree, Variable, Walk};
@@ -60,7 +59,7 @@ fn initial_in(
         return default_in(alloc, meant);
     };
     let made = value_in(alloc, home, scope, &initial.value, kept)?;
-    rule::initial_value(alloc, initial.equals, made, type_of(meant), kept)
+    chi_stat_rules::initial_value(alloc, initial.equals, made, type_of(meant), kept)
 }
 
 fn declaration(
@@ -145,7 +144,7 @@ pub(crate) fn declare(
 {
     let place = type_place(ty);
     let meant = mean_in(alloc, ty, &state.names, site_of(home), true, kept)?;
-    let barred = rule::note_channel(home, place, type_of(&meant), kept);
+    let barred = chi_stat_rules::note_channel(home, place, type_of(&meant), kept);
     let made = declare_all(alloc, home, place.line, &meant, variables, state, kept)?;
     Ok(unless(barred, made))
 }
@@ -197,7 +196,7 @@ pub(crate) fn open_walk(
     let place = expr_place(&walk.container);
     let first = walk_place(names, place);
     let made = value_in(alloc, home, &state.names, &walk.container, kept)?;
-    let walked = rule::walk_of(alloc, place, first, names.len(), made, kept)?;
+    let walked = chi_target_rules::walk_of(alloc, place, first, names.len(), made, kept)?;
     let slots = bind_all(alloc, binder, names, types_of(&walked), state, kept)?;
     Ok(opened(walked, slots))
 }

@@ -10,7 +10,6 @@ use crate::declarations::unless;
 use crate::values::{goal_in, instances_in, some_value_in, target_in, value_in, values_in};
 use chi_base::{Items, NoMemory};
 use chi_core::{CAlt, CComm, CElem, CStat};
-use chi_stat_rules as rule;
 use chi_stat_rules::{Home, Receiver, expr_place, note_running};
 use chi_token::{Bytes, Place};
 use chi_tree::{Communication, Expr, Name, Target};
@@ -41,7 +40,7 @@ fn receiver_in(
 {
     match name {
         None => Ok(None),
-        Some(name) => Ok(Some(rule::named_receiver(alloc, place, scope, name, kept)?)),
+        Some(name) => Ok(Some(chi_channel_rules::named_receiver(alloc, place, scope, name, kept)?)),
     }
 }
 
@@ -63,7 +62,7 @@ fn parts_in(
         } => {
             let to = target_in(alloc, home, scope, target, kept)?;
             let value = some_value_in(alloc, home, scope, value, kept)?;
-            rule::send_of(alloc, *place, to, value, kept)
+            chi_channel_rules::send_of(alloc, *place, to, value, kept)
         }
         Communication::Receive {
             target,
@@ -72,11 +71,11 @@ fn parts_in(
         } => {
             let from = target_in(alloc, home, scope, target, kept)?;
             let receiver = receiver_in(alloc, *place, scope, name, kept)?;
-            rule::receive_of(alloc, *place, from, receiver, kept)
+            chi_channel_rules::receive_of(alloc, *place, from, receiver, kept)
         }
         Communication::Delay { place, length } => {
             let made = value_in(alloc, home, scope, length, kept)?;
-            rule::delay_of(alloc, *place, made, kept)
+            chi_channel_rules::delay_of(alloc, *place, made, kept)
         }
     }
 }
@@ -131,8 +130,8 @@ pub(crate) fn element_in(
 {
     let target = goal_in(alloc, home, scope, target, kept)?;
     let arguments = values_in(alloc, home, scope, arguments, kept)?;
-    let started = rule::start_of(alloc, home, scope, name, arguments, kept)?;
-    Ok(rule::element_made(target, started))
+    let started = chi_channel_rules::start_of(alloc, home, scope, name, arguments, kept)?;
+    Ok(chi_channel_rules::element_made(target, started))
 }
 
 /// Each value with its place.
@@ -171,9 +170,9 @@ pub(crate) fn write_in(
 {
     let barred = note_running(home, place, kept);
     let made = values_in(alloc, home, scope, values, kept)?;
-    let pieces = rule::format_pieces(alloc, ends_line, format)?;
+    let pieces = chi_write_rules::format_pieces(alloc, ends_line, format)?;
     let written = placed(alloc, values, made)?;
-    let made = rule::write_of(alloc, place.line, format_place, pieces, written, kept)?;
+    let made = chi_write_rules::write_of(alloc, place.line, format_place, pieces, written, kept)?;
     Ok(unless(barred, made))
 }
 
@@ -189,7 +188,7 @@ pub(crate) fn return_in(
     ensures noted { OnOk result (kept.new ≡ first_of kept.old (spec.return_in home.now scope.now place value.now).faults) }
 {
     let made = value_in(alloc, home, scope, value, kept)?;
-    rule::return_of(alloc, home, place, made, kept)
+    chi_stat_rules::return_of(alloc, home, place, made, kept)
 }
 
 pub(crate) fn exit_in(
@@ -204,7 +203,7 @@ pub(crate) fn exit_in(
     ensures noted { OnOk result (kept.new ≡ first_of kept.old (spec.exit_in home.now scope.now place value.now).faults) }
 {
     let made = some_value_in(alloc, home, scope, value, kept)?;
-    rule::exit_of(alloc, home, place, made, kept)
+    chi_stat_rules::exit_of(alloc, home, place, made, kept)
 }
 
 pub(crate) fn finish_in(

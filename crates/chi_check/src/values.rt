@@ -10,7 +10,6 @@ ghost use Rattle.chi_check.specs.Statements as spec;
 use chi_base::{Items, NoMemory};
 use chi_check_expr::type_in;
 use chi_core::{CExpr, CStat, CTarget};
-use chi_stat_rules as rule;
 use chi_stat_rules::{Aim, Home, expr_place, site_of};
 use chi_token::Place;
 use chi_tree::{Expr, Postfix, Target};
@@ -76,7 +75,7 @@ pub(crate) fn test_in(
     ensures noted { OnOk result (kept.new ≡ first_of kept.old (spec.test_in home.now scope.now e.now).faults) }
 {
     let made = value_in(alloc, home, scope, e, kept)?;
-    Ok(rule::condition(expr_place(e), made, kept))
+    Ok(chi_stat_rules::condition(expr_place(e), made, kept))
 }
 
 pub(crate) fn guard_in(
@@ -109,7 +108,7 @@ fn instance_in(
     ensures noted { OnOk result (kept.new ≡ first_of kept.old (spec.instance_in home.now scope.now e.now).faults) }
 {
     let made = value_in(alloc, home, scope, e, kept)?;
-    Ok(rule::finished_one(expr_place(e), made, kept))
+    Ok(chi_stat_rules::finished_one(expr_place(e), made, kept))
 }
 
 fn with_last(
@@ -163,13 +162,13 @@ fn step_in(
     match step {
         Postfix::Index { place, index } => {
             let index = value_in(alloc, home, scope, index.get(), kept)?;
-            rule::index_step(alloc, name, *place, aim, index, kept)
+            chi_target_rules::index_step(alloc, name, *place, aim, index, kept)
         }
         Postfix::Slice { place, .. } => {
             note(kept, rules::INDEX, *place);
             Ok(None)
         }
-        Postfix::Field(field) => rule::field_step(alloc, field, aim, kept),
+        Postfix::Field(field) => chi_target_rules::field_step(alloc, field, aim, kept),
     }
 }
 
@@ -203,7 +202,7 @@ pub(crate) fn target_in(
     ensures noted { OnOk result (kept.new ≡ first_of kept.old (spec.target_in home.now scope.now target.now).faults) }
 {
     let place = target.name.place;
-    let named = rule::named_target(alloc, scope, &target.name, kept)?;
+    let named = chi_target_rules::named_target(alloc, scope, &target.name, kept)?;
     steps_in(alloc, home, scope, place, named, target.steps.as_slice(), kept)
 }
 
@@ -249,7 +248,7 @@ pub(crate) fn assignment_in(
     let line = assignment_place(targets, equals).line;
     let aims = targets_in(alloc, home, scope, targets, kept)?;
     let values = values_in(alloc, home, scope, values, kept)?;
-    rule::assigned(alloc, line, equals, aims, values, kept)
+    chi_target_rules::assigned(alloc, line, equals, aims, values, kept)
 }
 
 /// Where a new instance goes.
@@ -267,5 +266,5 @@ pub(crate) fn goal_in(
         return Ok(None);
     };
     let aim = target_in(alloc, home, scope, target, kept)?;
-    Ok(Some(rule::instance_target(target.name.place, aim, kept)))
+    Ok(Some(chi_channel_rules::instance_target(target.name.place, aim, kept)))
 }

@@ -1,6 +1,1 @@
 pub mod Barred
-pub mod Before
-pub mod Pieces
-pub mod ShownValues
-pub mod Twice
-pub mod Unconverted

@@ -6,9 +6,9 @@ ghost use Rattle.std.specs.Prelude.{◌≡◌, not, IfOk, OnOk};
 ghost use Rattle.chi_typing.specs.Faults.{first_of, are_none};
 ghost use Rattle.chi_stat_rules.specs.Endings as spec;
 
-use crate::conversions::fitted;
 use crate::home::{ExitType, Home};
 use crate::nodes::settle;
+use crate::values::fitted;
 use chi_base::NoMemory;
 use chi_core::CStat;
 use chi_token::Place;

@@ -11,14 +11,24 @@ ghost use Rattle.chi_types.specs.Plain.{holds};
 ghost use Rattle.chi_typing.specs.Faults.{first_of, are_none};
 ghost use Rattle.chi_stat_rules.specs.Values as spec;
 
-use crate::conversions::fitted;
 use crate::nodes::settle;
 use chi_base::NoMemory;
 use chi_core::CExpr;
+use chi_expr_rules::converted;
 use chi_token::{Bytes, Place};
-use chi_types::Ty;
+use chi_types::{Ty, fits};
 use chi_typing::{Fault, Made, note, rules};
 use std::alloc::Global;
+
+/// The value as one of a type, where it fits that.
+pub fn fitted(alloc: Global, made: Made, wanted: &Ty) -> Result<Option<CExpr>, NoMemory>
+    ensures { IfOk result (λ e. e ≡ spec.fitted made wanted.now) }
+{
+    if !fits(&made.ty, wanted) {
+        return Ok(None);
+    }
+    Ok(Some(converted(alloc, made, wanted)?))
+}
 
 /// An initial value, whose `=` stands at the place.
 pub fn initial_value(
@@ -98,8 +108,9 @@ pub fn constant_value(
 fn as_bool(made: Made) -> Option<CExpr>
     ensures { result ≡ spec.as_bool made }
 {
-    match &made.ty {
-        Ty::Bool => Some(made.core),
+    let Made { core, ty } = made;
+    match &ty {
+        Ty::Bool => Some(core),
         _ => None,
     }
 }
@@ -115,7 +126,8 @@ pub fn condition(place: Place, made: Option<Made>, kept: &mut Option<Fault>) -> 
     settle(as_bool(made), rules::CONDITION, place, kept)
 }
 
-pub(crate) fn is_inst(ty: &Ty) -> bool
+/// Whether a type is that of instances.
+pub fn is_inst(ty: &Ty) -> bool
     ensures { result ≡ spec.is_inst (out-Ty ty.now) }
 {
     match ty {
