@@ -1,0 +1,406 @@
+//! The walk over expressions and types. Each arm types the parts, all of them whatever the first came to, and
+//! then calls the rule of its node. What is kept is the first broken rule so far.
+
+ghost use Rattle.std.specs.Prelude.{◌≡◌, [], ◌∷◌, map, Option, None, IfOk, OnOk, option_map};
+ghost use Rattle.chi_typing.specs.Faults.{first_of};
+ghost use Rattle.chi_typing.specs.Names.{known_in};
+ghost use Rattle.chi_expr_rules.specs.Parts as parts;
+ghost use Rattle.chi_check_expr.specs.Calls as calls;
+ghost use Rattle.chi_check_expr.specs.Expressions as expressions;
+ghost use Rattle.chi_check_expr.specs.Reads as reads;
+ghost use Rattle.chi_check_expr.specs.TypeTrees as trees;
+ghost use Rattle.chi_check_expr.specs.Typing as spec;
+
+use crate::calls::{call, insert, is_insertion};
+use crate::fields::{note_first, type_meant, with_field};
+use chi_base::{Boxed, Items, NoMemory};
+use chi_expr_rules as rule;
+use chi_list_rules as list_rule;
+use chi_token::Bytes;
+use chi_tree::{Entry, Expr, Formal, Link, Name, Postfix, TypeTree};
+use chi_types::Ty;
+use chi_typing::{Fault, Made, Meant, Scope, Site, rules};
+use std::alloc::Global;
+
+/// The core and the type of an expression, if it has a type.
+#[cycle(typing)]
+pub fn type_in(
+    alloc: Global,
+    e: &Expr,
+    scope: &Scope,
+    site: Site,
+    kept: &mut Option<Fault>,
+) -> Result<Option<Made>, NoMemory>
+    ensures made { IfOk result (λ m. m ≡ (spec.typing site scope.now e.now).made) }
+    ensures noted { OnOk result (kept.new ≡ first_of kept.old (spec.typing site scope.now e.now).faults) }
+{
+    match e {
+        Expr::Chain { first, links } => {
+            let left = type_in(alloc, first.get(), scope, site, kept)?;
+            Ok(type_links(alloc, links.as_slice(), left, scope, site, kept)?)
+        }
+        Expr::Prefix {
+            sign,
+            place,
+            operand,
+        } => {
+            let operand = type_in(alloc, operand.get(), scope, site, kept)?;
+            Ok(rule::prefix_of(alloc, site, *sign, *place, operand, kept)?)
+        }
+        Expr::Relation {
+            left,
+            sign,
+            place,
+            right,
+        } => {
+            let left = type_in(alloc, left.get(), scope, site, kept)?;
+            let right = type_in(alloc, right.get(), scope, site, kept)?;
+            Ok(rule::relation_of(alloc, *sign, *place, left, right, kept)?)
+        }
+        Expr::Power {
+            base,
+            place,
+            exponent,
+        } => {
+            let base = type_in(alloc, base.get(), scope, site, kept)?;
+            let exponent = type_in(alloc, exponent.get(), scope, site, kept)?;
+            Ok(rule::power_of(alloc, *place, base, exponent, kept)?)
+        }
+        Expr::Part { whole, postfixes } => {
+            let whole = type_in(alloc, whole.get(), scope, site, kept)?;
+            Ok(type_parts(alloc, postfixes.as_slice(), whole, scope, site, kept)?)
+        }
+        Expr::Int { digits, place } => {
+            let number = rule::int_literal(digits);
+            Ok(rule::settle(number, rules::LITERAL_RANGE, *place, kept))
+        }
+        Expr::Real { digits, place } => {
+            let number = rule::real_literal(digits);
+            Ok(rule::settle(number, rules::LITERAL_RANGE, *place, kept))
+        }
+        Expr::Text { bytes, place: _ } => Ok(Some(rule::text_literal(alloc, bytes)?)),
+        Expr::Bool { truth, place: _ } => Ok(Some(rule::bool_literal(*truth))),
+        Expr::Time(place) => Ok(rule::time_of(alloc, site, *place, kept)?),
+        Expr::Named(name) => Ok(rule::named_value(alloc, scope, name, kept)?),
+        Expr::Call { name, arguments } => {
+            Ok(type_call(alloc, name, arguments.as_slice(), scope, site, kept)?)
+        }
+        Expr::Cast {
+            word,
+            place,
+            operand,
+        } => {
+            let operand = type_in(alloc, operand.get(), scope, site, kept)?;
+            Ok(rule::cast_of(alloc, site, *word, *place, operand, kept)?)
+        }
+        Expr::Round { place: _, inner } => Ok(type_in(alloc, inner.get(), scope, site, kept)?),
+        Expr::TupleOf { place, parts } => {
+            let parts = type_all(alloc, parts.as_slice(), scope, site, kept)?;
+            Ok(list_rule::tuple_of(alloc, *place, parts, kept)?)
+        }
+        Expr::ListOf { place, elements } => {
+            let elements = type_all(alloc, elements.as_slice(), scope, site, kept)?;
+            Ok(list_rule::list_of(alloc, *place, elements, kept)?)
+        }
+        Expr::SetOf { place, elements } => {
+            let elements = type_all(alloc, elements.as_slice(), scope, site, kept)?;
+            Ok(list_rule::set_of(alloc, *place, elements, kept)?)
+        }
+        Expr::DictOf { place, entries } => {
+            let (keys, values) = type_entries(alloc, entries.as_slice(), scope, site, kept)?;
+            Ok(list_rule::dict_of(alloc, *place, keys, values, kept)?)
+        }
+        Expr::EmptyList { place, element } => {
+            let element = mean_in(alloc, element.get(), scope, site, false, kept)?;
+            Ok(list_rule::empty_list(alloc, *place, element, kept)?)
+        }
+        Expr::EmptySet { place, element } => {
+            let element = mean_in(alloc, element.get(), scope, site, false, kept)?;
+            Ok(list_rule::empty_set(alloc, *place, element, kept)?)
+        }
+        Expr::EmptyDict { place, key, value } => {
+            let key = mean_in(alloc, key.get(), scope, site, false, kept)?;
+            let value = mean_in(alloc, value.get(), scope, site, false, kept)?;
+            Ok(list_rule::empty_dict(alloc, *place, key, value, kept)?)
+        }
+    }
+}
+
+/// A call. The third of three arguments of an insertion isn't typed.
+#[cycle(typing)]
+fn type_call(
+    alloc: Global,
+    name: &Name,
+    arguments: &[Expr],
+    scope: &Scope,
+    site: Site,
+    kept: &mut Option<Fault>,
+) -> Result<Option<Made>, NoMemory>
+    ensures made { IfOk result (λ m. m ≡ (calls.call site scope.now name.now (map (spec.read site scope.now) arguments.now)).made) }
+    ensures noted { OnOk result (kept.new ≡ first_of kept.old (calls.call site scope.now name.now (map (spec.read site scope.now) arguments.now)).faults) }
+{
+    match arguments {
+        [list, element, third] => {
+            if is_insertion(name) {
+                let list = type_in(alloc, list, scope, site, kept)?;
+                let element = type_in(alloc, element, scope, site, kept)?;
+                Ok(insert(alloc, scope, site, name, list, element, third, kept)?)
+            } else {
+                let parts = type_all(alloc, arguments, scope, site, kept)?;
+                Ok(call(alloc, scope, site, name, parts, kept)?)
+            }
+        }
+        _ => {
+            let parts = type_all(alloc, arguments, scope, site, kept)?;
+            Ok(call(alloc, scope, site, name, parts, kept)?)
+        }
+    }
+}
+
+/// Operands of one level, from the left.
+#[cycle(typing)]
+fn type_links(
+    alloc: Global,
+    links: &[Link],
+    first: Option<Made>,
+    scope: &Scope,
+    site: Site,
+    kept: &mut Option<Fault>,
+) -> Result<Option<Made>, NoMemory>
+    ensures made { IfOk result (λ m. m ≡ (expressions.chained first (map (spec.linked site scope.now) links.now)).made) }
+    ensures noted { OnOk result (kept.new ≡ first_of kept.old (expressions.chained first (map (spec.linked site scope.now) links.now)).faults) }
+{
+    let mut left = first;
+    for link in links {
+        let right = type_in(alloc, &link.operand, scope, site, kept)?;
+        left = rule::chain_of(alloc, link.operator, link.place, left, right, kept)?;
+    }
+    Ok(left)
+}
+
+/// A part of a part, from the left.
+#[cycle(typing)]
+fn type_parts(
+    alloc: Global,
+    postfixes: &[Postfix],
+    whole: Option<Made>,
+    scope: &Scope,
+    site: Site,
+    kept: &mut Option<Fault>,
+) -> Result<Option<Made>, NoMemory>
+    ensures made { IfOk result (λ m. m ≡ (expressions.parted whole (map (spec.taken site scope.now) postfixes.now)).made) }
+    ensures noted { OnOk result (kept.new ≡ first_of kept.old (expressions.parted whole (map (spec.taken site scope.now) postfixes.now)).faults) }
+{
+    let mut part = whole;
+    for postfix in postfixes {
+        part = type_part(alloc, postfix, part, scope, site, kept)?;
+    }
+    Ok(part)
+}
+
+#[cycle(typing)]
+fn type_part(
+    alloc: Global,
+    postfix: &Postfix,
+    whole: Option<Made>,
+    scope: &Scope,
+    site: Site,
+    kept: &mut Option<Fault>,
+) -> Result<Option<Made>, NoMemory>
+    ensures made { IfOk result (λ m. m ≡ (expressions.part_of whole (spec.taken site scope.now postfix.now)).made) }
+    ensures noted { OnOk result (kept.new ≡ first_of kept.old (expressions.part_of whole (spec.taken site scope.now postfix.now)).faults) }
+{
+    match postfix {
+        Postfix::Index { place, index } => {
+            let index = type_in(alloc, index.get(), scope, site, kept)?;
+            Ok(rule::index_of(alloc, *place, whole, index, kept)?)
+        }
+        Postfix::Slice {
+            place,
+            from,
+            upto,
+            second_colon: _,
+            by,
+        } => {
+            let from = type_bound(alloc, from, scope, site, kept)?;
+            let upto = type_bound(alloc, upto, scope, site, kept)?;
+            let by = type_bound(alloc, by, scope, site, kept)?;
+            Ok(rule::slice_of(alloc, *place, whole, from, upto, by, kept)?)
+        }
+        Postfix::Field(name) => Ok(rule::field_of(alloc, name, whole, kept)?),
+    }
+}
+
+/// A bound of a slice, where one is written.
+#[cycle(typing)]
+#[tactic(auto, using(crate::proofs::PartEquations::one_noted, crate::proofs::PartEquations::none_noted))]
+fn type_bound(
+    alloc: Global,
+    bound: &Option<Boxed<Expr>>,
+    scope: &Scope,
+    site: Site,
+    kept: &mut Option<Fault>,
+) -> Result<Option<Option<Made>>, NoMemory>
+    ensures made { IfOk result (λ m. m ≡ option_map reads.made_of (option_map (spec.typing site scope.now) bound.now)) }
+    ensures noted { OnOk result (kept.new ≡ first_of kept.old (reads.all_faults (parts.if_given (option_map (spec.typing site scope.now) bound.now) []))) }
+{
+    match bound {
+        None => Ok(None),
+        Some(bound) => Ok(Some(type_in(alloc, bound.get(), scope, site, kept)?)),
+    }
+}
+
+/// What each expression of a list comes to.
+#[cycle(typing)]
+fn type_all(
+    alloc: Global,
+    parts: &[Expr],
+    scope: &Scope,
+    site: Site,
+    kept: &mut Option<Fault>,
+) -> Result<Items<Option<Made>>, NoMemory>
+    ensures made { IfOk result (λ ms. ms ≡ map reads.made_of (map (spec.typing site scope.now) parts.now)) }
+    ensures noted { OnOk result (kept.new ≡ first_of kept.old (reads.all_faults (map (spec.typing site scope.now) parts.now))) }
+{
+    let mut all = Vec::new(alloc);
+    for part in parts {
+        let made = type_in(alloc, part, scope, site, kept)?;
+        all.push(made)?;
+    }
+    Ok(Items::of(alloc, all)?)
+}
+
+/// What the keys and the values of a dictionary come to.
+#[cycle(typing)]
+fn type_entries(
+    alloc: Global,
+    entries: &[Entry],
+    scope: &Scope,
+    site: Site,
+    kept: &mut Option<Fault>,
+) -> Result<(Items<Option<Made>>, Items<Option<Made>>), NoMemory>
+    ensures keys { IfOk result (λ r. r.0 ≡ map reads.key_made (map (spec.paired site scope.now) entries.now)) }
+    ensures values { IfOk result (λ r. r.1 ≡ map reads.value_made (map (spec.paired site scope.now) entries.now)) }
+    ensures noted { OnOk result (kept.new ≡ first_of kept.old (reads.entry_faults (map (spec.paired site scope.now) entries.now))) }
+{
+    let mut keys = Vec::new(alloc);
+    let mut values = Vec::new(alloc);
+    for entry in entries {
+        let key = type_in(alloc, &entry.key, scope, site, kept)?;
+        let value = type_in(alloc, &entry.value, scope, site, kept)?;
+        keys.push(key)?;
+        values.push(value)?;
+    }
+    let keys = Items::of(alloc, keys)?;
+    let values = Items::of(alloc, values)?;
+    Ok((keys, values))
+}
+
+/// What a type tree means, if it is a type. `sizes` says whether a size may stand there.
+#[cycle(typing)]
+pub fn mean_in(
+    alloc: Global,
+    tree: &TypeTree,
+    scope: &Scope,
+    site: Site,
+    sizes: bool,
+    kept: &mut Option<Fault>,
+) -> Result<Option<Meant>, NoMemory>
+    ensures made { IfOk result (λ m. m ≡ (spec.reading site scope.now tree.now sizes).made) }
+    ensures noted { OnOk result (kept.new ≡ first_of kept.old (spec.reading site scope.now tree.now sizes).faults) }
+{
+    match tree {
+        TypeTree::Word { word, place } => Ok(chi_typing::word_of(alloc, *place, *word, kept)?),
+        TypeTree::Defined(name) => Ok(chi_typing::named_type(alloc, scope, name, kept)?),
+        TypeTree::List {
+            place,
+            size: None,
+            element,
+        } => {
+            let element = mean_in(alloc, element.get(), scope, site, false, kept)?;
+            Ok(chi_typing::list_of(alloc, *place, element, kept)?)
+        }
+        TypeTree::List {
+            place,
+            size: Some(size),
+            element,
+        } => {
+            let size = type_in(alloc, size.get(), scope, site, kept)?;
+            let element = mean_in(alloc, element.get(), scope, site, sizes, kept)?;
+            Ok(chi_typing::sized_list_of(alloc, *place, sizes, size, element, kept)?)
+        }
+        TypeTree::Set { place, element } => {
+            let element = mean_in(alloc, element.get(), scope, site, false, kept)?;
+            Ok(chi_typing::set_of(alloc, *place, element, kept)?)
+        }
+        TypeTree::Dist { place, drawn } => {
+            let drawn = mean_in(alloc, drawn.get(), scope, site, false, kept)?;
+            Ok(chi_typing::dist_of(alloc, *place, drawn, kept)?)
+        }
+        TypeTree::Dict { place, key, value } => {
+            let key = mean_in(alloc, key.get(), scope, site, false, kept)?;
+            let value = mean_in(alloc, value.get(), scope, site, false, kept)?;
+            Ok(chi_typing::dict_of(alloc, *place, key, value, kept)?)
+        }
+        TypeTree::Tuple { place, fields } => {
+            let parts = mean_fields(alloc, fields.as_slice(), scope, site, kept)?;
+            Ok(chi_typing::tuple_of(alloc, *place, fields.as_slice(), parts, kept)?)
+        }
+        TypeTree::Chan {
+            place,
+            way,
+            carried: None,
+        } => Ok(chi_typing::void_chan_of(alloc, *place, *way, kept)?),
+        TypeTree::Chan {
+            place,
+            way,
+            carried: Some(carried),
+        } => {
+            let carried = mean_in(alloc, carried.get(), scope, site, false, kept)?;
+            Ok(chi_typing::chan_of(alloc, *place, *way, carried, kept)?)
+        }
+    }
+}
+
+/// The names and types of fields, if each has a type.
+#[cycle(typing)]
+fn mean_fields(
+    alloc: Global,
+    fields: &[Formal],
+    scope: &Scope,
+    site: Site,
+    kept: &mut Option<Fault>,
+) -> Result<Option<Items<(Bytes, Ty)>>, NoMemory>
+    ensures made { IfOk result (λ ps. ps ≡ trees.parts_from None (map (spec.formal site scope.now) fields.now)) }
+    ensures noted { OnOk result (kept.new ≡ first_of kept.old (trees.field_faults (map (spec.formal site scope.now) fields.now))) }
+{
+    note_first(fields, kept);
+    let mut parts = Some(Items::of(alloc, Vec::new(alloc))?);
+    let mut last = None;
+    for field in fields {
+        let ty = type_before(alloc, field, last, scope, site, kept)?;
+        parts = with_field(alloc, parts, &field.name, &ty)?;
+        last = ty;
+    }
+    Ok(parts)
+}
+
+/// The type before a field, or that of the field before it.
+#[cycle(typing)]
+fn type_before(
+    alloc: Global,
+    field: &Formal,
+    last: Option<Ty>,
+    scope: &Scope,
+    site: Site,
+    kept: &mut Option<Fault>,
+) -> Result<Option<Ty>, NoMemory>
+    ensures made { IfOk result (λ t. t ≡ trees.field_type last (spec.formal site scope.now field.now).ty) }
+    ensures noted { OnOk result (kept.new ≡ first_of kept.old (trees.faults_of (spec.formal site scope.now field.now).ty)) }
+{
+    let Some(tree) = &field.ty else {
+        return Ok(last);
+    };
+    let meant = mean_in(alloc, tree.get(), scope, site, false, kept)?;
+    Ok(type_meant(meant))
+}
