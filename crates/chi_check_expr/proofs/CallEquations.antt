@@ -64,7 +64,7 @@ module _ (site : Site) (names : Names) where
 
   pub noted_inserted : (kept : Option Fault) (name : Name) (es : List Expr) (a b by : Expr) → es ≡ a ∷ b ∷ by ∷ [] → is_insertion (predefined_of name.text) ≡ true
       → first_of kept (calls.call site names name (map (read site names) es)).faults
-        ≡ first_of (first_of (first_of kept (typing site names a).faults) (typing site names b).faults) (inserted site names name (typing site names a).made (typing site names b).made (read site names by).name).faults
+      ≡ first_of (first_of (first_of kept (typing site names a).faults) (typing site names b).faults) (inserted site names name (typing site names a).made (typing site names b).made (read site names by).name).faults
   noted_inserted kept name es a b by h i = ap (λ (t : Typed Made). first_of kept t.faults) (three_typed name es a b by h i) ∙ noted_two kept (typing site names a).faults (typing site names b).faults _
 
   -- ---- any other call

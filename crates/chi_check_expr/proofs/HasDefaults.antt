@@ -73,9 +73,11 @@ one_longer [] x = refl
 one_longer (y ∷ xs) x = ap suc (one_longer xs x)
 
 sized_default : (element : Meant) (size : CExpr) → Defaulted element → Defaulted (with_size element size)
-sized_default element size d = (d.0,
-    ap (λ n. option_and_then shape_of (within n (ty.ListOf element.ty))) (one_longer element.sizes size)
-    ∙ ap (λ o. option_and_then shape_of (option_and_then (within (length element.sizes)) (element_type o))) (ty.outs-ListOf element.ty) ∙ d.1)
+sized_default element size d = (
+  d.0,
+  ap (λ n. option_and_then shape_of (within n (ty.ListOf element.ty))) (one_longer element.sizes size)
+      ∙ ap (λ o. option_and_then shape_of (option_and_then (within (length element.sizes)) (element_type o))) (ty.outs-ListOf element.ty) ∙ d.1,
+)
 
 drawn_on : (t : Ty) (o : Ty-F Ty) → out-Ty t ≡ o → is_drawn o ≡ true → HasShape (ty.Dist t)
 drawn_on t Ty-F.Bool h e = (shape.DistBool, shape_at (ty.Dist t) (Ty-F.Dist t) (ty.outs-Dist t) ∙ ap dist_shape (shape_at t Ty-F.Bool h) ∙ ap drawn_shape shape.outs-Bool)
@@ -106,12 +108,30 @@ kind_default place k m d h = absurd (cc)
 module _ (site : Site) (names : Names) (defaults : HaveDefaults names) where
   keeps_defaults : Keeps site names Anything Defaulted
   keeps_defaults = record {
-    int = λ _ _ _. tt; real = λ _ _ _. tt; text = λ _. tt; bool = λ _. tt; time = λ _ _ _. tt; name = λ _ _ _ _ _. tt;
-    chain = λ _ _ _ _ _ _ _ _. tt; prefix = λ _ _ _ _ _ _. tt; relation = λ _ _ _ _ _ _ _ _. tt; power = λ _ _ _ _ _ _ _. tt; cast = λ _ _ _ _ _ _. tt;
-    index = λ _ _ _ _ _ _ _. tt; slice = λ _ _ _ _ _ _ _ _. tt; field = λ _ _ _ _ _. tt;
-    call = λ _ _ _ _ _ _ _. tt; predefined_name = λ _ _ _ _ _ _. tt; insertion = λ _ _ _ _ _ _ _ _ _ _. tt;
-    tuple = λ _ _ _ _ _. tt; list = λ _ _ _ _ _. tt; set = λ _ _ _ _ _. tt; dict = λ _ _ _ _ _ _ _. tt;
-    empty_list = λ _ _ _ _ _. tt; empty_set = λ _ _ _ _ _. tt; empty_dict = λ _ _ _ _ _ _ _. tt;
+    int = λ _ _ _. tt;
+    real = λ _ _ _. tt;
+    text = λ _. tt;
+    bool = λ _. tt;
+    time = λ _ _ _. tt;
+    name = λ _ _ _ _ _. tt;
+    chain = λ _ _ _ _ _ _ _ _. tt;
+    prefix = λ _ _ _ _ _ _. tt;
+    relation = λ _ _ _ _ _ _ _ _. tt;
+    power = λ _ _ _ _ _ _ _. tt;
+    cast = λ _ _ _ _ _ _. tt;
+    index = λ _ _ _ _ _ _ _. tt;
+    slice = λ _ _ _ _ _ _ _ _. tt;
+    field = λ _ _ _ _ _. tt;
+    call = λ _ _ _ _ _ _ _. tt;
+    predefined_name = λ _ _ _ _ _ _. tt;
+    insertion = λ _ _ _ _ _ _ _ _ _ _. tt;
+    tuple = λ _ _ _ _ _. tt;
+    list = λ _ _ _ _ _. tt;
+    set = λ _ _ _ _ _. tt;
+    dict = λ _ _ _ _ _ _ _. tt;
+    empty_list = λ _ _ _ _ _. tt;
+    empty_set = λ _ _ _ _ _. tt;
+    empty_dict = λ _ _ _ _ _ _ _. tt;
     word = λ place w m h. unless_is _ (meaning (types.word_type w)) m h (word_shape w);
     named_type = λ name k m known h. kind_default name.place k m (λ t e. defaults name.text t (known ∙ ap Some e)) h;
     list_type = λ place element m d h. unless_is _ (meaning (ty.ListOf element.ty)) m h (list_shape element.ty);
@@ -121,7 +141,8 @@ module _ (site : Site) (names : Names) (defaults : HaveDefaults names) where
     dist = λ place drawn m d h. dist_default drawn.ty (is_drawn (out-Ty drawn.ty)) _ place _ m refl h;
     tuple_type = λ place fields parts m g h. unless_is _ (meaning (ty.TupleOf parts)) m h (tuple_default parts g);
     chan = λ place way carried m d h. unless_is _ (meaning (ty.Chan (types.way_of way) carried.ty)) m h (shape.Chan, shape_at (ty.Chan (types.way_of way) carried.ty) (Ty-F.Chan (types.way_of way) carried.ty) (ty.outs-Chan (types.way_of way) carried.ty));
-    void_chan = λ place way m h. unless_is _ (meaning (ty.Chan (types.way_of way) ty.Void)) m h (shape.Chan, shape_at (ty.Chan (types.way_of way) ty.Void) (Ty-F.Chan (types.way_of way) ty.Void) (ty.outs-Chan (types.way_of way) ty.Void)) }
+    void_chan = λ place way m h. unless_is _ (meaning (ty.Chan (types.way_of way) ty.Void)) m h (shape.Chan, shape_at (ty.Chan (types.way_of way) ty.Void) (Ty-F.Chan (types.way_of way) ty.Void) (ty.outs-Chan (types.way_of way) ty.Void));
+  }
 
   of_good : (fs : List Fault) (o : Option Meant) (m : Meant) → Good Defaulted fs o → o ≡ Some m → Defaulted m
   of_good fs None m g e = absurd (cc)

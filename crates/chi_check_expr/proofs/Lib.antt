@@ -13,4 +13,3 @@ pub mod Opened
 pub mod PartEquations
 pub mod Parts
 pub mod TypeEquations
-pub mod Unmade

@@ -45,7 +45,7 @@ module _ (site : Site) (names : Names) where
 
   step_noted : (kept : Option Fault) (left : Option Made) (l : Link) (ls : List Link)
       → first_of kept (chained left (map (linked site names) (l ∷ ls))).faults
-        ≡ first_of (first_of (first_of kept (typing site names l.operand).faults) (chain_of l.operator l.place left (typing site names l.operand).made).faults) (chained (chain_of l.operator l.place left (typing site names l.operand).made).made (map (linked site names) ls)).faults
+      ≡ first_of (first_of (first_of kept (typing site names l.operand).faults) (chain_of l.operator l.place left (typing site names l.operand).made).faults) (chained (chain_of l.operator l.place left (typing site names l.operand).made).made (map (linked site names) ls)).faults
   step_noted kept left l ls = ap (λ (x : Linked). first_of kept (chained left (x ∷ map (linked site names) ls)).faults) (linked_is site names l) ∙ noted_two kept _ _ _
 
   pub links_made : (left : Option Made) (ls : List Link) (i : ℕ) (l : Link) → i < length ls → l ≡ get_or ls i l
@@ -54,7 +54,7 @@ module _ (site : Site) (names : Names) where
 
   pub links_noted : (kept : Option Fault) (left : Option Made) (ls : List Link) (i : ℕ) (l : Link) → i < length ls → l ≡ get_or ls i l
       → first_of kept (chained left (map (linked site names) (drop i ls))).faults
-        ≡ first_of (first_of (first_of kept (typing site names l.operand).faults) (chain_of l.operator l.place left (typing site names l.operand).made).faults) (chained (chain_of l.operator l.place left (typing site names l.operand).made).made (map (linked site names) (drop (i + 1) ls))).faults
+      ≡ first_of (first_of (first_of kept (typing site names l.operand).faults) (chain_of l.operator l.place left (typing site names l.operand).made).faults) (chained (chain_of l.operator l.place left (typing site names l.operand).made).made (map (linked site names) (drop (i + 1) ls))).faults
   links_noted kept left ls i l h e = ap (λ ls. first_of kept (chained left (map (linked site names) ls)).faults) (at ls i l h e) ∙ step_noted kept left l (drop (i + 1) ls)
 
   pub links_end : (kept : Option Fault) (left : Option Made) (ls : List Link) (i : ℕ) → length ls ≤ i → first_of kept (chained left (map (linked site names) (drop i ls))).faults ≡ kept
@@ -159,7 +159,7 @@ module _ (site : Site) (names : Names) where
 
   pub fields_made : (done : Option (List (List ℕ × Ty))) (last : Option Ty) (fs : List Formal) (i : ℕ) (f : Formal) → i < length fs → f ≡ get_or fs i f
       → joined_on done (parts_from last (map (formal site names) (drop i fs)))
-        ≡ joined_on (option_and_then (λ done. option_map (λ t. done ++ (f.name.text, t) ∷ []) (field_type last (formal site names f).ty)) done) (parts_from (field_type last (formal site names f).ty) (map (formal site names) (drop (i + 1) fs)))
+      ≡ joined_on (option_and_then (λ done. option_map (λ t. done ++ (f.name.text, t) ∷ []) (field_type last (formal site names f).ty)) done) (parts_from (field_type last (formal site names f).ty) (map (formal site names) (drop (i + 1) fs)))
   fields_made done last fs i f h p = ap (λ fs. joined_on done (parts_from last (map (formal site names) fs))) (at fs i f h p)
       ∙ one_more (formal site names f).name.text done (field_type last (formal site names f).ty) (λ t. parts_from (Some t) (map (formal site names) (drop (i + 1) fs)))
       ∙ same_rest (formal site names f).name.text done (field_type last (formal site names f).ty) (map (formal site names) (drop (i + 1) fs))

@@ -82,7 +82,7 @@ module _ (site : Site) (names : Names) where
 
   pub noted_Slice : (kept : Option Fault) (whole : Option Made) (p : Postfix) (place : Place) (from upto : Option Expr) (second : Bool) (by : Option Expr) → p ≡ postfix.Slice place from upto second by
       → first_of kept (part_of whole (taken site names p)).faults
-        ≡ first_of (first_of (first_of (first_of kept (all_faults (if_given (typed_if from) []))) (all_faults (if_given (typed_if upto) []))) (all_faults (if_given (typed_if by) []))) (sliced place whole from upto by).faults
+      ≡ first_of (first_of (first_of (first_of kept (all_faults (if_given (typed_if from) []))) (all_faults (if_given (typed_if upto) []))) (all_faults (if_given (typed_if by) []))) (sliced place whole from upto by).faults
   noted_Slice kept whole p place from upto second by h = ap (λ t. first_of kept (part_of whole t).faults) (Slice_taken p place from upto second by h)
       ∙ noted_one kept (all_faults (given (bounds_of (typed_if from) (typed_if upto) (typed_if by)))) _
       ∙ ap (λ k. first_of k (sliced place whole from upto by).faults) (given_noted kept (typed_if from) _ ∙ given_noted _ (typed_if upto) _)

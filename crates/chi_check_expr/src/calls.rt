@@ -56,7 +56,15 @@ pub(crate) fn insert(
 {
     let known = function_known(scope, by, site);
     let arguments = Items::of(alloc, vec![in alloc; list, element, None]?)?;
-    predefined_call(alloc, site, name.place, Predefined::Insert, arguments, known, kept)
+    predefined_call(
+        alloc,
+        site,
+        name.place,
+        Predefined::Insert,
+        arguments,
+        known,
+        kept,
+    )
 }
 
 /// A call of a predefined name, or of what is known of another one.
@@ -72,7 +80,16 @@ pub(crate) fn call(
     ensures noted { OnOk result (kept.new ≡ first_of kept.old (spec.call_by site scope.now name.now (names.predefined_of name.now.text) arguments).faults) }
 {
     match predefined_of(&name.text) {
-        Some(predefined) => predefined_call(alloc, site, name.place, predefined, arguments, None, kept),
-        None => call_of(alloc, site, name.place, scope.known(&name.text), arguments, kept),
+        Some(predefined) => predefined_call(
+            alloc, site, name.place, predefined, arguments, None, kept,
+        ),
+        None => call_of(
+            alloc,
+            site,
+            name.place,
+            scope.known(&name.text),
+            arguments,
+            kept,
+        ),
     }
 }

@@ -16,7 +16,7 @@ use crate::fields::{note_first, type_meant, with_field};
 use chi_base::{Boxed, Items, NoMemory};
 use chi_expr_rules as rule;
 use chi_list_rules as list_rule;
-use chi_token::Bytes;
+use chi_token::{Bytes, Place};
 use chi_tree::{Entry, Expr, Formal, Link, Name, Postfix, TypeTree};
 use chi_types::Ty;
 use chi_typing::{Fault, Made, Meant, Scope, Site, rules};
@@ -223,12 +223,50 @@ fn type_part(
             by,
         } => {
             let from = type_bound(alloc, from, scope, site, kept)?;
-            let upto = type_bound(alloc, upto, scope, site, kept)?;
-            let by = type_bound(alloc, by, scope, site, kept)?;
-            Ok(rule::slice_of(alloc, *place, whole, from, upto, by, kept)?)
+            Ok(type_slice(alloc, *place, whole, from, upto, by, scope, site, kept)?)
         }
         Postfix::Field(name) => Ok(rule::field_of(alloc, name, whole, kept)?),
     }
+}
+
+/// A slice whose first bound is typed.
+#[cycle(typing)]
+fn type_slice(
+    alloc: Global,
+    place: Place,
+    whole: Option<Made>,
+    from: Option<Option<Made>>,
+    upto: &Option<Boxed<Expr>>,
+    by: &Option<Boxed<Expr>>,
+    scope: &Scope,
+    site: Site,
+    kept: &mut Option<Fault>,
+) -> Result<Option<Made>, NoMemory>
+    ensures made { IfOk result (λ m. m ≡ (parts.slice_of place whole (record { from = from; upto = option_map reads.made_of (option_map (spec.typing site scope.now) upto.now); by = option_map reads.made_of (option_map (spec.typing site scope.now) by.now) })).made) }
+    ensures noted { OnOk result (kept.new ≡ first_of (first_of (first_of kept.old (reads.all_faults (parts.if_given (option_map (spec.typing site scope.now) upto.now) []))) (reads.all_faults (parts.if_given (option_map (spec.typing site scope.now) by.now) []))) (parts.slice_of place whole (record { from = from; upto = option_map reads.made_of (option_map (spec.typing site scope.now) upto.now); by = option_map reads.made_of (option_map (spec.typing site scope.now) by.now) })).faults) }
+{
+    let upto = type_bound(alloc, upto, scope, site, kept)?;
+    Ok(type_slice_by(alloc, place, whole, from, upto, by, scope, site, kept)?)
+}
+
+/// A slice whose first two bounds are typed.
+#[cycle(typing)]
+fn type_slice_by(
+    alloc: Global,
+    place: Place,
+    whole: Option<Made>,
+    from: Option<Option<Made>>,
+    upto: Option<Option<Made>>,
+    by: &Option<Boxed<Expr>>,
+    scope: &Scope,
+    site: Site,
+    kept: &mut Option<Fault>,
+) -> Result<Option<Made>, NoMemory>
+    ensures made { IfOk result (λ m. m ≡ (parts.slice_of place whole (record { from = from; upto = upto; by = option_map reads.made_of (option_map (spec.typing site scope.now) by.now) })).made) }
+    ensures noted { OnOk result (kept.new ≡ first_of (first_of kept.old (reads.all_faults (parts.if_given (option_map (spec.typing site scope.now) by.now) []))) (parts.slice_of place whole (record { from = from; upto = upto; by = option_map reads.made_of (option_map (spec.typing site scope.now) by.now) })).faults) }
+{
+    let by = type_bound(alloc, by, scope, site, kept)?;
+    Ok(rule::slice_of(alloc, place, whole, from, upto, by, kept)?)
 }
 
 /// A bound of a slice, where one is written.

@@ -370,18 +370,28 @@ type_part-returns-in_ok-index_of-in-Index-clause-noted t c =
     let e = noted_Index c.args.site c.args.scope.now c.args.kept.now c.args.whole c.args.postfix.now _ _ c.in-Index.is in
     cc (e, c.in_ok-index-in-Index.ensures.made, c.in_ok-index-in-Index.ensures.noted, c.in_ok-index_of-in-Index.ensures.noted)
 
-pub type_part-returns-in_ok-slice_of-in-Slice-clause-made : goal.type_part-returns-in_ok-slice_of-in-Slice-clause-made
-type_part-returns-in_ok-slice_of-in-Slice-clause-made t c =
+pub type_part-returns-in_ok-type_slice-in-Slice-clause-made : goal.type_part-returns-in_ok-type_slice-in-Slice-clause-made
+type_part-returns-in_ok-type_slice-in-Slice-clause-made t c =
     let e = made_Slice c.args.site c.args.scope.now c.args.whole c.args.postfix.now _ _ _ _ _ c.in-Slice.is in
-    cc (e, c.in_ok-from-in-Slice.ensures.made, c.in_ok-upto-in-Slice.ensures.made, c.in_ok-by-in-Slice.ensures.made, c.in_ok-slice_of-in-Slice.ensures.made)
+    cc (e, c.in_ok-from-in-Slice.ensures.made, c.in_ok-type_slice-in-Slice.ensures.made)
 
-pub type_part-returns-in_ok-slice_of-in-Slice-clause-noted : goal.type_part-returns-in_ok-slice_of-in-Slice-clause-noted
-type_part-returns-in_ok-slice_of-in-Slice-clause-noted t c =
+pub type_part-returns-in_ok-type_slice-in-Slice-clause-noted : goal.type_part-returns-in_ok-type_slice-in-Slice-clause-noted
+type_part-returns-in_ok-type_slice-in-Slice-clause-noted t c =
     let e = noted_Slice c.args.site c.args.scope.now c.args.kept.now c.args.whole c.args.postfix.now _ _ _ _ _ c.in-Slice.is in
     let a = c.in_ok-from-in-Slice.ensures in
-    let b = c.in_ok-upto-in-Slice.ensures in
-    let d = c.in_ok-by-in-Slice.ensures in
-    cc (e, a.made, a.noted, b.made, b.noted, d.made, d.noted, c.in_ok-slice_of-in-Slice.ensures.noted)
+    cc (e, a.made, a.noted, c.in_ok-type_slice-in-Slice.ensures.noted)
+
+pub type_slice-returns-in_ok-type_slice_by-clause-made : goal.type_slice-returns-in_ok-type_slice_by-clause-made
+type_slice-returns-in_ok-type_slice_by-clause-made t c = cc (c.in_ok-upto.ensures.made, c.in_ok-type_slice_by.ensures.made)
+
+pub type_slice-returns-in_ok-type_slice_by-clause-noted : goal.type_slice-returns-in_ok-type_slice_by-clause-noted
+type_slice-returns-in_ok-type_slice_by-clause-noted t c = cc (c.in_ok-upto.ensures.made, c.in_ok-upto.ensures.noted, c.in_ok-type_slice_by.ensures.noted)
+
+pub type_slice_by-returns-in_ok-slice_of-clause-made : goal.type_slice_by-returns-in_ok-slice_of-clause-made
+type_slice_by-returns-in_ok-slice_of-clause-made t c = cc (c.in_ok-by.ensures.made, c.in_ok-slice_of.ensures.made)
+
+pub type_slice_by-returns-in_ok-slice_of-clause-noted : goal.type_slice_by-returns-in_ok-slice_of-clause-noted
+type_slice_by-returns-in_ok-slice_of-clause-noted t c = cc (c.in_ok-by.ensures.made, c.in_ok-by.ensures.noted, c.in_ok-slice_of.ensures.noted)
 
 pub type_part-returns-in_ok-field_of-in-Field-clause-made : goal.type_part-returns-in_ok-field_of-in-Field-clause-made
 type_part-returns-in_ok-field_of-in-Field-clause-made t c =

@@ -25,7 +25,8 @@ invariant-type_all-loop-part l =
     let rest = map (typing l.site l.scope) (drop l.part-index l.parts) in
     record {
       made : map made_of (map (typing l.site l.scope) l.parts) ≡ l.all.items ++ map made_of rest;
-      noted : first_of l.fn.kept (all_faults (map (typing l.site l.scope) l.parts)) ≡ first_of l.kept (all_faults rest) }
+      noted : first_of l.fn.kept (all_faults (map (typing l.site l.scope) l.parts)) ≡ first_of l.kept (all_faults rest);
+    }
 
 abbrev pub invariant-type_entries-loop-entry : goal.invariant-type_entries-loop-entry
 invariant-type_entries-loop-entry l =
@@ -33,11 +34,13 @@ invariant-type_entries-loop-entry l =
     record {
       keys : map key_made (map (paired l.site l.scope) l.entries) ≡ l.keys.items ++ map key_made rest;
       values : map value_made (map (paired l.site l.scope) l.entries) ≡ l.values.items ++ map value_made rest;
-      noted : first_of l.fn.kept (entry_faults (map (paired l.site l.scope) l.entries)) ≡ first_of l.kept (entry_faults rest) }
+      noted : first_of l.fn.kept (entry_faults (map (paired l.site l.scope) l.entries)) ≡ first_of l.kept (entry_faults rest);
+    }
 
 abbrev pub invariant-mean_fields-loop-field : goal.invariant-mean_fields-loop-field
 invariant-mean_fields-loop-field l =
     let rest = map (formal l.site l.scope) (drop l.field-index l.fields) in
     record {
       made : parts_from None (map (formal l.site l.scope) l.fields) ≡ joined_on l.parts (parts_from l.last rest);
-      noted : first_of l.fn.kept (field_faults (map (formal l.site l.scope) l.fields)) ≡ first_of l.kept (each_field_faults rest) }
+      noted : first_of l.fn.kept (field_faults (map (formal l.site l.scope) l.fields)) ≡ first_of l.kept (each_field_faults rest);
+    }
