@@ -155,6 +155,7 @@ module _ (scene : Scene) (view : View) (none_named : scene.names.kinds ≡ []) (
       from : (d : Dist) (t : Ty) (T : Kind) → out-Ty t ≡ T → Yields d T → applied scene op.Sample (value.Dist d ∷ []) view ≢ Amiss
       from d t T e yields =
           there op.Sample (Ty-F.Dist t ∷ []) (out-Ty t) (sample_dist t) refl (value.Dist d ∷ []) (one (Ty-F.Dist t) (value.Dist d) (a_dist w d t T e yields))
+
       by_dist : (d : Dist) → has_stream d ≡ true → applied scene op.Sample (value.Dist d ∷ []) view ≢ Amiss
       by_dist (dist.ConstBool x) h = from (dist.ConstBool x) ty.Bool Ty-F.Bool ty.outs-Bool (always_bool x)
       by_dist (dist.ConstInt x) h = from (dist.ConstInt x) ty.Int Ty-F.Int ty.outs-Int (always_int x)

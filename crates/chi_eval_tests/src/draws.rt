@@ -37,6 +37,12 @@ pub fn drawn(
     let names = no_names(alloc)?;
     let mut view = view(draws);
     let distribution = Value::Dist(dist);
-    let value = of_one(alloc, &scenery(&names, seed), OpName::Sample, &distribution, &mut view)?;
+    let value = of_one(
+        alloc,
+        &scenery(&names, seed),
+        OpName::Sample,
+        &distribution,
+        &mut view,
+    )?;
     Ok(Some((value, view.draws)))
 }

@@ -31,9 +31,21 @@ pub fn best(alloc: Global, greatest: bool, numbers: &[i64]) -> Result<Value, Fai
     let mut view = view([0; 64]);
     let values = ints(alloc, numbers)?;
     if greatest {
-        apply(alloc, &scenery(&names, 0), OpName::Max, values.as_slice(), &mut view)
+        apply(
+            alloc,
+            &scenery(&names, 0),
+            OpName::Max,
+            values.as_slice(),
+            &mut view,
+        )
     } else {
-        apply(alloc, &scenery(&names, 0), OpName::Min, values.as_slice(), &mut view)
+        apply(
+            alloc,
+            &scenery(&names, 0),
+            OpName::Min,
+            values.as_slice(),
+            &mut view,
+        )
     }
 }
 
@@ -74,5 +86,11 @@ pub fn slice_of(
     push_bound(&mut values, last)?;
     push_bound(&mut values, by)?;
     let name = OpName::Slice(is_given(first), is_given(last), is_given(by));
-    apply(alloc, &scenery(&names, 0), name, values.as_slice(), &mut view)
+    apply(
+        alloc,
+        &scenery(&names, 0),
+        name,
+        values.as_slice(),
+        &mut view,
+    )
 }

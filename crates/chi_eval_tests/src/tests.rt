@@ -1,4 +1,7 @@
-use crate::{OnInt, OnInts, OnReal, OnReals, OnText, best, drawn, of_int, of_ints, of_real, of_reals, of_text, slice_of};
+use crate::{
+    OnInt, OnInts, OnReal, OnReals, OnText, best, drawn, of_int, of_ints, of_real, of_reals,
+    of_text, slice_of,
+};
 use chi_core::FaultKind;
 use chi_num::{Dist, Real};
 use chi_operate::Failure;
@@ -39,14 +42,34 @@ const ONE: i64 = 1_000_000_000;
 const INTS: [(OnInts, i64, i64, Outcome); 38] = [
     (OnInts::Add, 2, 3, Outcome::Int(5)),
     (OnInts::Add, i64::MIN, i64::MAX, Outcome::Int(-1)),
-    (OnInts::Add, i64::MAX, 1, Outcome::Fault(FaultKind::IntRange)),
+    (
+        OnInts::Add,
+        i64::MAX,
+        1,
+        Outcome::Fault(FaultKind::IntRange),
+    ),
     (OnInts::Sub, 2, 3, Outcome::Int(-1)),
-    (OnInts::Sub, i64::MIN, 1, Outcome::Fault(FaultKind::IntRange)),
+    (
+        OnInts::Sub,
+        i64::MIN,
+        1,
+        Outcome::Fault(FaultKind::IntRange),
+    ),
     (OnInts::Mul, -2, 3, Outcome::Int(-6)),
-    (OnInts::Mul, i64::MIN, -1, Outcome::Fault(FaultKind::IntRange)),
+    (
+        OnInts::Mul,
+        i64::MIN,
+        -1,
+        Outcome::Fault(FaultKind::IntRange),
+    ),
     (OnInts::Div, -7, 2, Outcome::Int(-4)),
     (OnInts::Div, 7, 0, Outcome::Fault(FaultKind::DivideByZero)),
-    (OnInts::Div, i64::MIN, -1, Outcome::Fault(FaultKind::IntRange)),
+    (
+        OnInts::Div,
+        i64::MIN,
+        -1,
+        Outcome::Fault(FaultKind::IntRange),
+    ),
     (OnInts::Mod, -7, 2, Outcome::Int(1)),
     (OnInts::Mod, 7, -2, Outcome::Int(-1)),
     (OnInts::Mod, i64::MIN, -1, Outcome::Int(0)),
@@ -74,28 +97,61 @@ const INTS: [(OnInts, i64, i64, Outcome); 38] = [
     (OnInts::Range, 2, 5, Outcome::List(3)),
     (OnInts::Range, 5, 2, Outcome::List(0)),
     (OnInts::Range, 0, 1_048_576, Outcome::List(1_048_576)),
-    (OnInts::Range, 0, 1_048_577, Outcome::Fault(FaultKind::TooLarge)),
+    (
+        OnInts::Range,
+        0,
+        1_048_577,
+        Outcome::Fault(FaultKind::TooLarge),
+    ),
 ];
 
 #[test]
 fn operators_of_two_ints(rt: HostRuntime) -> Result<(), Fail> {
     for (op, a, b, wanted) in INTS {
-        assert!(rt; is(of_ints(rt.alloc(), op, a, b), wanted), "{op:?} of {a} and {b}");
+        assert!(rt;
+            is(of_ints(rt.alloc(), op, a, b), wanted),
+            "{op:?} of {a} and {b}"
+        );
     }
     Ok(())
 }
 
 const REALS: [(OnReals, i64, i64, Outcome); 18] = [
     (OnReals::Add, ONE, 1, Outcome::Real(ONE + 1)),
-    (OnReals::Add, i64::MAX, 1, Outcome::Fault(FaultKind::RealRange)),
+    (
+        OnReals::Add,
+        i64::MAX,
+        1,
+        Outcome::Fault(FaultKind::RealRange),
+    ),
     (OnReals::Sub, ONE, 1, Outcome::Real(ONE - 1)),
-    (OnReals::Sub, i64::MIN, 1, Outcome::Fault(FaultKind::RealRange)),
+    (
+        OnReals::Sub,
+        i64::MIN,
+        1,
+        Outcome::Fault(FaultKind::RealRange),
+    ),
     (OnReals::Mul, 2 * ONE, 3 * ONE, Outcome::Real(6 * ONE)),
     (OnReals::Mul, 1, ONE / 2, Outcome::Real(1)),
-    (OnReals::Mul, i64::MAX, 2 * ONE, Outcome::Fault(FaultKind::RealRange)),
+    (
+        OnReals::Mul,
+        i64::MAX,
+        2 * ONE,
+        Outcome::Fault(FaultKind::RealRange),
+    ),
     (OnReals::Divide, ONE, 3 * ONE, Outcome::Real(333_333_333)),
-    (OnReals::Divide, ONE, 0, Outcome::Fault(FaultKind::DivideByZero)),
-    (OnReals::Divide, i64::MAX, 1, Outcome::Fault(FaultKind::RealRange)),
+    (
+        OnReals::Divide,
+        ONE,
+        0,
+        Outcome::Fault(FaultKind::DivideByZero),
+    ),
+    (
+        OnReals::Divide,
+        i64::MAX,
+        1,
+        Outcome::Fault(FaultKind::RealRange),
+    ),
     (OnReals::Equal, 1, 1, Outcome::Bool(true)),
     (OnReals::NotEqual, 1, 1, Outcome::Bool(false)),
     (OnReals::Less, 1, 2, Outcome::Bool(true)),
@@ -110,7 +166,10 @@ const REALS: [(OnReals, i64, i64, Outcome); 18] = [
 fn operators_of_two_reals(rt: HostRuntime) -> Result<(), Fail> {
     for (op, a, b, wanted) in REALS {
         let (x, y) = (Real::from_units(a), Real::from_units(b));
-        assert!(rt; is(of_reals(rt.alloc(), op, x, y), wanted), "{op:?} of {a} and {b}");
+        assert!(rt;
+            is(of_reals(rt.alloc(), op, x, y), wanted),
+            "{op:?} of {a} and {b}"
+        );
     }
     Ok(())
 }
@@ -126,7 +185,11 @@ const ONE_INT: [(OnInt, i64, Outcome); 13] = [
     (OnInt::Widen, i64::MAX, Outcome::Fault(FaultKind::RealRange)),
     (OnInt::ToInt, i64::MIN, Outcome::Int(i64::MIN)),
     (OnInt::ToReal, -3, Outcome::Real(-3 * ONE)),
-    (OnInt::ToText, i64::MIN, Outcome::Text(b"-9223372036854775808")),
+    (
+        OnInt::ToText,
+        i64::MIN,
+        Outcome::Text(b"-9223372036854775808"),
+    ),
     (OnInt::Range, 3, Outcome::List(3)),
     (OnInt::Range, i64::MAX, Outcome::Fault(FaultKind::TooLarge)),
 ];
@@ -146,15 +209,27 @@ const ONE_REAL: [(OnReal, i64, Outcome); 15] = [
     (OnReal::ToReal, i64::MIN, Outcome::Real(i64::MIN)),
     (OnReal::ToText, -ONE / 2, Outcome::Text(b"-0.5")),
     (OnReal::ToTimer, ONE, Outcome::Timer(3 * ONE)),
-    (OnReal::ToTimer, i64::MAX, Outcome::Fault(FaultKind::RealRange)),
+    (
+        OnReal::ToTimer,
+        i64::MAX,
+        Outcome::Fault(FaultKind::RealRange),
+    ),
 ];
 
 const ONE_TEXT: [(OnText, &[u8], Outcome); 15] = [
     (OnText::ToInt, b"-12", Outcome::Int(-12)),
-    (OnText::ToInt, b"9223372036854775808", Outcome::Fault(FaultKind::IntRange)),
+    (
+        OnText::ToInt,
+        b"9223372036854775808",
+        Outcome::Fault(FaultKind::IntRange),
+    ),
     (OnText::ToInt, b"1.0", Outcome::Fault(FaultKind::BadText)),
     (OnText::ToReal, b"0.5", Outcome::Real(ONE / 2)),
-    (OnText::ToReal, b"9223372037", Outcome::Fault(FaultKind::RealRange)),
+    (
+        OnText::ToReal,
+        b"9223372037",
+        Outcome::Fault(FaultKind::RealRange),
+    ),
     (OnText::ToReal, b"", Outcome::Fault(FaultKind::BadText)),
     (OnText::ToBool, b"true", Outcome::Bool(true)),
     (OnText::ToBool, b"false", Outcome::Bool(false)),
@@ -195,8 +270,14 @@ fn the_least_and_the_greatest_of_several(rt: HostRuntime) -> Result<(), Fail> {
         ([i64::MAX, 0, i64::MIN], i64::MIN, i64::MAX),
     ] {
         let alloc = rt.alloc();
-        assert!(rt; is(best(alloc, false, &numbers), Outcome::Int(least)), "{numbers:?}");
-        assert!(rt; is(best(alloc, true, &numbers), Outcome::Int(greatest)), "{numbers:?}");
+        assert!(rt;
+            is(best(alloc, false, &numbers), Outcome::Int(least)),
+            "{numbers:?}"
+        );
+        assert!(rt;
+            is(best(alloc, true, &numbers), Outcome::Int(greatest)),
+            "{numbers:?}"
+        );
     }
     Ok(())
 }
@@ -210,7 +291,10 @@ const SLICES: [(Bounds, Outcome); 9] = [
     ((None, Some(-1), Some(2)), Outcome::Text(b"ac")),
     ((None, None, Some(-2)), Outcome::Text(b"eca")),
     ((Some(3), Some(1), None), Outcome::Text(b"")),
-    ((Some(i64::MIN), Some(i64::MAX), None), Outcome::Text(b"abcde")),
+    (
+        (Some(i64::MIN), Some(i64::MAX), None),
+        Outcome::Text(b"abcde"),
+    ),
     ((None, None, Some(i64::MIN)), Outcome::Text(b"e")),
     ((None, None, Some(0)), Outcome::Fault(FaultKind::SliceStep)),
 ];
@@ -218,7 +302,10 @@ const SLICES: [(Bounds, Outcome); 9] = [
 #[test]
 fn slices_take_the_bounds_that_are_given(rt: HostRuntime) -> Result<(), Fail> {
     for (bounds, wanted) in SLICES {
-        assert!(rt; is(slice_of(rt.alloc(), b"abcde", bounds), wanted), "{bounds:?}");
+        assert!(rt;
+            is(slice_of(rt.alloc(), b"abcde", bounds), wanted),
+            "{bounds:?}"
+        );
     }
     Ok(())
 }
