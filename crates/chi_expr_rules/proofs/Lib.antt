@@ -1,0 +1,5 @@
+pub mod Barred
+pub mod Before
+pub mod Given
+pub mod Indexing
+pub mod Numbers
