@@ -2,7 +2,7 @@
 
 #![tactic(auto, using(chi_typing::proofs::Firsts::first_of_none, chi_typing::proofs::Firsts::first_of_append, chi_typing::proofs::Ruled::faults_unless, chi_typing::proofs::Ruled::made_unless, chi_typing::proofs::Ruled::made_deep))]
 
-ghost use Rattle.std.specs.Prelude.{◌≡◌, ◌++◌, [], ◌∷◌, IfOk, OnOk};
+ghost use Rattle.std.specs.Prelude.{◌≡◌, ◌++◌, [], ◌∷◌, Some, IfOk, OnOk};
 ghost use Rattle.chi_types.specs.declared.ty.Ty.TheVariants as ty;
 ghost use Rattle.chi_typing.specs.Faults.{first_of, are_none};
 ghost use Rattle.chi_expr_rules.specs.Containers as spec;
@@ -88,9 +88,27 @@ fn dict_type(alloc: Global, key: Ty, value: Ty) -> Result<Ty, NoMemory>
     Ok(Ty::DictOf(key, Boxed::new(alloc, value)?))
 }
 
-/// A stub so far: it answers want of memory.
+/// A dictionary of keys that have a type in common, and of values that do.
+fn dict_literal(
+    alloc: Global,
+    place: Place,
+    keys: Items<Made>,
+    values: Items<Made>,
+    key: Ty,
+    value: Ty,
+    kept: &mut Option<Fault>,
+) -> Result<Option<Made>, NoMemory>
+    ensures made { IfOk result (λ m. m ≡ (spec.dict_joined place keys values (Some key) (Some value)).made) }
+    ensures noted { OnOk result (kept.new ≡ first_of kept.old (spec.dict_joined place keys values (Some key) (Some value)).faults) }
+{
+    let plain = note_unplain(place, &key, kept);
+    let cores = entries(alloc, &key, &value, keys, values)?;
+    let ty = dict_type(alloc, key, value)?;
+    Ok(literal_of(place, plain, Kind::DictOf, cores, ty, kept))
+}
+
 fn dict_joined(
-    _alloc: Global,
+    alloc: Global,
     place: Place,
     keys: Items<Made>,
     values: Items<Made>,
@@ -101,7 +119,21 @@ fn dict_joined(
     ensures made { IfOk result (λ m. m ≡ (spec.dict_joined place keys values key value).made) }
     ensures noted { OnOk result (kept.new ≡ first_of kept.old (spec.dict_joined place keys values key value).faults) }
 {
-    Err(NoMemory)
+    match key {
+        None => {
+            note(kept, rules::JOINED_PARTS, place);
+            note_values(place, &value, kept);
+            Ok(None)
+        }
+        Some(key) => match value {
+            None => {
+                note_unplain(place, &key, kept);
+                note(kept, rules::JOINED_PARTS, place);
+                Ok(None)
+            }
+            Some(value) => dict_literal(alloc, place, keys, values, key, value, kept),
+        },
+    }
 }
 
 fn dict_parts(
