@@ -1,5 +1,16 @@
 pub mod Pairs
-pub mod ActorCounts
+pub mod Actors
 pub mod Options
 pub mod Enabled
+pub mod Changes
+pub mod Meetings
+pub mod Named
+pub mod Owned
+pub mod Planned
+pub mod Adding
+pub mod Steps
+pub mod Finishing
+pub mod Moves
+pub mod Carrying
+pub mod Starts
 pub mod Running

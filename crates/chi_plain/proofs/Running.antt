@@ -20,17 +20,17 @@ use Rattle.chi_core.specs.Starting.{started_by}
 use Rattle.chi_core.specs.Step.{Outcome, Next, Over, Spent, Amiss, step}
 use Rattle.chi_kinded.specs.Keeps.{SoundVerdict, GoesKinded, BeginsKinded}
 use Rattle.chi_runs.specs.Time.{EachCosts}
-use Rattle.chi_steps.specs.declared.beginning.Begun.{Begun}
-use Rattle.chi_steps.specs.declared.beginning.Begun.TheVariants as begun
+use Rattle.chi_plain.specs.declared.beginning.Begun.{Begun}
+use Rattle.chi_plain.specs.declared.beginning.Begun.TheVariants as begun
 use Rattle.chi_plain.specs.declared.standing.Standing.{Standing}
 use Rattle.chi_plain.specs.declared.stepped.Stepped.TheVariants as stepped
-use Rattle.chi_steps.specs.declared.stepping.Went.{Went}
-use Rattle.chi_steps.specs.declared.stepping.Went.TheVariants as went
-use Rattle.chi_steps.specs.Begun.{begun_of}
+use Rattle.chi_plain.specs.declared.stepping.Went.{Went}
+use Rattle.chi_plain.specs.declared.stepping.Went.TheVariants as went
+use Rattle.chi_plain.specs.Begun.{begun_of}
 use Rattle.chi_plain.specs.Stage as stage
 use Rattle.chi_plain.specs.Stage.{MayTell}
 use Rattle.chi_plain.specs.Standings.{stage_of, standing_at, Stands}
-use Rattle.chi_steps.specs.Takings.{IsRight, Takes}
+use Rattle.chi_plain.specs.Takings.{IsRight, Takes}
 use Rattle.std.proofs.lemmas.List.{append-nil}
 use Rattle.std.proofs.Common.{ℤ}
 

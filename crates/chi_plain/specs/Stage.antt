@@ -1,5 +1,5 @@
 -- What a runner stands for: a configuration, or the end of a run.
-use Rattle.std.specs.Prelude.{◌≡◌, ℕ, ◌+◌, ◌≤◌, ℤ, List, [], Option, Some, None, option_map, Contains, IsTrue}
+use Rattle.std.specs.Prelude.{◌≡◌, ℕ, ◌+◌, ◌≤◌, ℤ, List, [], ◌++◌, Option, Some, None, option_map, Contains, IsTrue}
 use Rattle.chi_value.specs.declared.text.limit.TheConstants.{MOST_TEXT}
 use Rattle.chi_core.specs.declared.program.Core.{Core}
 use Rattle.chi_core.specs.declared.label.Label.{Label}
@@ -11,7 +11,6 @@ use Rattle.chi_core.specs.Options.{Ending, options, actors, enabled, ending, end
 use Rattle.chi_core.specs.Beginning.{Beginning, Begins, Breaks}
 use Rattle.chi_core.specs.Beginning as beginning
 use Rattle.chi_core.specs.VerdictLine.{may_tell, told_length}
-pub use Rattle.chi_steps.specs.Takings.{Appends}
 use Rattle.chi_plain.specs.declared.stepped.Stepped.{Stepped}
 use Rattle.chi_plain.specs.declared.stepped.Stepped.TheVariants.{Next, Over, Spent, NoMemory}
 
@@ -88,3 +87,7 @@ Steps core (At config) new label left text Spent =
     (step core config label left ≡ outcome.Spent) × (new ≡ At config) × (text ≡ [])
 Steps core old new label left text NoMemory = (new ≡ Lost) × (text ≡ [])
 Steps core old new label left text answer = ⊥
+
+-- a text goes to the end of what was there, and P holds of it
+abbrev pub Appends : List ℕ → List ℕ → (List ℕ → Type 0) → Type 0
+Appends before after P = (text : List ℕ) × (after ≡ before ++ text) × P text

@@ -2,12 +2,18 @@
 //! It is slow and plain, and keeps to the semantics step by step.
 #![tactic(auto)]
 
-mod actors;
+mod beginning;
 mod choices;
+mod configuration;
+mod deed;
 mod ending;
+mod meeting;
+mod performing;
 mod plain;
+mod planning;
 mod standing;
 mod stepped;
+mod stepping;
 
 pub use plain::Plain;
 pub use stepped::Stepped;

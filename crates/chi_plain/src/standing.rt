@@ -1,17 +1,18 @@
 ghost use Rattle.std.specs.Prelude.{◌≡◌, Contains};
 ghost use Rattle.chi_core.specs.Options.{enabled};
 ghost use Rattle.chi_core.specs.Sound.{Sound};
-ghost use Rattle.chi_plain.specs.Stage.{At, MayStep, Steps};
-ghost use Rattle.chi_steps.specs.Takings.{Appends};
+ghost use Rattle.chi_plain.specs.Stage.{At, Appends, MayStep, Steps};
 ghost use Rattle.chi_plain.specs.Standings.{IsAt, Stands, stage_of, standing_at};
 
-use crate::ending::ending_in;
+use crate::beginning::Begun;
+use crate::configuration::Configuration;
+use crate::ending::Ending;
 use crate::stepped::Stepped;
+use crate::stepping::Went;
 use chi_base::NoMemory;
 use chi_core::{Core, Label};
 use chi_kinded::kinded_law;
 use chi_runs::time_law;
-use chi_steps::{Begun, Configuration, Ending, Went};
 use std::alloc::Global;
 
 /// How a run stands.
@@ -31,7 +32,7 @@ pub fn standing_of<'a>(begun: Begun<'a>) -> Standing<'a>
 {
     match begun {
         Begun::Begins(configuration) => {
-            let ending = ending_in(&configuration);
+            let ending = configuration.ending();
             Standing::At(configuration, ending)
         }
         Begun::Breaks(ending) => Standing::Ended(ending),
@@ -60,7 +61,7 @@ fn step_at<'a>(
     match configuration.take(alloc, core, label, left, out) {
         Ok(went) => match went {
             Went::On(rest) => {
-                let ending = ending_in(&configuration);
+                let ending = configuration.ending();
                 (
                     Standing::At(configuration, ending),
                     Stepped::Next(left - rest),
