@@ -1,5 +1,5 @@
 -- A stream as it is kept: the state of its generator. Private to proofs.
-use Rattle.std.specs.Prelude.{◌≡◌, ℕ, ◌*◌, ◌<◌, List, get_or, map}
+use Rattle.std.specs.Prelude.{◌≡◌, ℕ, ◌*◌}
 use Rattle.rand_pcg.specs.Lcg.{Lcg, advance, increment_of}
 use Rattle.rand_pcg.specs.Pcg.{multiplier_64, pcg32}
 use Rattle.chi_dist.specs.Draws.{stream_of}
@@ -12,14 +12,6 @@ words_at number state = record { state = state; increment = increment_of 64 numb
 -- the stream of this number is kept as its draws so far leave it
 abbrev pub IsKept : ℕ → ℕ → Stream → Type 0
 IsKept seed number s = words_at number s.state ≡ advance 64 multiplier_64 (2 * s.taken) (stream_of seed number)
-
--- so many streams of a list are, from stream 0 on
-abbrev pub AreKept : ℕ → ℕ → List Stream → Type 0
-AreKept seed count streams = (i : ℕ) → i < count → (s : Stream) → IsKept seed i (get_or streams i s)
-
--- how many draws were taken from each
-abbrev pub taken_from : List Stream → List ℕ
-taken_from streams = map (λ s. s.taken) streams
 
 -- the words that are left after one more draw
 abbrev pub past_draw : Lcg → Lcg

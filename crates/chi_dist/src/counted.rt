@@ -10,7 +10,7 @@ use crate::{DistFault, Drawn};
 use chi_num::{Dist, Real};
 
 /// The next draw of a stream of a seed, where so many draws were taken from each.
-fn draw_after(seed: u64, taken: &mut [u64; 64], stream: u32) -> u64
+pub fn draw_after(seed: u64, taken: &mut [u64; 64], stream: u32) -> u64
     requires there { stream < stream_count }
     ensures draw { IsSomeAnd (slice_get taken.old stream)
         (λ k. (result ≡ draw seed stream k) × (draws_of seed taken.new ≡ after_draws (draws_of seed taken.old) stream k 1)) }

@@ -1,37 +1,29 @@
 //! Sixty-four streams of random words.
 
-mod sampling;
-
-use crate::stream::Stream;
-use chi_num::Real;
+use crate::counted::{draw_after, sample_after};
+use crate::{DistFault, Drawn};
+use chi_num::Dist;
 use std::marker::Model;
 
-const STREAMS: usize = 64;
-
 /// The sixty-four streams of a seed. Draw k of stream i is a function of the seed, i and k alone.
-/// Contracts see the seed, and how many draws were taken from each stream.
+/// Contracts see the seed, and how many draws were taken from each stream, which is all that is kept.
 #[derive(Drop)]
 pub struct Generator {
     seed: u64,
-    streams: [Stream; STREAMS],
+    taken: [u64; 64],
 }
 
 impl Model for Generator {
-    ghost use Rattle.std.specs.Prelude.{length};
-    ghost use Rattle.chi_dist.specs.Draws.{Draws};
-    ghost use Rattle.chi_dist.specs.Streams.{AreKept, taken_from};
+    ghost use Rattle.chi_dist.specs.Draws.{Draws, draws_of};
 
     ghost Value = { Draws };
 
-    ghost view = { λ g. record { seed = g.seed; taken = taken_from g.streams } };
-
-    ghost invariant = { λ g. AreKept g.seed (length g.streams) g.streams };
+    ghost view = { λ g. draws_of g.seed g.taken };
 }
 
 impl Generator {
-    ghost use Rattle.std.specs.Prelude.{◌≡◌, ◌<◌, ◌≤◌, IsSomeAnd, length, count_by, replicate, slice_get};
-    ghost use Rattle.chi_dist.specs.Draws.{draw, draws_from, stream_count, succeeds, no_draws, after_draws};
-    ghost use Rattle.chi_dist.specs.Streams.{AreKept, taken_from};
+    ghost use Rattle.std.specs.Prelude.{◌≡◌, ◌<◌, IfOk, IfErr, OnErr, IsSomeAnd, IsTrue, slice_get};
+    ghost use Rattle.chi_dist.specs.Draws.{draw, stream_count, no_draws, after_draws, has_stream, sampled, draws, refuses};
 
     /// The streams of a seed, of which none is drawn from yet.
     pub fn new(seed: u64) -> Generator
@@ -39,19 +31,8 @@ impl Generator {
     {
         Generator {
             seed,
-            streams: Self::streams_of(seed),
+            taken: [0; 64],
         }
-    }
-
-    fn streams_of(seed: u64) -> [Stream; STREAMS]
-        ensures kept { AreKept seed (length result) result }
-        ensures taken { taken_from result ≡ replicate stream_count 0 }
-    {
-        let mut streams = [Stream { state: 0, taken: 0 }; STREAMS];
-        for number in 0..STREAMS {
-            streams[number] = Stream::new(seed, number as u64);
-        }
-        streams
     }
 
     /// The next draw of a stream. No other stream is changed.
@@ -60,22 +41,17 @@ impl Generator {
         ensures draw { IsSomeAnd (slice_get self.old.taken stream)
             (λ k. (result ≡ draw self.old.seed stream k) × (self.new ≡ after_draws self.old stream k 1)) }
     {
-        let mut kept = self.streams[stream as usize];
-        let word = kept.draw(u64::from(stream));
-        self.streams[stream as usize] = kept;
-        word
+        draw_after(self.seed, &mut self.taken, stream)
     }
 
-    /// How many of the next so many draws of a stream are successes of a chance.
-    fn successes(&mut self, stream: u32, trials: u32, chance: Real) -> u32
-        requires there { stream < stream_count }
-        ensures count { IsSomeAnd (slice_get self.old.taken stream)
-            (λ k. (result ≡ count_by (succeeds chance) (draws_from self.old.seed stream k trials))
-            × (self.new ≡ after_draws self.old stream k trials)) }
+    /// A value of a distribution, by the next draws of its stream. A fault draws nothing.
+    pub fn sample(&mut self, dist: &Dist) -> Result<Drawn, DistFault>
+        requires there { IsTrue (has_stream dist.now) }
+        ensures value { IfOk result (λ x. sampled self.old.seed self.old.taken dist.now ≡ draws x self.new.taken) }
+        ensures refused { IfErr result (λ fault. sampled self.old.seed self.old.taken dist.now ≡ refuses fault) }
+        ensures unchanged { OnErr result (self.new ≡ self.old) }
+        ensures seed { self.new.seed ≡ self.old.seed }
     {
-        let mut kept = self.streams[stream as usize];
-        let count = kept.successes(u64::from(stream), trials, chance);
-        self.streams[stream as usize] = kept;
-        count
+        sample_after(self.seed, &mut self.taken, dist)
     }
 }

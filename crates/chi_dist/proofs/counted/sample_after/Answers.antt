@@ -1,4 +1,4 @@
-use Rattle.std.proofs.Common.{◌≡◌, length, rules, sym, ◌∙◌, to_z, of_z, w64}
+use Rattle.std.proofs.Common.{◌≡◌, rules, sym, ◌∙◌, to_z, of_z, w64}
 use Rattle.chi_dist.specs.Draws.{between, draws_of}
 use Rattle.chi_dist.proofs.Sampled.{refuses_all, draws_bool_const, draws_int_const, draws_real_const, draws_int, draws_real, draws_bool, draws_count}
 use Rattle.chi_dist.proofs.counted.sample_after.Goals as goal

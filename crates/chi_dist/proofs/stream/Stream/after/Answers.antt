@@ -1,6 +1,3 @@
-use Rattle.std.proofs.Common.{◌≡◌, ◌*◌, ◌%◌, ◌^◌, ap, ◌∙◌, rules}
-use Rattle.rand_pcg.specs.Lcg.{advance}
-use Rattle.rand_pcg.specs.Pcg.{multiplier_64}
 use Rattle.chi_dist.proofs.Kept.{kept_after}
 use Rattle.chi_dist.proofs.stream.Stream.after.Goals as goal
 
