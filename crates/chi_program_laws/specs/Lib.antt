@@ -1,0 +1,4 @@
+pub mod Bodies
+pub mod Formals
+pub mod Laws
+pub mod Spelled
