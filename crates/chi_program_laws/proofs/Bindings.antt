@@ -73,7 +73,7 @@ module _ (home : Home) (P : State → Type 0) (fine : (s : State) → P s → Fi
       let inner : Stated State (List CStat) = record { next = with_variable binder.Variable v.name (Some m.ty) s; faults = value.faults; made = declaration line (next_slot s) value.made } in
       held_leaves P (new_name_rule s.names v.name) inner (λ e. (
         mapped_comes (λ e. statement.Declare line (next_slot s) e ∷ []) value.made (initial_whole home s m v.initial (fine s p) h e),
-        takes v.name s p
+        takes v.name s p,
       ))
 
   typed_leaves : (place : Place) (variables : List Variable) (s : State) → P s → (fs : List Fault) (o : Option Meant) → Good Shaped fs o → ((m : Meant) → o ≡ Some m → Takes P binder.Variable m.ty)

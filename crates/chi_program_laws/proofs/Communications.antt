@@ -153,5 +153,5 @@ module _ (home : Home) (names : Names) (fine : Entries Fine names) where
       let first = left_nil (faults_if to ++ all_faults given) s.faults e in
       let there = values_come home names fine arguments (right_nil (faults_if to) (all_faults given) first) in
       let start : WholeTyped s = cond_whole (is_predefined name.text) (refused NAME_KIND name.place) (visible_start home name.place (known_in names name.text) (map made_of given)) (refused_whole NAME_KIND name.place)
-          (visible_start_whole home name.place (known_in names name.text) (map made_of given) (λ k found. known_entry Fine names name.text k fine found) there) in
+      (visible_start_whole home name.place (known_in names name.text) (map made_of given) (λ k found. known_entry Fine names name.text k fine found) there) in
       element_comes (made_if to) s.made (if_given (goal_in home names) goal_whole target (left_nil (faults_if to) (all_faults given) first)) (start (right_nil (faults_if to ++ all_faults given) s.faults e))

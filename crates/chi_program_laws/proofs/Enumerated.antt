@@ -87,9 +87,10 @@ values_there : (es : Kinds) (before : List (List ℕ)) (values : List Name) (who
 values_there es before [] whole position e p = tt
 values_there es before (v ∷ values) whole position e p =
     let at : slice_get whole position ≡ Some v.text = ap (slice_get whole) p ∙ ap (λ w. slice_get w (length before)) e ∙ get_seam before (texts values) v.text in
-    let longer = length_join before (v.text ∷ []) in
-    ((v.text, ap (option_and_then (λ positions. slice_get positions position)) (get_seam es [] whole) ∙ at),
-    values_there es (before ++ v.text ∷ []) values whole (position + 1) (e ∙ sym (append_assoc before (v.text ∷ []) (texts values))) (omega (arith, p, longer)))
+    let longer = length_join before (v.text ∷ []) in (
+      (v.text, ap (option_and_then (λ positions. slice_get positions position)) (get_seam es [] whole) ∙ at),
+      values_there es (before ++ v.text ∷ []) values whole (position + 1) (e ∙ sym (append_assoc before (v.text ∷ []) (texts values))) (omega (arith, p, longer)),
+    )
 
 -- ---- all enumerations
 

@@ -117,9 +117,11 @@ Fits names _ _ fs = [] ≡ fs
 function_fits : (name : Name) (formals : List Formal) (steps : List Step) (h : Header) (names : Names) (x : List FuncDef) → (body_in h formals steps names).faults ≡ []
     → function_made name.text h (body_in h formals steps names).made ≡ Some x → (f : FuncDef) × (f ∷ [] ≡ x) × FunctionFits name formals steps h names f
 function_fits name formals steps h names x e m =
-    let parts = three_parts (function name.text) (all_types h.formals) (result_of h.home) (body_in h formals steps names).made x m in
-    (record { name = name.text; arity = length parts.0; result = parts.1; slots = parts.2.1; body = parts.2.0 }, parts.6,
-    record { params = parts.0; types = parts.3; result = parts.4; called = refl; arity = refl; body = body_there h formals steps names parts.2 e parts.5 })
+    let parts = three_parts (function name.text) (all_types h.formals) (result_of h.home) (body_in h formals steps names).made x m in (
+      record { name = name.text; arity = length parts.0; result = parts.1; slots = parts.2.1; body = parts.2.0 },
+      parts.6,
+      record { params = parts.0; types = parts.3; result = parts.4; called = refl; arity = refl; body = body_there h formals steps names parts.2 e parts.5 },
+    )
 
 one_fits : (d : Definition) (h : Option Header) (names : Names) (x : List FuncDef) → (function_of d h names).faults ≡ [] → (function_of d h names).made ≡ Some x → FitsOne names d h x
 one_fits (definition.Func place tree name formals steps) None names x e m = some_same [] x m
@@ -169,9 +171,11 @@ Runs names _ _ ps = [] ≡ ps
 process_fits : (name : Name) (formals : List Formal) (steps : List Step) (h : Header) (names : Names) (x : List ProcDef) → (body_in h formals steps names).faults ≡ []
     → process_made name.text h (body_in h formals steps names).made ≡ Some x → (d : ProcDef) × (d ∷ [] ≡ x) × ProcessFits name formals steps h names d
 process_fits name formals steps h names x e m =
-    let parts = three_parts (process name.text) (all_types h.formals) (exit_of h.home) (body_in h formals steps names).made x m in
-    (record { name = name.text; params = parts.0; exit = parts.1; slots = parts.2.1; body = parts.2.0 }, parts.6,
-    record { types = parts.3; own = parts.4; called = refl; body = body_there h formals steps names parts.2 e parts.5 })
+    let parts = three_parts (process name.text) (all_types h.formals) (exit_of h.home) (body_in h formals steps names).made x m in (
+      record { name = name.text; params = parts.0; exit = parts.1; slots = parts.2.1; body = parts.2.0 },
+      parts.6,
+      record { types = parts.3; own = parts.4; called = refl; body = body_there h formals steps names parts.2 e parts.5 },
+    )
 
 one_runs : (d : Definition) (h : Option Header) (names : Names) (x : List ProcDef) → (process_of d h names).faults ≡ [] → (process_of d h names).made ≡ Some x → RunsOne names d h x
 one_runs (definition.Proc place tree name formals steps) None names x e m = some_same [] x m

@@ -192,17 +192,21 @@ module _ (core : Core) (funcs : List FuncDef) (procs : List ProcDef) (calls runs
   headed_before all names (definition.Func place tree name formals steps) (Some h) s fs x more ps y rest fits runs sound n e f b =
       let made = fits.2 in
       let begin = slots_begin h formals steps names fits.0.body fits.0.slots made.params made.body sound.counted made.types in
-      let there = function_there fs more fits.0 made.params (subst (λ x. funcs ≡ fs ++ (x ++ more)) (sym fits.1) e) made.arity begin (sound_result h.home fits.0.result made.result sound.home) in
-      (one_after s.functions fs x fits.0 b.0 fits.1, b.1 ∙ none_after ps y runs,
-      seen_function all name h s made.params fits.0.result made.types made.result (subst (λ n. FunctionIs core n made.params fits.0.result) (sym b.0) there) b.2)
+      let there = function_there fs more fits.0 made.params (subst (λ x. funcs ≡ fs ++ (x ++ more)) (sym fits.1) e) made.arity begin (sound_result h.home fits.0.result made.result sound.home) in (
+        one_after s.functions fs x fits.0 b.0 fits.1,
+        b.1 ∙ none_after ps y runs,
+        seen_function all name h s made.params fits.0.result made.types made.result (subst (λ n. FunctionIs core n made.params fits.0.result) (sym b.0) there) b.2,
+      )
   headed_before all names (definition.Proc place tree name formals steps) None s fs x more ps y rest fits runs sound n e f b = absurd sound
   headed_before all names (definition.Proc place tree name formals steps) (Some h) s fs x more ps y rest fits runs sound n e f b =
       let there = after_process all name formals steps h names s ps y rest runs f b.1 in
       (b.0 ∙ none_after fs x fits, one_after s.processes ps y runs.0 b.1 runs.1, seen_process all name h s there.0.params there.0.exit there.1 there.2 there.3 b.2)
   headed_before all names (definition.Model place tree name formals steps) None s fs x more ps y rest fits runs sound n e f b = absurd sound
-  headed_before all names (definition.Model place tree name formals steps) (Some h) s fs x more ps y rest fits runs sound n e f b =
-      (b.0 ∙ none_after fs x fits, one_after s.processes ps y runs.0 b.1 runs.1,
-      meant_as (Seen core) s.names name (known_in all name.text) (known.Model n.0) n.1 (entries_with (Seen core) s.names name.text (known.Model n.0) b.2 tt))
+  headed_before all names (definition.Model place tree name formals steps) (Some h) s fs x more ps y rest fits runs sound n e f b = (
+    b.0 ∙ none_after fs x fits,
+    one_after s.processes ps y runs.0 b.1 runs.1,
+    meant_as (Seen core) s.names name (known_in all name.text) (known.Model n.0) n.1 (entries_with (Seen core) s.names name.text (known.Model n.0) b.2 tt),
+  )
   headed_before all names (definition.Xper place name steps) h s fs x more ps y rest fits runs sound n e f b =
       (b.0 ∙ none_after fs x fits, b.1 ∙ none_after ps y runs, meant_as (Seen core) s.names name (known_in all name.text) (known.Xper n.0) n.1 (entries_with (Seen core) s.names name.text (known.Xper n.0) b.2 tt))
   headed_before all names (definition.Enum place name values) h s fs x more ps y rest fits runs sound n e f b = (b.0 ∙ none_after fs x fits, b.1 ∙ none_after ps y runs, b.2)

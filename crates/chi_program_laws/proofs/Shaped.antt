@@ -118,9 +118,10 @@ within_list n t = ap (λ o. option_and_then (within n) (element_type o)) (ty.out
 with_size_shaped : (element : Meant) (size : CExpr) → Shaped element → Shaped (with_size element size)
 with_size_shaped element size h =
     let few : within (length (element.sizes ++ size ∷ [])) (ty.ListOf element.ty) ≡ within (length element.sizes) element.ty = ap (λ n. within n (ty.ListOf element.ty)) (length_more element.sizes size) ∙ within_list (length element.sizes) element.ty in
-    let found = unmapped_comes (λ s. repeated element.sizes (expression.Default s)) (option_and_then shape_of (within (length element.sizes) element.ty)) h.1 in
-    (has_at (ty.ListOf element.ty) (Ty-F.ListOf element.ty) (ty.outs-ListOf element.ty) tt,
-    mapped_comes (λ s. repeated (element.sizes ++ size ∷ []) (expression.Default s)) (option_and_then shape_of (within (length (element.sizes ++ size ∷ [])) (ty.ListOf element.ty))) (subst (λ o. Comes (option_and_then shape_of o)) (sym few) found))
+    let found = unmapped_comes (λ s. repeated element.sizes (expression.Default s)) (option_and_then shape_of (within (length element.sizes) element.ty)) h.1 in (
+      has_at (ty.ListOf element.ty) (Ty-F.ListOf element.ty) (ty.outs-ListOf element.ty) tt,
+      mapped_comes (λ s. repeated (element.sizes ++ size ∷ []) (expression.Default s)) (option_and_then shape_of (within (length (element.sizes ++ size ∷ [])) (ty.ListOf element.ty))) (subst (λ o. Comes (option_and_then shape_of o)) (sym few) found),
+    )
 
 untyped_never : (place : Place) (k : NameKind) (m : Meant) → (untyped_name place k).made ≡ Some m → ⊥
 untyped_never place kind.Variable m e = absurd (cc)

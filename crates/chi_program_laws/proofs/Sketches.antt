@@ -90,9 +90,10 @@ pub each_named : (ds : List Definition) (s : Sketch) → (in_turn (map sketching
 each_named [] s e = tt
 each_named (d ∷ ds) s e =
     let first = sketching d s in
-    let last = in_turn (map sketching ds) first.next in
-    (named_kept first.next.all last.next.all (turns_lead (map sketching ds) (each_leads ds) first.next) d (named_now d s (left_nil first.faults last.faults e)),
-    each_named ds first.next (right_nil first.faults last.faults e))
+    let last = in_turn (map sketching ds) first.next in (
+      named_kept first.next.all last.next.all (turns_lead (map sketching ds) (each_leads ds) first.next) d (named_now d s (left_nil first.faults last.faults e)),
+      each_named ds first.next (right_nil first.faults last.faults e),
+    )
 
 -- ---- enumerations and their values are visible early
 

@@ -105,8 +105,8 @@ module _ (whole : List Step → Bool) (short : List CStat → Bool) (bodies : Bo
       let begins : first.slots ≡ params = begun_slots formals h.formals params start sound.counted types in
       let fine = given_types N h.formals params types sound.formals in
       let places = λ (k : ℕ) (t : Ty) (slot : ℕ) (at : slice_get params k ≡ Some t) (same : slot ≡ 0 + k).
-          let same_slot : k ≡ slot = omega (arith, same) in
-          subst (λ slot. Placed core first.slots (known.Var slot t)) same_slot (ap (λ slots. slice_get slots k) begins ∙ at, each_every (SoundIn core) params fine k t at) in
+      let same_slot : k ≡ slot = omega (arith, same) in
+      subst (λ slot. Placed core first.slots (known.Var slot t)) same_slot (ap (λ slots. slice_get slots k) begins ∙ at, each_every (SoundIn core) params fine k t at) in
       let sure : Sure core first = record {
         fine = begun_entries Fine formals h.formals params start types (entries_so (Seen core) Fine (seen_fine core) names seen) (λ k t slot at same. tt);
         names = begun_entries (Placed core first.slots) formals h.formals params start types (entries_so (Seen core) (Placed core first.slots) (seen_placed core first.slots) names seen) places;
@@ -129,13 +129,13 @@ module _ (whole : List Step → Bool) (short : List CStat → Bool) (bodies : Bo
       let set : Set = first_slots (length first.slots) in
       let stands : Entries (Stands scope set) names = entries_so (Seen core) (Stands scope set) (seen_stands scope set reads) names seen in
       let slot_stands : (k : ℕ) (t : Ty) (slot : ℕ) → slice_get params k ≡ Some t → slot ≡ 0 + k → SlotStands scope set slot t = λ k t slot at same.
-          let within : k < length params = slice_get_within params k t at in
-          let same_slot : k ≡ slot = omega (arith, same) in
-          subst (λ slot. SlotStands scope set slot t) same_slot (record {
-            counts = lt-ltb k (length first.slots) (subst (λ params. k < length params) (sym begins) within);
-            is = ap (λ slots. slice_get (kinds_of slots) k) more.1 ∙ get_mapped kind_of (params ++ more.0) k t (get_before params more.0 k t at);
-            ty = fine k t at;
-          }) in
+      let within : k < length params = slice_get_within params k t at in
+      let same_slot : k ≡ slot = omega (arith, same) in
+      subst (λ slot. SlotStands scope set slot t) same_slot (record {
+        counts = lt-ltb k (length first.slots) (subst (λ params. k < length params) (sym begins) within);
+        is = ap (λ slots. slice_get (kinds_of slots) k) more.1 ∙ get_mapped kind_of (params ++ more.0) k t (get_before params more.0 k t at);
+        ty = fine k t at;
+      }) in
       let visible : Entries (Stands scope set) first.names = begun_entries (Stands scope set) formals h.formals params start types stands slot_stands in
       let sb = bodies h.home scope first steps body is passes (ap kinds_of (sym made.left)) (λ name k found. known_entry (Stands scope set) first.names name k visible found) (subst (Every (SoundIn core)) (sym begins) fine) made.unbroken made.made texts count in
       record {

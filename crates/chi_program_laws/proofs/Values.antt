@@ -150,7 +150,7 @@ module _ (home : Home) (names : Names) (fine : Entries Fine names) where
   target_whole t e =
       let named = named_target names t.name in
       let there : WholeTyped named = cond_whole (is_predefined t.name.text) (refused TARGET t.name.place) (visible_target t.name.place (known_in names t.name.text)) (refused_whole TARGET t.name.place)
-          (visible_target_whole t.name.place (known_in names t.name.text) (λ k found. known_entry Fine names t.name.text k fine found)) in
+      (visible_target_whole t.name.place (known_in names t.name.text) (λ k found. known_entry Fine names t.name.text k fine found)) in
       steps_whole t.name.place named.made t.steps (there (left_nil named.faults _ e)) (right_nil named.faults _ e)
 
   pub assignment_whole : (targets : List Target) (equals : Place) (values : List Expr) → WholeTyped (assignment_in home names targets equals values)

@@ -66,7 +66,7 @@ module _ (scope : Scope) (set : Set) where
   member_sound a b m t K is r h k holds e =
       let both = and_parts _ _ holds in
       operation_sound scope set op.In (converted a t ∷ b.core ∷ []) (kind_of t ∷ K ∷ []) ty.Bool Ty-F.Bool m (r both.0) (always scope.role op.In _ refl) kind_bool
-          (two_of scope set _ _ _ _ (fits_has scope set a t both.1 h) (subst (Has scope set b.core) is k.kind)) (sound_bool _) e
+      (two_of scope set _ _ _ _ (fits_has scope set a t both.1 h) (subst (Has scope set b.core) is k.kind)) (sound_bool _) e
 
   membership_by : (a b m : Made) → Sounds scope set a → Sounds scope set b → (layer : Ty-F Ty) → out-Ty b.ty ≡ layer → (t : Ty) → member_type layer ≡ Some t → (is_plain t && fits a.ty t) ≡ true → member_of a b t ≡ m → Sounds scope set m
   membership_by a b m h k (Ty-F.ListOf u) p t is holds e =

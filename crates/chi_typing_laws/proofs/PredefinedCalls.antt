@@ -136,7 +136,7 @@ module _ (scope : Scope) (set : Set) where
       let kind : kind_of (ty.ListOf pair_type) ≡ Ty-F.ListOf (roll-Ty (tuple_of (ty.Int ∷ erased u ∷ []))) = kind_list pair_type ∙ ap Ty-F.ListOf part in
       let s = sound_list _ pair_type (sound_tuple _ _ (sound_nameless _ (ty.Int ∷ u ∷ []) (sound_int _, (element_of_list _ a.ty u p h.ty, tt)))) in
       of_kind scope set op.Enumerate (ty.ListOf pair_type) (Ty-F.ListOf (erased u)) _ (row.enumerate_list (erased u)) (always scope.role op.Enumerate _ refl) kind s a m (kind_at a.ty _ p) h
-          (ap (as_they_are op.Enumerate (a ∷ [])) (some_is (ty.ListOf pair_type) t is) ∙ e)
+      (ap (as_they_are op.Enumerate (a ∷ [])) (some_is (ty.ListOf pair_type) t is) ∙ e)
   enumerated_by a m h _ p t is e = absurd (cc)
 
   enumerated_sound : (a m : Made) → Sounds scope set a → enumerated a ≡ Some m → Sounds scope set m
@@ -147,7 +147,7 @@ module _ (scope : Scope) (set : Set) where
   keys_by : (a m : Made) → Sounds scope set a → (layer : Ty-F Ty) → out-Ty a.ty ≡ layer → (t : Ty) → keys_type layer ≡ Some t → as_they_are op.DictKeys (a ∷ []) t ≡ m → Sounds scope set m
   keys_by a m h (Ty-F.DictOf key has) p t is e =
       of_kind scope set op.DictKeys (ty.ListOf key) (Ty-F.DictOf (erased key) (erased has)) _ (row.keys_of_dictionary (erased key) (erased has)) (always scope.role op.DictKeys _ refl) (kind_list key)
-          (sound_list _ key (parts_of_dictionary _ a.ty key has p h.ty).0) a m (kind_at a.ty _ p) h (ap (as_they_are op.DictKeys (a ∷ [])) (some_is (ty.ListOf key) t is) ∙ e)
+      (sound_list _ key (parts_of_dictionary _ a.ty key has p h.ty).0) a m (kind_at a.ty _ p) h (ap (as_they_are op.DictKeys (a ∷ [])) (some_is (ty.ListOf key) t is) ∙ e)
   keys_by a m h _ p t is e = absurd (cc)
 
   keys_sound : (a m : Made) → Sounds scope set a → keys a ≡ Some m → Sounds scope set m
@@ -158,7 +158,7 @@ module _ (scope : Scope) (set : Set) where
   values_by : (a m : Made) → Sounds scope set a → (layer : Ty-F Ty) → out-Ty a.ty ≡ layer → (t : Ty) → values_type layer ≡ Some t → as_they_are op.DictValues (a ∷ []) t ≡ m → Sounds scope set m
   values_by a m h (Ty-F.DictOf key has) p t is e =
       of_kind scope set op.DictValues (ty.ListOf has) (Ty-F.DictOf (erased key) (erased has)) _ (row.values_of_dictionary (erased key) (erased has)) (always scope.role op.DictValues _ refl) (kind_list has)
-          (sound_list _ has (parts_of_dictionary _ a.ty key has p h.ty).1) a m (kind_at a.ty _ p) h (ap (as_they_are op.DictValues (a ∷ [])) (some_is (ty.ListOf has) t is) ∙ e)
+      (sound_list _ has (parts_of_dictionary _ a.ty key has p h.ty).1) a m (kind_at a.ty _ p) h (ap (as_they_are op.DictValues (a ∷ [])) (some_is (ty.ListOf has) t is) ∙ e)
   values_by a m h _ p t is e = absurd (cc)
 
   values_sound : (a m : Made) → Sounds scope set a → values a ≡ Some m → Sounds scope set m
