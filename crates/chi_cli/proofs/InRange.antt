@@ -17,11 +17,13 @@ use Rattle.chi_cli.specs.declared.fault.CliFault.TheVariants as fault
 use Rattle.chi_cli.specs.declared.policy.PolicyName.{PolicyName}
 use Rattle.chi_cli.specs.declared.policy.PolicyName.TheVariants as policy
 use Rattle.chi_cli.specs.declared.request.Request.{Request}
+use Rattle.chi_cli.specs.declared.words.TheConstants.{STEPS, MOST_STEPS}
 use Rattle.chi_cli.specs.Commands.{Text, command_named}
 use Rattle.chi_cli.specs.Numbers.{is_numeral, number_in, number_or, time_in, time_or_none, within}
 use Rattle.chi_cli.specs.Ranges.{IsInRange, IsPick, IsTime}
 use Rattle.chi_cli.specs.Requests.{asked, check, command_request, each_once, load, load_of, one_word, pick_of, policy_or_first, request_of, run_asked, said_request, sim, sim_of_file, trace_up, value_given}
 use Rattle.chi_cli.specs.Splitting.{Said, split}
+use Rattle.chi_load.specs.declared.source.TheConstants.{MOST_MACHINES}
 
 abbrev Between : ℕ → ℕ → ℕ → Type 0
 Between least most n = (least ≤ n) × (n ≤ most)
@@ -83,7 +85,7 @@ abbrev most_word : ℕ
 most_word = 18_446_744_073_709_551_615
 
 run_in_range : (file : Text) (args : List Text) (policy : PolicyName) (trace : Bool) (seed bound salt : Option ℕ) (until : Option (Option ℤ))
-    → ((n : ℕ) → seed ≡ Some n → n ≤ most_word) → ((n : ℕ) → bound ≡ Some n → n ≤ 1_000_000_000_000_000) → ((n : ℕ) → salt ≡ Some n → n ≤ most_word)
+    → ((n : ℕ) → seed ≡ Some n → n ≤ most_word) → ((n : ℕ) → bound ≡ Some n → n ≤ MOST_STEPS) → ((n : ℕ) → salt ≡ Some n → n ≤ most_word)
     → ((t : Option ℤ) → until ≡ Some t → IfSome t IsTime) → IfOk (run_asked file args policy trace seed bound salt until) IsInRange
 run_in_range file args policy trace (Some seed) (Some bound) (Some salt) (Some until) a b c d =
     let fits : seed ≤ most_word = a seed refl in
@@ -97,10 +99,10 @@ run_in_range file args policy trace (Some seed) (Some bound) (Some salt) None a 
 file_in_range : (file : Text) (args : List Text) (p : Option PolicyName) (options : List (OptionName × Text)) → IfOk (sim_of_file file args p options) IsInRange
 file_in_range file args None options = tt
 file_in_range file args (Some p) options = run_in_range file args p (is_some (value_given option.Trace options))
-    (number_or 0 0 most_word (value_given option.Seed options)) (number_or 10_000_000 0 1_000_000_000_000_000 (value_given option.Steps options))
+    (number_or 0 0 most_word (value_given option.Seed options)) (number_or STEPS 0 MOST_STEPS (value_given option.Steps options))
     (number_or 0 0 most_word (value_given option.Salt options)) (time_or_none (value_given option.Until options))
     (λ n e. (given_within 0 0 most_word (value_given option.Seed options) n (omega arith, omega arith) e).1)
-    (λ n e. (given_within 10_000_000 0 1_000_000_000_000_000 (value_given option.Steps options) n (omega arith, omega arith) e).1)
+    (λ n e. (given_within STEPS 0 MOST_STEPS (value_given option.Steps options) n (omega arith, omega arith) e).1)
     (λ n e. (given_within 0 0 most_word (value_given option.Salt options) n (omega arith, omega arith) e).1)
     (λ t e. time_given (value_given option.Until options) t e)
 
@@ -110,10 +112,10 @@ sim_in_range (file ∷ args) options = file_in_range file args (policy_or_first 
 
 load_in_range : (o : Option Text) → IfOk (load o) IsInRange
 load_in_range None = tt
-load_in_range (Some size) = each (number_in 1 1_000 size) refl where
-  each : (o : Option ℕ) → number_in 1 1_000 size ≡ o → IfOk (load_of o) IsInRange
+load_in_range (Some size) = each (number_in 1 MOST_MACHINES size) refl where
+  each : (o : Option ℕ) → number_in 1 MOST_MACHINES size ≡ o → IfOk (load_of o) IsInRange
   each None is = tt
-  each (Some n) is = numeral_within 1 1_000 size n (is_numeral size) is
+  each (Some n) is = numeral_within 1 MOST_MACHINES size n (is_numeral size) is
 
 asked_in_range : (c : Command) (said : Said) → IfOk (asked c said) IsInRange
 asked_in_range command.Sim said = sim_in_range said.plain said.options

@@ -4,6 +4,8 @@ use Rattle.chi_cli.specs.declared.request.Pick.{Pick}
 use Rattle.chi_cli.specs.declared.request.Pick.TheVariants as pick
 use Rattle.chi_cli.specs.declared.request.Request.{Request}
 use Rattle.chi_cli.specs.declared.request.Request.TheVariants as request
+use Rattle.chi_cli.specs.declared.words.TheConstants.{MOST_STEPS}
+use Rattle.chi_load.specs.declared.source.TheConstants.{MOST_MACHINES}
 
 abbrev pub IsPick : Pick → Type 0
 IsPick pick.First = Unit {0}
@@ -14,9 +16,9 @@ IsPick (pick.Spread salt) = salt < 2 ^ 64
 abbrev pub IsTime : ℤ → Type 0
 IsTime time = (units : ℕ) × (time ≡ pos units)
 
--- the seed and the salt fit 64 bits, the bound on steps is at most 10^15, and the size of a factory is from 1 to 1,000
+-- the seed and the salt fit 64 bits, the bound on steps is within its limit, and a factory has a machine and no more than it may have
 abbrev pub IsInRange : Request → Type 0
 IsInRange (request.Sim file args seed bound until pick trace) =
-    (seed < 2 ^ 64) × (bound ≤ 1_000_000_000_000_000) × IfSome until IsTime × IsPick pick
-IsInRange (request.Load n) = (1 ≤ n) × (n ≤ 1_000)
+    (seed < 2 ^ 64) × (bound ≤ MOST_STEPS) × IfSome until IsTime × IsPick pick
+IsInRange (request.Load n) = (1 ≤ n) × (n ≤ MOST_MACHINES)
 IsInRange _ = Unit {0}

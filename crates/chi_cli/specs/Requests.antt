@@ -12,9 +12,11 @@ use Rattle.chi_cli.specs.declared.request.Pick.{Pick}
 use Rattle.chi_cli.specs.declared.request.Pick.TheVariants as pick
 use Rattle.chi_cli.specs.declared.request.Request.{Request}
 use Rattle.chi_cli.specs.declared.request.Request.TheVariants as request
+use Rattle.chi_cli.specs.declared.words.TheConstants.{STEPS, MOST_STEPS}
 use Rattle.chi_cli.specs.Commands.{Text, command_named, option_text}
 use Rattle.chi_cli.specs.Numbers.{number_in, number_or, time_or_none}
 use Rattle.chi_cli.specs.Splitting.{Said, split}
+use Rattle.chi_load.specs.declared.source.TheConstants.{MOST_MACHINES}
 
 -- the value that an option was given, if it was
 abbrev pub value_given : OptionName → List (OptionName × Text) → Option Text
@@ -48,12 +50,12 @@ run_asked file args policy trace (Some seed) (Some bound) (Some salt) (Some unti
     Ok (request.Sim file args seed bound until (pick_of policy salt) trace)
 run_asked file args policy trace seed bound salt until = Err fault.BadNumber
 
--- `sim`: the seed and the salt are below 2^64, and the bound on steps is at most 10^15
+-- `sim`: the seed and the salt are below 2^64, and the bound on steps is within its limit
 abbrev pub sim_of_file : Text → List Text → Option PolicyName → List (OptionName × Text) → Result Request CliFault
 sim_of_file file args None options = Err fault.Usage
 sim_of_file file args (Some policy) options = run_asked file args policy (is_some (value_given option.Trace options))
     (number_or 0 0 18_446_744_073_709_551_615 (value_given option.Seed options))
-    (number_or 10_000_000 0 1_000_000_000_000_000 (value_given option.Steps options))
+    (number_or STEPS 0 MOST_STEPS (value_given option.Steps options))
     (number_or 0 0 18_446_744_073_709_551_615 (value_given option.Salt options))
     (time_or_none (value_given option.Until options))
 
@@ -74,10 +76,10 @@ abbrev pub load_of : Option ℕ → Result Request CliFault
 load_of None = Err fault.BadNumber
 load_of (Some n) = Ok (request.Load n)
 
--- `load`: the size of the factory is from 1 to 1,000
+-- `load`: the factory has a machine, and no more than it may have
 abbrev pub load : Option Text → Result Request CliFault
 load None = Err fault.Usage
-load (Some size) = load_of (number_in 1 1_000 size)
+load (Some size) = load_of (number_in 1 MOST_MACHINES size)
 
 abbrev pub trace_up : Option Text → Result Request CliFault
 trace_up None = Err fault.Usage

@@ -18,7 +18,7 @@ pub use fault::CliFault;
 pub use laws::{numbers_are_in_range, one_request_law, values_are_of_parameters};
 pub use reading::read_args;
 pub use request::{Pick, Request};
-pub use words::read_words;
+pub use words::{MOST_STEPS, STEPS, read_words};
 
 #[cfg(test)]
 mod tests;

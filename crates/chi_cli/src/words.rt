@@ -9,17 +9,15 @@ use crate::policy::PolicyName;
 use crate::request::Request;
 use crate::said::{Said, each_once, split, value_given};
 use chi_base::{Items, NoMemory};
+use chi_load::MOST_MACHINES;
 use chi_token::Bytes;
 use std::alloc::Global;
 
 /// How many steps a run may cost where the words don't say it.
-const STEPS: u64 = 10_000_000;
+pub const STEPS: u64 = 10_000_000;
 
 /// The greatest bound on the costs of a run's steps.
-const MOST_STEPS: u64 = 1_000_000_000_000_000;
-
-/// The greatest size of a factory.
-const MOST_LOAD: u64 = 1_000;
+pub const MOST_STEPS: u64 = 1_000_000_000_000_000;
 
 /// Reads the words of the command line, without the program's name.
 pub fn read_words(alloc: Global, words: &[&str]) -> Result<Request, CliFault>
@@ -81,7 +79,7 @@ fn load(size: Option<&[u8]>) -> Result<Request, CliFault>
     let Some(size) = size else {
         return Err(CliFault::Usage);
     };
-    match number_in(1, MOST_LOAD, size) {
+    match number_in(1, MOST_MACHINES as u64, size) {
         Some(n) => Ok(Request::Load { n: n as u32 }),
         None => Err(CliFault::BadNumber),
     }

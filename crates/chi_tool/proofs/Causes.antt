@@ -1,66 +1,36 @@
--- When each status comes of a source's report.
+-- When each status comes of the report of a source or a log.
 use Rattle.std.proofs.Common.{◌≡◌, ◌≢◌, ℕ, ◌≤◌, List, ◌⊎◌, inl, inr, sym, ◌∙◌, ap, refl, arith}
 use Rattle.chi_io.specs.Shelf.{Files}
-use Rattle.chi_cli.specs.declared.args.ArgFault.{ArgFault}
 use Rattle.chi_core.specs.declared.program.Core.{Core}
 use Rattle.chi_core.specs.declared.verdict.Verdict.{Verdict}
 use Rattle.chi_core.specs.declared.verdict.Verdict.TheVariants as verdict
 use Rattle.chi_core.specs.Runs.{Told}
 use Rattle.chi_value.specs.declared.value.Value.{Value}
-use Rattle.chi_tool.specs.declared.task.Asked.{Asked}
-use Rattle.chi_tool.specs.declared.task.Purpose.{Purpose}
-use Rattle.chi_tool.specs.declared.task.Purpose.TheVariants.{Simulate, Check}
 use Rattle.chi_tool.specs.Arguments.{Means}
 use Rattle.chi_tool.specs.Call.{Call}
-use Rattle.chi_tool.specs.Headline.{IsReportedOrLost, AsksFor, AsksForUnbuilt, HasLexicalFault, HasSyntaxFault, IsAskedSource, EndsAs, Ends, IsDone, IsExit, IsFault, HasUnfitArguments, IsExactly}
+use Rattle.chi_tool.specs.Headline.{IsReportedOrLost, AsksFor, AsksForDone, AsksForLog, AsksForUnbuilt, ComesUp, HasMisfit, HasLexicalFault, HasSyntaxFault, IsAskedSource, EndsAs, Ends, IsDone, IsExit, IsFault, HasUnfitArguments, IsExactly}
 use Rattle.chi_tool.specs.Refusals as refusal
 use Rattle.chi_tool.specs.Refusals.{Report}
-use Rattle.chi_tool.specs.Report.{IsReportOfSource, refused, program, IsReportOfProgram, IsReport}
+use Rattle.chi_tool.specs.Report.{IsReportOfSource, refused, program, IsReportOfProgram, IsReportOfLog, IsReport}
 use Rattle.chi_tool.specs.Report as report
 use Rattle.chi_tool.specs.Running.{IsRunOf, run_report}
-use Rattle.chi_tool.specs.Settings.{settings_with}
+use Rattle.chi_tool.specs.Settings.{Wanted, Aim, simulates, checks, settings_with}
 use Rattle.chi_tool.specs.Sources.{IsNotBuilt, by_lexer, by_parser, by_form, ComesTo}
 use Rattle.chi_tool.specs.Statuses.{status_of}
-use Rattle.chi_tool.proofs.Cases.{CaseOf, asks_nothing, asks_unbuilt, is_missing, is_long, of_source, case_of, asked_report, unbuilt_report}
+use Rattle.chi_tool.proofs.Cases.{CaseOf, asks_nothing, asks_unbuilt, is_missing, is_long, of_log, of_source, case_of, asked_report, asked_log_report, unbuilt_report}
+use Rattle.chi_tool.proofs.Contents.{status_ap, source_program, source_bound, log_bound}
 use Rattle.chi_tool.proofs.LawClauses.{ReportLaw}
 use Rattle.chi_tool.proofs.Promises.{MetOne}
 use Rattle.chi_tool.proofs.Verdicts.{status_bound, completed_by, exit_by, deadlock_by, fault_by, out_of_steps_by, stopped_by}
 
-pub status_ap : (r s : Report) → r ≡ s → r.status ≡ s.status
-status_ap r s e = ap (λ x. x.status) e
-
--- what a program's report is of
-data ProgramCase (core : Core) (purpose : Purpose) (r : Report) : Type 0 where
-  is_accepted : purpose ≡ Check → r ≡ refusal.accepted → ProgramCase core purpose r
-  is_unfit : (a : Asked) → purpose ≡ Simulate a → (wanted given : ℕ) (fault : ArgFault) → r ≡ refusal.unfit_arguments wanted given fault → ProgramCase core purpose r
-  is_run : (a : Asked) → purpose ≡ Simulate a → (told : Told) → r ≡ run_report core told → ProgramCase core purpose r
-
-program_case : (core : Core) (purpose : Purpose) (r : Report) → IsReportOfProgram core purpose r → ProgramCase core purpose r
-program_case core Check r is = is_accepted refl is
-program_case core (Simulate a) r (report.unfit wanted fault misfits is) = is_unfit a refl wanted _ fault is
-program_case core (Simulate a) r (report.run values means of) = is_run a refl of.told of.is
-
--- which statuses a program's report has
-program_status : (core : Core) (purpose : Purpose) (r : Report) → ProgramCase core purpose r → (r.status ≡ 0) ⊎ (((10 ≤ r.status) × (r.status ≤ 14)) ⊎ (r.status ≡ 23))
-program_status core purpose r (is_accepted p e) = inl (status_ap r _ e)
-program_status core purpose r (is_unfit a p wanted given fault e) = inr (inr (status_ap r _ e))
-program_status core purpose r (is_run a p told e) = of_run (status_bound told.ending.verdict) (status_ap r _ e)
-  where
-    of_run : {n : ℕ} → (n ≡ 0) ⊎ ((10 ≤ n) × (n ≤ 14)) → r.status ≡ n → (r.status ≡ 0) ⊎ (((10 ≤ r.status) × (r.status ≤ 14)) ⊎ (r.status ≡ 23))
-    of_run (inl z) is = inl (is ∙ z)
-    of_run (inr b) is = inr (inl (let low = b.0 in let high = b.1 in (omega arith, omega arith)))
-
-pub source_program : (core : Core) (purpose : Purpose) (r : Report) → IsReportOfProgram core purpose r → (r.status ≡ 0) ⊎ (((10 ≤ r.status) × (r.status ≤ 14)) ⊎ (r.status ≡ 23))
-source_program core purpose r is = program_status core purpose r (program_case core purpose r is)
-
-no_program : (n : ℕ) → (20 ≤ n) × (n ≤ 22) → (core : Core) (purpose : Purpose) (r : Report) → IsReportOfProgram core purpose r → r.status ≡ n → ⊥
-no_program n between core purpose r is e = let b = source_program core purpose r is in let low = between.0 in let high = between.1 in grind arith
+no_program : (n : ℕ) → (20 ≤ n) × (n ≤ 22) → (core : Core) (aim : Aim) (r : Report) → IsReportOfProgram core aim r → r.status ≡ n → ⊥
+no_program n between core aim r is e = let b = source_program core aim r is in let low = between.0 in let high = between.1 in grind arith
 
 -- a status that a source's report has exactly for one cause, and that no other refusal has
-record StatusOf (n : ℕ) (P : Purpose → List ℕ → Type 0) : Type 0 where
+pub record StatusOf (n : ℕ) (P : Aim → List ℕ → Type 0) : Type 0 where
   pub other : (n ≢ 3) × (n ≢ 4) × (n ≢ 6)
-  pub to : (purpose : Purpose) (source : List ℕ) (r : Report) → IsReportOfSource source purpose r → r.status ≡ n → P purpose source
-  pub from : (purpose : Purpose) (source : List ℕ) → P purpose source → (r : Report) × IsReportOfSource source purpose r × (r.status ≡ n)
+  pub to : (aim : Aim) (source : List ℕ) (r : Report) → IsReportOfSource source aim r → r.status ≡ n → P aim source
+  pub from : (aim : Aim) (source : List ℕ) → P aim source → (r : Report) × IsReportOfSource source aim r × (r.status ≡ n)
 
 -- the statuses of runs
 
@@ -72,9 +42,9 @@ module _ (n : ℕ) (Q : Verdict → Type 0) (low : (n ≡ 0) ⊎ ((10 ≤ n) × 
   no_refusal m (inr (inr (inl a))) e = let l = low in grind arith
   no_refusal m (inr (inr (inr a))) e = let l = low in grind arith
 
-  run_ends : (a : Asked) (source : List ℕ) (core : Core) (r : Report) → ComesTo source core → IsReportOfProgram core (Simulate a) r → r.status ≡ n → EndsAs Q a source
-  run_ends a source core r comes (report.unfit wanted fault misfits e) is = absurd (no_refusal 23 (inr (inr (inr (omega arith)))) (sym is ∙ status_ap r _ e))
-  run_ends a source core r comes (report.run values means of) is = record {
+  run_ends : (w : Wanted) (source : List ℕ) (core : Core) (r : Report) → ComesTo source core → IsReportOfProgram core (simulates w) r → r.status ≡ n → EndsAs Q w source
+  run_ends w source core r comes (report.unfit wanted fault misfits e) is = absurd (no_refusal 23 (inr (inr (inr (omega arith)))) (sym is ∙ status_ap r _ e))
+  run_ends w source core r comes (report.run values means of) is = record {
     core = core;
     program = comes;
     arguments = values;
@@ -84,8 +54,8 @@ module _ (n : ℕ) (Q : Verdict → Type 0) (low : (n ≡ 0) ⊎ ((10 ≤ n) × 
     ends = to of.told.ending.verdict (sym (status_ap r _ of.is) ∙ is);
   }
 
-  ends_run : (a : Asked) (source : List ℕ) → EndsAs Q a source → (r : Report) × IsReportOfSource source (Simulate a) r × (r.status ≡ n)
-  ends_run a source p =
+  ends_run : (w : Wanted) (source : List ℕ) → EndsAs Q w source → (r : Report) × IsReportOfSource source (simulates w) r × (r.status ≡ n)
+  ends_run w source p =
       (run_report p.core p.told, program p.core p.program (report.run p.arguments p.fit (record { told = p.told; run = p.run; is = refl })), from p.told.ending.verdict p.ends)
 
   -- a source's report with such a status is that of a program
@@ -93,16 +63,16 @@ module _ (n : ℕ) (Q : Verdict → Type 0) (low : (n ≡ 0) ⊎ ((10 ≤ n) × 
   no_source_refusal m r high is e = no_refusal m (inr (inr (inr high))) (sym e ∙ is)
 
   module _ (positive : 10 ≤ n) where
-    ends : (purpose : Purpose) (source : List ℕ) (r : Report) → IsReportOfSource source purpose r → r.status ≡ n → Ends Q purpose source
-    ends purpose source r (refused (by_lexer fault has e)) is = absurd (no_source_refusal 20 r (omega arith) (status_ap r _ e) is)
-    ends purpose source r (refused (by_parser tokens fault has e)) is = absurd (no_source_refusal 21 r (omega arith) (status_ap r _ e) is)
-    ends purpose source r (refused (by_form has e)) is = absurd (no_source_refusal 22 r (omega arith) (status_ap r _ e) is)
-    ends (Simulate a) source r (program core comes of) is = run_ends a source core r comes of is
-    ends Check source r (program core comes of) is = let none = status_ap r _ of in let some = positive in absurd (omega arith)
+    ends : (aim : Aim) (source : List ℕ) (r : Report) → IsReportOfSource source aim r → r.status ≡ n → Ends Q aim source
+    ends aim source r (refused (by_lexer fault has e)) is = absurd (no_source_refusal 20 r (omega arith) (status_ap r _ e) is)
+    ends aim source r (refused (by_parser tokens fault has e)) is = absurd (no_source_refusal 21 r (omega arith) (status_ap r _ e) is)
+    ends aim source r (refused (by_form has e)) is = absurd (no_source_refusal 22 r (omega arith) (status_ap r _ e) is)
+    ends (simulates w) source r (program core comes of) is = run_ends w source core r comes of is
+    ends checks source r (program core comes of) is = let none = status_ap r _ of in let some = positive in absurd (omega arith)
 
-    ended : (purpose : Purpose) (source : List ℕ) → Ends Q purpose source → (r : Report) × IsReportOfSource source purpose r × (r.status ≡ n)
-    ended (Simulate a) source p = ends_run a source p
-    ended Check source p = absurd p
+    ended : (aim : Aim) (source : List ℕ) → Ends Q aim source → (r : Report) × IsReportOfSource source aim r × (r.status ≡ n)
+    ended (simulates w) source p = ends_run w source p
+    ended checks source p = absurd p
 
     run_status : StatusOf n (Ends Q)
     run_status = record {
@@ -111,103 +81,113 @@ module _ (n : ℕ) (Q : Verdict → Type 0) (low : (n ≡ 0) ⊎ ((10 ≤ n) × 
       from = ended;
     }
 
-done_of : (purpose : Purpose) (source : List ℕ) (r : Report) → IsReportOfSource source purpose r → r.status ≡ 0 → IsDone purpose source
-done_of purpose source r (refused (by_lexer fault has e)) is = let h = status_ap r _ e in absurd (omega arith)
-done_of purpose source r (refused (by_parser tokens fault has e)) is = let h = status_ap r _ e in absurd (omega arith)
-done_of purpose source r (refused (by_form has e)) is = let h = status_ap r _ e in absurd (omega arith)
-done_of (Simulate a) source r (program core comes of) is =
-    inl (run_ends 0 (λ v. v ≡ verdict.Completed) (inl refl) completed_by (λ v e. ap status_of e) a source core r comes of is)
-done_of Check source r (program core comes of) is = inr (core, comes)
+done_of : (aim : Aim) (source : List ℕ) (r : Report) → IsReportOfSource source aim r → r.status ≡ 0 → IsDone aim source
+done_of aim source r (refused (by_lexer fault has e)) is = let h = status_ap r _ e in absurd (omega arith)
+done_of aim source r (refused (by_parser tokens fault has e)) is = let h = status_ap r _ e in absurd (omega arith)
+done_of aim source r (refused (by_form has e)) is = let h = status_ap r _ e in absurd (omega arith)
+done_of (simulates w) source r (program core comes of) is =
+    inl (run_ends 0 (λ v. v ≡ verdict.Completed) (inl refl) completed_by (λ v e. ap status_of e) w source core r comes of is)
+done_of checks source r (program core comes of) is = inr (core, comes)
 
-of_done : (purpose : Purpose) (source : List ℕ) → IsDone purpose source → (r : Report) × IsReportOfSource source purpose r × (r.status ≡ 0)
-of_done (Simulate a) source (inl p) = ends_run 0 (λ v. v ≡ verdict.Completed) (inl refl) completed_by (λ v e. ap status_of e) a source p
-of_done (Simulate a) source (inr p) = absurd p
-of_done Check source (inl p) = absurd p
-of_done Check source (inr p) = (refusal.accepted, program p.0 p.1 refl, refl)
+of_done : (aim : Aim) (source : List ℕ) → IsDone aim source → (r : Report) × IsReportOfSource source aim r × (r.status ≡ 0)
+of_done (simulates w) source (inl p) = ends_run 0 (λ v. v ≡ verdict.Completed) (inl refl) completed_by (λ v e. ap status_of e) w source p
+of_done (simulates w) source (inr p) = absurd p
+of_done checks source (inl p) = absurd p
+of_done checks source (inr p) = (refusal.accepted, program p.0 p.1 refl, refl)
 
-done_status : StatusOf 0 IsDone
+pub done_status : StatusOf 0 IsDone
 done_status = record { other = (λ e. omega arith, λ e. omega arith, λ e. omega arith); to = done_of; from = of_done }
 
-exit_status : StatusOf 10 (Ends IsExit)
+pub exit_status : StatusOf 10 (Ends IsExit)
 exit_status = run_status 10 IsExit (inr (omega arith, omega arith)) exit_by (λ v e. ap status_of e.1) (omega arith)
 
-deadlock_status : StatusOf 11 (Ends (λ v. v ≡ verdict.Deadlock))
+pub deadlock_status : StatusOf 11 (Ends (λ v. v ≡ verdict.Deadlock))
 deadlock_status = run_status 11 (λ v. v ≡ verdict.Deadlock) (inr (omega arith, omega arith)) deadlock_by (λ v e. ap status_of e) (omega arith)
 
-fault_status : StatusOf 12 (Ends IsFault)
+pub fault_status : StatusOf 12 (Ends IsFault)
 fault_status = run_status 12 IsFault (inr (omega arith, omega arith)) fault_by (λ v e. ap status_of e.3) (omega arith)
 
-out_of_steps_status : StatusOf 13 (Ends (λ v. v ≡ verdict.OutOfSteps))
+pub out_of_steps_status : StatusOf 13 (Ends (λ v. v ≡ verdict.OutOfSteps))
 out_of_steps_status = run_status 13 (λ v. v ≡ verdict.OutOfSteps) (inr (omega arith, omega arith)) out_of_steps_by (λ v e. ap status_of e) (omega arith)
 
-stopped_status : StatusOf 14 (Ends (λ v. v ≡ verdict.Stopped))
+pub stopped_status : StatusOf 14 (Ends (λ v. v ≡ verdict.Stopped))
 stopped_status = run_status 14 (λ v. v ≡ verdict.Stopped) (inr (omega arith, omega arith)) stopped_by (λ v e. ap status_of e) (omega arith)
 
 -- the statuses of refusals
 
-lexical_of : (purpose : Purpose) (source : List ℕ) (r : Report) → IsReportOfSource source purpose r → r.status ≡ 20 → HasLexicalFault source
-lexical_of purpose source r (refused (by_lexer fault has e)) is = (fault, has)
-lexical_of purpose source r (refused (by_parser tokens fault has e)) is = let h = status_ap r _ e in absurd (omega arith)
-lexical_of purpose source r (refused (by_form has e)) is = let h = status_ap r _ e in absurd (omega arith)
-lexical_of purpose source r (program core comes of) is = absurd (no_program 20 (omega arith, omega arith) core purpose r of is)
+lexical_of : (aim : Aim) (source : List ℕ) (r : Report) → IsReportOfSource source aim r → r.status ≡ 20 → HasLexicalFault source
+lexical_of aim source r (refused (by_lexer fault has e)) is = (fault, has)
+lexical_of aim source r (refused (by_parser tokens fault has e)) is = let h = status_ap r _ e in absurd (omega arith)
+lexical_of aim source r (refused (by_form has e)) is = let h = status_ap r _ e in absurd (omega arith)
+lexical_of aim source r (program core comes of) is = absurd (no_program 20 (omega arith, omega arith) core aim r of is)
 
-lexical_status : StatusOf 20 (λ purpose. HasLexicalFault)
+pub lexical_status : StatusOf 20 (λ aim. HasLexicalFault)
 lexical_status = record {
   other = (λ e. omega arith, λ e. omega arith, λ e. omega arith);
   to = lexical_of;
-  from = λ purpose source p. (refusal.lexical p.0, refused (by_lexer p.0 p.1 refl), refl);
+  from = λ aim source p. (refusal.lexical p.0, refused (by_lexer p.0 p.1 refl), refl);
 }
 
-syntax_of : (purpose : Purpose) (source : List ℕ) (r : Report) → IsReportOfSource source purpose r → r.status ≡ 21 → HasSyntaxFault source
-syntax_of purpose source r (refused (by_lexer fault has e)) is = let h = status_ap r _ e in absurd (omega arith)
-syntax_of purpose source r (refused (by_parser tokens fault has e)) is = (tokens, fault, has)
-syntax_of purpose source r (refused (by_form has e)) is = let h = status_ap r _ e in absurd (omega arith)
-syntax_of purpose source r (program core comes of) is = absurd (no_program 21 (omega arith, omega arith) core purpose r of is)
+syntax_of : (aim : Aim) (source : List ℕ) (r : Report) → IsReportOfSource source aim r → r.status ≡ 21 → HasSyntaxFault source
+syntax_of aim source r (refused (by_lexer fault has e)) is = let h = status_ap r _ e in absurd (omega arith)
+syntax_of aim source r (refused (by_parser tokens fault has e)) is = (tokens, fault, has)
+syntax_of aim source r (refused (by_form has e)) is = let h = status_ap r _ e in absurd (omega arith)
+syntax_of aim source r (program core comes of) is = absurd (no_program 21 (omega arith, omega arith) core aim r of is)
 
-syntax_status : StatusOf 21 (λ purpose. HasSyntaxFault)
+pub syntax_status : StatusOf 21 (λ aim. HasSyntaxFault)
 syntax_status = record {
   other = (λ e. omega arith, λ e. omega arith, λ e. omega arith);
   to = syntax_of;
-  from = λ purpose source p. (refusal.syntax source p.0 p.1, refused (by_parser p.0 p.1 p.2 refl), refl);
+  from = λ aim source p. (refusal.syntax source p.0 p.1, refused (by_parser p.0 p.1 p.2 refl), refl);
 }
 
-unbuilt_of : (purpose : Purpose) (source : List ℕ) (r : Report) → IsReportOfSource source purpose r → r.status ≡ 22 → IsNotBuilt source
-unbuilt_of purpose source r (refused (by_lexer fault has e)) is = let h = status_ap r _ e in absurd (omega arith)
-unbuilt_of purpose source r (refused (by_parser tokens fault has e)) is = let h = status_ap r _ e in absurd (omega arith)
-unbuilt_of purpose source r (refused (by_form has e)) is = has
-unbuilt_of purpose source r (program core comes of) is = absurd (no_program 22 (omega arith, omega arith) core purpose r of is)
+unbuilt_of : (aim : Aim) (source : List ℕ) (r : Report) → IsReportOfSource source aim r → r.status ≡ 22 → IsNotBuilt source
+unbuilt_of aim source r (refused (by_lexer fault has e)) is = let h = status_ap r _ e in absurd (omega arith)
+unbuilt_of aim source r (refused (by_parser tokens fault has e)) is = let h = status_ap r _ e in absurd (omega arith)
+unbuilt_of aim source r (refused (by_form has e)) is = has
+unbuilt_of aim source r (program core comes of) is = absurd (no_program 22 (omega arith, omega arith) core aim r of is)
 
-unbuilt_status : StatusOf 22 (λ purpose. IsNotBuilt)
+pub unbuilt_status : StatusOf 22 (λ aim. IsNotBuilt)
 unbuilt_status = record {
   other = (λ e. omega arith, λ e. omega arith, λ e. omega arith);
   to = unbuilt_of;
-  from = λ purpose source p. (refusal.not_built, refused (by_form p refl), refl);
+  from = λ aim source p. (refusal.not_built, refused (by_form p refl), refl);
 }
 
-unfit_run : (a : Asked) (source : List ℕ) (core : Core) (r : Report) → ComesTo source core → IsReportOfProgram core (Simulate a) r → r.status ≡ 23 → HasUnfitArguments (Simulate a) source
-unfit_run a source core r comes (report.unfit wanted fault misfits e) is =
+unfit_run : (w : Wanted) (source : List ℕ) (core : Core) (r : Report) → ComesTo source core → IsReportOfProgram core (simulates w) r → r.status ≡ 23 → HasUnfitArguments (simulates w) source
+unfit_run w source core r comes (report.unfit wanted fault misfits e) is =
     record { core = core; program = comes; wanted = wanted; fault = fault; misfits = misfits }
-unfit_run a source core r comes (report.run values means of) is =
+unfit_run w source core r comes (report.run values means of) is =
     let h : r.status ≡ status_of of.told.ending.verdict = status_ap r _ of.is in let b = status_bound of.told.ending.verdict in absurd (grind arith)
 
-unfit_of : (purpose : Purpose) (source : List ℕ) (r : Report) → IsReportOfSource source purpose r → r.status ≡ 23 → HasUnfitArguments purpose source
-unfit_of purpose source r (refused (by_lexer fault has e)) is = let h = status_ap r _ e in absurd (omega arith)
-unfit_of purpose source r (refused (by_parser tokens fault has e)) is = let h = status_ap r _ e in absurd (omega arith)
-unfit_of purpose source r (refused (by_form has e)) is = let h = status_ap r _ e in absurd (omega arith)
-unfit_of (Simulate a) source r (program core comes of) is = unfit_run a source core r comes of is
-unfit_of Check source r (program core comes of) is = let h = status_ap r _ of in absurd (omega arith)
+unfit_of : (aim : Aim) (source : List ℕ) (r : Report) → IsReportOfSource source aim r → r.status ≡ 23 → HasUnfitArguments aim source
+unfit_of aim source r (refused (by_lexer fault has e)) is = let h = status_ap r _ e in absurd (omega arith)
+unfit_of aim source r (refused (by_parser tokens fault has e)) is = let h = status_ap r _ e in absurd (omega arith)
+unfit_of aim source r (refused (by_form has e)) is = let h = status_ap r _ e in absurd (omega arith)
+unfit_of (simulates w) source r (program core comes of) is = unfit_run w source core r comes of is
+unfit_of checks source r (program core comes of) is = let h = status_ap r _ of in absurd (omega arith)
 
-of_unfit : (purpose : Purpose) (source : List ℕ) → HasUnfitArguments purpose source → (r : Report) × IsReportOfSource source purpose r × (r.status ≡ 23)
-of_unfit (Simulate a) source p =
+of_unfit : (aim : Aim) (source : List ℕ) → HasUnfitArguments aim source → (r : Report) × IsReportOfSource source aim r × (r.status ≡ 23)
+of_unfit (simulates w) source p =
     (refusal.unfit_arguments p.wanted _ p.fault, program p.core p.program (report.unfit p.wanted p.fault p.misfits refl), refl)
-of_unfit Check source p = absurd p
+of_unfit checks source p = absurd p
 
-unfit_status : StatusOf 23 HasUnfitArguments
+pub unfit_status : StatusOf 23 HasUnfitArguments
 unfit_status = record { other = (λ e. omega arith, λ e. omega arith, λ e. omega arith); to = unfit_of; from = of_unfit }
+
+-- the statuses of logs
+
+up_of : (text : List ℕ) (r : Report) → IsReportOfLog text r → r.status ≡ 0 → ComesUp text
+up_of text r (report.up log has e) is = (log, has)
+up_of text r (report.misfit k has e) is = let h = status_ap r _ e in absurd (omega arith)
+
+misfit_of : (text : List ℕ) (r : Report) → IsReportOfLog text r → r.status ≡ 24 → HasMisfit text
+misfit_of text r (report.up log has e) is = let h = status_ap r _ e in absurd (omega arith)
+misfit_of text r (report.misfit k has e) is = (k, has)
 
 -- exactness, where the call met the report or memory is wanting
 
-exactly : (r : Report) (call : Call) (n : ℕ) (cause : Type 0) → n ≢ 6 → IsReportedOrLost r call
+pub exactly : (r : Report) (call : Call) (n : ℕ) (cause : Type 0) → n ≢ 6 → IsReportedOrLost r call
     → (r.status ≡ n → cause) → (cause → r.status ≡ n) → IsExactly call n cause
 exactly r call n cause above (inl wanting) to from = ((λ is. absurd (above (sym is ∙ wanting))), λ h. inr wanting)
 exactly r call n cause above (inr met) to from = ((λ is. to (sym met.status ∙ is)), λ h. inl (met.status ∙ from h))
@@ -219,49 +199,89 @@ module _ (law : ReportLaw) (call : Call) (files : Files) (one : MetOne call file
   same_status : (s : Report) → IsReport call.words files s → one.0.status ≡ s.status
   same_status s is = status_ap one.0 s (law.one call.words files one.0 s one.1 is)
 
-  module _ (n : ℕ) (P : Purpose → List ℕ → Type 0) (status : StatusOf n P) where
-    asked_status : AsksFor call files P → one.0.status ≡ n
+  module _ (n : ℕ) (P : Aim → List ℕ → Type 0) (status : StatusOf n P) where
+    pub asked_status : AsksFor call files P → one.0.status ≡ n
     asked_status h = let p = status.from h.0 h.1 h.3 in same_status p.0 (asked_report call files h.0 h.1 p.0 h.2 p.1) ∙ p.2
 
-    module _ (built : n ≢ 22) where
+    module _ (built : n ≢ 22) (no_log : (n ≢ 0) × (n ≢ 24)) where
+      no_log_status : (text : List ℕ) → IsReportOfLog text one.0 → one.0.status ≡ n → ⊥
+      no_log_status text of is = by (log_bound text one.0 of)
+        where
+          by : (one.0.status ≡ 0) ⊎ (one.0.status ≡ 24) → ⊥
+          by (inl z) = no_log.0 (sym is ∙ z)
+          by (inr e) = no_log.1 (sym is ∙ e)
+
       asks : CaseOf call files one.0 → one.0.status ≡ n → AsksFor call files P
       asks (asks_nothing asked e) is = absurd (status.other.0 (sym is ∙ status_ap one.0 _ e))
       asks (asks_unbuilt asked e) is = absurd (built (sym is ∙ status_ap one.0 _ e))
       asks (is_missing e) is = absurd (status.other.1 (sym is ∙ status_ap one.0 _ e))
       asks (is_long e) is = absurd (status.other.1 (sym is ∙ status_ap one.0 _ e))
-      asks (of_source purpose source asked of) is = (purpose, source, asked, status.to purpose source one.0 of is)
+      asks (of_log text asked of) is = absurd (no_log_status text of is)
+      asks (of_source aim source asked of) is = (aim, source, asked, status.to aim source one.0 of is)
 
       exactly_of : IsExactly call n (AsksFor call files P)
       exactly_of =
           exactly one.0 call n (AsksFor call files P) status.other.2 met
           (λ is. asks (case_of call files one.0 one.1) is) asked_status
 
-  pub done_exactly : IsExactly call 0 (AsksFor call files IsDone)
-  done_exactly = exactly_of 0 IsDone done_status (λ e. omega arith)
-
   pub exit_exactly : IsExactly call 10 (AsksFor call files (Ends IsExit))
-  exit_exactly = exactly_of 10 (Ends IsExit) exit_status (λ e. omega arith)
+  exit_exactly = exactly_of 10 (Ends IsExit) exit_status (λ e. omega arith) (λ e. omega arith, λ e. omega arith)
 
   pub deadlock_exactly : IsExactly call 11 (AsksFor call files (Ends (λ v. v ≡ verdict.Deadlock)))
-  deadlock_exactly = exactly_of 11 (Ends (λ v. v ≡ verdict.Deadlock)) deadlock_status (λ e. omega arith)
+  deadlock_exactly = exactly_of 11 (Ends (λ v. v ≡ verdict.Deadlock)) deadlock_status (λ e. omega arith) (λ e. omega arith, λ e. omega arith)
 
   pub fault_exactly : IsExactly call 12 (AsksFor call files (Ends IsFault))
-  fault_exactly = exactly_of 12 (Ends IsFault) fault_status (λ e. omega arith)
+  fault_exactly = exactly_of 12 (Ends IsFault) fault_status (λ e. omega arith) (λ e. omega arith, λ e. omega arith)
 
   pub out_of_steps_exactly : IsExactly call 13 (AsksFor call files (Ends (λ v. v ≡ verdict.OutOfSteps)))
-  out_of_steps_exactly = exactly_of 13 (Ends (λ v. v ≡ verdict.OutOfSteps)) out_of_steps_status (λ e. omega arith)
+  out_of_steps_exactly = exactly_of 13 (Ends (λ v. v ≡ verdict.OutOfSteps)) out_of_steps_status (λ e. omega arith) (λ e. omega arith, λ e. omega arith)
 
   pub stopped_exactly : IsExactly call 14 (AsksFor call files (Ends (λ v. v ≡ verdict.Stopped)))
-  stopped_exactly = exactly_of 14 (Ends (λ v. v ≡ verdict.Stopped)) stopped_status (λ e. omega arith)
+  stopped_exactly = exactly_of 14 (Ends (λ v. v ≡ verdict.Stopped)) stopped_status (λ e. omega arith) (λ e. omega arith, λ e. omega arith)
 
-  pub lexical_exactly : IsExactly call 20 (AsksFor call files (λ purpose. HasLexicalFault))
-  lexical_exactly = exactly_of 20 (λ purpose. HasLexicalFault) lexical_status (λ e. omega arith)
+  pub lexical_exactly : IsExactly call 20 (AsksFor call files (λ aim. HasLexicalFault))
+  lexical_exactly = exactly_of 20 (λ aim. HasLexicalFault) lexical_status (λ e. omega arith) (λ e. omega arith, λ e. omega arith)
 
-  pub syntax_exactly : IsExactly call 21 (AsksFor call files (λ purpose. HasSyntaxFault))
-  syntax_exactly = exactly_of 21 (λ purpose. HasSyntaxFault) syntax_status (λ e. omega arith)
+  pub syntax_exactly : IsExactly call 21 (AsksFor call files (λ aim. HasSyntaxFault))
+  syntax_exactly = exactly_of 21 (λ aim. HasSyntaxFault) syntax_status (λ e. omega arith) (λ e. omega arith, λ e. omega arith)
 
   pub unfit_exactly : IsExactly call 23 (AsksFor call files HasUnfitArguments)
-  unfit_exactly = exactly_of 23 HasUnfitArguments unfit_status (λ e. omega arith)
+  unfit_exactly = exactly_of 23 HasUnfitArguments unfit_status (λ e. omega arith) (λ e. omega arith, λ e. omega arith)
+
+  -- what is done: with a source, or with a log
+
+  asks_done : CaseOf call files one.0 → one.0.status ≡ 0 → AsksForDone call files
+  asks_done (asks_nothing asked e) is = let h = status_ap one.0 _ e in absurd (omega arith)
+  asks_done (asks_unbuilt asked e) is = let h = status_ap one.0 _ e in absurd (omega arith)
+  asks_done (is_missing e) is = let h = status_ap one.0 _ e in absurd (omega arith)
+  asks_done (is_long e) is = let h = status_ap one.0 _ e in absurd (omega arith)
+  asks_done (of_log text asked of) is = inr (text, asked, up_of text one.0 of is)
+  asks_done (of_source aim source asked of) is = inl (aim, source, asked, done_of aim source one.0 of is)
+
+  done_is : AsksForDone call files → one.0.status ≡ 0
+  done_is (inl h) = asked_status 0 IsDone done_status h
+  done_is (inr h) =
+      same_status (refusal.brought_up h.2.0) (asked_log_report call files h.0 (refusal.brought_up h.2.0) h.1 (report.up h.2.0 h.2.1 refl))
+
+  pub done_exactly : IsExactly call 0 (AsksForDone call files)
+  done_exactly = exactly one.0 call 0 (AsksForDone call files) (λ e. omega arith) met (λ is. asks_done (case_of call files one.0 one.1) is) done_is
+
+  -- a line of a log doesn't fit
+
+  asks_misfit : CaseOf call files one.0 → one.0.status ≡ 24 → AsksForLog call files HasMisfit
+  asks_misfit (asks_nothing asked e) is = let h = status_ap one.0 _ e in absurd (omega arith)
+  asks_misfit (asks_unbuilt asked e) is = let h = status_ap one.0 _ e in absurd (omega arith)
+  asks_misfit (is_missing e) is = let h = status_ap one.0 _ e in absurd (omega arith)
+  asks_misfit (is_long e) is = let h = status_ap one.0 _ e in absurd (omega arith)
+  asks_misfit (of_log text asked of) is = (text, asked, misfit_of text one.0 of is)
+  asks_misfit (of_source aim source asked of) is = let b = source_bound source aim one.0 of in absurd (grind arith)
+
+  misfit_is : AsksForLog call files HasMisfit → one.0.status ≡ 24
+  misfit_is h = same_status (refusal.misfit h.2.0) (asked_log_report call files h.0 (refusal.misfit h.2.0) h.1 (report.misfit h.2.0 h.2.1 refl))
+
+  pub misfit_exactly : IsExactly call 24 (AsksForLog call files HasMisfit)
+  misfit_exactly =
+      exactly one.0 call 24 (AsksForLog call files HasMisfit) (λ e. omega arith) met (λ is. asks_misfit (case_of call files one.0 one.1) is) misfit_is
 
   -- what isn't built: the form of what is asked for, or that of the source
 
@@ -270,23 +290,24 @@ module _ (law : ReportLaw) (call : Call) (files : Files) (one : MetOne call file
   asks_not_built (asks_unbuilt asked e) is = inl asked
   asks_not_built (is_missing e) is = let h = status_ap one.0 _ e in absurd (omega arith)
   asks_not_built (is_long e) is = let h = status_ap one.0 _ e in absurd (omega arith)
-  asks_not_built (of_source purpose source asked of) is = inr (purpose, source, asked, unbuilt_of purpose source one.0 of is)
+  asks_not_built (of_log text asked of) is = let b = log_bound text one.0 of in absurd (grind arith)
+  asks_not_built (of_source aim source asked of) is = inr (aim, source, asked, unbuilt_of aim source one.0 of is)
 
   not_built_status : AsksForUnbuilt call files → one.0.status ≡ 22
   not_built_status (inl asked) = same_status refusal.not_built (unbuilt_report call files asked)
-  not_built_status (inr h) = asked_status 22 (λ purpose. IsNotBuilt) unbuilt_status h
+  not_built_status (inr h) = asked_status 22 (λ aim. IsNotBuilt) unbuilt_status h
 
   pub not_built_exactly : IsExactly call 22 (AsksForUnbuilt call files)
   not_built_exactly =
       exactly one.0 call 22 (AsksForUnbuilt call files) (λ e. omega arith) met (λ is. asks_not_built (case_of call files one.0 one.1) is) not_built_status
 
   -- a program that is asked to be run is run to its end
-  pub ends_complete : (a : Asked) (source : List ℕ) → IsAskedSource call files (Simulate a) source → (core : Core) → ComesTo source core
-      → (arguments : List Value) → Means core a.texts arguments → (told : Told) → IsRunOf core (settings_with a arguments) told
+  pub ends_complete : (w : Wanted) (source : List ℕ) → IsAskedSource call files (simulates w) source → (core : Core) → ComesTo source core
+      → (arguments : List Value) → Means core w.texts arguments → (told : Told) → IsRunOf core (settings_with w arguments) told
       → (call.status ≡ status_of told.ending.verdict) ⊎ (call.status ≡ 6)
-  ends_complete a source asked core comes arguments means told run =
-      let is : IsReportOfSource source (Simulate a) (run_report core told) = program core comes (report.run arguments means (record { told = told; run = run; is = refl })) in
-      by_met (same_status (run_report core told) (asked_report call files (Simulate a) source (run_report core told) asked is)) met
+  ends_complete w source asked core comes arguments means told run =
+      let is : IsReportOfSource source (simulates w) (run_report core told) = program core comes (report.run arguments means (record { told = told; run = run; is = refl })) in
+      by_met (same_status (run_report core told) (asked_report call files (simulates w) source (run_report core told) asked is)) met
     where
       by_met : one.0.status ≡ status_of told.ending.verdict → IsReportedOrLost one.0 call
           → (call.status ≡ status_of told.ending.verdict) ⊎ (call.status ≡ 6)

@@ -1,5 +1,5 @@
 -- The laws that the promises rest on, as their functions' contracts give them.
-use Rattle.std.proofs.Common.{◌≡◌, ℕ, List, Result, Some}
+use Rattle.std.proofs.Common.{◌≡◌, ℕ, List, Result, Some, ◌⊎◌}
 use Rattle.std.specs.Prelude.{Ok}
 use Rattle.chi_cli.specs.declared.request.Request.{Request}
 use Rattle.chi_cli.specs.Arguments.{values_of}
@@ -16,12 +16,14 @@ use Rattle.chi_core.specs.Of.{at_start, AreOf}
 use Rattle.chi_core.specs.Runs.{Told}
 use Rattle.chi_core.specs.Sound.{Sound}
 use Rattle.chi_form.specs.Form.{built}
+use Rattle.chi_trace.specs.Logs as logs
+use Rattle.chi_trace.specs.Logs.{IsUp}
 use Rattle.chi_types.specs.declared.ty.Ty.{Ty}
 use Rattle.chi_value.specs.declared.value.Value.{Value}
 use Rattle.chi_tool.specs.Refusals.{Report}
-use Rattle.chi_tool.specs.Report.{IsReport}
+use Rattle.chi_tool.specs.Report.{IsReportOfSource, IsReport}
 use Rattle.chi_tool.specs.Running.{IsRunOf, MayHave}
-use Rattle.chi_tool.specs.Settings.{Settings}
+use Rattle.chi_tool.specs.Settings.{Aim, MayBeAimed, Settings}
 use Rattle.chi_tool.specs.Sources.{ComesTo}
 
 -- tokens are one program, or have one fault
@@ -48,6 +50,18 @@ abbrev pub ValuesLaw : Type 0
 ValuesLaw =
     (names : List (List (List ℕ))) (params : List Ty) (texts : List (List ℕ)) (values : List Value)
     → values_of params texts ≡ Ok values → AreOf (at_start names) values (kinds_of params)
+
+-- a text is brought up to one log, or has one first line that doesn't fit
+pub record LogLaw : Type 0 where
+  pub some : (text : List ℕ) → ((up : List ℕ) × IsUp text up) ⊎ ((k : ℕ) × logs.Misfits text k)
+  pub one_log : (text up other : List ℕ) → IsUp text up → IsUp text other → up ≡ other
+  pub one_line : (text : List ℕ) (j k : ℕ) → logs.Misfits text j → logs.Misfits text k → j ≡ k
+  pub apart : (text up : List ℕ) (k : ℕ) → IsUp text up → logs.Misfits text k → ⊥
+
+-- a source has one report
+pub record SourceLaw : Type 0 where
+  pub some : (source : List ℕ) (aim : Aim) → MayBeAimed aim → (r : Report) × IsReportOfSource source aim r
+  pub one : (source : List ℕ) (aim : Aim) (r other : Report) → IsReportOfSource source aim r → IsReportOfSource source aim other → r ≡ other
 
 -- words and files have one report
 pub record ReportLaw : Type 0 where

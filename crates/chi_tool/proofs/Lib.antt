@@ -6,11 +6,13 @@ pub mod Sources
 pub mod Runs
 pub mod Wishes
 pub mod Reports
+pub mod Verdicts
+pub mod Contents
 pub mod Promises
 pub mod Cases
-pub mod Verdicts
 pub mod Causes
 pub mod Served
 pub mod Factories
+pub mod Simulations
 pub mod Readings
 pub mod Turns

@@ -3,10 +3,7 @@ use Rattle.std.proofs.Common.{◌≡◌, ◌≢◌, ◌∙◌, ℕ, ◌<◌, tru
 use Rattle.std.specs.Prelude.{IfSome, IsSomeAnd}
 use Rattle.chi_io.specs.Counts.{Rose, Stood}
 use Rattle.chi_io.specs.Shelf.{Files}
-use Rattle.chi_lex.specs.declared.lexer.TheConstants.{MOST_BYTES}
-use Rattle.chi_tool.specs.declared.task.Purpose.{Purpose}
 use Rattle.chi_tool.specs.declared.task.Task.{Task}
-use Rattle.chi_tool.specs.declared.task.Task.TheVariants.{OfFile}
 use Rattle.chi_tool.specs.Words.{Wish, nothing, unbuilt, of_task, wish_of, NamesNoFile}
 use Rattle.chi_tool.specs.Refusals.{Report, usage, not_built, no_such_file, file_too_long}
 use Rattle.chi_tool.specs.Report as report
@@ -15,6 +12,7 @@ use Rattle.chi_tool.specs.Call.{Call, SinkUse, Took, TookFront, TookSome, SinkSt
 use Rattle.chi_tool.specs.Headline.{NothingFailed, IsReported, IsReportedOrLost, IsReportedInFront, IsRefusedByFault, Meets, MeetsAlone, Headline, GoesWell, with_files, by_words}
 use Rattle.chi_tool.specs.Delivery.{TookWhole, Delivers, whole, out_broke, log_broke, DeliversReport, Serves, reported, missing, long, failed, lost}
 use Rattle.chi_tool.proofs.Sinks.{whole_front, none_front, broken_front, none_some, none_whole}
+use Rattle.chi_tool.proofs.Contents.{IsOfFile}
 use Rattle.chi_tool.proofs.LawClauses.{ReportLaw}
 
 -- how a call may stand to the report of its words and files
@@ -104,33 +102,33 @@ by_report call files r is s = (r, is, meets r call s)
 pub by_any : ReportLaw → (call : Call) (files : Files) → ((r : Report) → Stands r call) → MeetsOne call files
 by_any law call files s = let p = law.some call.words files in by_report call files p.0 p.1 (s p.0)
 
-pub is_report : (call : Call) (name : List ℕ) (purpose : Purpose) (files : Files) (o : Option (List ℕ)) (r : Report)
-    → wish_of call.words ≡ of_task (OfFile name purpose) → files name ≡ o → IsReportOfFile o purpose r → IsReport call.words files r
-is_report call name purpose files o r asked there is =
-    let at_wish : Wish → Type 0 = λ w. IsReportOfWish w files r in
-    let at_file : Option (List ℕ) → Type 0 = λ x. IsReportOfFile x purpose r in
-    subst at_wish (sym asked) (subst at_file (sym there) is)
+module _ (t : Task) (name : List ℕ) (most : ℕ) (P : List ℕ → Report → Type 0) (of : IsOfFile t name most P) (call : Call)
+    (asked : wish_of call.words ≡ of_task t) where
+  pub is_report : (files : Files) (o : Option (List ℕ)) (r : Report) → files name ≡ o → IsReportOfFile most P o r → IsReport call.words files r
+  is_report files o r there is =
+      let at_wish : Wish → Type 0 = λ w. IsReportOfWish w files r in
+      let at_file : Option (List ℕ) → Type 0 = λ x. IsReportOfFile most P x r in
+      subst at_wish (sym asked) (of.reports files r (subst at_file (sym there) is))
 
-pub served_told : ReportLaw → (call : Call) (name : List ℕ) (purpose : Purpose) (files : Files) → wish_of call.words ≡ of_task (OfFile name purpose) → call.shelf.files ≡ Some files
-    → Serves name purpose call.shelf call.status call.out call.log → MeetsOne call files
-served_told law call name purpose files asked told (reported source within is r of d) =
-    let P : Option Files → Type 0 = λ o. IfSome o (λ f. f name ≡ Some source) in
-    by_report call files r (is_report call name purpose files (Some source) r asked (subst P told is) (report.fetched source refl within of)) (delivered d)
-served_told law call name purpose files asked told (missing (inr rose) d) = by_any law call files (λ r. misread rose no_such_file (inl refl) d)
-served_told law call name purpose files asked told (missing (inl lacks) d) =
-    let P : Option Files → Type 0 = λ o. IsSomeAnd o (λ f. f name ≡ None) in
-    by_report call files no_such_file (is_report call name purpose files None no_such_file asked (subst P told lacks) (report.missing refl refl)) (delivered d)
-served_told law call name purpose files asked told (long (inr rose) d) = by_any law call files (λ r. misread rose file_too_long (inr refl) d)
-served_told law call name purpose files asked told (long (inl exceeds) d) =
-    let P : Option Files → Type 0 = λ o. IsSomeAnd o (λ f. IsSomeAnd (f name) (λ source. MOST_BYTES < length source)) in
-    by_file (files name) refl (subst P told exceeds)
-  where
-    by_file : (o : Option (List ℕ)) → files name ≡ o → IsSomeAnd o (λ source. MOST_BYTES < length source) → MeetsOne call files
-    by_file None there e = absurd e
-    by_file (Some source) there e =
-        by_report call files file_too_long (is_report call name purpose files (Some source) file_too_long asked there (report.long source refl e refl)) (delivered d)
-served_told law call name purpose files asked told (failed rose status out log) = by_any law call files (λ r. silent rose status out log)
-served_told law call name purpose files asked told (lost status out log) = by_any law call files (λ r. wanting status out log)
+  pub served_told : ReportLaw → (files : Files) → call.shelf.files ≡ Some files → Serves most P name call.shelf call.status call.out call.log → MeetsOne call files
+  served_told law files told (reported content within is r by d) =
+      let Q : Option Files → Type 0 = λ o. IfSome o (λ f. f name ≡ Some content) in
+      by_report call files r (is_report files (Some content) r (subst Q told is) (report.fetched content refl within by)) (delivered d)
+  served_told law files told (missing (inr rose) d) = by_any law call files (λ r. misread rose no_such_file (inl refl) d)
+  served_told law files told (missing (inl lacks) d) =
+      let Q : Option Files → Type 0 = λ o. IsSomeAnd o (λ f. f name ≡ None) in
+      by_report call files no_such_file (is_report files None no_such_file (subst Q told lacks) (report.missing refl refl)) (delivered d)
+  served_told law files told (long (inr rose) d) = by_any law call files (λ r. misread rose file_too_long (inr refl) d)
+  served_told law files told (long (inl exceeds) d) =
+      let Q : Option Files → Type 0 = λ o. IsSomeAnd o (λ f. IsSomeAnd (f name) (λ content. most < length content)) in
+      by_file (files name) refl (subst Q told exceeds)
+    where
+      by_file : (o : Option (List ℕ)) → files name ≡ o → IsSomeAnd o (λ content. most < length content) → MeetsOne call files
+      by_file None there e = absurd e
+      by_file (Some content) there e =
+          by_report call files file_too_long (is_report files (Some content) file_too_long there (report.long content refl e refl)) (delivered d)
+  served_told law files told (failed rose status out log) = by_any law call files (λ r. silent rose status out log)
+  served_told law files told (lost status out log) = by_any law call files (λ r. wanting status out log)
 
 -- what holds where the shelf tells its files
 pub where_told : {P : Files → Type 0} (o : Option Files) → ((files : Files) → o ≡ Some files → P files) → IfSome o P
@@ -146,26 +144,25 @@ delivered_stopped status result output lines out log (whole s o l) stopped = abs
 delivered_stopped status result output lines out log (out_broke s o l) stopped = l.took
 delivered_stopped status result output lines out log (log_broke s o l) stopped = absurd (goes_stopped out o.goes stopped)
 
-served_stopped : (call : Call) (name : List ℕ) (purpose : Purpose) → Serves name purpose call.shelf call.status call.out call.log → call.out.stopped ≡ true → Took call.log []
-served_stopped call name purpose (reported source within is r of d) stopped = delivered_stopped _ _ _ _ call.out call.log d stopped
-served_stopped call name purpose (missing cause d) stopped = delivered_stopped _ _ _ _ call.out call.log d stopped
-served_stopped call name purpose (long cause d) stopped = delivered_stopped _ _ _ _ call.out call.log d stopped
-served_stopped call name purpose (failed rose status out log) stopped = log.took
-served_stopped call name purpose (lost status out log) stopped = log.took
+served_stopped : (most : ℕ) (P : List ℕ → Report → Type 0) (name : List ℕ) (call : Call) → Serves most P name call.shelf call.status call.out call.log
+    → call.out.stopped ≡ true → Took call.log []
+served_stopped most P name call (reported content within is r by d) stopped = delivered_stopped _ _ _ _ call.out call.log d stopped
+served_stopped most P name call (missing cause d) stopped = delivered_stopped _ _ _ _ call.out call.log d stopped
+served_stopped most P name call (long cause d) stopped = delivered_stopped _ _ _ _ call.out call.log d stopped
+served_stopped most P name call (failed rose status out log) stopped = log.took
+served_stopped most P name call (lost status out log) stopped = log.took
 
 pub asks_something : (w : Wish) (t : Task) → w ≡ of_task t → w ≡ nothing → ⊥
 asks_something w t asked none = cc
 
-names_file : (w : Wish) (name : List ℕ) (purpose : Purpose) → w ≡ of_task (OfFile name purpose) → NamesNoFile w → ⊥
-names_file w name purpose asked none = subst NamesNoFile asked none
-
-pub served-headline : ReportLaw → (call : Call) (name : List ℕ) (purpose : Purpose) → wish_of call.words ≡ of_task (OfFile name purpose)
-    → Serves name purpose call.shelf call.status call.out call.log → Headline call
-served-headline law call name purpose asked s = record {
-  report = where_told call.shelf.files (λ files told. served_told law call name purpose files asked told s);
-  by_words = λ none files. absurd (names_file (wish_of call.words) name purpose asked none);
-  out_stopped = served_stopped call name purpose s;
-}
+module _ (t : Task) (name : List ℕ) (most : ℕ) (P : List ℕ → Report → Type 0) (of : IsOfFile t name most P) (call : Call)
+    (asked : wish_of call.words ≡ of_task t) where
+  pub served-headline : ReportLaw → Serves most P name call.shelf call.status call.out call.log → Headline call
+  served-headline law s = record {
+    report = where_told call.shelf.files (λ files told. served_told t name most P of call asked law files told s);
+    by_words = λ none files. absurd (of.named (subst NamesNoFile asked none));
+    out_stopped = served_stopped most P name call s;
+  }
 
 pub usage_told : (call : Call) (files : Files) → wish_of call.words ≡ nothing → DeliversReport usage call.status call.out call.log → MeetsOne call files
 usage_told call files none d =

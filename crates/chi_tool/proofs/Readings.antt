@@ -1,4 +1,4 @@
--- What a source comes to, by what the lexer and the parser answer.
+-- What a source comes to, by what the lexer and the parser answer; and a log, by what bringing it up answers.
 use Rattle.std.proofs.Common.{◌≡◌, ℕ, List, Result, Ok, Err, subst}
 use Rattle.std.specs.Prelude.{IfOk, codes}
 use Rattle.chi_base.specs.declared.no_memory.NoMemory.{NoMemory}
@@ -21,7 +21,12 @@ use Rattle.chi_tool.specs.declared.report.Reported.{Reported}
 use Rattle.chi_tool.specs.declared.source.Source.{Source}
 use Rattle.chi_tool.specs.declared.source.Source.TheVariants.{Refused, Program}
 use Rattle.chi_tool.specs.Readings.{IsReadAs, IsRefusal}
+use Rattle.chi_trace.specs.declared.fault.LogFault.{LogFault}
+use Rattle.chi_trace.specs.declared.fault.LogFault.TheVariants.{Form}
+use Rattle.chi_trace.specs.Logs as logs
+use Rattle.chi_tool.specs.Refusals as refusal
 use Rattle.chi_tool.specs.Refusals.{refused}
+use Rattle.chi_tool.specs.Report.{IsReportOfLog, misfit}
 use Rattle.chi_tool.specs.Reported.{report_in}
 use Rattle.chi_tool.specs.Sources.{IsRefused, by_lexer, by_parser}
 use Rattle.chi_tool.specs.Syntax.{placed, syntax_text}
@@ -59,3 +64,8 @@ module _ (source : List ℕ) (tokens : List Spanned) where
       → fault ≡ TooDeep k → Parsed tokens (Err fault) → report_in r ≡ refused 21 (syntax_text source tokens (TooDeep k)) → IsRefused source (report_in r)
   too_deep_refused fault k r named reads e has is =
       by_parser tokens (TooDeep k) (record { read = reads; has = named (subst (λ f. Parsed tokens (Err f)) e has) }) is
+
+pub misfit_refused : (text : List ℕ) (fault : LogFault) (number : ℕ) (result : Result Reported NoMemory) → fault ≡ Form number → logs.IsRefused text fault
+    → IfOk result (λ r. report_in r ≡ refusal.misfit number) → IfOk result (λ r. IsReportOfLog text (report_in r))
+misfit_refused text fault number (Ok r) e has is = misfit number (subst (λ f. logs.IsRefused text f) e has) is
+misfit_refused text fault number (Err lost) e has is = tt

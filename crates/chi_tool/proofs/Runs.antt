@@ -1,5 +1,5 @@
 -- The program that a source comes to has one run.
-use Rattle.std.proofs.Common.{◌≡◌, ℕ, ◌<◌, true, List, length, Some, refl, arith}
+use Rattle.std.proofs.Common.{◌≡◌, ℕ, ◌<◌, true, List, length, Some, refl, sym, subst, arith}
 use Rattle.std.proofs.Math.Nat.{mod-lt}
 use Rattle.std.specs.Prelude.{slice_get, ℤ, ◌-◌, Option, Result, Ok, Err, IfOk}
 use Rattle.chi_base.specs.declared.no_memory.NoMemory.{NoMemory}
@@ -20,13 +20,13 @@ use Rattle.chi_sched.specs.Policies.{Answers}
 use Rattle.chi_tool.specs.declared.report.Reported.{Reported}
 use Rattle.chi_tool.specs.declared.task.Asked.{Asked}
 use Rattle.chi_tool.specs.declared.task.Purpose.{Purpose}
-use Rattle.chi_tool.specs.declared.task.Purpose.TheVariants.{Simulate}
+use Rattle.chi_tool.specs.declared.task.Purpose.TheVariants.{Simulate, Check}
 use Rattle.chi_tool.specs.Arguments.{is_misfit}
 use Rattle.chi_tool.specs.Refusals.{unfit_arguments}
 use Rattle.chi_tool.specs.Report.{IsReportOfRun, unfit, run, IsReportOfProgram, IsReportOfSource, program}
 use Rattle.chi_tool.specs.Reported.{report_in}
 use Rattle.chi_tool.specs.Running.{IsRunOf, IsRunReport, MayHave}
-use Rattle.chi_tool.specs.Settings.{Settings, IsBounded, policy_of, settings_with}
+use Rattle.chi_tool.specs.Settings.{Settings, Wanted, Aim, simulates, wanted_of, aim_of, IsBounded, MayBeAimed, policy_of, settings_with}
 use Rattle.chi_tool.specs.Sources.{ComesTo}
 use Rattle.chi_tool.specs.Turns.{RunsTo}
 use Rattle.chi_tool.proofs.LawClauses.{SoundLaw, ValuesLaw}
@@ -41,15 +41,20 @@ named_lawful pick.First question count early some few = some
 named_lawful pick.Last question count early some few = last_below count some
 named_lawful (pick.Spread salt) question count early some few = mod-lt _ some
 
--- settings that are asked for may be had
-pub asked_settings : ValuesLaw → (core : Core) (a : Asked) (values : List Value) (d : ProcDef) → slice_get core.procs core.model ≡ Some d
-    → values_of d.params a.texts ≡ Ok values → IsBounded (Simulate a) → MayHave core (settings_with a values)
-asked_settings fit core a values d is read bounded = record {
+-- what words ask for is within what is counted, and by a lawful policy
+pub may_be_aimed : (purpose : Purpose) → IsBounded purpose → MayBeAimed (aim_of purpose)
+may_be_aimed (Simulate a) bounded = (bounded, named_lawful a.pick)
+may_be_aimed Check bounded = tt
+
+-- settings that are wanted may be had
+pub asked_settings : ValuesLaw → (core : Core) (w : Wanted) (values : List Value) (d : ProcDef) → slice_get core.procs core.model ≡ Some d
+    → values_of d.params w.texts ≡ Ok values → MayBeAimed (simulates w) → MayHave core (settings_with w values)
+asked_settings fit core w values d is read bounded = record {
   model = d;
   is = is;
-  arguments = fit core.names.kinds d.params a.texts values read;
-  lawful = named_lawful a.pick;
-  bound = bounded;
+  arguments = fit core.names.kinds d.params w.texts values read;
+  lawful = bounded.1;
+  bound = bounded.0;
 }
 
 pub run_some : PickedAlways → SoundLaw → (source : List ℕ) (core : Core) → ComesTo source core → (s : Settings) → MayHave core s → (told : Told) × IsRunOf core s told
@@ -78,40 +83,60 @@ begun_ran core seed bound arguments until stage gives (Ok r) begun ran =
     record { told = told.0; run = told.1; is = told.2 }
 begun_ran core seed bound arguments until stage gives (Err lost) begun ran = tt
 
+-- what follows of a result, where there is one
+if_ok : {P Q : Reported → Type 0} (result : Result Reported NoMemory) → ((r : Reported) → P r → Q r) → IfOk result P → IfOk result Q
+if_ok (Ok r) follows is = follows r is
+if_ok (Err lost) follows is = tt
+
 -- a formula answers as its policy does
 formula_given : (pick : Pick) → IsLawful pick → Answers (λ question count answer. answer ≡ pick question count) pick
 formula_given pick lawful question count asked = (lawful question count asked.numbered asked.some asked.counted, refl)
 
--- the report of a run with a formula as its policy
-pub formula_ran : (p : words.Pick) (core : Core) (seed bound : ℕ) (arguments : List Value) (until : Option ℤ) (result : Result Reported NoMemory)
+-- the report of a run with the formula that words ask for as its policy
+pub formula_ran : (p : words.Pick) (core : Core) (a : Asked) (result : Result Reported NoMemory) → a.pick ≡ p
     → IfOk result (λ r. (pick : Pick) → Answers (λ question count answer. answer ≡ policy_of p question count) pick
-    → IsRunReport core (record { seed = seed; bound = bound; pick = pick; arguments = arguments; until = until }) (report_in r))
-    → IfOk result (λ r. IsRunReport core (record { seed = seed; bound = bound; pick = policy_of p; arguments = arguments; until = until }) (report_in r))
-formula_ran p core seed bound arguments until (Ok r) is = is (policy_of p) (formula_given (policy_of p) (named_lawful p))
-formula_ran p core seed bound arguments until (Err lost) is = tt
+    → IsReportOfRun core (record { seed = a.seed; bound = a.bound; pick = pick; texts = a.texts; until = a.until }) (report_in r))
+    → IfOk result (λ r. IsReportOfRun core (wanted_of a) (report_in r))
+formula_ran p core a (Ok r) same is =
+    let at : words.Pick → Type 0 = λ q.
+    IsReportOfRun core (record { seed = a.seed; bound = a.bound; pick = policy_of q; texts = a.texts; until = a.until }) (report_in r) in
+    subst at (sym same) (is (policy_of p) (formula_given (policy_of p) (named_lawful p)))
+formula_ran p core a (Err lost) same is = tt
 
 -- the report of a source that comes to a program
-pub program_reported : (source : List ℕ) (core : Core) (purpose : Purpose) (result : Result Reported NoMemory) → ComesTo source core
-    → IfOk result (λ r. IsReportOfProgram core purpose (report_in r)) → IfOk result (λ r. IsReportOfSource source purpose (report_in r))
-program_reported source core purpose (Ok r) comes is = program core comes is
-program_reported source core purpose (Err lost) comes is = tt
+pub program_reported : (source : List ℕ) (core : Core) (aim : Aim) (result : Result Reported NoMemory) → ComesTo source core
+    → IfOk result (λ r. IsReportOfProgram core aim (report_in r)) → IfOk result (λ r. IsReportOfSource source aim (report_in r))
+program_reported source core aim result comes is = if_ok result (λ r of. program core comes of) is
 
--- the report of a model's run, with the arguments that were read, or the refusal of these
+-- the same, whatever the policy picks
+pub terms_reported : (gives : ℕ → ℕ → ℕ → Type 0) (source : List ℕ) (core : Core) (seed bound : ℕ) (texts : List (List ℕ)) (until : Option ℤ) (result : Result Reported NoMemory)
+    → ComesTo source core
+    → IfOk result (λ r. (pick : Pick) → Answers gives pick
+    → IsReportOfRun core (record { seed = seed; bound = bound; pick = pick; texts = texts; until = until }) (report_in r))
+    → IfOk result (λ r. (pick : Pick) → Answers gives pick
+    → IsReportOfSource source (simulates (record { seed = seed; bound = bound; pick = pick; texts = texts; until = until })) (report_in r))
+terms_reported gives source core seed bound texts until result comes is = if_ok result (λ r of pick answers. program core comes (of pick answers)) is
 
-module _ (core : Core) (a : Asked) (d : ProcDef) (is : slice_get core.procs core.model ≡ Some d) where
-  pub model_ran : (values : List Value) (result : Result Reported NoMemory) → values_of d.params a.texts ≡ Ok values
-      → IfOk result (λ r. IsRunReport core (settings_with a values) (report_in r)) → IfOk result (λ r. IsReportOfRun core a (report_in r))
-  model_ran values (Ok r) read ran = run values (record { model = d; is = is; read = read }) ran
-  model_ran values (Err lost) read ran = tt
+-- the report of a model's run, with the arguments that were read, or the refusal of these; whatever the policy picks
 
-  misfit : (fault : ArgFault) (result : Result Reported NoMemory) → values_of d.params a.texts ≡ Err fault
-      → IfOk result (λ r. report_in r ≡ unfit_arguments (length d.params) (length a.texts) fault) → IfOk result (λ r. IsReportOfRun core a (report_in r))
-  misfit fault (Ok r) read told = unfit (length d.params) fault (record { model = d; is = is; read = read; count = refl }) told
-  misfit fault (Err lost) read told = tt
+module _ (gives : ℕ → ℕ → ℕ → Type 0) (core : Core) (seed bound : ℕ) (texts : List (List ℕ)) (until : Option ℤ) (d : ProcDef)
+    (is : slice_get core.procs core.model ≡ Some d) (result : Result Reported NoMemory) where
+  abbrev Ran : Type 0
+  Ran = IfOk result (λ r. (pick : Pick) → Answers gives pick
+      → IsReportOfRun core (record { seed = seed; bound = bound; pick = pick; texts = texts; until = until }) (report_in r))
 
-  pub model_refused : (fault : ArgFault) (result : Result Reported NoMemory) → is_misfit fault ≡ true → IsRefused (values_of d.params a.texts) fault
-      → IfOk result (λ r. report_in r ≡ unfit_arguments (length d.params) (length a.texts) fault) → IfOk result (λ r. IsReportOfRun core a (report_in r))
-  model_refused arg.Count result other refused told = misfit arg.Count result refused told
-  model_refused (arg.Kind k) result other refused told = misfit (arg.Kind k) result refused told
-  model_refused (arg.Text k) result other refused told = misfit (arg.Text k) result refused told
-  model_refused arg.NoMemory result other refused told = absurd (cc)
+  pub model_ran : (values : List Value) → values_of d.params texts ≡ Ok values
+      → IfOk result (λ r. (pick : Pick) → Answers gives pick
+      → IsRunReport core (record { seed = seed; bound = bound; pick = pick; arguments = values; until = until }) (report_in r)) → Ran
+  model_ran values read ran = if_ok result (λ r of pick answers. run values (record { model = d; is = is; read = read }) (of pick answers)) ran
+
+  misfit : (fault : ArgFault) → values_of d.params texts ≡ Err fault
+      → IfOk result (λ r. report_in r ≡ unfit_arguments (length d.params) (length texts) fault) → Ran
+  misfit fault read told = if_ok result (λ r of pick answers. unfit (length d.params) fault (record { model = d; is = is; read = read; count = refl }) of) told
+
+  pub model_refused : (fault : ArgFault) → is_misfit fault ≡ true → IsRefused (values_of d.params texts) fault
+      → IfOk result (λ r. report_in r ≡ unfit_arguments (length d.params) (length texts) fault) → Ran
+  model_refused arg.Count other refused told = misfit arg.Count refused told
+  model_refused (arg.Kind k) other refused told = misfit (arg.Kind k) refused told
+  model_refused (arg.Text k) other refused told = misfit (arg.Text k) refused told
+  model_refused arg.NoMemory other refused told = absurd (cc)

@@ -1,46 +1,21 @@
 -- When each status comes of a call, by how it was served.
-use Rattle.std.proofs.Common.{◌≡◌, ◌≢◌, ℕ, ◌<◌, ◌≤◌, true, false, List, Option, Some, None, length, ◌⊎◌, inl, inr, sym, ◌∙◌, subst, refl, arith}
+use Rattle.std.proofs.Common.{◌≡◌, ◌≢◌, ℕ, ◌<◌, true, false, List, Option, Some, None, length, ◌⊎◌, inl, inr, sym, ◌∙◌, subst, arith}
 use Rattle.std.specs.Prelude.{IsSomeAnd}
 use Rattle.chi_io.specs.Shelf.{Files}
-use Rattle.chi_lex.specs.declared.lexer.TheConstants.{MOST_BYTES}
 use Rattle.chi_tool.specs.Call.{Call, SinkUse}
 use Rattle.chi_tool.specs.Delivery.{Delivers, whole, out_broke, log_broke, DeliversReport, Serves, reported, missing, long, failed, lost}
-use Rattle.chi_tool.specs.declared.task.Purpose.{Purpose}
 use Rattle.chi_tool.specs.declared.task.Purpose.TheVariants.{Simulate}
-use Rattle.chi_tool.specs.declared.task.Asked.{Asked}
-use Rattle.chi_tool.specs.declared.task.Task.TheVariants.{OfFile}
-use Rattle.chi_tool.specs.Headline.{Headline, IsAskedSource, held, made, IsNoSource, CannotBeRead, IsExactly, StoppedByFailure, Causes, IsComplete}
+use Rattle.chi_tool.specs.declared.task.Task.{Task}
+use Rattle.chi_tool.specs.Headline.{Headline, IsAskedSource, held, made, IsNoContent, IsUnread, CannotBeRead, IsExactly, StoppedByFailure, Causes, IsComplete}
 use Rattle.chi_tool.specs.Refusals.{Report, usage, not_built}
-use Rattle.chi_tool.specs.Report.{IsReportOfSource, refused, program}
-use Rattle.chi_tool.specs.Settings.{IsBounded, settings_with}
-use Rattle.chi_tool.specs.Sources.{by_lexer, by_parser, by_form}
+use Rattle.chi_tool.specs.Settings.{Wanted, simulates, MayBeAimed, plain, settings_with}
 use Rattle.chi_tool.specs.Words.{Wish, nothing, unbuilt, of_task, wish_of}
-use Rattle.chi_tool.proofs.Causes.{status_ap, source_program, done_exactly, exit_exactly, deadlock_exactly, fault_exactly, out_of_steps_exactly, stopped_exactly, lexical_exactly, syntax_exactly, not_built_exactly, unfit_exactly, ends_complete}
+use Rattle.chi_tool.proofs.Causes.{done_exactly, exit_exactly, deadlock_exactly, fault_exactly, out_of_steps_exactly, stopped_exactly, lexical_exactly, syntax_exactly, not_built_exactly, unfit_exactly, misfit_exactly, ends_complete}
+use Rattle.chi_tool.proofs.Contents.{IsOfContent, IsOfFile}
 use Rattle.chi_tool.proofs.LawClauses.{RunLaw, ReportLaw, ValuesLaw, RangeLaw}
 use Rattle.chi_tool.proofs.Promises.{IsLost, met_of, goes_stopped, asks_something, served-headline, usage-headline, unbuilt-headline, lost-headline}
-use Rattle.chi_tool.proofs.Runs.{asked_settings}
+use Rattle.chi_tool.proofs.Runs.{may_be_aimed, asked_settings}
 use Rattle.chi_tool.proofs.Wishes.{IsBoundedWish, bounded_wish}
-
--- the status of a source's report is none of the refusals around it
-pub record IsOfSource (n : ℕ) : Type 0 where
-  pub is_request : n ≢ 3
-  pub is_read : n ≢ 4
-  pub is_written : n ≢ 5
-
-of_source : (n m : ℕ) → n ≡ m → (m ≡ 0) ⊎ (10 ≤ m) → IsOfSource n
-of_source n m e (inl z) = record { is_request = λ h. omega arith; is_read = λ h. omega arith; is_written = λ h. omega arith }
-of_source n m e (inr low) = record { is_request = λ h. omega arith; is_read = λ h. omega arith; is_written = λ h. omega arith }
-
-pub source_status : (source : List ℕ) (purpose : Purpose) (r : Report) → IsReportOfSource source purpose r → IsOfSource r.status
-source_status source purpose r (refused (by_lexer fault has e)) = of_source r.status 20 (status_ap r _ e) (inr (omega arith))
-source_status source purpose r (refused (by_parser tokens fault has e)) = of_source r.status 21 (status_ap r _ e) (inr (omega arith))
-source_status source purpose r (refused (by_form has e)) = of_source r.status 22 (status_ap r _ e) (inr (omega arith))
-source_status source purpose r (program core comes of) = of_source r.status r.status refl (low (source_program core purpose r of))
-  where
-    low : (r.status ≡ 0) ⊎ (((10 ≤ r.status) × (r.status ≤ 14)) ⊎ (r.status ≡ 23)) → (r.status ≡ 0) ⊎ (10 ≤ r.status)
-    low (inl z) = inl z
-    low (inr (inl b)) = inr b.0
-    low (inr (inr e)) = inr (omega arith)
 
 -- a status that a delivery doesn't have by itself tells which of the sinks broke off
 pub delivered_status : (status n : ℕ) (output lines : List ℕ) (result : ℕ) (out log : SinkUse) → status ≢ n → n ≢ 5
@@ -84,49 +59,53 @@ delivered_breaks status output lines result out log other (log_broke s o l) = re
   log_failed = λ stopped. l.rose;
 }
 
-served_breaks : (call : Call) (name : List ℕ) (purpose : Purpose) → Serves name purpose call.shelf call.status call.out call.log → Breaks call.status call.out call.log
-served_breaks call name purpose (reported source within is r of d) = delivered_breaks _ _ _ _ call.out call.log (source_status source purpose r of).is_written d
-served_breaks call name purpose (missing cause d) = delivered_breaks _ _ _ _ call.out call.log (λ e. omega arith) d
-served_breaks call name purpose (long cause d) = delivered_breaks _ _ _ _ call.out call.log (λ e. omega arith) d
-served_breaks call name purpose (failed rose status out log) = unbroken _ call.out call.log (λ is. omega arith) out.goes log.goes
-served_breaks call name purpose (lost status out log) = unbroken _ call.out call.log (λ is. omega arith) out.goes log.goes
+-- a file that isn't there or is too long is no content
+module _ (most : ℕ) (name : List ℕ) where
+  unfit_missing : (o : Option Files) → IsSomeAnd o (λ f. f name ≡ None) → IsSomeAnd o (λ f. IsNoContent most (f name))
+  unfit_missing None h = h
+  unfit_missing (Some files) h = let P : Option (List ℕ) → Type 0 = IsNoContent most in subst P (sym h) tt
 
-served_request : (call : Call) (name : List ℕ) (purpose : Purpose) → Serves name purpose call.shelf call.status call.out call.log → call.status ≢ 3
-served_request call name purpose (reported source within is r of d) e =
-    delivered_status _ 3 _ _ _ call.out call.log (source_status source purpose r of).is_request (λ h. omega arith) d e
-served_request call name purpose (missing cause d) e = delivered_status _ 3 _ _ _ call.out call.log (λ h. omega arith) (λ h. omega arith) d e
-served_request call name purpose (long cause d) e = delivered_status _ 3 _ _ _ call.out call.log (λ h. omega arith) (λ h. omega arith) d e
-served_request call name purpose (failed rose status out log) e = omega arith
-served_request call name purpose (lost status out log) e = omega arith
+  unfit_long : (o : Option Files) → IsSomeAnd o (λ f. IsSomeAnd (f name) (λ content. most < length content))
+      → IsSomeAnd o (λ f. IsNoContent most (f name))
+  unfit_long None h = h
+  unfit_long (Some files) h = by_file (files name) h
+    where
+      by_file : (o : Option (List ℕ)) → IsSomeAnd o (λ content. most < length content) → IsNoContent most o
+      by_file None e = absurd e
+      by_file (Some content) e = e
 
-unfit_missing : (name : List ℕ) (o : Option Files) → IsSomeAnd o (λ f. f name ≡ None) → IsSomeAnd o (λ f. IsNoSource (f name))
-unfit_missing name None h = h
-unfit_missing name (Some files) h = let P : Option (List ℕ) → Type 0 = IsNoSource in subst P (sym h) tt
+-- what follows of the serving of a file, whose content's report has none of the statuses around it
+module _ (most : ℕ) (P : List ℕ → Report → Type 0) (own : (content : List ℕ) (r : Report) → P content r → IsOfContent r.status) (name : List ℕ) (call : Call) where
+  served_breaks : Serves most P name call.shelf call.status call.out call.log → Breaks call.status call.out call.log
+  served_breaks (reported content within is r by d) = delivered_breaks _ _ _ _ call.out call.log (own content r by).is_written d
+  served_breaks (missing cause d) = delivered_breaks _ _ _ _ call.out call.log (λ e. omega arith) d
+  served_breaks (long cause d) = delivered_breaks _ _ _ _ call.out call.log (λ e. omega arith) d
+  served_breaks (failed rose status out log) = unbroken _ call.out call.log (λ is. omega arith) out.goes log.goes
+  served_breaks (lost status out log) = unbroken _ call.out call.log (λ is. omega arith) out.goes log.goes
 
-unfit_long : (name : List ℕ) (o : Option Files) → IsSomeAnd o (λ f. IsSomeAnd (f name) (λ source. MOST_BYTES < length source))
-    → IsSomeAnd o (λ f. IsNoSource (f name))
-unfit_long name None h = h
-unfit_long name (Some files) h = by_file (files name) h
-  where
-    by_file : (o : Option (List ℕ)) → IsSomeAnd o (λ source. MOST_BYTES < length source) → IsNoSource o
-    by_file None e = absurd e
-    by_file (Some source) e = e
+  served_request : Serves most P name call.shelf call.status call.out call.log → call.status ≢ 3
+  served_request (reported content within is r by d) e =
+      delivered_status _ 3 _ _ _ call.out call.log (own content r by).is_request (λ h. omega arith) d e
+  served_request (missing cause d) e = delivered_status _ 3 _ _ _ call.out call.log (λ h. omega arith) (λ h. omega arith) d e
+  served_request (long cause d) e = delivered_status _ 3 _ _ _ call.out call.log (λ h. omega arith) (λ h. omega arith) d e
+  served_request (failed rose status out log) e = omega arith
+  served_request (lost status out log) e = omega arith
 
-served_unread : (call : Call) (name : List ℕ) (purpose : Purpose) → Serves name purpose call.shelf call.status call.out call.log → call.status ≡ 4
-    → CannotBeRead call.shelf (of_task (OfFile name purpose))
-served_unread call name purpose (reported source within is r of d) e =
-    absurd (delivered_status _ 4 _ _ _ call.out call.log (source_status source purpose r of).is_read (λ h. omega arith) d e)
-served_unread call name purpose (missing (inl lacks) d) e = inr (unfit_missing name call.shelf.files lacks)
-served_unread call name purpose (missing (inr rose) d) e = inl rose
-served_unread call name purpose (long (inl exceeds) d) e = inr (unfit_long name call.shelf.files exceeds)
-served_unread call name purpose (long (inr rose) d) e = inl rose
-served_unread call name purpose (failed rose status out log) e = inl rose
-served_unread call name purpose (lost status out log) e = absurd (omega arith)
+  served_unread : Serves most P name call.shelf call.status call.out call.log → call.status ≡ 4 → IsUnread most name call.shelf
+  served_unread (reported content within is r by d) e =
+      absurd (delivered_status _ 4 _ _ _ call.out call.log (own content r by).is_read (λ h. omega arith) d e)
+  served_unread (missing (inl lacks) d) e = inr (unfit_missing most name call.shelf.files lacks)
+  served_unread (missing (inr rose) d) e = inl rose
+  served_unread (long (inl exceeds) d) e = inr (unfit_long most name call.shelf.files exceeds)
+  served_unread (long (inr rose) d) e = inl rose
+  served_unread (failed rose status out log) e = inl rose
+  served_unread (lost status out log) e = absurd (omega arith)
 
--- the bound that is asked for is within what is counted
-asked_bound : RangeLaw → (call : Call) (files : Files) (a : Asked) (source : List ℕ) → IsAskedSource call files (Simulate a) source → IsBounded (Simulate a)
-asked_bound bounds call files a source (held name asked there within) = subst IsBoundedWish asked (bounded_wish bounds call.words)
-asked_bound bounds call files a source (made size asked same plainly) = subst IsBounded (sym plainly) (omega arith)
+-- what is asked for is within what is counted
+asked_bound : RangeLaw → (call : Call) (files : Files) (w : Wanted) (source : List ℕ) → IsAskedSource call files (simulates w) source → MayBeAimed (simulates w)
+asked_bound bounds call files w source (held name purpose asked there within same) =
+    subst MayBeAimed (sym same) (may_be_aimed purpose (subst IsBoundedWish asked (bounded_wish bounds call.words)))
+asked_bound bounds call files w source (made size asked same plainly) = subst MayBeAimed (sym plainly) (may_be_aimed (Simulate plain) (omega arith))
 
 -- the parts of the causes that rest on how the call was served
 module _ (law : ReportLaw) (call : Call) (head : Headline call) where
@@ -144,6 +123,7 @@ module _ (law : ReportLaw) (call : Call) (head : Headline call) where
     syntax = λ files well. syntax_exactly law call files (met_of call head files well);
     not_built = λ files well. not_built_exactly law call files (met_of call head files well);
     arguments = λ files well. unfit_exactly law call files (met_of call head files well);
+    misfit = λ files well. misfit_exactly law call files (met_of call head files well);
     no_request = request;
     not_read = unread;
     not_written = (breaks.stops, breaks.tells);
@@ -153,21 +133,21 @@ module _ (law : ReportLaw) (call : Call) (head : Headline call) where
 
   pub complete : RunLaw → ValuesLaw → RangeLaw → IsComplete call
   complete runs fit bounds =
-      λ files well a source asked core comes arguments means.
-      let bounded = asked_bound bounds call files a source asked in
-      let ran = runs.some source core comes (settings_with a arguments) (asked_settings fit core a arguments means.model means.is means.read bounded) in
-      (ran.0, ran.1, ends_complete law call files (met_of call head files well) a source asked core comes arguments means ran.0 ran.1)
+      λ files well w source asked core comes arguments means.
+      let bounded = asked_bound bounds call files w source asked in
+      let ran = runs.some source core comes (settings_with w arguments) (asked_settings fit core w arguments means.model means.is means.read bounded) in
+      (ran.0, ran.1, ends_complete law call files (met_of call head files well) w source asked core comes arguments means ran.0 ran.1)
 
-pub served-causes : ReportLaw → (call : Call) (name : List ℕ) (purpose : Purpose) → wish_of call.words ≡ of_task (OfFile name purpose)
-    → Serves name purpose call.shelf call.status call.out call.log → Causes call
-served-causes law call name purpose asked s =
-    causes law call (served-headline law call name purpose asked s) (served_breaks call name purpose s)
-    (λ out log. ((λ is. absurd (served_request call name purpose s is)), λ none. absurd (asks_something (wish_of call.words) (OfFile name purpose) asked none)))
-    (λ is. let P : Wish → Type 0 = CannotBeRead call.shelf in subst P (sym asked) (served_unread call name purpose s is))
+module _ (t : Task) (name : List ℕ) (most : ℕ) (P : List ℕ → Report → Type 0) (of : IsOfFile t name most P) (call : Call)
+    (asked : wish_of call.words ≡ of_task t) (law : ReportLaw) where
+  pub served-causes : Serves most P name call.shelf call.status call.out call.log → Causes call
+  served-causes s =
+      causes law call (served-headline t name most P of call asked law s) (served_breaks most P of.own name call s)
+      (λ out log. ((λ is. absurd (served_request most P of.own name call s is)), λ none. absurd (asks_something (wish_of call.words) t asked none)))
+      (λ is. let Q : Wish → Type 0 = CannotBeRead call.shelf in subst Q (sym asked) (of.unread call.shelf (served_unread most P of.own name call s is)))
 
-pub served-complete : RunLaw → ValuesLaw → RangeLaw → ReportLaw → (call : Call) (name : List ℕ) (purpose : Purpose) → wish_of call.words ≡ of_task (OfFile name purpose)
-    → Serves name purpose call.shelf call.status call.out call.log → IsComplete call
-served-complete runs fit bounds law call name purpose asked s = complete law call (served-headline law call name purpose asked s) runs fit bounds
+  pub served-complete : RunLaw → ValuesLaw → RangeLaw → Serves most P name call.shelf call.status call.out call.log → IsComplete call
+  served-complete runs fit bounds s = complete law call (served-headline t name most P of call asked law s) runs fit bounds
 
 -- a refusal that is told by the words alone
 

@@ -5,10 +5,12 @@ use Rattle.chi_cli.specs.declared.fault.CliFault.{CliFault}
 use Rattle.chi_cli.specs.declared.request.Request.{Request}
 use Rattle.chi_cli.specs.declared.request.Request.TheVariants as request
 use Rattle.chi_cli.specs.declared.fault.CliFault.TheVariants as fault
+use Rattle.chi_cli.specs.declared.words.TheConstants.{MOST_STEPS}
 use Rattle.chi_cli.specs.Requests.{request_of, IsRefused}
+use Rattle.chi_load.specs.declared.source.TheConstants.{MOST_MACHINES}
 use Rattle.chi_tool.specs.Settings.{IsBounded}
 use Rattle.chi_tool.specs.declared.task.Task.{Task}
-use Rattle.chi_tool.specs.declared.task.Task.TheVariants.{OfFile, OfFactory}
+use Rattle.chi_tool.specs.declared.task.Task.TheVariants.{OfFile, OfLog, OfFactory}
 use Rattle.chi_tool.specs.Words.{Wish, nothing, unbuilt, of_task, task_of, is_refusal, wish_by_task, wish_by, wish_of}
 use Rattle.chi_tool.proofs.LawClauses.{RangeLaw}
 
@@ -17,9 +19,10 @@ abbrev pub IsBoundedWish : Wish → Type 0
 IsBoundedWish nothing = Unit {0}
 IsBoundedWish unbuilt = Unit {0}
 IsBoundedWish (of_task (OfFile name purpose)) = IsBounded purpose
-IsBoundedWish (of_task (OfFactory size)) = (1 ≤ size) × (size ≤ 1_000)
+IsBoundedWish (of_task (OfLog name)) = Unit {0}
+IsBoundedWish (of_task (OfFactory size)) = (1 ≤ size) × (size ≤ MOST_MACHINES)
 
-counted : (bound : ℕ) → bound ≤ 1_000_000_000_000_000 → bound < 2 ^ 63
+counted : (bound : ℕ) → bound ≤ MOST_STEPS → bound < 2 ^ 63
 counted bound most = omega arith
 
 by_reading : RangeLaw → (words : List (List ℕ)) (o : Result Request CliFault) → request_of words ≡ o → IsBoundedWish (wish_by o)

@@ -1,10 +1,7 @@
 -- Private to proofs: the ways in which the delivery of a report ends, and in which a file is served.
 use Rattle.std.specs.Prelude.{◌≡◌, ℕ, ◌≤◌, ◌<◌, ◌⊎◌, true, false, List, [], length, Some, None, IfSome, IsSomeAnd}
 use Rattle.chi_io.specs.Sink.{GrewByProperFront}
-use Rattle.chi_lex.specs.declared.lexer.TheConstants.{MOST_BYTES}
 use Rattle.chi_tool.specs.Refusals.{Report, no_such_file, file_too_long}
-use Rattle.chi_tool.specs.Report.{IsReportOfSource}
-use Rattle.chi_tool.specs.declared.task.Purpose.{Purpose}
 use Rattle.chi_tool.specs.Statuses as statuses
 use Rattle.chi_tool.specs.Call.{SinkUse, ShelfUse, Took, SinkRose, ShelfRose}
 
@@ -29,18 +26,19 @@ pub data Delivers (status : ℕ) (output lines : List ℕ) (result : ℕ) (out l
 abbrev pub DeliversReport : Report → ℕ → SinkUse → SinkUse → Type 0
 DeliversReport r result out log = Delivers r.status r.out r.log result out log
 
--- the report of a source is delivered, or memory is wanting
-pub data Tells (source : List ℕ) (purpose : Purpose) (result : ℕ) (out log : SinkUse) : Type 0 where
-  told : (r : Report) → IsReportOfSource source purpose r → DeliversReport r result out log → Tells source purpose result out log
-  untold : result ≡ statuses.no_memory → TookWhole out [] → TookWhole log [] → Tells source purpose result out log
+-- a report of which P holds is delivered, or memory is wanting
+pub data Tells (P : Report → Type 0) (result : ℕ) (out log : SinkUse) : Type 0 where
+  told : (r : Report) → P r → DeliversReport r result out log → Tells P result out log
+  untold : result ≡ statuses.no_memory → TookWhole out [] → TookWhole log [] → Tells P result out log
 
--- a file is served: its report is delivered, or its refusal is, or the shelf failed, or memory is wanting
-pub data Serves (name : List ℕ) (purpose : Purpose) (shelf : ShelfUse) (result : ℕ) (out log : SinkUse) : Type 0 where
-  reported : (source : List ℕ) → length source ≤ MOST_BYTES → IfSome shelf.files (λ files. files name ≡ Some source)
-      → (r : Report) → IsReportOfSource source purpose r → DeliversReport r result out log → Serves name purpose shelf result out log
+-- a file within a limit is served: a report of its content by P is delivered, or its refusal is, or the shelf failed, or
+-- memory is wanting
+pub data Serves (most : ℕ) (P : List ℕ → Report → Type 0) (name : List ℕ) (shelf : ShelfUse) (result : ℕ) (out log : SinkUse) : Type 0 where
+  reported : (content : List ℕ) → length content ≤ most → IfSome shelf.files (λ files. files name ≡ Some content)
+      → (r : Report) → P content r → DeliversReport r result out log → Serves most P name shelf result out log
   missing : IsSomeAnd shelf.files (λ files. files name ≡ None) ⊎ ShelfRose shelf
-      → DeliversReport no_such_file result out log → Serves name purpose shelf result out log
-  long : IsSomeAnd shelf.files (λ files. IsSomeAnd (files name) (λ source. MOST_BYTES < length source)) ⊎ ShelfRose shelf
-      → DeliversReport file_too_long result out log → Serves name purpose shelf result out log
-  failed : ShelfRose shelf → result ≡ statuses.not_read → TookWhole out [] → TookWhole log [] → Serves name purpose shelf result out log
-  lost : result ≡ statuses.no_memory → TookWhole out [] → TookWhole log [] → Serves name purpose shelf result out log
+      → DeliversReport no_such_file result out log → Serves most P name shelf result out log
+  long : IsSomeAnd shelf.files (λ files. IsSomeAnd (files name) (λ content. most < length content)) ⊎ ShelfRose shelf
+      → DeliversReport file_too_long result out log → Serves most P name shelf result out log
+  failed : ShelfRose shelf → result ≡ statuses.not_read → TookWhole out [] → TookWhole log [] → Serves most P name shelf result out log
+  lost : result ≡ statuses.no_memory → TookWhole out [] → TookWhole log [] → Serves most P name shelf result out log

@@ -12,18 +12,18 @@ use Rattle.chi_core.specs.declared.fault.FaultKind.{FaultKind}
 use Rattle.chi_core.specs.declared.verdict.Verdict.{Verdict}
 use Rattle.chi_core.specs.declared.verdict.Verdict.TheVariants as verdict
 use Rattle.chi_core.specs.Runs.{Told}
+use Rattle.chi_trace.specs.declared.log.TheConstants.{MOST_LOG_BYTES}
+use Rattle.chi_trace.specs.Logs as logs
 use Rattle.chi_value.specs.declared.value.Value.{Value}
 use Rattle.chi_cli.specs.declared.args.ArgFault.{ArgFault}
-use Rattle.chi_tool.specs.declared.task.Asked.{Asked}
 use Rattle.chi_tool.specs.declared.task.Purpose.{Purpose}
-use Rattle.chi_tool.specs.declared.task.Purpose.TheVariants.{Simulate, Check}
-use Rattle.chi_tool.specs.declared.task.Task.TheVariants.{OfFile, OfFactory}
+use Rattle.chi_tool.specs.declared.task.Task.TheVariants.{OfFile, OfLog, OfFactory}
 use Rattle.chi_tool.specs.Words.{Wish, nothing, unbuilt, of_task, wish_of, NamesNoFile}
 use Rattle.chi_tool.specs.Arguments.{Means, Misfits}
 use Rattle.chi_tool.specs.Refusals.{Report, no_such_file, file_too_long}
 use Rattle.chi_tool.specs.Report.{IsReport}
 use Rattle.chi_tool.specs.Running.{IsRunOf}
-use Rattle.chi_tool.specs.Settings.{settings_with, plain}
+use Rattle.chi_tool.specs.Settings.{Wanted, Aim, simulates, checks, wanted_of, aim_of, settings_with, plain}
 use Rattle.chi_tool.specs.Sources.{IsNoProgram, IsNotBuilt, ComesTo}
 use Rattle.chi_tool.specs.Statuses as statuses
 use Rattle.chi_tool.specs.Statuses.{status_of}
@@ -89,15 +89,34 @@ pub record Headline (call : Call) : Type 0 where
   pub out_stopped : call.out.stopped ≡ true → Took call.log []
 
 -- the words ask for this to be done with this source: the content of a file, within the limit, or that of a factory
-pub data IsAskedSource (call : Call) (files : Files) (purpose : Purpose) (source : List ℕ) : Type 0 where
-  held : (name : List ℕ) → wish_of call.words ≡ of_task (OfFile name purpose) → files name ≡ Some source → length source ≤ MOST_BYTES
-      → IsAskedSource call files purpose source
-  made : (size : ℕ) → wish_of call.words ≡ of_task (OfFactory size) → source ≡ factory_source size → purpose ≡ Simulate plain
-      → IsAskedSource call files purpose source
+pub data IsAskedSource (call : Call) (files : Files) (aim : Aim) (source : List ℕ) : Type 0 where
+  held : (name : List ℕ) (purpose : Purpose) → wish_of call.words ≡ of_task (OfFile name purpose) → files name ≡ Some source → length source ≤ MOST_BYTES
+      → aim ≡ aim_of purpose → IsAskedSource call files aim source
+  made : (size : ℕ) → wish_of call.words ≡ of_task (OfFactory size) → source ≡ factory_source size → aim ≡ simulates (wanted_of plain)
+      → IsAskedSource call files aim source
 
 -- the words ask for something with a source of which P holds
-abbrev pub AsksFor : Call → Files → (Purpose → List ℕ → Type 0) → Type 0
-AsksFor call files P = (purpose : Purpose) × (source : List ℕ) × IsAskedSource call files purpose source × P purpose source
+abbrev pub AsksFor : Call → Files → (Aim → List ℕ → Type 0) → Type 0
+AsksFor call files P = (aim : Aim) × (source : List ℕ) × IsAskedSource call files aim source × P aim source
+
+-- the words ask for this log to be brought up: the content of a file, within the limit
+pub record IsAskedLog (call : Call) (files : Files) (text : List ℕ) : Type 0 where
+  pub name : List ℕ
+  pub asked : wish_of call.words ≡ of_task (OfLog name)
+  pub there : files name ≡ Some text
+  pub within : length text ≤ MOST_LOG_BYTES
+
+-- one of which P holds
+abbrev pub AsksForLog : Call → Files → (List ℕ → Type 0) → Type 0
+AsksForLog call files P = (text : List ℕ) × IsAskedLog call files text × P text
+
+-- there is a log that it is brought up to
+abbrev pub ComesUp : List ℕ → Type 0
+ComesUp text = (up : List ℕ) × logs.IsUp text up
+
+-- one of its lines is the first that doesn't fit
+abbrev pub HasMisfit : List ℕ → Type 0
+HasMisfit text = (k : ℕ) × logs.Misfits text k
 
 -- the asked source has a lexical fault
 abbrev pub HasLexicalFault : List ℕ → Type 0
@@ -107,42 +126,42 @@ HasLexicalFault source = (fault : LexFault) × lexical.HasFault source fault
 abbrev pub HasSyntaxFault : List ℕ → Type 0
 HasSyntaxFault source = (tokens : List Spanned) × (fault : ParseFault) × IsNoProgram source tokens fault
 
--- it comes to a program whose run, as the words ask for it, ends with a verdict of which P holds
-pub record EndsAs (P : Verdict → Type 0) (a : Asked) (source : List ℕ) : Type 0 where
+-- it comes to a program whose run, as it is asked for, ends with a verdict of which P holds
+pub record EndsAs (P : Verdict → Type 0) (w : Wanted) (source : List ℕ) : Type 0 where
   pub core : Core
   pub program : ComesTo source core
   pub arguments : List Value
-  pub fit : Means core a.texts arguments
+  pub fit : Means core w.texts arguments
   pub told : Told
-  pub run : IsRunOf core (settings_with a arguments) told
+  pub run : IsRunOf core (settings_with w arguments) told
   pub ends : P told.ending.verdict
 
 -- a run is asked for, and ends so
-abbrev pub Ends : (Verdict → Type 0) → Purpose → List ℕ → Type 0
-Ends P (Simulate a) source = EndsAs P a source
-Ends P Check source = ⊥
+abbrev pub Ends : (Verdict → Type 0) → Aim → List ℕ → Type 0
+Ends P (simulates w) source = EndsAs P w source
+Ends P checks source = ⊥
 
 -- a check is asked for, and the source comes to a program
-abbrev pub IsAccepted : Purpose → List ℕ → Type 0
-IsAccepted (Simulate a) source = ⊥
-IsAccepted Check source = (core : Core) × ComesTo source core
+abbrev pub IsAccepted : Aim → List ℕ → Type 0
+IsAccepted (simulates w) source = ⊥
+IsAccepted checks source = (core : Core) × ComesTo source core
 
 -- a run has completed, or a program is accepted
-abbrev pub IsDone : Purpose → List ℕ → Type 0
-IsDone purpose source = Ends (λ v. v ≡ verdict.Completed) purpose source ⊎ IsAccepted purpose source
+abbrev pub IsDone : Aim → List ℕ → Type 0
+IsDone aim source = Ends (λ v. v ≡ verdict.Completed) aim source ⊎ IsAccepted aim source
 
 -- it comes to a program whose parameters the given arguments don't fit
-pub record IsUnfit (a : Asked) (source : List ℕ) : Type 0 where
+pub record IsUnfit (w : Wanted) (source : List ℕ) : Type 0 where
   pub core : Core
   pub program : ComesTo source core
   pub wanted : ℕ
   pub fault : ArgFault
-  pub misfits : Misfits core a.texts wanted fault
+  pub misfits : Misfits core w.texts wanted fault
 
 -- a run is asked for, with such arguments
-abbrev pub HasUnfitArguments : Purpose → List ℕ → Type 0
-HasUnfitArguments (Simulate a) source = IsUnfit a source
-HasUnfitArguments Check source = ⊥
+abbrev pub HasUnfitArguments : Aim → List ℕ → Type 0
+HasUnfitArguments (simulates w) source = IsUnfit w source
+HasUnfitArguments checks source = ⊥
 
 abbrev pub IsExit : Verdict → Type 0
 IsExit v = (x : Option Value) × (v ≡ verdict.Exit x)
@@ -150,15 +169,21 @@ IsExit v = (x : Option Value) × (v ≡ verdict.Exit x)
 abbrev pub IsFault : Verdict → Type 0
 IsFault v = (kind : FaultKind) × (name : List ℕ) × (line : ℕ) × (v ≡ verdict.Fault kind name line)
 
--- the file that the words ask for can't be read: the shelf failed, or the file isn't there or is too long
-abbrev pub IsNoSource : Option (List ℕ) → Type 0
-IsNoSource None = Unit {0}
-IsNoSource (Some source) = MOST_BYTES < length source
+-- a file isn't there, or has more bytes than these
+abbrev pub IsNoContent : ℕ → Option (List ℕ) → Type 0
+IsNoContent most None = Unit {0}
+IsNoContent most (Some content) = most < length content
 
+-- the shelf failed, or the file of this name is none of its, or is too long
+abbrev pub IsUnread : ℕ → List ℕ → ShelfUse → Type 0
+IsUnread most file shelf = ShelfRose shelf ⊎ IsSomeAnd shelf.files (λ files. IsNoContent most (files file))
+
+-- the file that the words ask for can't be read
 abbrev pub CannotBeRead : ShelfUse → Wish → Type 0
 CannotBeRead shelf nothing = ⊥
 CannotBeRead shelf unbuilt = ⊥
-CannotBeRead shelf (of_task (OfFile file purpose)) = ShelfRose shelf ⊎ IsSomeAnd shelf.files (λ files. IsNoSource (files file))
+CannotBeRead shelf (of_task (OfFile file purpose)) = IsUnread MOST_BYTES file shelf
+CannotBeRead shelf (of_task (OfLog file)) = IsUnread MOST_LOG_BYTES file shelf
 CannotBeRead shelf (of_task (OfFactory size)) = ⊥
 
 -- the status is this one exactly where the cause holds, unless memory is wanting
@@ -175,12 +200,16 @@ abbrev pub IsExactlyIn : Call → ℕ → (Files → Type 0) → Type 0
 IsExactlyIn call n P = (files : Files) → GoesWell call files → IsExactly call n (P files)
 
 -- of a cause in the source that is asked for
-abbrev pub IsExactlyOf : Call → ℕ → (Purpose → List ℕ → Type 0) → Type 0
+abbrev pub IsExactlyOf : Call → ℕ → (Aim → List ℕ → Type 0) → Type 0
 IsExactlyOf call n P = IsExactlyIn call n (λ files. AsksFor call files P)
 
 -- what is asked for isn't built, or the source's form isn't
 abbrev pub AsksForUnbuilt : Call → Files → Type 0
-AsksForUnbuilt call files = (wish_of call.words ≡ unbuilt) ⊎ AsksFor call files (λ purpose. IsNotBuilt)
+AsksForUnbuilt call files = (wish_of call.words ≡ unbuilt) ⊎ AsksFor call files (λ aim. IsNotBuilt)
+
+-- a run has completed, a program is accepted, or a log is brought up
+abbrev pub AsksForDone : Call → Files → Type 0
+AsksForDone call files = AsksFor call files IsDone ⊎ AsksForLog call files ComesUp
 
 -- a sink that is stopped has failed
 abbrev pub StoppedByFailure : SinkUse → Type 0
@@ -188,16 +217,17 @@ StoppedByFailure sink = sink.stopped ≡ true → SinkRose sink
 
 -- when each status comes
 pub record Causes (call : Call) : Type 0 where
-  pub done : IsExactlyOf call statuses.completed IsDone
+  pub done : IsExactlyIn call statuses.completed (AsksForDone call)
   pub exit : IsExactlyOf call statuses.exited (Ends IsExit)
   pub deadlock : IsExactlyOf call statuses.deadlocked (Ends (λ v. v ≡ verdict.Deadlock))
   pub fault : IsExactlyOf call statuses.faulted (Ends IsFault)
   pub out_of_steps : IsExactlyOf call statuses.out_of_steps (Ends (λ v. v ≡ verdict.OutOfSteps))
   pub stopped : IsExactlyOf call statuses.stopped (Ends (λ v. v ≡ verdict.Stopped))
-  pub lexical : IsExactlyOf call statuses.lexical (λ purpose. HasLexicalFault)
-  pub syntax : IsExactlyOf call statuses.syntax (λ purpose. HasSyntaxFault)
+  pub lexical : IsExactlyOf call statuses.lexical (λ aim. HasLexicalFault)
+  pub syntax : IsExactlyOf call statuses.syntax (λ aim. HasSyntaxFault)
   pub not_built : IsExactlyIn call statuses.not_built (AsksForUnbuilt call)
   pub arguments : IsExactlyOf call statuses.arguments HasUnfitArguments
+  pub misfit : IsExactlyIn call statuses.misfit (λ files. AsksForLog call files HasMisfit)
   pub no_request : call.out.stopped ≡ false → call.log.stopped ≡ false → IsExactly call statuses.no_request (wish_of call.words ≡ nothing)
   pub not_read : call.status ≡ statuses.not_read → CannotBeRead call.shelf (wish_of call.words)
   pub not_written : (call.status ≡ statuses.not_written) ↔ ((call.out.stopped ≡ true) ⊎ (call.log.stopped ≡ true))
@@ -209,6 +239,6 @@ pub record Causes (call : Call) : Type 0 where
 -- memory is wanting
 abbrev pub IsComplete : Call → Type 0
 IsComplete call =
-    (files : Files) → GoesWell call files → (a : Asked) (source : List ℕ) → IsAskedSource call files (Simulate a) source
-    → (core : Core) → ComesTo source core → (arguments : List Value) → Means core a.texts arguments
-    → (told : Told) × IsRunOf core (settings_with a arguments) told × ((call.status ≡ status_of told.ending.verdict) ⊎ (call.status ≡ statuses.no_memory))
+    (files : Files) → GoesWell call files → (w : Wanted) (source : List ℕ) → IsAskedSource call files (simulates w) source
+    → (core : Core) → ComesTo source core → (arguments : List Value) → Means core w.texts arguments
+    → (told : Told) × IsRunOf core (settings_with w arguments) told × ((call.status ≡ status_of told.ending.verdict) ⊎ (call.status ≡ statuses.no_memory))

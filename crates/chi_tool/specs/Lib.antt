@@ -11,5 +11,6 @@ pub mod Reported
 pub mod Readings
 pub mod Call
 pub mod Headline
+pub mod Simulations
 pub mod Delivery
 pub mod Turns

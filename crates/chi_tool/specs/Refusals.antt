@@ -58,6 +58,14 @@ arguments_text wanted given arg.NoMemory = []
 abbrev pub unfit_arguments : ℕ → ℕ → ArgFault → Report
 unfit_arguments wanted given fault = refused statuses.arguments (arguments_text wanted given fault)
 
+-- line k of a log, counted from 1, is the first that doesn't fit
+abbrev pub misfit : ℕ → Report
+misfit k = refused statuses.misfit (codes "line " ++ decimal k ++ codes ": trace form")
+
+-- no refusal: a log is brought up to this one, which is written to the output
+abbrev pub brought_up : List ℕ → Report
+brought_up up = record { status = statuses.brought_up; out = up; log = [] }
+
 -- no refusal: a program that was to be checked breaks no rule
 abbrev pub accepted : Report
 accepted = refused statuses.accepted (codes "accepted")

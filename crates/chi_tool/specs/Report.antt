@@ -5,44 +5,54 @@ use Rattle.chi_io.specs.Shelf.{Files}
 use Rattle.chi_load.specs.Factory.{factory_source}
 use Rattle.chi_lex.specs.declared.lexer.TheConstants.{MOST_BYTES}
 use Rattle.chi_core.specs.declared.program.Core.{Core}
+use Rattle.chi_trace.specs.declared.log.TheConstants.{MOST_LOG_BYTES}
+use Rattle.chi_trace.specs.Logs as logs
 use Rattle.chi_value.specs.declared.value.Value.{Value}
-use Rattle.chi_tool.specs.declared.task.Asked.{Asked}
-use Rattle.chi_tool.specs.declared.task.Purpose.{Purpose}
-use Rattle.chi_tool.specs.declared.task.Purpose.TheVariants.{Simulate, Check}
 use Rattle.chi_tool.specs.declared.task.Task.{Task}
-use Rattle.chi_tool.specs.declared.task.Task.TheVariants.{OfFile, OfFactory}
+use Rattle.chi_tool.specs.declared.task.Task.TheVariants.{OfFile, OfLog, OfFactory}
 use Rattle.chi_tool.specs.Arguments.{Means, Misfits}
-use Rattle.chi_tool.specs.Refusals.{Report, usage, not_built, no_such_file, file_too_long, unfit_arguments, accepted}
+use Rattle.chi_tool.specs.Refusals as refusal
+use Rattle.chi_tool.specs.Refusals.{Report, usage, not_built, no_such_file, file_too_long, unfit_arguments, brought_up, accepted}
 use Rattle.chi_tool.specs.Running.{IsRunReport}
-use Rattle.chi_tool.specs.Settings.{settings_with, plain}
+use Rattle.chi_tool.specs.Settings.{Wanted, Aim, simulates, checks, wanted_of, aim_of, settings_with, plain}
 use Rattle.chi_tool.specs.Sources.{IsRefused, ComesTo}
 use Rattle.chi_tool.specs.Words.{Wish, nothing, unbuilt, of_task, wish_of}
 
 -- a program that is to be run: its arguments are refused, or it is run with them
-pub data IsReportOfRun (core : Core) (a : Asked) (r : Report) : Type 0 where
-  unfit : (wanted : ℕ) (fault : ArgFault) → Misfits core a.texts wanted fault → r ≡ unfit_arguments wanted (length a.texts) fault → IsReportOfRun core a r
-  run : (values : List Value) → Means core a.texts values → IsRunReport core (settings_with a values) r → IsReportOfRun core a r
+pub data IsReportOfRun (core : Core) (w : Wanted) (r : Report) : Type 0 where
+  unfit : (wanted : ℕ) (fault : ArgFault) → Misfits core w.texts wanted fault → r ≡ unfit_arguments wanted (length w.texts) fault → IsReportOfRun core w r
+  run : (values : List Value) → Means core w.texts values → IsRunReport core (settings_with w values) r → IsReportOfRun core w r
 
 -- what is done with a program
-abbrev pub IsReportOfProgram : Core → Purpose → Report → Type 0
-IsReportOfProgram core (Simulate a) r = IsReportOfRun core a r
-IsReportOfProgram core Check r = r ≡ accepted
+abbrev pub IsReportOfProgram : Core → Aim → Report → Type 0
+IsReportOfProgram core (simulates w) r = IsReportOfRun core w r
+IsReportOfProgram core checks r = r ≡ accepted
 
 -- a source's report: its refusal, or that of the program that it comes to
-pub data IsReportOfSource (source : List ℕ) (purpose : Purpose) (r : Report) : Type 0 where
-  refused : IsRefused source r → IsReportOfSource source purpose r
-  program : (core : Core) → ComesTo source core → IsReportOfProgram core purpose r → IsReportOfSource source purpose r
+pub data IsReportOfSource (source : List ℕ) (aim : Aim) (r : Report) : Type 0 where
+  refused : IsRefused source r → IsReportOfSource source aim r
+  program : (core : Core) → ComesTo source core → IsReportOfProgram core aim r → IsReportOfSource source aim r
 
--- a file's report: its refusal where it isn't there or is too long, or that of its content
-pub data IsReportOfFile (file : Option (List ℕ)) (purpose : Purpose) (r : Report) : Type 0 where
-  missing : file ≡ None → r ≡ no_such_file → IsReportOfFile file purpose r
-  long : (source : List ℕ) → file ≡ Some source → MOST_BYTES < length source → r ≡ file_too_long → IsReportOfFile file purpose r
-  fetched : (source : List ℕ) → file ≡ Some source → length source ≤ MOST_BYTES → IsReportOfSource source purpose r → IsReportOfFile file purpose r
+-- a log's report: what it is brought up to, or its first line that doesn't fit
+pub data IsReportOfLog (text : List ℕ) (r : Report) : Type 0 where
+  up : (log : List ℕ) → logs.IsUp text log → r ≡ brought_up log → IsReportOfLog text r
+  misfit : (k : ℕ) → logs.Misfits text k → r ≡ refusal.misfit k → IsReportOfLog text r
+
+-- a file's report: its refusal where it isn't there or has more bytes than these, or what P says of its content
+pub data IsReportOfFile (most : ℕ) (P : List ℕ → Report → Type 0) (file : Option (List ℕ)) (r : Report) : Type 0 where
+  missing : file ≡ None → r ≡ no_such_file → IsReportOfFile most P file r
+  long : (content : List ℕ) → file ≡ Some content → most < length content → r ≡ file_too_long → IsReportOfFile most P file r
+  fetched : (content : List ℕ) → file ≡ Some content → length content ≤ most → P content r → IsReportOfFile most P file r
+
+-- what is said of a file that holds a source
+abbrev pub IsReportFor : Aim → List ℕ → Report → Type 0
+IsReportFor aim source = IsReportOfSource source aim
 
 -- a factory is run like its source, with nothing asked for
 abbrev pub IsReportOfTask : Task → Files → Report → Type 0
-IsReportOfTask (OfFile file purpose) files r = IsReportOfFile (files file) purpose r
-IsReportOfTask (OfFactory size) files r = IsReportOfSource (factory_source size) (Simulate plain) r
+IsReportOfTask (OfFile file purpose) files r = IsReportOfFile MOST_BYTES (IsReportFor (aim_of purpose)) (files file) r
+IsReportOfTask (OfLog file) files r = IsReportOfFile MOST_LOG_BYTES IsReportOfLog (files file) r
+IsReportOfTask (OfFactory size) files r = IsReportOfSource (factory_source size) (simulates (wanted_of plain)) r
 
 abbrev pub IsReportOfWish : Wish → Files → Report → Type 0
 IsReportOfWish nothing files r = r ≡ usage
@@ -50,6 +60,6 @@ IsReportOfWish unbuilt files r = r ≡ not_built
 IsReportOfWish (of_task t) files r = IsReportOfTask t files r
 
 -- r is the report of these words and files: the first refusal among words, file, bytes, tokens, program and arguments,
--- or what was asked for: the output and verdict of the run, or that the program is accepted
+-- or what was asked for: the output and verdict of the run, that the program is accepted, or what the log is brought up to
 abbrev pub IsReport : List (List ℕ) → Files → Report → Type 0
 IsReport words files r = IsReportOfWish (wish_of words) files r

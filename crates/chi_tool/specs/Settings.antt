@@ -2,8 +2,9 @@
 use Rattle.std.specs.Prelude.{ℕ, ◌^◌, ◌<◌, ℤ, List, [], Option, None}
 use Rattle.chi_cli.specs.declared.request.Pick as words
 use Rattle.chi_cli.specs.declared.request.Pick.TheVariants as pick
+use Rattle.chi_cli.specs.declared.words.TheConstants.{STEPS}
 use Rattle.chi_value.specs.declared.value.Value.{Value}
-use Rattle.chi_core.specs.Picks.{Pick}
+use Rattle.chi_core.specs.Picks.{Pick, IsLawful}
 use Rattle.chi_sched.specs.Policies.{first, last, spread}
 use Rattle.chi_tool.specs.declared.task.Asked.{Asked}
 use Rattle.chi_tool.specs.declared.task.Purpose.{Purpose}
@@ -18,21 +19,47 @@ pub record Settings : Type 0 where
   pub arguments : List Value
   pub until : Option ℤ
 
+-- the same, with the texts of the arguments
+pub record Wanted : Type 0 where
+  pub seed : ℕ
+  pub bound : ℕ
+  pub pick : Pick
+  pub texts : List (List ℕ)
+  pub until : Option ℤ
+
+-- what is done with a source: its program is run, or is only checked
+pub data Aim : Type 0 where
+  simulates : Wanted → Aim
+  checks : Aim
+
 -- the policy that words name
 abbrev pub policy_of : words.Pick → Pick
 policy_of pick.First = first
 policy_of pick.Last = last
 policy_of (pick.Spread salt) = spread salt
 
--- as the words ask, with the arguments that their texts mean
-abbrev pub settings_with : Asked → List Value → Settings
-settings_with a arguments = record { seed = a.seed; bound = a.bound; pick = policy_of a.pick; arguments = arguments; until = a.until }
+-- as words ask
+abbrev pub wanted_of : Asked → Wanted
+wanted_of a = record { seed = a.seed; bound = a.bound; pick = policy_of a.pick; texts = a.texts; until = a.until }
+
+abbrev pub aim_of : Purpose → Aim
+aim_of (Simulate a) = simulates (wanted_of a)
+aim_of Check = checks
+
+-- with the arguments that the texts mean
+abbrev pub settings_with : Wanted → List Value → Settings
+settings_with w arguments = record { seed = w.seed; bound = w.bound; pick = w.pick; arguments = arguments; until = w.until }
 
 -- where the words say nothing of it
 abbrev pub plain : Asked
-plain = record { seed = 0; bound = 10_000_000; pick = pick.First; texts = []; until = None }
+plain = record { seed = 0; bound = STEPS; pick = pick.First; texts = []; until = None }
 
 -- within what is counted
 abbrev pub IsBounded : Purpose → Type 0
 IsBounded (Simulate a) = a.bound < 2 ^ 63
 IsBounded Check = Unit {0}
+
+-- the same, by a policy that picks one of the choices
+abbrev pub MayBeAimed : Aim → Type 0
+MayBeAimed (simulates w) = (w.bound < 2 ^ 63) × IsLawful w.pick
+MayBeAimed checks = Unit {0}

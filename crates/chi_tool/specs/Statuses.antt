@@ -69,6 +69,14 @@ not_built = 22
 abbrev pub arguments : ℕ
 arguments = 23
 
+-- a log that is to be brought up is, or one of its lines doesn't fit
+
+abbrev pub brought_up : ℕ
+brought_up = 0
+
+abbrev pub misfit : ℕ
+misfit = 24
+
 -- or the report isn't delivered: a sink failed
 
 abbrev pub not_written : ℕ

@@ -9,14 +9,14 @@ use Rattle.chi_tool.specs.declared.task.Task.{Task}
 use Rattle.chi_tool.specs.declared.task.Task.TheVariants as task
 use Rattle.chi_tool.specs.declared.task.Purpose.TheVariants.{Simulate, Check}
 
--- A run without a trace, a check, and a run of a factory. A run with a trace and traces of old aren't built yet.
+-- A run without a trace, a check, a run of a factory, and a log of old that is to be brought up. A run with a trace isn't built yet.
 abbrev pub task_of : Request → Option Task
 task_of (request.Sim file texts seed bound until pick false) =
     Some (task.OfFile file (Simulate (record { seed = seed; bound = bound; pick = pick; texts = texts; until = until })))
 task_of (request.Sim file texts seed bound until pick true) = None
 task_of (request.Check file) = Some (task.OfFile file Check)
 task_of (request.Load n) = Some (task.OfFactory n)
-task_of (request.TraceUp file) = None
+task_of (request.TraceUp file) = Some (task.OfLog file)
 
 -- nothing, since the words are no request; what isn't built yet; or a task
 pub data Wish : Type 0 where
@@ -40,6 +40,7 @@ abbrev pub NamesNoFile : Wish → Type 0
 NamesNoFile nothing = Unit {0}
 NamesNoFile unbuilt = Unit {0}
 NamesNoFile (of_task (task.OfFile file purpose)) = ⊥
+NamesNoFile (of_task (task.OfLog file)) = ⊥
 NamesNoFile (of_task (task.OfFactory size)) = Unit {0}
 
 -- words are refused; want of memory is no refusal of theirs

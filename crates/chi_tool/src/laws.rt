@@ -8,9 +8,9 @@ ghost use Rattle.chi_spell.specs.Statements.{spelled};
 ghost use Rattle.chi_token.specs.declared.place.Spanned.{Spanned};
 ghost use Rattle.chi_token.specs.Tokens.{IsToken};
 ghost use Rattle.chi_tool.specs.Refusals.{Report};
-ghost use Rattle.chi_tool.specs.Report.{IsReport};
+ghost use Rattle.chi_tool.specs.Report.{IsReport, IsReportOfSource};
 ghost use Rattle.chi_tool.specs.Running.{IsRunOf, MayHave};
-ghost use Rattle.chi_tool.specs.Settings.{Settings};
+ghost use Rattle.chi_tool.specs.Settings.{Aim, MayBeAimed, Settings};
 ghost use Rattle.chi_tool.specs.Sources.{ComesTo};
 ghost use Rattle.chi_tree.specs.declared.definition.Program.{Program};
 
@@ -19,6 +19,7 @@ use chi_form::built_law;
 use chi_grammar_laws::answer_law;
 use chi_kinded::kinded_law;
 use chi_runs::picked_law;
+use chi_trace::logs_law;
 
 /// The program that a source comes to has exactly one run with settings that it may have.
 pub fn one_run_law()
@@ -27,6 +28,17 @@ pub fn one_run_law()
 {
     built_law();
     picked_law();
+}
+
+/// A source has exactly one report, for each aim that may be had with it.
+pub fn source_law()
+    ensures some { (source : List ℕ) (aim : Aim) → MayBeAimed aim → (r : Report) × IsReportOfSource source aim r }
+    ensures one { (source : List ℕ) (aim : Aim) (r other : Report) → IsReportOfSource source aim r → IsReportOfSource source aim other → r ≡ other }
+{
+    answer_law();
+    built_law();
+    one_run_law();
+    values_are_of_parameters();
 }
 
 /// Words and files have exactly one report.
@@ -40,6 +52,7 @@ pub fn report_law()
     one_run_law();
     numbers_are_in_range();
     values_are_of_parameters();
+    logs_law();
 }
 
 /// What a source is as a program has only tokens that some bytes spell: its names have the letters of names, and

@@ -1,9 +1,11 @@
-//! The top call: from words and files to a status and every byte that is written.
+//! The top call: from words and files to a status and every byte that is written; and the library call, from a source.
 #![tactic(auto)]
 
 mod arguments;
 mod deliver;
 mod laws;
+mod library;
+mod logs;
 mod program;
 mod refusal;
 mod report;
@@ -17,5 +19,6 @@ mod task;
 mod top;
 mod words;
 
-pub use laws::{one_run_law, report_law, tokens_law};
+pub use laws::{one_run_law, report_law, source_law, tokens_law};
+pub use library::simulate;
 pub use top::chi;

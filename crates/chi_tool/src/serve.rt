@@ -2,10 +2,9 @@ ghost use Rattle.std.specs.Prelude.{◌≡◌, ◌≤◌, false, IfOk, length};
 ghost use Rattle.chi_tool.specs.Call.{sink_use, shelf_use};
 ghost use Rattle.chi_load.specs.Factory.{factory_source};
 ghost use Rattle.chi_tool.specs.Delivery.{Serves, Tells};
-ghost use Rattle.chi_tool.specs.Report.{IsReportOfSource};
+ghost use Rattle.chi_tool.specs.Report.{IsReportFor, IsReportOfSource};
 ghost use Rattle.chi_tool.specs.Reported.{report_in};
-ghost use Rattle.chi_tool.specs.Settings.{IsBounded, plain};
-ghost use Rattle.chi_tool.specs.declared.task.Purpose.TheVariants.{Simulate};
+ghost use Rattle.chi_tool.specs.Settings.{IsBounded, aim_of, plain, simulates, wanted_of};
 
 use crate::deliver::deliver;
 use crate::program::report_of_program;
@@ -16,14 +15,14 @@ use crate::task::{Purpose, plain};
 use chi_base::NoMemory;
 use chi_io::{Fetch, Shelf, Sink};
 use chi_lex::MOST_BYTES;
-use chi_load::factory;
+use chi_load::{MOST_MACHINES, factory};
 use std::alloc::Global;
 
 /// The report of a source: its refusal, or that of its program.
 fn report_of(alloc: Global, source: &[u8], purpose: &Purpose) -> Result<Reported, NoMemory>
     requires within { length source.now ≤ MOST_BYTES }
     requires bounded { IsBounded purpose.now }
-    ensures { IfOk result (λ r. IsReportOfSource source.now purpose.now (report_in r)) }
+    ensures { IfOk result (λ r. IsReportOfSource source.now (aim_of purpose.now) (report_in r)) }
 {
     match read(alloc, source)? {
         Source::Refused(refusal) => Ok(refusal),
@@ -43,7 +42,7 @@ fn tell<O: Sink, L: Sink>(
     requires log_goes { L.stopped log.old ≡ false }
     requires within { length source.now ≤ MOST_BYTES }
     requires bounded { IsBounded purpose.now }
-    ensures { Tells source.now purpose.now result
+    ensures { Tells (IsReportOfSource source.now (aim_of purpose.now)) result
         (sink_use O.taken O.faults O.stopped out.old out.new) (sink_use L.taken L.faults L.stopped log.old log.new) }
 {
     match report_of(alloc, source, purpose) {
@@ -57,8 +56,8 @@ pub fn serve_factory<O: Sink, L: Sink>(alloc: Global, size: u32, out: &mut O, lo
     requires out_goes { O.stopped out.old ≡ false }
     requires log_goes { L.stopped log.old ≡ false }
     requires some { 1 ≤ size }
-    requires most { size ≤ 1_000 }
-    ensures { Tells (factory_source size) (Simulate plain) result
+    requires most { size ≤ MOST_MACHINES }
+    ensures { Tells (IsReportOfSource (factory_source size) (simulates (wanted_of plain))) result
         (sink_use O.taken O.faults O.stopped out.old out.new) (sink_use L.taken L.faults L.stopped log.old log.new) }
 {
     let Ok(source) = factory(alloc, size) else {
@@ -83,7 +82,7 @@ pub fn serve<H: Shelf, O: Sink, L: Sink>(
     requires out_goes { O.stopped out.old ≡ false }
     requires log_goes { L.stopped log.old ≡ false }
     requires bounded { IsBounded purpose.now }
-    ensures { Serves name.now purpose.now (shelf_use H.files H.faults shelf.old shelf.new) result
+    ensures { Serves MOST_BYTES (IsReportFor (aim_of purpose.now)) name.now (shelf_use H.files H.faults shelf.old shelf.new) result
         (sink_use O.taken O.faults O.stopped out.old out.new) (sink_use L.taken L.faults L.stopped log.old log.new) }
 {
     match shelf.fetch(alloc, name, MOST_BYTES as u64) {

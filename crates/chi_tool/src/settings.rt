@@ -1,3 +1,4 @@
+use chi_num::Real;
 use chi_value::Value;
 
 /// What a program is run with.
@@ -13,4 +14,17 @@ pub struct Settings<P> {
     pub arguments: Vec<Value>,
     /// The stopping time, in units of a real.
     pub until: Option<i64>,
+}
+
+/// On what terms a program is run, beside its arguments.
+#[derive(Debug, Drop)]
+pub struct Terms<P> {
+    /// Of its draws.
+    pub seed: u64,
+    /// On the costs of all its steps together.
+    pub bound: u64,
+    /// What picks among the labels that may come.
+    pub policy: P,
+    /// The stopping time.
+    pub until: Option<Real>,
 }

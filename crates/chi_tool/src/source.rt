@@ -1,4 +1,4 @@
-ghost use Rattle.std.specs.Prelude.{◌≡◌, ◌≤◌, ◌<◌, ◌^◌, IfOk, length};
+ghost use Rattle.std.specs.Prelude.{◌≤◌, ◌<◌, ◌^◌, IfOk, length};
 ghost use Rattle.chi_tool.specs.Refusals.{refused};
 ghost use Rattle.chi_lex.specs.Reading.{Reads};
 ghost use Rattle.chi_tool.specs.Readings.{IsReadAs, IsRefusal};

@@ -48,6 +48,12 @@ pub const NOT_BUILT: u8 = 22;
 /// The arguments don't fit the model's parameters.
 pub const ARGUMENTS: u8 = 23;
 
+/// A log is brought up.
+pub const BROUGHT_UP: u8 = 0;
+
+/// A line of a log that is to be brought up doesn't fit.
+pub const MISFIT: u8 = 24;
+
 /// The status of a run.
 pub fn status_of(verdict: &Verdict) -> u8
     ensures { result ≡ status_of verdict.now }

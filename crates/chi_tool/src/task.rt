@@ -2,7 +2,7 @@ ghost use Rattle.std.specs.Prelude.{◌≡◌, IfOk};
 ghost use Rattle.chi_tool.specs.Settings.{plain};
 
 use chi_base::{Items, NoMemory};
-use chi_cli::Pick;
+use chi_cli::{Pick, STEPS};
 use chi_num::Real;
 use chi_token::Bytes;
 use std::alloc::Global;
@@ -22,16 +22,13 @@ pub struct Asked {
     pub until: Option<Real>,
 }
 
-/// The bound where the words name none.
-const BOUND: u64 = 10_000_000;
-
 /// What a run is asked for with where the words say nothing of it.
 pub fn plain(alloc: Global) -> Result<Asked, NoMemory>
     ensures { IfOk result (λ asked. asked ≡ plain) }
 {
     Ok(Asked {
         seed: 0,
-        bound: BOUND,
+        bound: STEPS,
         pick: Pick::First,
         texts: Items::of(alloc, Vec::new(alloc))?,
         until: None,
@@ -50,6 +47,8 @@ pub enum Purpose {
 pub enum Task {
     /// With the source that a file holds.
     OfFile { file: Bytes, purpose: Purpose },
+    /// The log that a file holds is brought up.
+    OfLog { file: Bytes },
     /// A factory of this size is run.
     OfFactory { size: u32 },
 }

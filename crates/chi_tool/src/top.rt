@@ -1,9 +1,10 @@
 ghost use Rattle.std.specs.Prelude.{◌≡◌, false, map};
-ghost use Rattle.chi_tool.specs.Call.{Call, sink_use, shelf_use};
+ghost use Rattle.chi_tool.specs.Call.{sink_use, shelf_use};
 ghost use Rattle.chi_tool.specs.Headline.{Headline, Causes, IsComplete};
 
 use crate::deliver::deliver;
 use crate::laws::{one_run_law, report_law};
+use crate::logs::serve_log;
 use crate::serve::{serve, serve_factory};
 use crate::status::{NO_MEMORY, NO_REQUEST, NOT_BUILT};
 use crate::task::Task;
@@ -58,6 +59,7 @@ pub fn chi<H: Shelf, O: Sink, L: Sink>(
             Some(Task::OfFile { file, purpose }) => {
                 serve(alloc, file.as_slice(), &purpose, shelf, out, log)
             }
+            Some(Task::OfLog { file }) => serve_log(alloc, file.as_slice(), shelf, out, log),
             Some(Task::OfFactory { size }) => serve_factory(alloc, size, out, log),
             None => deliver(NOT_BUILT, out, b"", log, b"form not built\n"),
         },

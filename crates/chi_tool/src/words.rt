@@ -35,7 +35,8 @@ pub fn task_of(request: Request) -> Option<Task>
             purpose: Purpose::Check,
         }),
         Request::Load { n } => Some(Task::OfFactory { size: n }),
-        Request::Sim { trace: true, .. } | Request::TraceUp { .. } => None,
+        Request::TraceUp { file } => Some(Task::OfLog { file }),
+        Request::Sim { trace: true, .. } => None,
     }
 }
 

@@ -1,6 +1,7 @@
 use Rattle.std.proofs.Common.{subst}
 use Rattle.chi_tool.specs.Readings.{IsReadAs, SoundlyComes}
 use Rattle.chi_tool.specs.Report.{refused}
+use Rattle.chi_tool.specs.Settings.{aim_of}
 use Rattle.chi_tool.proofs.Runs.{program_reported}
 use Rattle.chi_tool.proofs.serve.report_of.Goals as goal
 
@@ -14,4 +15,4 @@ returns-in-Refused c = refused (subst (IsReadAs c.args.source.now) c.in-Refused.
 pub returns-in-Program : goal.returns-in-Program
 returns-in-Program c =
     let comes : SoundlyComes c.args.source.now c.in-Program.core = subst (IsReadAs c.args.source.now) c.in-Program.is c.in_ok-refusal.ensures in
-    program_reported c.args.source.now c.in-Program.core c.args.purpose.now c.report_of_program.result comes.comes c.report_of_program.ensures
+    program_reported c.args.source.now c.in-Program.core (aim_of c.args.purpose.now) c.report_of_program.result comes.comes c.report_of_program.ensures

@@ -1,7 +1,12 @@
 use Rattle.std.proofs.Common.{◌≡◌, Some, refl, sym, subst, ◌∙◌}
 use Rattle.chi_cli.specs.Saying.{texts}
-use Rattle.chi_tool.specs.declared.task.Task.TheVariants.{OfFile, OfFactory}
+use Rattle.chi_lex.specs.declared.lexer.TheConstants.{MOST_BYTES}
+use Rattle.chi_trace.specs.declared.log.TheConstants.{MOST_LOG_BYTES}
+use Rattle.chi_tool.specs.declared.task.Task.TheVariants.{OfFile, OfLog, OfFactory}
+use Rattle.chi_tool.specs.Report.{IsReportOfLog, IsReportFor}
+use Rattle.chi_tool.specs.Settings.{aim_of}
 use Rattle.chi_tool.specs.Words.{task_of}
+use Rattle.chi_tool.proofs.Contents.{source_of_file, log_of_file}
 use Rattle.chi_tool.proofs.Factories.{factory-headline, factory-causes, factory-complete}
 use Rattle.chi_tool.proofs.LawClauses.{RunLaw, ReportLaw}
 use Rattle.chi_tool.proofs.Promises.{served-headline, unbuilt-headline, usage-headline, lost-headline}
@@ -17,19 +22,40 @@ serve-requires-clause-bounded g c =
 pub returns-in-Some-OfFile-clause-headline : goal.returns-in-Some-OfFile-clause-headline
 returns-in-Some-OfFile-clause-headline g c =
     let law : ReportLaw = record { some = c.report_law.ensures.some; one = c.report_law.ensures.one } in
-    served-headline law _ c.in-Some-OfFile.file c.in-Some-OfFile.purpose (wish_task (texts c.args.words.now) c.in-Ok.request (OfFile c.in-Some-OfFile.file c.in-Some-OfFile.purpose) c.in-Ok.ensures.request (subst (λ t. Some t ≡ task_of c.in-Ok.request) c.in-Some-OfFile.field-0-is c.in-Some-OfFile.ensures)) (rw (c.as_slice.ensures.same) at c.serve.ensures)
+    served-headline (OfFile c.in-Some-OfFile.file c.in-Some-OfFile.purpose) c.in-Some-OfFile.file MOST_BYTES (IsReportFor (aim_of c.in-Some-OfFile.purpose)) (source_of_file c.in-Some-OfFile.file c.in-Some-OfFile.purpose) _
+    (wish_task (texts c.args.words.now) c.in-Ok.request (OfFile c.in-Some-OfFile.file c.in-Some-OfFile.purpose) c.in-Ok.ensures.request (subst (λ t. Some t ≡ task_of c.in-Ok.request) c.in-Some-OfFile.field-0-is c.in-Some-OfFile.ensures)) law (rw (c.as_slice.ensures.same) at c.serve.ensures)
 
 pub returns-in-Some-OfFile-clause-causes : goal.returns-in-Some-OfFile-clause-causes
 returns-in-Some-OfFile-clause-causes g c =
     let law : ReportLaw = record { some = c.report_law.ensures.some; one = c.report_law.ensures.one } in
-    served-causes law _ c.in-Some-OfFile.file c.in-Some-OfFile.purpose (wish_task (texts c.args.words.now) c.in-Ok.request (OfFile c.in-Some-OfFile.file c.in-Some-OfFile.purpose) c.in-Ok.ensures.request (subst (λ t. Some t ≡ task_of c.in-Ok.request) c.in-Some-OfFile.field-0-is c.in-Some-OfFile.ensures)) (rw (c.as_slice.ensures.same) at c.serve.ensures)
+    served-causes (OfFile c.in-Some-OfFile.file c.in-Some-OfFile.purpose) c.in-Some-OfFile.file MOST_BYTES (IsReportFor (aim_of c.in-Some-OfFile.purpose)) (source_of_file c.in-Some-OfFile.file c.in-Some-OfFile.purpose) _
+    (wish_task (texts c.args.words.now) c.in-Ok.request (OfFile c.in-Some-OfFile.file c.in-Some-OfFile.purpose) c.in-Ok.ensures.request (subst (λ t. Some t ≡ task_of c.in-Ok.request) c.in-Some-OfFile.field-0-is c.in-Some-OfFile.ensures)) law (rw (c.as_slice.ensures.same) at c.serve.ensures)
 
 pub returns-in-Some-OfFile-clause-complete : goal.returns-in-Some-OfFile-clause-complete
 returns-in-Some-OfFile-clause-complete g c =
     let law : ReportLaw = record { some = c.report_law.ensures.some; one = c.report_law.ensures.one } in
     let runs : RunLaw = record { some = c.one_run_law.ensures.some; one = c.one_run_law.ensures.one } in
-    served-complete runs c.values_are_of_parameters.ensures c.numbers_are_in_range.ensures law _ c.in-Some-OfFile.file c.in-Some-OfFile.purpose (wish_task (texts c.args.words.now) c.in-Ok.request (OfFile c.in-Some-OfFile.file c.in-Some-OfFile.purpose) c.in-Ok.ensures.request (subst (λ t. Some t ≡ task_of c.in-Ok.request) c.in-Some-OfFile.field-0-is c.in-Some-OfFile.ensures))
-    (rw (c.as_slice.ensures.same) at c.serve.ensures)
+    served-complete (OfFile c.in-Some-OfFile.file c.in-Some-OfFile.purpose) c.in-Some-OfFile.file MOST_BYTES (IsReportFor (aim_of c.in-Some-OfFile.purpose)) (source_of_file c.in-Some-OfFile.file c.in-Some-OfFile.purpose) _
+    (wish_task (texts c.args.words.now) c.in-Ok.request (OfFile c.in-Some-OfFile.file c.in-Some-OfFile.purpose) c.in-Ok.ensures.request (subst (λ t. Some t ≡ task_of c.in-Ok.request) c.in-Some-OfFile.field-0-is c.in-Some-OfFile.ensures)) law runs c.values_are_of_parameters.ensures c.numbers_are_in_range.ensures (rw (c.as_slice.ensures.same) at c.serve.ensures)
+
+pub returns-in-Some-OfLog-clause-headline : goal.returns-in-Some-OfLog-clause-headline
+returns-in-Some-OfLog-clause-headline g c =
+    let law : ReportLaw = record { some = c.report_law.ensures.some; one = c.report_law.ensures.one } in
+    served-headline (OfLog c.in-Some-OfLog.file) c.in-Some-OfLog.file MOST_LOG_BYTES IsReportOfLog (log_of_file c.in-Some-OfLog.file) _
+    (wish_task (texts c.args.words.now) c.in-Ok.request (OfLog c.in-Some-OfLog.file) c.in-Ok.ensures.request (subst (λ t. Some t ≡ task_of c.in-Ok.request) c.in-Some-OfLog.field-0-is c.in-Some-OfLog.ensures)) law (rw (c.as_slice-in-Some-OfLog.ensures.same) at c.serve_log.ensures)
+
+pub returns-in-Some-OfLog-clause-causes : goal.returns-in-Some-OfLog-clause-causes
+returns-in-Some-OfLog-clause-causes g c =
+    let law : ReportLaw = record { some = c.report_law.ensures.some; one = c.report_law.ensures.one } in
+    served-causes (OfLog c.in-Some-OfLog.file) c.in-Some-OfLog.file MOST_LOG_BYTES IsReportOfLog (log_of_file c.in-Some-OfLog.file) _
+    (wish_task (texts c.args.words.now) c.in-Ok.request (OfLog c.in-Some-OfLog.file) c.in-Ok.ensures.request (subst (λ t. Some t ≡ task_of c.in-Ok.request) c.in-Some-OfLog.field-0-is c.in-Some-OfLog.ensures)) law (rw (c.as_slice-in-Some-OfLog.ensures.same) at c.serve_log.ensures)
+
+pub returns-in-Some-OfLog-clause-complete : goal.returns-in-Some-OfLog-clause-complete
+returns-in-Some-OfLog-clause-complete g c =
+    let law : ReportLaw = record { some = c.report_law.ensures.some; one = c.report_law.ensures.one } in
+    let runs : RunLaw = record { some = c.one_run_law.ensures.some; one = c.one_run_law.ensures.one } in
+    served-complete (OfLog c.in-Some-OfLog.file) c.in-Some-OfLog.file MOST_LOG_BYTES IsReportOfLog (log_of_file c.in-Some-OfLog.file) _
+    (wish_task (texts c.args.words.now) c.in-Ok.request (OfLog c.in-Some-OfLog.file) c.in-Ok.ensures.request (subst (λ t. Some t ≡ task_of c.in-Ok.request) c.in-Some-OfLog.field-0-is c.in-Some-OfLog.ensures)) law runs c.values_are_of_parameters.ensures c.numbers_are_in_range.ensures (rw (c.as_slice-in-Some-OfLog.ensures.same) at c.serve_log.ensures)
 
 pub returns-in-None-clause-headline : goal.returns-in-None-clause-headline
 returns-in-None-clause-headline g c = unbuilt-headline _ (wish_unbuilt (texts c.args.words.now) c.in-Ok.request c.in-Ok.ensures.request c.in-None.ensures) c.deliver.ensures

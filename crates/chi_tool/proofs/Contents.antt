@@ -1,0 +1,108 @@
+-- Which statuses the report of a file's content has, and which tasks have to do with a file.
+use Rattle.std.proofs.Common.{◌≡◌, ◌≢◌, ℕ, ◌≤◌, List, ◌⊎◌, inl, inr, ◌∙◌, ap, refl, arith}
+use Rattle.chi_cli.specs.declared.args.ArgFault.{ArgFault}
+use Rattle.chi_core.specs.declared.program.Core.{Core}
+use Rattle.chi_core.specs.Runs.{Told}
+use Rattle.chi_io.specs.Shelf.{Files}
+use Rattle.chi_lex.specs.declared.lexer.TheConstants.{MOST_BYTES}
+use Rattle.chi_trace.specs.declared.log.TheConstants.{MOST_LOG_BYTES}
+use Rattle.chi_tool.specs.declared.task.Purpose.{Purpose}
+use Rattle.chi_tool.specs.declared.task.Task.{Task}
+use Rattle.chi_tool.specs.declared.task.Task.TheVariants.{OfFile, OfLog}
+use Rattle.chi_tool.specs.Call.{ShelfUse}
+use Rattle.chi_tool.specs.Headline.{IsUnread, CannotBeRead}
+use Rattle.chi_tool.specs.Refusals as refusal
+use Rattle.chi_tool.specs.Refusals.{Report}
+use Rattle.chi_tool.specs.Report as report
+use Rattle.chi_tool.specs.Report.{IsReportOfProgram, IsReportOfSource, refused, program, IsReportOfLog, up, misfit, IsReportOfFile, IsReportFor, IsReportOfTask}
+use Rattle.chi_tool.specs.Running.{run_report}
+use Rattle.chi_tool.specs.Settings.{Wanted, Aim, simulates, checks, aim_of}
+use Rattle.chi_tool.specs.Sources.{by_lexer, by_parser, by_form}
+use Rattle.chi_tool.specs.Words.{of_task, NamesNoFile}
+use Rattle.chi_tool.proofs.Verdicts.{status_bound}
+
+pub status_ap : (r s : Report) → r ≡ s → r.status ≡ s.status
+status_ap r s e = ap (λ x. x.status) e
+
+-- what a program's report is of
+data ProgramCase (core : Core) (aim : Aim) (r : Report) : Type 0 where
+  is_accepted : aim ≡ checks → r ≡ refusal.accepted → ProgramCase core aim r
+  is_unfit : (w : Wanted) → aim ≡ simulates w → (wanted given : ℕ) (fault : ArgFault) → r ≡ refusal.unfit_arguments wanted given fault → ProgramCase core aim r
+  is_run : (w : Wanted) → aim ≡ simulates w → (told : Told) → r ≡ run_report core told → ProgramCase core aim r
+
+program_case : (core : Core) (aim : Aim) (r : Report) → IsReportOfProgram core aim r → ProgramCase core aim r
+program_case core checks r is = is_accepted refl is
+program_case core (simulates w) r (report.unfit wanted fault misfits is) = is_unfit w refl wanted _ fault is
+program_case core (simulates w) r (report.run values means of) = is_run w refl of.told of.is
+
+-- which statuses a program's report has
+program_status : (core : Core) (aim : Aim) (r : Report) → ProgramCase core aim r → (r.status ≡ 0) ⊎ (((10 ≤ r.status) × (r.status ≤ 14)) ⊎ (r.status ≡ 23))
+program_status core aim r (is_accepted p e) = inl (status_ap r _ e)
+program_status core aim r (is_unfit w p wanted given fault e) = inr (inr (status_ap r _ e))
+program_status core aim r (is_run w p told e) = of_run (status_bound told.ending.verdict) (status_ap r _ e)
+  where
+    of_run : {n : ℕ} → (n ≡ 0) ⊎ ((10 ≤ n) × (n ≤ 14)) → r.status ≡ n → (r.status ≡ 0) ⊎ (((10 ≤ r.status) × (r.status ≤ 14)) ⊎ (r.status ≡ 23))
+    of_run (inl z) is = inl (is ∙ z)
+    of_run (inr b) is = inr (inl (let low = b.0 in let high = b.1 in (omega arith, omega arith)))
+
+pub source_program : (core : Core) (aim : Aim) (r : Report) → IsReportOfProgram core aim r → (r.status ≡ 0) ⊎ (((10 ≤ r.status) × (r.status ≤ 14)) ⊎ (r.status ≡ 23))
+source_program core aim r is = program_status core aim r (program_case core aim r is)
+
+-- which a source's report has
+pub source_bound : (source : List ℕ) (aim : Aim) (r : Report) → IsReportOfSource source aim r → (r.status ≡ 0) ⊎ ((10 ≤ r.status) × (r.status ≤ 23))
+source_bound source aim r (refused (by_lexer fault has e)) = let is = status_ap r _ e in inr (omega arith, omega arith)
+source_bound source aim r (refused (by_parser tokens fault has e)) = let is = status_ap r _ e in inr (omega arith, omega arith)
+source_bound source aim r (refused (by_form has e)) = let is = status_ap r _ e in inr (omega arith, omega arith)
+source_bound source aim r (program core comes of) = widened (source_program core aim r of)
+  where
+    widened : (r.status ≡ 0) ⊎ (((10 ≤ r.status) × (r.status ≤ 14)) ⊎ (r.status ≡ 23)) → (r.status ≡ 0) ⊎ ((10 ≤ r.status) × (r.status ≤ 23))
+    widened (inl z) = inl z
+    widened (inr (inl b)) = let high = b.1 in inr (b.0, omega arith)
+    widened (inr (inr e)) = inr (omega arith, omega arith)
+
+-- and which a log's has
+pub log_bound : (text : List ℕ) (r : Report) → IsReportOfLog text r → (r.status ≡ 0) ⊎ (r.status ≡ 24)
+log_bound text r (up log is e) = inl (status_ap r _ e)
+log_bound text r (misfit k is e) = inr (status_ap r _ e)
+
+-- the status of a content's report is none of the refusals around it
+pub record IsOfContent (n : ℕ) : Type 0 where
+  pub is_request : n ≢ 3
+  pub is_read : n ≢ 4
+  pub is_written : n ≢ 5
+
+of_content : (n : ℕ) → (n ≡ 0) ⊎ (10 ≤ n) → IsOfContent n
+of_content n (inl z) = record { is_request = λ h. omega arith; is_read = λ h. omega arith; is_written = λ h. omega arith }
+of_content n (inr low) = record { is_request = λ h. omega arith; is_read = λ h. omega arith; is_written = λ h. omega arith }
+
+pub source_status : (source : List ℕ) (aim : Aim) (r : Report) → IsReportOfSource source aim r → IsOfContent r.status
+source_status source aim r of = of_content r.status (low (source_bound source aim r of))
+  where
+    low : (r.status ≡ 0) ⊎ ((10 ≤ r.status) × (r.status ≤ 23)) → (r.status ≡ 0) ⊎ (10 ≤ r.status)
+    low (inl z) = inl z
+    low (inr b) = inr b.0
+
+log_status : (text : List ℕ) (r : Report) → IsReportOfLog text r → IsOfContent r.status
+log_status text r of = of_content r.status (low (log_bound text r of))
+  where
+    low : (r.status ≡ 0) ⊎ (r.status ≡ 24) → (r.status ≡ 0) ⊎ (10 ≤ r.status)
+    low (inl z) = inl z
+    low (inr e) = inr (omega arith)
+
+-- a task is done with the content of the file of this name, within a limit, and P says its report
+pub record IsOfFile (t : Task) (name : List ℕ) (most : ℕ) (P : List ℕ → Report → Type 0) : Type 0 where
+  pub reports : (files : Files) (r : Report) → IsReportOfFile most P (files name) r → IsReportOfTask t files r
+  pub unread : (shelf : ShelfUse) → IsUnread most name shelf → CannotBeRead shelf (of_task t)
+  pub named : NamesNoFile (of_task t) → ⊥
+  pub own : (content : List ℕ) (r : Report) → P content r → IsOfContent r.status
+
+pub source_of_file : (name : List ℕ) (purpose : Purpose) → IsOfFile (OfFile name purpose) name MOST_BYTES (IsReportFor (aim_of purpose))
+source_of_file name purpose = record {
+  reports = λ files r is. is;
+  unread = λ shelf is. is;
+  named = λ none. none;
+  own = λ source r is. source_status source (aim_of purpose) r is;
+}
+
+pub log_of_file : (name : List ℕ) → IsOfFile (OfLog name) name MOST_LOG_BYTES IsReportOfLog
+log_of_file name = record { reports = λ files r is. is; unread = λ shelf is. is; named = λ none. none; own = log_status }

@@ -1,0 +1,130 @@
+//! The library call: a source is simulated, with whichever policy.
+
+ghost use Rattle.std.specs.Prelude.{◌≡◌, ◌≤◌, ◌<◌, ◌^◌, false, IfOk, length};
+ghost use Rattle.chi_core.specs.Picks as picks;
+ghost use Rattle.chi_sched.specs.Policies.{Answers};
+ghost use Rattle.chi_tool.specs.Call.{sink_use};
+ghost use Rattle.chi_tool.specs.Delivery.{Tells};
+ghost use Rattle.chi_tool.specs.Report.{IsReportOfSource};
+ghost use Rattle.chi_tool.specs.Reported.{report_in};
+ghost use Rattle.chi_tool.specs.Settings.{simulates};
+ghost use Rattle.chi_tool.specs.Simulations.{SimulationHeadline, SimulationCauses, IsSimulatedToItsEnd};
+
+use crate::deliver::deliver;
+use crate::laws::{one_run_law, source_law};
+use crate::program::report_of_run;
+use crate::report::Reported;
+use crate::settings::Terms;
+use crate::source::{Source, read};
+use crate::status::{NO_MEMORY, NOT_BUILT};
+use chi_base::NoMemory;
+use chi_cli::{MOST_STEPS, values_are_of_parameters};
+use chi_io::Sink;
+use chi_lex::MOST_BYTES;
+use chi_num::Real;
+use chi_sched::Chooser;
+use chi_token::Bytes;
+use std::alloc::Global;
+
+/// The report of a source that is to be simulated on these terms.
+fn report_of_terms<P: Chooser + Drop>(
+    alloc: Global,
+    source: &[u8],
+    args: &[Bytes],
+    terms: Terms<P>,
+) -> Result<Reported, NoMemory>
+    requires within { length source.now ≤ MOST_BYTES }
+    requires bound { terms.bound < 2 ^ 63 }
+    ensures { IfOk result (λ r. (pick : picks.Pick) → Answers (P.gives terms.policy) pick
+        → IsReportOfSource source.now (simulates (record { seed = terms.seed; bound = terms.bound; pick = pick; texts = args.now; until = terms.until })) (report_in r)) }
+{
+    match read(alloc, source)? {
+        Source::Refused(refusal) => Ok(refusal),
+        Source::Program(core) => report_of_run(alloc, &core, args, terms),
+    }
+}
+
+/// Delivers that report.
+fn tell_terms<P: Chooser + Drop, O: Sink, L: Sink>(
+    alloc: Global,
+    source: &[u8],
+    args: &[Bytes],
+    terms: Terms<P>,
+    out: &mut O,
+    log: &mut L,
+) -> u8
+    requires out_goes { O.stopped out.old ≡ false }
+    requires log_goes { L.stopped log.old ≡ false }
+    requires within { length source.now ≤ MOST_BYTES }
+    requires bound { terms.bound < 2 ^ 63 }
+    ensures { (pick : picks.Pick) → Answers (P.gives terms.policy) pick
+        → Tells (IsReportOfSource source.now (simulates (record { seed = terms.seed; bound = terms.bound; pick = pick; texts = args.now; until = terms.until }))) result
+        (sink_use O.taken O.faults O.stopped out.old out.new) (sink_use L.taken L.faults L.stopped log.old log.new) }
+{
+    match report_of_terms(alloc, source, args, terms) {
+        Ok(report) => deliver(report.status, out, &report.out, log, &report.log),
+        Err(_) => NO_MEMORY,
+    }
+}
+
+/// Simulates a source: its first model with the arguments that texts mean, these draws, this bound on the costs of its
+/// steps and this stopping time. The policy picks among what may happen.
+pub fn simulate<P: Chooser + Drop, O: Sink, L: Sink>(
+    alloc: Global,
+    source: &[u8],
+    args: &[Bytes],
+    seed: u64,
+    bound: u64,
+    until: Option<Real>,
+    policy: P,
+    trace: bool,
+    out: &mut O,
+    log: &mut L,
+) -> u8
+    requires out_goes { O.stopped out.old ≡ false }
+    requires log_goes { L.stopped log.old ≡ false }
+    requires within { length source.now ≤ MOST_BYTES }
+    requires bound { bound ≤ MOST_STEPS }
+
+    // Whichever function tells what the policy answers: the status and every byte are those of the report.
+    ensures headline { (pick : picks.Pick) → Answers (P.gives policy) pick → SimulationHeadline (record {
+      source = source.now;
+      wanted = record { seed = seed; bound = bound; pick = pick; texts = args.now; until = until };
+      trace = trace;
+      status = result;
+      out = sink_use O.taken O.faults O.stopped out.old out.new;
+      log = sink_use L.taken L.faults L.stopped log.old log.new;
+    }) }
+    // Each status has its cause.
+    ensures causes { (pick : picks.Pick) → Answers (P.gives policy) pick → SimulationCauses (record {
+      source = source.now;
+      wanted = record { seed = seed; bound = bound; pick = pick; texts = args.now; until = until };
+      trace = trace;
+      status = result;
+      out = sink_use O.taken O.faults O.stopped out.old out.new;
+      log = sink_use L.taken L.faults L.stopped log.old log.new;
+    }) }
+    // A program is run to its end.
+    ensures complete { (pick : picks.Pick) → Answers (P.gives policy) pick → IsSimulatedToItsEnd (record {
+      source = source.now;
+      wanted = record { seed = seed; bound = bound; pick = pick; texts = args.now; until = until };
+      trace = trace;
+      status = result;
+      out = sink_use O.taken O.faults O.stopped out.old out.new;
+      log = sink_use L.taken L.faults L.stopped log.old log.new;
+    }) }
+{
+    source_law();
+    one_run_law();
+    values_are_of_parameters();
+    if trace {
+        return deliver(NOT_BUILT, out, b"", log, b"form not built\n");
+    }
+    let terms = Terms {
+        seed,
+        bound,
+        policy,
+        until,
+    };
+    tell_terms(alloc, source, args, terms, out, log)
+}
