@@ -1,6 +1,6 @@
 //! What words ask for: commands, options and arguments.
 
-use crate::tests::{WORKS, Wanted, expect};
+use crate::tests::{WORKS, Wanted, expect, written};
 use std::alloc::Global;
 use std::process::Abort;
 use std::test::Fail;
@@ -153,7 +153,69 @@ fn what_is_checked_is_refused_as_what_is_run(rt: HostRuntime) -> Result<(), Fail
     expect_words(&rt, rt.alloc(), "model M(): end", &check)?;
     let check: [Row; 2] = [
         (&["check", "m.chi"], "", "form not built\n", 22),
-        (&["trace-up", "m.chi"], "", "form not built\n", 22),
+        (&["sim", "--trace", "m.chi"], "", "form not built\n", 22),
     ];
     expect_words(&rt, rt.alloc(), "model M(): exit end", &check)
+}
+
+#[test]
+fn a_log_of_old_is_brought_up(rt: HostRuntime) -> Result<(), Fail> {
+    let old = "\
+trace 1
+0 local 0
+1 advance 0.000000001
+2 wake 0 0
+completed at time 0.000000001
+";
+    let up = "\
+trace 2
+0 local 0 - -
+1 advance 0.000000001
+2 wake 0 0 -
+completed at time 0.000000001
+";
+    let rows: [Row; 4] = [
+        (&["trace-up", "m.chi"], up, "", 0),
+        (&["trace-up", "old.log"], "", "no such file\n", 4),
+        (&["trace-up"], "", USAGE, 3),
+        (&["trace-up", "--trace", "m.chi"], "", USAGE, 3),
+    ];
+    expect_words(&rt, rt.alloc(), old, &rows)
+}
+
+#[test]
+fn a_log_has_a_line_that_does_not_fit(rt: HostRuntime) -> Result<(), Fail> {
+    for (text, log) in [
+        ("trace 2\n", "line 1: trace form\n"),
+        ("", "line 1: trace form\n"),
+        ("trace 1\n0 local 0", "line 2: trace form\n"),
+        ("trace 1\n0 local 0\ndone\ndone\n", "line 4: trace form\n"),
+    ] {
+        let rows: [Row; 1] = [(&["trace-up", "m.chi"], "", log, 24)];
+        expect_words(&rt, rt.alloc(), text, &rows)?;
+    }
+    Ok(())
+}
+
+#[test]
+fn a_log_may_be_longer_than_a_source(rt: HostRuntime) -> Result<(), Fail> {
+    let line = "0 local 0 and so much more that the line has all of 64 bytes...\n";
+    let misfit = Wanted {
+        out: "",
+        log: "line 2: trace form\n",
+        status: 24,
+    };
+    let too_long = Wanted {
+        out: "",
+        log: "file too long\n",
+        status: 4,
+    };
+    // The first line has 8 bytes, and the others have 64.
+    for (bytes, wanted) in [(56, misfit), (57, too_long)] {
+        let log = [("trace 1\n", 1), (line, 1_048_575), (" ", bytes)];
+        let text = written(rt.alloc(), &log)?;
+        let words = ["trace-up", "m.chi"];
+        expect(&rt, rt.alloc(), &words, &text, wanted.log, wanted)?;
+    }
+    Ok(())
 }

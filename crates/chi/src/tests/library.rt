@@ -1,0 +1,71 @@
+//! The library call: a source is simulated by a policy.
+
+use crate::tests::Wanted;
+use chi_io::MemSink;
+use chi_sched::{Chooser, First, Last, Spread};
+use chi_tool::simulate;
+use std::alloc::Global;
+use std::process::Abort;
+use std::test::Fail;
+
+const TWO_SENDERS: &str = "proc S(chan! int a; int n): a!n end \
+     proc R(chan? int a): int x; a?x; writeln(\"%d\", x); a?x; writeln(\"%d\", x) end \
+     model M(): chan int a; start S(a, 1), S(a, 2), R(a) end";
+
+/// Simulates the source by a policy, and compares what is written and the status.
+fn expect_by<P: Chooser + Drop>(
+    rt: &impl Abort,
+    alloc: Global,
+    policy: P,
+    bound: u64,
+    trace: bool,
+    wanted: Wanted,
+) -> Result<(), Fail> {
+    let mut out = MemSink::new(alloc, 65_536, 65_536, Vec::new(alloc))?;
+    let mut log = MemSink::new(alloc, 65_536, 65_536, Vec::new(alloc))?;
+    let source = TWO_SENDERS.as_bytes();
+    let status = simulate(
+        alloc,
+        source,
+        &[],
+        0,
+        bound.min(1_000),
+        None,
+        policy,
+        trace,
+        &mut out,
+        &mut log,
+    );
+    assert_eq!(rt; log.bytes(), wanted.log.as_bytes());
+    assert_eq!(rt; out.bytes(), wanted.out.as_bytes());
+    assert_eq!(rt; status, wanted.status);
+    Ok(())
+}
+
+#[test]
+fn a_source_is_simulated_by_a_policy(rt: HostRuntime) -> Result<(), Fail> {
+    let first = Wanted {
+        out: "1\n2\n",
+        log: "completed at time 0.0\n",
+        status: 0,
+    };
+    let last = Wanted {
+        out: "2\n1\n",
+        ..first
+    };
+    let unbuilt = Wanted {
+        out: "",
+        log: "form not built\n",
+        status: 22,
+    };
+    let spent = Wanted {
+        out: "",
+        log: "out of steps at time 0.0\n",
+        status: 13,
+    };
+    expect_by(&rt, rt.alloc(), First, 1_000, false, first)?;
+    expect_by(&rt, rt.alloc(), Last, 1_000, false, last)?;
+    expect_by(&rt, rt.alloc(), Spread { salt: 0 }, 1_000, false, first)?;
+    expect_by(&rt, rt.alloc(), First, 0, false, spent)?;
+    expect_by(&rt, rt.alloc(), First, 1_000, true, unbuilt)
+}
