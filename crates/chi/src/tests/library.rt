@@ -17,7 +17,7 @@ fn expect_by<P: Chooser + Drop>(
     rt: &impl Abort,
     alloc: Global,
     policy: P,
-    bound: u64,
+    bound: u16,
     trace: bool,
     wanted: Wanted,
 ) -> Result<(), Fail> {
@@ -29,7 +29,7 @@ fn expect_by<P: Chooser + Drop>(
         source,
         &[],
         0,
-        bound.min(1_000),
+        u64::from(bound),
         None,
         policy,
         trace,

@@ -1,6 +1,6 @@
 //! What words ask for: commands, options and arguments.
 
-use crate::tests::{WORKS, Wanted, expect, written};
+use crate::tests::{WORKS, Wanted, expect};
 use std::alloc::Global;
 use std::process::Abort;
 use std::test::Fail;
@@ -189,33 +189,9 @@ fn a_log_has_a_line_that_does_not_fit(rt: HostRuntime) -> Result<(), Fail> {
         ("trace 2\n", "line 1: trace form\n"),
         ("", "line 1: trace form\n"),
         ("trace 1\n0 local 0", "line 2: trace form\n"),
-        ("trace 1\n0 local 0\ndone\ndone\n", "line 4: trace form\n"),
     ] {
         let rows: [Row; 1] = [(&["trace-up", "m.chi"], "", log, 24)];
         expect_words(&rt, rt.alloc(), text, &rows)?;
-    }
-    Ok(())
-}
-
-#[test]
-fn a_log_may_be_longer_than_a_source(rt: HostRuntime) -> Result<(), Fail> {
-    let line = "0 local 0 and so much more that the line has all of 64 bytes...\n";
-    let misfit = Wanted {
-        out: "",
-        log: "line 2: trace form\n",
-        status: 24,
-    };
-    let too_long = Wanted {
-        out: "",
-        log: "file too long\n",
-        status: 4,
-    };
-    // The first line has 8 bytes, and the others have 64.
-    for (bytes, wanted) in [(56, misfit), (57, too_long)] {
-        let log = [("trace 1\n", 1), (line, 1_048_575), (" ", bytes)];
-        let text = written(rt.alloc(), &log)?;
-        let words = ["trace-up", "m.chi"];
-        expect(&rt, rt.alloc(), &words, &text, wanted.log, wanted)?;
     }
     Ok(())
 }
