@@ -1,0 +1,2 @@
+pub mod Barred
+pub mod Before

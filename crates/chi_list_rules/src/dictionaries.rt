@@ -1,0 +1,208 @@
+//! Literals of dictionaries.
+
+#![tactic(auto, using(chi_typing::proofs::Firsts::first_of_none, chi_typing::proofs::Firsts::first_of_append, chi_typing::proofs::Ruled::faults_unless, chi_typing::proofs::Ruled::made_unless, chi_typing::proofs::Ruled::made_deep))]
+
+ghost use Rattle.std.specs.Prelude.{◌≡◌, ◌++◌, [], ◌∷◌, Some, IfOk, OnOk};
+ghost use Rattle.chi_types.specs.declared.ty.Ty.TheVariants as ty;
+ghost use Rattle.chi_typing.specs.Faults.{first_of, are_none};
+ghost use Rattle.chi_expr_rules.specs.Containers as spec;
+ghost use Rattle.chi_expr_rules.specs.Conversions as made;
+
+use crate::containers::{joined_all, literal_of, no_cores, note_unplain};
+use chi_base::{Boxed, Items, NoMemory};
+use chi_core::CExpr;
+use chi_expr_rules::{all_made, converted, type_meant};
+use chi_token::Place;
+use chi_types::Ty;
+use chi_typing::{Fault, Made, Meant, note, rules};
+use chi_value::Kind;
+use std::alloc::Global;
+
+/// One more entry: a key and what it has.
+fn with_entry(
+    alloc: Global,
+    entries: Vec<CExpr>,
+    key_type: &Ty,
+    value_type: &Ty,
+    key: Made,
+    value: Made,
+) -> Result<Vec<CExpr>, NoMemory>
+    ensures { IfOk result (λ more. more.items ≡ entries.items ++ made.converted key key_type.now ∷ made.converted value value_type.now ∷ []) }
+{
+    let mut entries = entries;
+    entries.push(converted(alloc, key, key_type)?)?;
+    entries.push(converted(alloc, value, value_type)?)?;
+    Ok(entries)
+}
+
+/// Each key and what it has, in turn.
+#[tactic(auto, using(crate::proofs::Entries::entries_of_none))]
+fn entries(
+    alloc: Global,
+    key_type: &Ty,
+    value_type: &Ty,
+    keys: Items<Made>,
+    values: Items<Made>,
+) -> Result<Items<CExpr>, NoMemory>
+    ensures { IfOk result (λ es. es ≡ spec.entries key_type.now value_type.now keys values) }
+{
+    let mut cores = Vec::new(alloc);
+    let mut rest = values.into_vec(alloc)?.into_iter();
+    for key in keys.into_vec(alloc)? {
+        let Some(value) = rest.next() else {
+            return Ok(Items::of(alloc, cores)?);
+        };
+        cores = with_entry(alloc, cores, key_type, value_type, key, value)?;
+    }
+    Ok(Items::of(alloc, cores)?)
+}
+
+/// Notes what is amiss with the keys, and tells whether nothing is.
+fn note_keys(place: Place, key: &Option<Ty>, kept: &mut Option<Fault>) -> bool
+    ensures holds { result ≡ are_none (spec.keys_rule place key.now) }
+    ensures noted { kept.new ≡ first_of kept.old (spec.keys_rule place key.now) }
+{
+    match key {
+        None => {
+            note(kept, rules::JOINED_PARTS, place);
+            false
+        }
+        Some(key) => note_unplain(place, key, kept),
+    }
+}
+
+fn note_values(place: Place, value: &Option<Ty>, kept: &mut Option<Fault>)
+    ensures { kept.new ≡ first_of kept.old (spec.values_rule place value.now) }
+{
+    match value {
+        None => note(kept, rules::JOINED_PARTS, place),
+        Some(_) => {}
+    }
+}
+
+fn dict_type(alloc: Global, key: Ty, value: Ty) -> Result<Ty, NoMemory>
+    ensures { IfOk result (λ t. t ≡ ty.DictOf key value) }
+{
+    let key = Boxed::new(alloc, key)?;
+    Ok(Ty::DictOf(key, Boxed::new(alloc, value)?))
+}
+
+/// A dictionary of keys that have a type in common, and of values that do.
+fn dict_literal(
+    alloc: Global,
+    place: Place,
+    keys: Items<Made>,
+    values: Items<Made>,
+    key: Ty,
+    value: Ty,
+    kept: &mut Option<Fault>,
+) -> Result<Option<Made>, NoMemory>
+    ensures made { IfOk result (λ m. m ≡ (spec.dict_joined place keys values (Some key) (Some value)).made) }
+    ensures noted { OnOk result (kept.new ≡ first_of kept.old (spec.dict_joined place keys values (Some key) (Some value)).faults) }
+{
+    let plain = note_unplain(place, &key, kept);
+    let cores = entries(alloc, &key, &value, keys, values)?;
+    let ty = dict_type(alloc, key, value)?;
+    Ok(literal_of(place, plain, Kind::DictOf, cores, ty, kept))
+}
+
+fn dict_joined(
+    alloc: Global,
+    place: Place,
+    keys: Items<Made>,
+    values: Items<Made>,
+    key: Option<Ty>,
+    value: Option<Ty>,
+    kept: &mut Option<Fault>,
+) -> Result<Option<Made>, NoMemory>
+    ensures made { IfOk result (λ m. m ≡ (spec.dict_joined place keys values key value).made) }
+    ensures noted { OnOk result (kept.new ≡ first_of kept.old (spec.dict_joined place keys values key value).faults) }
+{
+    match key {
+        None => {
+            note(kept, rules::JOINED_PARTS, place);
+            note_values(place, &value, kept);
+            Ok(None)
+        }
+        Some(key) => match value {
+            None => {
+                note_unplain(place, &key, kept);
+                note(kept, rules::JOINED_PARTS, place);
+                Ok(None)
+            }
+            Some(value) => dict_literal(alloc, place, keys, values, key, value, kept),
+        },
+    }
+}
+
+fn dict_parts(
+    alloc: Global,
+    place: Place,
+    keys: Option<Items<Made>>,
+    values: Option<Items<Made>>,
+    kept: &mut Option<Fault>,
+) -> Result<Option<Made>, NoMemory>
+    ensures made { IfOk result (λ m. m ≡ (spec.dict_parts place keys values).made) }
+    ensures noted { OnOk result (kept.new ≡ first_of kept.old (spec.dict_parts place keys values).faults) }
+{
+    match keys {
+        None => match values {
+            None => Ok(None),
+            Some(values) => {
+                let value = joined_all(alloc, values.as_slice())?;
+                note_values(place, &value, kept);
+                Ok(None)
+            }
+        },
+        Some(keys) => match values {
+            None => {
+                let key = joined_all(alloc, keys.as_slice())?;
+                note_keys(place, &key, kept);
+                Ok(None)
+            }
+            Some(values) => {
+                let key = joined_all(alloc, keys.as_slice())?;
+                let value = joined_all(alloc, values.as_slice())?;
+                dict_joined(alloc, place, keys, values, key, value, kept)
+            }
+        },
+    }
+}
+
+/// A dictionary of entries, one at least, by their keys and their values.
+pub fn dict_of(
+    alloc: Global,
+    place: Place,
+    keys: Items<Option<Made>>,
+    values: Items<Option<Made>>,
+    kept: &mut Option<Fault>,
+) -> Result<Option<Made>, NoMemory>
+    ensures made { IfOk result (λ m. m ≡ (spec.dict_of place keys values).made) }
+    ensures noted { OnOk result (kept.new ≡ first_of kept.old (spec.dict_of place keys values).faults) }
+{
+    let keys = all_made(alloc, keys)?;
+    let values = all_made(alloc, values)?;
+    dict_parts(alloc, place, keys, values, kept)
+}
+
+/// An empty dictionary of types that are written.
+pub fn empty_dict(
+    alloc: Global,
+    place: Place,
+    key: Option<Meant>,
+    value: Option<Meant>,
+    kept: &mut Option<Fault>,
+) -> Result<Option<Made>, NoMemory>
+    ensures made { IfOk result (λ m. m ≡ (spec.empty_dict place key value).made) }
+    ensures noted { OnOk result (kept.new ≡ first_of kept.old (spec.empty_dict place key value).faults) }
+{
+    let Some(key) = key else {
+        return Ok(None);
+    };
+    let plain = note_unplain(place, &key.ty, kept);
+    let Some(value) = value else {
+        return Ok(None);
+    };
+    let ty = dict_type(alloc, type_meant(key), type_meant(value))?;
+    Ok(literal_of(place, plain, Kind::DictOf, no_cores(alloc)?, ty, kept))
+}

@@ -1,0 +1,171 @@
+//! Insertions into a list by a function.
+
+#![tactic(auto, using(chi_typing::proofs::Firsts::first_of_none))]
+
+ghost use Rattle.std.specs.Prelude.{◌≡◌, IfOk, OnOk};
+ghost use Rattle.std.specs.Option.{option_copied};
+ghost use Rattle.chi_types.specs.declared.ty.Ty.{out-Ty};
+ghost use Rattle.chi_core.specs.declared.expression.CExpr.TheVariants as expression;
+ghost use Rattle.chi_typing.specs.Faults.{first_of};
+ghost use Rattle.chi_expr_rules.specs.PredefinedCalls as spec;
+
+use crate::arguments::before_third;
+use chi_base::{Boxed, Items, NoMemory};
+use chi_core::CExpr;
+use chi_expr_rules::{converted, core_and_type, settle};
+use chi_token::Place;
+use chi_types::{Ty, fits, same};
+use chi_typing::{Fault, Known, Made, NameKind, note, rules};
+use std::alloc::Global;
+
+/// Whether a function of these types tells which of two elements stands first.
+fn tells_order(element: &Ty, params: &[Ty], outcome: &Ty) -> bool
+    ensures { result ≡ spec.tells_order element.now params.now outcome.now }
+{
+    match params {
+        [a, b] => same(a, element) && same(b, element) && same(outcome, &Ty::Bool),
+        _ => false,
+    }
+}
+
+fn insert_core(
+    alloc: Global,
+    list: CExpr,
+    x: CExpr,
+    number: u32,
+) -> Result<CExpr, NoMemory>
+    ensures { IfOk result (λ e. e ≡ expression.InsertBy list x number) }
+{
+    let list = Boxed::new(alloc, list)?;
+    Ok(CExpr::InsertBy(list, Boxed::new(alloc, x)?, number))
+}
+
+fn inserting(
+    alloc: Global,
+    element: &Ty,
+    list: Made,
+    x: Made,
+    number: u32,
+) -> Result<Made, NoMemory>
+    ensures { IfOk result (λ n. n ≡ spec.inserting element.now list x number) }
+{
+    let x = converted(alloc, x, element)?;
+    let (list, ty) = core_and_type(list);
+    let core = insert_core(alloc, list, x, number)?;
+    Ok(Made { core, ty })
+}
+
+fn inserted_by(
+    alloc: Global,
+    element: Ty,
+    list: Made,
+    x: Made,
+    known: &Known,
+) -> Result<Option<Made>, NoMemory>
+    ensures { IfOk result (λ n. n ≡ spec.inserted_by element list x known.now) }
+{
+    match known {
+        Known::Func(number, params, outcome) => {
+            if !fits(&x.ty, &element) || !tells_order(&element, params.as_slice(), outcome) {
+                return Ok(None);
+            }
+            Ok(Some(inserting(alloc, &element, list, x, *number)?))
+        }
+        _ => Ok(None),
+    }
+}
+
+fn inserted(
+    alloc: Global,
+    list: Made,
+    x: Made,
+    known: &Known,
+) -> Result<Option<Made>, NoMemory>
+    ensures { IfOk result (λ n. n ≡ spec.inserted_in (out-Ty list.ty) list x known.now) }
+{
+    match &list.ty {
+        Ty::ListOf(element) => {
+            let element = element.get().copy(alloc)?;
+            inserted_by(alloc, element, list, x, known)
+        }
+        _ => Ok(None),
+    }
+}
+
+fn is_untyped_function(known: &Known) -> bool
+    ensures { result ≡ spec.is_untyped_function known.now }
+{
+    match known {
+        Known::Untyped(kind) => is_function(*kind),
+        _ => false,
+    }
+}
+
+fn is_function(kind: NameKind) -> bool
+    ensures { result ≡ spec.is_function kind }
+{
+    match kind {
+        NameKind::Function => true,
+        _ => false,
+    }
+}
+
+fn insertion(
+    alloc: Global,
+    place: Place,
+    list: Made,
+    x: Made,
+    known: Option<&Known>,
+    kept: &mut Option<Fault>,
+) -> Result<Option<Made>, NoMemory>
+    ensures made { IfOk result (λ n. n ≡ (spec.insertion place list x (option_copied known.entry)).made) }
+    ensures noted { OnOk result (kept.new ≡ first_of kept.old (spec.insertion place list x (option_copied known.entry)).faults) }
+{
+    let Some(known) = known else {
+        note(kept, rules::PREDEFINED, place);
+        return Ok(None);
+    };
+    if is_untyped_function(known) {
+        return Ok(None);
+    }
+    let made = inserted(alloc, list, x, known)?;
+    Ok(settle(made, rules::PREDEFINED, place, kept))
+}
+
+fn insertion_of(
+    alloc: Global,
+    place: Place,
+    list: Option<Made>,
+    x: Option<Made>,
+    known: Option<&Known>,
+    kept: &mut Option<Fault>,
+) -> Result<Option<Made>, NoMemory>
+    ensures made { IfOk result (λ n. n ≡ (spec.insertion_of place list x (option_copied known.entry)).made) }
+    ensures noted { OnOk result (kept.new ≡ first_of kept.old (spec.insertion_of place list x (option_copied known.entry)).faults) }
+{
+    let Some(list) = list else {
+        return Ok(None);
+    };
+    let Some(x) = x else {
+        return Ok(None);
+    };
+    insertion(alloc, place, list, x, known, kept)
+}
+
+/// An insertion with these arguments, and what is known of the name that stands third.
+pub(crate) fn insert_call(
+    alloc: Global,
+    place: Place,
+    arguments: Items<Option<Made>>,
+    known: Option<&Known>,
+    kept: &mut Option<Fault>,
+) -> Result<Option<Made>, NoMemory>
+    ensures made { IfOk result (λ n. n ≡ (spec.insert_call place arguments (option_copied known.entry)).made) }
+    ensures noted { OnOk result (kept.new ≡ first_of kept.old (spec.insert_call place arguments (option_copied known.entry)).faults) }
+{
+    let Some((list, x)) = before_third(alloc, arguments)? else {
+        note(kept, rules::PREDEFINED, place);
+        return Ok(None);
+    };
+    insertion_of(alloc, place, list, x, known, kept)
+}
