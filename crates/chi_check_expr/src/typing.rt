@@ -3,8 +3,6 @@
 
 mod type_trees;
 
-pub use type_trees::mean_in;
-
 ghost use Rattle.std.specs.Prelude.{◌≡◌, [], ◌∷◌, map, Option, None, IfOk, OnOk, option_map};
 ghost use Rattle.chi_typing.specs.Faults.{first_of};
 ghost use Rattle.chi_expr_rules.specs.Parts as parts;
@@ -23,6 +21,7 @@ use chi_token::Place;
 use chi_tree::{Entry, Expr, Link, Name, Postfix};
 use chi_typing::{Fault, Made, Scope, Site, rules};
 use std::alloc::Global;
+pub use type_trees::mean_in;
 
 /// The core and the type of an expression, if it has a type.
 #[cycle(typing)]

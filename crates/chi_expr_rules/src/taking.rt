@@ -33,12 +33,7 @@ pub fn type_meant(m: Meant) -> Ty
 }
 
 /// An operation on what is made, as it is.
-pub fn on_it(
-    alloc: Global,
-    name: OpName,
-    m: Made,
-    outcome: Ty,
-) -> Result<Option<Made>, NoMemory>
+pub fn on_it(alloc: Global, name: OpName, m: Made, outcome: Ty) -> Result<Option<Made>, NoMemory>
     ensures { IfOk result (λ n. n ≡ Some (spec.as_they_are name (m ∷ []) outcome)) }
 {
     Ok(Some(on_one(alloc, name, core_of(m), outcome)?))

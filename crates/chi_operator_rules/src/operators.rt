@@ -162,7 +162,12 @@ fn divide(alloc: Global, a: Made, b: Made) -> Result<Option<Made>, NoMemory>
 }
 
 /// What an operator of a chain makes of its operands.
-pub(crate) fn binary(alloc: Global, operator: Operator, a: Made, b: Made) -> Result<Option<Made>, NoMemory>
+pub(crate) fn binary(
+    alloc: Global,
+    operator: Operator,
+    a: Made,
+    b: Made,
+) -> Result<Option<Made>, NoMemory>
     ensures { IfOk result (λ m. m ≡ spec.binary operator a b) }
 {
     match operator {

@@ -22,10 +22,7 @@ pub(crate) fn only(alloc: Global, arguments: Items<Made>) -> Result<Option<Made>
 
 /// The two arguments.
 #[tactic(auto, using(crate::proofs::ShortLists::pair_of_two, crate::proofs::ShortLists::pair_of_others))]
-pub(crate) fn pair(
-    alloc: Global,
-    arguments: Items<Made>,
-) -> Result<Option<(Made, Made)>, NoMemory>
+pub(crate) fn pair(alloc: Global, arguments: Items<Made>) -> Result<Option<(Made, Made)>, NoMemory>
     ensures { IfOk result (λ ab. ab ≡ spec.pair arguments) }
 {
     let mut arguments = arguments.into_vec(alloc)?;

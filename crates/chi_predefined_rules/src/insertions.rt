@@ -28,12 +28,7 @@ fn tells_order(element: &Ty, params: &[Ty], outcome: &Ty) -> bool
     }
 }
 
-fn insert_core(
-    alloc: Global,
-    list: CExpr,
-    x: CExpr,
-    number: u32,
-) -> Result<CExpr, NoMemory>
+fn insert_core(alloc: Global, list: CExpr, x: CExpr, number: u32) -> Result<CExpr, NoMemory>
     ensures { IfOk result (λ e. e ≡ expression.InsertBy list x number) }
 {
     let list = Boxed::new(alloc, list)?;
@@ -75,12 +70,7 @@ fn inserted_by(
     }
 }
 
-fn inserted(
-    alloc: Global,
-    list: Made,
-    x: Made,
-    known: &Known,
-) -> Result<Option<Made>, NoMemory>
+fn inserted(alloc: Global, list: Made, x: Made, known: &Known) -> Result<Option<Made>, NoMemory>
     ensures { IfOk result (λ n. n ≡ spec.inserted_in (out-Ty list.ty) list x known.now) }
 {
     match &list.ty {

@@ -11,7 +11,8 @@ use crate::arguments::{only, pair};
 use chi_base::{Boxed, Items, NoMemory};
 use chi_core::{CExpr, OpName};
 use chi_expr_rules::{
-    all_converted, are_ints, both_as, core_and_type, core_of, is_int, number_of, on_it, on_two, wanting, with_cores,
+    all_converted, are_ints, both_as, core_and_type, core_of, is_int, number_of, on_it, on_two,
+    wanting, with_cores,
 };
 use chi_token::Bytes;
 use chi_types::Ty;
@@ -19,11 +20,7 @@ use chi_typing::{Made, Predefined};
 use std::alloc::Global;
 
 /// One more part of a tuple, which has no name.
-fn with_part(
-    alloc: Global,
-    parts: Vec<(Bytes, Ty)>,
-    ty: Ty,
-) -> Result<Vec<(Bytes, Ty)>, NoMemory>
+fn with_part(alloc: Global, parts: Vec<(Bytes, Ty)>, ty: Ty) -> Result<Vec<(Bytes, Ty)>, NoMemory>
     ensures { IfOk result (λ more. more.items ≡ parts.items ++ ([], ty) ∷ []) }
 {
     let mut parts = parts;
@@ -232,12 +229,7 @@ fn dist_of(alloc: Global, drawn: &Ty) -> Result<Ty, NoMemory>
 }
 
 /// A distribution between two numbers, which are converted to the type of their number.
-fn between(
-    alloc: Global,
-    number: Option<Ty>,
-    a: Made,
-    b: Made,
-) -> Result<Option<Made>, NoMemory>
+fn between(alloc: Global, number: Option<Ty>, a: Made, b: Made) -> Result<Option<Made>, NoMemory>
     ensures { IfOk result (λ n. n ≡ spec.between number a b) }
 {
     let Some(ty) = number else {
@@ -304,7 +296,13 @@ fn binomial(alloc: Global, arguments: Items<Made>) -> Result<Option<Made>, NoMem
     ensures { IfOk result (λ n. n ≡ spec.binomial arguments) }
 {
     let outcome = Ty::Dist(Boxed::new(alloc, Ty::Int)?);
-    wanting(alloc, OpName::Binomial, &[Ty::Int, Ty::Real], outcome, arguments)
+    wanting(
+        alloc,
+        OpName::Binomial,
+        &[Ty::Int, Ty::Real],
+        outcome,
+        arguments,
+    )
 }
 
 /// What a name makes of its one argument.

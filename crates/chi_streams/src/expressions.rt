@@ -45,11 +45,7 @@ fn operation(
 
 #[cycle(expression)]
 #[tactic(auto, using(crate::proofs::Equations::part_lit, crate::proofs::Equations::next_lit, crate::proofs::Equations::part_var, crate::proofs::Equations::next_var, crate::proofs::Equations::part_const, crate::proofs::Equations::next_const, crate::proofs::Equations::part_op, crate::proofs::Equations::next_op, crate::proofs::Equations::part_and, crate::proofs::Equations::next_and, crate::proofs::Equations::part_or, crate::proofs::Equations::next_or, crate::proofs::Equations::part_build, crate::proofs::Equations::next_build, crate::proofs::Equations::part_part, crate::proofs::Equations::next_part, crate::proofs::Equations::part_call, crate::proofs::Equations::next_call, crate::proofs::Equations::part_insert_by, crate::proofs::Equations::next_insert_by, crate::proofs::Equations::part_default, crate::proofs::Equations::next_default, crate::proofs::Equations::part_repeat, crate::proofs::Equations::next_repeat))]
-pub(crate) fn expression(
-    alloc: Global,
-    e: CExpr,
-    count: &mut u64,
-) -> Result<CExpr, NoMemory>
+pub(crate) fn expression(alloc: Global, e: CExpr, count: &mut u64) -> Result<CExpr, NoMemory>
     ensures part { IfOk result (λ r. r ≡ (spec.of_expression e count.old).part) }
     ensures next { OnOk result (count.new ≡ (spec.of_expression e count.old).next) }
 {
@@ -87,11 +83,7 @@ pub(crate) fn expression(
 }
 
 #[cycle(expression)]
-fn boxed(
-    alloc: Global,
-    e: Boxed<CExpr>,
-    count: &mut u64,
-) -> Result<Boxed<CExpr>, NoMemory>
+fn boxed(alloc: Global, e: Boxed<CExpr>, count: &mut u64) -> Result<Boxed<CExpr>, NoMemory>
     ensures part { IfOk result (λ r. r ≡ (spec.of_expression e count.old).part) }
     ensures next { OnOk result (count.new ≡ (spec.of_expression e count.old).next) }
 {

@@ -81,11 +81,7 @@ fn some_target(
     }
 }
 
-pub(crate) fn communication(
-    alloc: Global,
-    c: CComm,
-    count: &mut u64,
-) -> Result<CComm, NoMemory>
+pub(crate) fn communication(alloc: Global, c: CComm, count: &mut u64) -> Result<CComm, NoMemory>
     ensures part { IfOk result (λ r. r ≡ (spec.of_communication c count.old).part) }
     ensures next { OnOk result (count.new ≡ (spec.of_communication c count.old).next) }
 {

@@ -79,11 +79,7 @@ fn branch(alloc: Global, b: Branch, count: &mut u64) -> Result<Branch, NoMemory>
 }
 
 #[cycle(statement)]
-fn branches(
-    alloc: Global,
-    all: Items<Branch>,
-    count: &mut u64,
-) -> Result<Items<Branch>, NoMemory>
+fn branches(alloc: Global, all: Items<Branch>, count: &mut u64) -> Result<Items<Branch>, NoMemory>
     ensures part { IfOk result (λ r. r ≡ (spec.each (map spec.of_branch all) count.old).part) }
     ensures next { OnOk result (count.new ≡ (spec.each (map spec.of_branch all) count.old).next) }
 {
@@ -114,11 +110,7 @@ fn alternative(alloc: Global, a: CAlt, count: &mut u64) -> Result<CAlt, NoMemory
 }
 
 #[cycle(statement)]
-fn alternatives(
-    alloc: Global,
-    all: Items<CAlt>,
-    count: &mut u64,
-) -> Result<Items<CAlt>, NoMemory>
+fn alternatives(alloc: Global, all: Items<CAlt>, count: &mut u64) -> Result<Items<CAlt>, NoMemory>
     ensures part { IfOk result (λ r. r ≡ (spec.each (map spec.of_alternative all) count.old).part) }
     ensures next { OnOk result (count.new ≡ (spec.each (map spec.of_alternative all) count.old).next) }
 {
