@@ -1,6 +1,7 @@
 //! Expressions with their streams. Each function moves the count of the calls on to what it is at the end.
 
 ghost use Rattle.std.specs.Prelude.{◌≡◌, map, IfOk, OnOk};
+ghost use Rattle.chi_core.specs.OperatorKinds.{has_stream};
 ghost use Rattle.chi_streams.specs.Streams as spec;
 
 use chi_base::{Boxed, Items, NoMemory};
@@ -12,7 +13,7 @@ use std::alloc::Global;
 const STREAMS: u64 = 64;
 
 fn has_stream(name: OpName) -> bool
-    ensures { result ≡ spec.has_stream name }
+    ensures { result ≡ has_stream name }
 {
     match name {
         OpName::Uniform | OpName::Bernoulli | OpName::Binomial => true,

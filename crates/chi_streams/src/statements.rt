@@ -1,12 +1,13 @@
 //! Statements with their streams.
 
 ghost use Rattle.std.specs.Prelude.{◌≡◌, map, IfOk, OnOk};
+ghost use Rattle.chi_core.specs.declared.statement.CAlt.{CAlt-F};
 ghost use Rattle.chi_streams.specs.Streams as spec;
 
 use crate::expressions::{expression, expressions};
 use crate::parts::{communication, elements, some_expression, targets};
 use chi_base::{Items, NoMemory};
-use chi_core::{Branch, CAlt, CStat};
+use chi_core::{Branch, CAlt, CComm, CExpr, CStat};
 use std::alloc::Global;
 
 #[cycle(statement)]
@@ -91,21 +92,45 @@ fn branches(alloc: Global, all: Items<Branch>, count: &mut u64) -> Result<Items<
 }
 
 #[cycle(statement)]
+fn guarded(
+    alloc: Global,
+    guard: Option<CExpr>,
+    offer: CComm,
+    block: Items<CStat>,
+    count: &mut u64,
+) -> Result<CAlt, NoMemory>
+    ensures part { IfOk result (λ r. r ≡ (spec.alternative_step (CAlt-F.Guarded guard offer (map spec.of_statement block)) count.old).part) }
+    ensures next { OnOk result (count.new ≡ (spec.alternative_step (CAlt-F.Guarded guard offer (map spec.of_statement block)) count.old).next) }
+{
+    let guard = some_expression(alloc, guard, count)?;
+    let offer = communication(alloc, offer, count)?;
+    Ok(CAlt::Guarded(guard, offer, statements(alloc, block, count)?))
+}
+
+#[cycle(statement)]
+fn unwound(
+    alloc: Global,
+    slots: Items<u32>,
+    container: CExpr,
+    inner: Items<CAlt>,
+    count: &mut u64,
+) -> Result<CAlt, NoMemory>
+    ensures part { IfOk result (λ r. r ≡ (spec.alternative_step (CAlt-F.Unwind slots container (map spec.of_alternative inner)) count.old).part) }
+    ensures next { OnOk result (count.new ≡ (spec.alternative_step (CAlt-F.Unwind slots container (map spec.of_alternative inner)) count.old).next) }
+{
+    let container = expression(alloc, container, count)?;
+    Ok(CAlt::Unwind(slots, container, alternatives(alloc, inner, count)?))
+}
+
+#[cycle(statement)]
 #[tactic(auto, using(crate::proofs::Equations::part_guarded, crate::proofs::Equations::next_guarded, crate::proofs::Equations::part_unwind_alternatives, crate::proofs::Equations::next_unwind_alternatives))]
 fn alternative(alloc: Global, a: CAlt, count: &mut u64) -> Result<CAlt, NoMemory>
     ensures part { IfOk result (λ r. r ≡ (spec.of_alternative a count.old).part) }
     ensures next { OnOk result (count.new ≡ (spec.of_alternative a count.old).next) }
 {
     match a {
-        CAlt::Guarded(guard, offer, block) => {
-            let guard = some_expression(alloc, guard, count)?;
-            let offer = communication(alloc, offer, count)?;
-            Ok(CAlt::Guarded(guard, offer, statements(alloc, block, count)?))
-        }
-        CAlt::Unwind(slots, container, inner) => {
-            let container = expression(alloc, container, count)?;
-            Ok(CAlt::Unwind(slots, container, alternatives(alloc, inner, count)?))
-        }
+        CAlt::Guarded(guard, offer, block) => guarded(alloc, guard, offer, block, count),
+        CAlt::Unwind(slots, container, inner) => unwound(alloc, slots, container, inner, count),
     }
 }
 
