@@ -1,5 +1,5 @@
 -- Casts, by the type of what is cast.
-use Rattle.std.specs.Prelude.{Bool, true, false, List, [], ◌∷◌, Option, Some, None, option_map, if◌then◌else◌}
+use Rattle.std.specs.Prelude.{Bool, true, false, List, [], ◌∷◌, Option, Some, None, if◌then◌else◌}
 use Rattle.chi_token.specs.declared.place.Place.{Place}
 use Rattle.chi_tree.specs.declared.operator.CastWord.{CastWord}
 use Rattle.chi_tree.specs.declared.operator.CastWord.TheVariants as word

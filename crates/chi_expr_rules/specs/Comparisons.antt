@@ -1,5 +1,5 @@
 -- The signs between two sums, by the types of their operands.
-use Rattle.std.specs.Prelude.{Bool, true, false, ◌&&◌, [], ◌∷◌, Option, Some, None, if◌then◌else◌}
+use Rattle.std.specs.Prelude.{Bool, true, false, ◌&&◌, [], ◌∷◌, Option, Some, None, option_map, if◌then◌else◌}
 use Rattle.std.specs.Option.{option_and_then}
 use Rattle.chi_token.specs.declared.place.Place.{Place}
 use Rattle.chi_tree.specs.declared.operator.RelationSign.{RelationSign}
@@ -16,12 +16,15 @@ use Rattle.chi_core.specs.declared.op_name.OpName.TheVariants as op
 use Rattle.chi_typing.specs.declared.meant.Made.{Made}
 use Rattle.chi_typing.specs.declared.rules.TheConstants.{OPERATOR}
 use Rattle.chi_typing.specs.Typed.{Typed}
-use Rattle.chi_expr_rules.specs.Conversions.{made, converted, as_they_are, both_as}
+use Rattle.chi_expr_rules.specs.Conversions.{made, converted, as_they_are, compared}
 use Rattle.chi_expr_rules.specs.Nodes.{of_two}
+
+abbrev pub if_plain : Ty → Option Ty
+if_plain t = if is_plain t then Some t else None
 
 -- equal or not: joined and plain
 abbrev pub equality : OpName → Made → Made → Option Made
-equality name a b = option_and_then (λ t. if is_plain t then Some (both_as name t a b ty.Bool) else None) (joined a.ty b.ty)
+equality name a b = compared name (option_and_then if_plain (joined a.ty b.ty)) a b
 
 -- what has an order of its own: numbers, strings and the values of one enumeration
 abbrev pub has_order : Ty-F Ty → Bool
@@ -31,8 +34,11 @@ has_order Ty-F.Text = true
 has_order (Ty-F.Choice enumeration) = true
 has_order _ = false
 
+abbrev pub if_ordered : Ty → Option Ty
+if_ordered t = if has_order (out-Ty t) then Some t else None
+
 abbrev pub ordering : OpName → Made → Made → Option Made
-ordering name a b = option_and_then (λ t. if has_order (out-Ty t) then Some (both_as name t a b ty.Bool) else None) (joined a.ty b.ty)
+ordering name a b = compared name (option_and_then if_ordered (joined a.ty b.ty)) a b
 
 -- what may be in a container: the elements of a list or set, the keys of a dictionary
 abbrev pub member_type : Ty-F Ty → Option Ty
@@ -41,13 +47,15 @@ member_type (Ty-F.SetOf element) = Some element
 member_type (Ty-F.DictOf key value) = Some key
 member_type _ = None
 
--- plain, and it fits
-abbrev pub member_of : Made → Made → Ty → Option Made
-member_of a b t =
-    if is_plain t && fits a.ty t then Some (made (expression.Op op.In (converted a t ∷ b.core ∷ [])) ty.Bool) else None
+-- plain, and what is given fits
+abbrev pub if_member : Ty → Ty → Option Ty
+if_member given t = if is_plain t && fits given t then Some t else None
+
+abbrev pub member_of : Made → Made → Ty → Made
+member_of a b t = made (expression.Op op.In (converted a t ∷ b.core ∷ [])) ty.Bool
 
 abbrev pub membership : Made → Made → Option Made
-membership a b = option_and_then (member_of a b) (member_type (out-Ty b.ty))
+membership a b = option_map (member_of a b) (option_and_then (if_member a.ty) (member_type (out-Ty b.ty)))
 
 abbrev pub is_set : Ty-F Ty → Bool
 is_set (Ty-F.SetOf element) = true

@@ -1,5 +1,5 @@
 -- Literals of several parts, and empty ones.
-use Rattle.std.specs.Prelude.{List, [], ◌∷◌, ◌++◌, map, Option, Some, None, option_map}
+use Rattle.std.specs.Prelude.{List, [], ◌∷◌, ◌++◌, map, Option, Some, None}
 use Rattle.std.specs.Option.{option_and_then}
 use Rattle.chi_token.specs.declared.place.Place.{Place}
 use Rattle.chi_types.specs.declared.ty.Ty.{Ty}

@@ -1,6 +1,7 @@
 -- What stands in the core where a value serves for one of another type.
-use Rattle.std.specs.Prelude.{Bool, true, false, List, [], ◌∷◌, map, Option, Some, None, option_map, if◌then◌else◌}
+use Rattle.std.specs.Prelude.{List, [], ◌∷◌, map, Option, Some, None, option_map, if◌then◌else◌}
 use Rattle.chi_types.specs.declared.ty.Ty.{Ty, out-Ty}
+use Rattle.chi_types.specs.declared.ty.Ty.TheVariants as ty
 use Rattle.chi_types.specs.Fits.{fits, widens}
 use Rattle.chi_core.specs.declared.expression.CExpr.{CExpr}
 use Rattle.chi_core.specs.declared.expression.CExpr.TheVariants as expression
@@ -32,3 +33,7 @@ as_they_are name operands result = made (expression.Op name (map (λ m. m.core) 
 -- an operation on two operands, each converted to one type
 abbrev pub both_as : OpName → Ty → Made → Made → Ty → Made
 both_as name t a b result = made (expression.Op name (converted a t ∷ converted b t ∷ [])) result
+
+-- a test of two operands, each converted to the type that they have in common
+abbrev pub compared : OpName → Option Ty → Made → Made → Option Made
+compared name common a b = option_map (λ t. both_as name t a b ty.Bool) common

@@ -30,8 +30,12 @@ number_of Ty-F.Real Ty-F.Int = Some ty.Real
 number_of Ty-F.Real Ty-F.Real = Some ty.Real
 number_of _ _ = None
 
+-- an operation on two numbers
+abbrev pub calculated : OpName → Option Ty → Made → Made → Option Made
+calculated name number a b = option_map (λ t. both_as name t a b t) number
+
 abbrev pub arithmetic : OpName → Made → Made → Option Made
-arithmetic name a b = option_map (λ t. both_as name t a b t) (number_of (out-Ty a.ty) (out-Ty b.ty))
+arithmetic name a b = calculated name (number_of (out-Ty a.ty) (out-Ty b.ty)) a b
 
 -- ---- texts and containers
 

@@ -13,19 +13,30 @@ use Rattle.chi_typing.specs.declared.meant.Made.{Made}
 use Rattle.chi_typing.specs.declared.rules.TheConstants.{INDEX, FIELD}
 use Rattle.chi_typing.specs.Typed.{Typed}
 use Rattle.chi_typing.specs.TypeRules.{is_int}
+use Rattle.chi_expr_rules.specs.declared.parts.Contents.{Contents}
+use Rattle.chi_expr_rules.specs.declared.parts.Contents.TheVariants as what
 use Rattle.chi_expr_rules.specs.Conversions.{made, converted, as_they_are}
 use Rattle.chi_expr_rules.specs.Nodes.{of_one, of_two, all_made}
 
 -- ---- indexes
+
+-- what an index takes: an element, or what a key has
+abbrev pub contents_of : Ty-F Ty → Contents
+contents_of (Ty-F.ListOf element) = what.Element element
+contents_of Ty-F.Text = what.Element ty.Text
+contents_of (Ty-F.DictOf key value) = what.Entry key value
+contents_of _ = what.Nothing
 
 -- an element, a byte of a string
 abbrev pub element_at : Ty → Made → Made → Option Made
 element_at element whole index = if is_int (out-Ty index.ty) then Some (as_they_are op.Index (whole ∷ index ∷ []) element) else None
 
 -- what a key has
+abbrev pub with_key : Ty → Ty → Made → Made → Made
+with_key key value whole index = made (expression.Op op.Lookup (whole.core ∷ converted index key ∷ [])) value
+
 abbrev pub looked_up : Ty → Ty → Made → Made → Option Made
-looked_up key value whole index =
-    if fits index.ty key then Some (made (expression.Op op.Lookup (whole.core ∷ converted index key ∷ [])) value) else None
+looked_up key value whole index = if fits index.ty key then Some (with_key key value whole index) else None
 
 abbrev pub indexed_by : Ty-F Ty → Made → Made → Option Made
 indexed_by (Ty-F.ListOf element) whole index = element_at element whole index

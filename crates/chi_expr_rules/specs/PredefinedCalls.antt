@@ -70,30 +70,34 @@ popped_type whole (Ty-F.SetOf element) = Some (tuple (element ∷ whole ∷ []))
 popped_type whole (Ty-F.DictOf key value) = Some (tuple (key ∷ value ∷ whole ∷ []))
 popped_type whole _ = None
 
+-- an operation on what it takes apart, where that has a type
+abbrev pub taken_by : OpName → Made → Option Ty → Option Made
+taken_by name m result = option_map (as_they_are name (m ∷ [])) result
+
 abbrev pub popped : Made → Option Made
-popped m = option_map (as_they_are op.Pop (m ∷ [])) (popped_type m.ty (out-Ty m.ty))
+popped m = taken_by op.Pop m (popped_type m.ty (out-Ty m.ty))
 
 -- each element with its index
-abbrev pub enumerated_by : Ty-F Ty → Made → Option Made
-enumerated_by (Ty-F.ListOf element) m = Some (as_they_are op.Enumerate (m ∷ []) (ty.ListOf (tuple (ty.Int ∷ element ∷ []))))
-enumerated_by _ m = None
+abbrev pub enumerated_type : Ty-F Ty → Option Ty
+enumerated_type (Ty-F.ListOf element) = Some (ty.ListOf (tuple (ty.Int ∷ element ∷ [])))
+enumerated_type _ = None
 
 abbrev pub enumerated : Made → Option Made
-enumerated m = enumerated_by (out-Ty m.ty) m
+enumerated m = taken_by op.Enumerate m (enumerated_type (out-Ty m.ty))
 
-abbrev pub keys_by : Ty-F Ty → Made → Option Made
-keys_by (Ty-F.DictOf key value) m = Some (as_they_are op.DictKeys (m ∷ []) (ty.ListOf key))
-keys_by _ m = None
+abbrev pub keys_type : Ty-F Ty → Option Ty
+keys_type (Ty-F.DictOf key value) = Some (ty.ListOf key)
+keys_type _ = None
 
 abbrev pub keys : Made → Option Made
-keys m = keys_by (out-Ty m.ty) m
+keys m = taken_by op.DictKeys m (keys_type (out-Ty m.ty))
 
-abbrev pub values_by : Ty-F Ty → Made → Option Made
-values_by (Ty-F.DictOf key value) m = Some (as_they_are op.DictValues (m ∷ []) (ty.ListOf value))
-values_by _ m = None
+abbrev pub values_type : Ty-F Ty → Option Ty
+values_type (Ty-F.DictOf key value) = Some (ty.ListOf value)
+values_type _ = None
 
 abbrev pub values : Made → Option Made
-values m = values_by (out-Ty m.ty) m
+values m = taken_by op.DictValues m (values_type (out-Ty m.ty))
 
 -- a distribution that is always the same
 abbrev pub constant : Made → Option Made
@@ -111,8 +115,11 @@ deleted list index =
     if is_list (out-Ty list.ty) && is_int (out-Ty index.ty) then Some (as_they_are op.Del (list ∷ index ∷ []) list.ty) else None
 
 -- between two ints, or between two numbers as reals
+abbrev pub between : Option Ty → Made → Made → Option Made
+between number a b = option_map (λ t. both_as op.Uniform t a b (ty.Dist t)) number
+
 abbrev pub uniform : Made → Made → Option Made
-uniform a b = option_map (λ t. both_as op.Uniform t a b (ty.Dist t)) (number_of (out-Ty a.ty) (out-Ty b.ty))
+uniform a b = between (number_of (out-Ty a.ty) (out-Ty b.ty)) a b
 
 -- ---- two numbers or more
 
@@ -224,12 +231,13 @@ abbrev pub tells_order : Ty → List Ty → Ty → Bool
 tells_order t (a ∷ b ∷ []) result = same a t && same b t && same result ty.Bool
 tells_order t _ result = false
 
+abbrev pub inserting : Ty → Made → Made → ℕ → Made
+inserting element list x number = made (expression.InsertBy list.core (converted x element) number) list.ty
+
 -- the list, the new element, and what is known of the name of the function
 abbrev pub inserted_by : Ty → Made → Made → Known → Option Made
 inserted_by element list x (known.Func number params result) =
-    if fits x.ty element && tells_order element params result
-    then Some (made (expression.InsertBy list.core (converted x element) number) list.ty)
-    else None
+    if fits x.ty element && tells_order element params result then Some (inserting element list x number) else None
 inserted_by element list x _ = None
 
 abbrev pub inserted_in : Ty-F Ty → Made → Made → Known → Option Made

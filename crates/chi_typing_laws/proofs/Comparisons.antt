@@ -1,6 +1,7 @@
 -- What the signs between two sums make is sound.
 use Rattle.std.proofs.Common.{◌≡◌, true, false, cond, List, [], ◌∷◌, Some, None, refl, sym, ap, subst, ◌∙◌}
 use Rattle.std.proofs.lemmas.Bool.{and_parts}
+use Rattle.std.specs.Option.{option_and_then}
 use Rattle.std.specs.Prelude.{◌&&◌}
 use Rattle.chi_tree.specs.declared.operator.RelationSign.{RelationSign}
 use Rattle.chi_tree.specs.declared.operator.RelationSign.TheVariants as sign
@@ -21,10 +22,10 @@ use Rattle.chi_core.specs.SetSlots.{Known as Set}
 use Rattle.chi_core.proofs.Erased.{kind_at, same_kind}
 use Rattle.chi_typing.specs.declared.meant.Made.{Made}
 use Rattle.chi_expr_rules.specs.Conversions.{made, converted, as_they_are, both_as}
-use Rattle.chi_expr_rules.specs.Comparisons.{equality, has_order, ordering, member_type, member_of, membership, is_set, subset, related}
+use Rattle.chi_expr_rules.specs.Comparisons.{if_plain, equality, has_order, if_ordered, ordering, member_type, if_member, member_of, membership, is_set, subset, related}
 use Rattle.chi_typing_laws.specs.Standing.{Has}
 use Rattle.chi_typing_laws.proofs.TypeKinds.{kind_bool, sound_bool, joined_serves, plain_kind, plain_erased}
-use Rattle.chi_typing_laws.proofs.Conversions.{some_is, chosen, chained, always, Sounds, fits_has, two_of, operation_sound, as_they_are_sound, both_sound}
+use Rattle.chi_typing_laws.proofs.Conversions.{Sounds, always, as_they_are_sound, both_sound, chained, chosen, fits_has, mapped, operation_sound, some_is, two_of}
 
 ordered_layer : (layer : Ty-F Ty) → has_order layer ≡ true → is_ordered (without_ways_and_names (map-Ty Ty Ty erased layer)) ≡ true
 ordered_layer Ty-F.Int h = refl
@@ -47,37 +48,41 @@ module _ (scope : Scope) (set : Set) where
   equality_sound : (name : OpName) → ((T : Kind) → is_plain_kind T ≡ true → OpKind name (T ∷ T ∷ []) Ty-F.Bool) → ((Ts : List Kind) → depends_on_run name Ts ≡ false) → (a b m : Made)
       → Sounds scope set a → Sounds scope set b → equality name a b ≡ Some m → Sounds scope set m
   equality_sound name r still a b m h k e =
-      let f = chained (λ t. cond (is_plain t) (Some (both_as name t a b ty.Bool)) None) (joined a.ty b.ty) m e in
-      let c = chosen (is_plain f.0) (both_as name f.0 a b ty.Bool) m f.2 in
-      joined_sound name f.0 (r (kind_of f.0) (plain_kind f.0 c.0)) (still _) a b m f.1 h k c.1
+      let f = mapped (λ t. both_as name t a b ty.Bool) (option_and_then if_plain (joined a.ty b.ty)) m e in
+      let g = chained if_plain (joined a.ty b.ty) f.0 f.1 in
+      let c = chosen (is_plain g.0) g.0 f.0 g.2 in
+      joined_sound name g.0 (r (kind_of g.0) (plain_kind g.0 c.0)) (still _) a b m g.1 h k (ap (λ t. both_as name t a b ty.Bool) c.1 ∙ f.2)
 
   ordering_sound : (name : OpName) → ((T : Kind) → is_ordered T ≡ true → OpKind name (T ∷ T ∷ []) Ty-F.Bool) → ((Ts : List Kind) → depends_on_run name Ts ≡ false) → (a b m : Made)
       → Sounds scope set a → Sounds scope set b → ordering name a b ≡ Some m → Sounds scope set m
   ordering_sound name r still a b m h k e =
-      let f = chained (λ t. cond (has_order (out-Ty t)) (Some (both_as name t a b ty.Bool)) None) (joined a.ty b.ty) m e in
-      let c = chosen (has_order (out-Ty f.0)) (both_as name f.0 a b ty.Bool) m f.2 in
-      joined_sound name f.0 (r (kind_of f.0) (ordered_kind f.0 c.0)) (still _) a b m f.1 h k c.1
+      let f = mapped (λ t. both_as name t a b ty.Bool) (option_and_then if_ordered (joined a.ty b.ty)) m e in
+      let g = chained if_ordered (joined a.ty b.ty) f.0 f.1 in
+      let c = chosen (has_order (out-Ty g.0)) g.0 f.0 g.2 in
+      joined_sound name g.0 (r (kind_of g.0) (ordered_kind g.0 c.0)) (still _) a b m g.1 h k (ap (λ t. both_as name t a b ty.Bool) c.1 ∙ f.2)
 
-  member_sound : (a b m : Made) (t : Ty) (K : Kind) → kind_of b.ty ≡ K → (is_plain t ≡ true → OpKind op.In (kind_of t ∷ K ∷ []) Ty-F.Bool) → Sounds scope set a → Sounds scope set b → member_of a b t ≡ Some m → Sounds scope set m
-  member_sound a b m t K is r h k e =
-      let c = chosen (is_plain t && fits a.ty t) (made (expression.Op op.In (converted a t ∷ b.core ∷ [])) ty.Bool) m e in
-      let both = and_parts _ _ c.0 in
-      operation_sound scope set op.In _ (kind_of t ∷ K ∷ []) ty.Bool Ty-F.Bool m (r both.0) (always scope.role op.In _ refl) kind_bool
-      (two_of scope set _ _ _ _ (fits_has scope set a t both.1 h) (subst (Has scope set b.core) is k.kind)) (sound_bool _) c.1
+  member_sound : (a b m : Made) (t : Ty) (K : Kind) → kind_of b.ty ≡ K → (is_plain t ≡ true → OpKind op.In (kind_of t ∷ K ∷ []) Ty-F.Bool) → Sounds scope set a → Sounds scope set b
+      → (is_plain t && fits a.ty t) ≡ true → member_of a b t ≡ m → Sounds scope set m
+  member_sound a b m t K is r h k holds e =
+      let both = and_parts _ _ holds in
+      operation_sound scope set op.In (converted a t ∷ b.core ∷ []) (kind_of t ∷ K ∷ []) ty.Bool Ty-F.Bool m (r both.0) (always scope.role op.In _ refl) kind_bool
+          (two_of scope set _ _ _ _ (fits_has scope set a t both.1 h) (subst (Has scope set b.core) is k.kind)) (sound_bool _) e
 
-  membership_by : (a b m : Made) → Sounds scope set a → Sounds scope set b → (layer : Ty-F Ty) → out-Ty b.ty ≡ layer → (t : Ty) → member_type layer ≡ Some t → member_of a b t ≡ Some m → Sounds scope set m
-  membership_by a b m h k (Ty-F.ListOf u) p t is e =
-      member_sound a b m t (Ty-F.ListOf (erased t)) (kind_at b.ty _ p ∙ ap (λ t. Ty-F.ListOf (erased t)) (some_is u t is)) (λ plain. row.in_list (erased t) (plain_erased t plain)) h k e
-  membership_by a b m h k (Ty-F.SetOf u) p t is e =
-      member_sound a b m t (Ty-F.SetOf (erased t)) (kind_at b.ty _ p ∙ ap (λ t. Ty-F.SetOf (erased t)) (some_is u t is)) (λ plain. row.in_set (erased t)) h k e
-  membership_by a b m h k (Ty-F.DictOf u v) p t is e =
-      member_sound a b m t (Ty-F.DictOf (erased t) (erased v)) (kind_at b.ty _ p ∙ ap (λ t. Ty-F.DictOf (erased t) (erased v)) (some_is u t is)) (λ plain. row.in_dictionary (erased t) (erased v)) h k e
-  membership_by a b m h k _ p t is e = absurd (cc)
+  membership_by : (a b m : Made) → Sounds scope set a → Sounds scope set b → (layer : Ty-F Ty) → out-Ty b.ty ≡ layer → (t : Ty) → member_type layer ≡ Some t → (is_plain t && fits a.ty t) ≡ true → member_of a b t ≡ m → Sounds scope set m
+  membership_by a b m h k (Ty-F.ListOf u) p t is holds e =
+      member_sound a b m t (Ty-F.ListOf (erased t)) (kind_at b.ty _ p ∙ ap (λ t. Ty-F.ListOf (erased t)) (some_is u t is)) (λ plain. row.in_list (erased t) (plain_erased t plain)) h k holds e
+  membership_by a b m h k (Ty-F.SetOf u) p t is holds e =
+      member_sound a b m t (Ty-F.SetOf (erased t)) (kind_at b.ty _ p ∙ ap (λ t. Ty-F.SetOf (erased t)) (some_is u t is)) (λ plain. row.in_set (erased t)) h k holds e
+  membership_by a b m h k (Ty-F.DictOf u v) p t is holds e =
+      member_sound a b m t (Ty-F.DictOf (erased t) (erased v)) (kind_at b.ty _ p ∙ ap (λ t. Ty-F.DictOf (erased t) (erased v)) (some_is u t is)) (λ plain. row.in_dictionary (erased t) (erased v)) h k holds e
+  membership_by a b m h k _ p t is holds e = absurd (cc)
 
   membership_sound : (a b m : Made) → Sounds scope set a → Sounds scope set b → membership a b ≡ Some m → Sounds scope set m
   membership_sound a b m h k e =
-      let f = chained (member_of a b) (member_type (out-Ty b.ty)) m e in
-      membership_by a b m h k (out-Ty b.ty) refl f.0 f.1 f.2
+      let f = mapped (member_of a b) (option_and_then (if_member a.ty) (member_type (out-Ty b.ty))) m e in
+      let g = chained (if_member a.ty) (member_type (out-Ty b.ty)) f.0 f.1 in
+      let c = chosen (is_plain g.0 && fits a.ty g.0) g.0 f.0 g.2 in
+      membership_by a b m h k (out-Ty b.ty) refl g.0 g.1 c.0 (ap (member_of a b) c.1 ∙ f.2)
 
   subset_by : (a b m : Made) → Sounds scope set a → Sounds scope set b → (layer : Ty-F Ty) → out-Ty a.ty ≡ layer → is_set layer ≡ true → same a.ty b.ty ≡ true → as_they_are op.Subset (a ∷ b ∷ []) ty.Bool ≡ m → Sounds scope set m
   subset_by a b m h k (Ty-F.SetOf t) p is s e =

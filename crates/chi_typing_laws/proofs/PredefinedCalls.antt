@@ -30,7 +30,7 @@ use Rattle.chi_typing.specs.TypeRules.{is_int, is_drawn}
 use Rattle.chi_expr_rules.specs.Nodes.{settled}
 use Rattle.chi_expr_rules.specs.Conversions.{made, converted, wanting, as_they_are, both_as}
 use Rattle.chi_expr_rules.specs.Operators.{number_of}
-use Rattle.chi_expr_rules.specs.PredefinedCalls.{tuple, absolute_by, absolute, sign_by, is_counted, counted, popped_type, popped, enumerated_by, keys_by, values_by, constant, is_list, deleted, uniform, common_number, extreme, range, one, two, is_count, predefined, tells_order, inserted_by, inserted_in, is_untyped_function, insertion, predefined_rule}
+use Rattle.chi_expr_rules.specs.PredefinedCalls.{tuple, absolute_by, absolute, sign_by, is_counted, counted, popped_type, popped, constant, is_list, deleted, uniform, common_number, extreme, range, one, two, is_count, predefined, tells_order, inserted_by, inserted_in, is_untyped_function, insertion, predefined_rule, enumerated_type, enumerated, keys_type, keys, values_type, values}
 use Rattle.chi_typing_laws.specs.Standing.{Has, IsSite, Stands}
 use Rattle.chi_typing_laws.proofs.Has.{Have, has_insertion}
 use Rattle.chi_typing_laws.proofs.TypeKinds.{Serves, serves_itself, serves_still, kind_bool, kind_int, kind_real, kind_timer, kind_instance, kind_list, kind_dist, sound_bool, sound_int, sound_real, sound_list, sound_dist, sound_tuple, sound_nameless, element_of_list, element_of_set, parts_of_dictionary}
@@ -129,26 +129,42 @@ module _ (scope : Scope) (set : Set) where
       let f = mapped (as_they_are op.Pop (a ∷ [])) (popped_type a.ty (out-Ty a.ty)) m e in
       popped_by a m h (out-Ty a.ty) refl f.0 f.1 f.2
 
-  enumerated_sound : (a m : Made) → Sounds scope set a → (layer : Ty-F Ty) → out-Ty a.ty ≡ layer → enumerated_by layer a ≡ Some m → Sounds scope set m
-  enumerated_sound a m h (Ty-F.ListOf u) p e =
+  enumerated_by : (a m : Made) → Sounds scope set a → (layer : Ty-F Ty) → out-Ty a.ty ≡ layer → (t : Ty) → enumerated_type layer ≡ Some t → as_they_are op.Enumerate (a ∷ []) t ≡ m → Sounds scope set m
+  enumerated_by a m h (Ty-F.ListOf u) p t is e =
       let pair_type : Ty = tuple (ty.Int ∷ u ∷ []) in
       let part : erased pair_type ≡ roll-Ty (tuple_of (ty.Int ∷ erased u ∷ [])) = erased_tuple (ty.Int ∷ u ∷ []) ∙ ap (λ int. roll-Ty (tuple_of (int ∷ erased u ∷ []))) erased_int in
       let kind : kind_of (ty.ListOf pair_type) ≡ Ty-F.ListOf (roll-Ty (tuple_of (ty.Int ∷ erased u ∷ []))) = kind_list pair_type ∙ ap Ty-F.ListOf part in
       let s = sound_list _ pair_type (sound_tuple _ _ (sound_nameless _ (ty.Int ∷ u ∷ []) (sound_int _, (element_of_list _ a.ty u p h.ty, tt)))) in
-      of_kind scope set op.Enumerate (ty.ListOf pair_type) (Ty-F.ListOf (erased u)) _ (row.enumerate_list (erased u)) (always scope.role op.Enumerate _ refl) kind s a m (kind_at a.ty _ p) h (some_is _ m e)
-  enumerated_sound a m h _ p e = absurd (cc)
+      of_kind scope set op.Enumerate (ty.ListOf pair_type) (Ty-F.ListOf (erased u)) _ (row.enumerate_list (erased u)) (always scope.role op.Enumerate _ refl) kind s a m (kind_at a.ty _ p) h
+          (ap (as_they_are op.Enumerate (a ∷ [])) (some_is (ty.ListOf pair_type) t is) ∙ e)
+  enumerated_by a m h _ p t is e = absurd (cc)
 
-  keys_sound : (a m : Made) → Sounds scope set a → (layer : Ty-F Ty) → out-Ty a.ty ≡ layer → keys_by layer a ≡ Some m → Sounds scope set m
-  keys_sound a m h (Ty-F.DictOf key has) p e =
+  enumerated_sound : (a m : Made) → Sounds scope set a → enumerated a ≡ Some m → Sounds scope set m
+  enumerated_sound a m h e =
+      let f = mapped (as_they_are op.Enumerate (a ∷ [])) (enumerated_type (out-Ty a.ty)) m e in
+      enumerated_by a m h (out-Ty a.ty) refl f.0 f.1 f.2
+
+  keys_by : (a m : Made) → Sounds scope set a → (layer : Ty-F Ty) → out-Ty a.ty ≡ layer → (t : Ty) → keys_type layer ≡ Some t → as_they_are op.DictKeys (a ∷ []) t ≡ m → Sounds scope set m
+  keys_by a m h (Ty-F.DictOf key has) p t is e =
       of_kind scope set op.DictKeys (ty.ListOf key) (Ty-F.DictOf (erased key) (erased has)) _ (row.keys_of_dictionary (erased key) (erased has)) (always scope.role op.DictKeys _ refl) (kind_list key)
-      (sound_list _ key (parts_of_dictionary _ a.ty key has p h.ty).0) a m (kind_at a.ty _ p) h (some_is _ m e)
-  keys_sound a m h _ p e = absurd (cc)
+          (sound_list _ key (parts_of_dictionary _ a.ty key has p h.ty).0) a m (kind_at a.ty _ p) h (ap (as_they_are op.DictKeys (a ∷ [])) (some_is (ty.ListOf key) t is) ∙ e)
+  keys_by a m h _ p t is e = absurd (cc)
 
-  values_sound : (a m : Made) → Sounds scope set a → (layer : Ty-F Ty) → out-Ty a.ty ≡ layer → values_by layer a ≡ Some m → Sounds scope set m
-  values_sound a m h (Ty-F.DictOf key has) p e =
+  keys_sound : (a m : Made) → Sounds scope set a → keys a ≡ Some m → Sounds scope set m
+  keys_sound a m h e =
+      let f = mapped (as_they_are op.DictKeys (a ∷ [])) (keys_type (out-Ty a.ty)) m e in
+      keys_by a m h (out-Ty a.ty) refl f.0 f.1 f.2
+
+  values_by : (a m : Made) → Sounds scope set a → (layer : Ty-F Ty) → out-Ty a.ty ≡ layer → (t : Ty) → values_type layer ≡ Some t → as_they_are op.DictValues (a ∷ []) t ≡ m → Sounds scope set m
+  values_by a m h (Ty-F.DictOf key has) p t is e =
       of_kind scope set op.DictValues (ty.ListOf has) (Ty-F.DictOf (erased key) (erased has)) _ (row.values_of_dictionary (erased key) (erased has)) (always scope.role op.DictValues _ refl) (kind_list has)
-      (sound_list _ has (parts_of_dictionary _ a.ty key has p h.ty).1) a m (kind_at a.ty _ p) h (some_is _ m e)
-  values_sound a m h _ p e = absurd (cc)
+          (sound_list _ has (parts_of_dictionary _ a.ty key has p h.ty).1) a m (kind_at a.ty _ p) h (ap (as_they_are op.DictValues (a ∷ [])) (some_is (ty.ListOf has) t is) ∙ e)
+  values_by a m h _ p t is e = absurd (cc)
+
+  values_sound : (a m : Made) → Sounds scope set a → values a ≡ Some m → Sounds scope set m
+  values_sound a m h e =
+      let f = mapped (as_they_are op.DictValues (a ∷ [])) (values_type (out-Ty a.ty)) m e in
+      values_by a m h (out-Ty a.ty) refl f.0 f.1 f.2
 
   -- a distribution of what is constant
   constant_of : (a m : Made) (t : Ty) (T : Kind) → OpKind op.Constant (T ∷ []) (Ty-F.Dist t) → kind_of a.ty ≡ T → erased a.ty ≡ t → Sounds scope set a → as_they_are op.Constant (a ∷ []) (ty.Dist a.ty) ≡ m → Sounds scope set m
@@ -297,9 +313,9 @@ module _ (scope : Scope) (set : Set) where
   predefined_sound name.Del s place ms m at rule count h e = two_sound deleted deleted_sound ms m h e
   predefined_sound name.Insert s place ms m at rule count h e = absurd (cc)
   predefined_sound name.Range s place ms m at rule count h e = range_sound ms m count h e
-  predefined_sound name.Enumerate s place ms m at rule count h e = one_sound (λ m. enumerated_by (out-Ty m.ty) m) (λ a m h. enumerated_sound a m h (out-Ty a.ty) refl) ms m h e
-  predefined_sound name.DictKeys s place ms m at rule count h e = one_sound (λ m. keys_by (out-Ty m.ty) m) (λ a m h. keys_sound a m h (out-Ty a.ty) refl) ms m h e
-  predefined_sound name.DictValues s place ms m at rule count h e = one_sound (λ m. values_by (out-Ty m.ty) m) (λ a m h. values_sound a m h (out-Ty a.ty) refl) ms m h e
+  predefined_sound name.Enumerate s place ms m at rule count h e = one_sound enumerated enumerated_sound ms m h e
+  predefined_sound name.DictKeys s place ms m at rule count h e = one_sound keys keys_sound ms m h e
+  predefined_sound name.DictValues s place ms m at rule count h e = one_sound values values_sound ms m h e
   predefined_sound name.Constant s place ms m at rule count h e = one_sound constant constant_sound ms m h e
   predefined_sound name.Uniform s place ms m at rule count h e = two_sound uniform uniform_sound ms m h e
   predefined_sound name.Bernoulli s place ms m at rule count h e =
