@@ -1,0 +1,47 @@
+-- When what the statements of a body come to is sound, and what is visible after them agrees with the program.
+use Rattle.std.specs.Prelude.{◌≡◌, ℕ, ◌<◌, Bool, Option, Some, None, List, [], ◌∷◌, ◌++◌, map, length, slice_get, IsTrue}
+use Rattle.chi_types.specs.declared.ty.Ty.{Ty}
+use Rattle.chi_core.specs.declared.statement.CStat.{CStat, out-CStat}
+use Rattle.chi_core.specs.Kinds.{kind_of}
+use Rattle.chi_core.specs.Scopes.{Role, function, process, Scope}
+use Rattle.chi_core.specs.SetSlots.{Known as Set, sets}
+use Rattle.chi_core.specs.SoundStatements.{SoundBlock}
+use Rattle.chi_streams.specs.Streams.{each, of_statement}
+use Rattle.chi_stat_rules.specs.declared.home.ExitType.TheVariants as exit
+use Rattle.chi_stat_rules.specs.declared.home.Home.{Home}
+use Rattle.chi_stat_rules.specs.declared.home.Home.TheVariants as home
+use Rattle.chi_typing.specs.declared.known.Known.{Known}
+use Rattle.chi_typing.specs.declared.known.Known.TheVariants as known
+use Rattle.chi_typing.specs.Names.{known_in}
+use Rattle.chi_check.specs.declared.state.State.{State}
+use Rattle.chi_check_laws.specs.Texts.{body_texts}
+
+-- the role of what a statement stands in, where that has all types
+abbrev pub role_of : Home → Option Role
+role_of (home.Function None) = None
+role_of (home.Function (Some result)) = Some (function (kind_of result))
+role_of (home.Process exit.Nothing) = Some (process None)
+role_of (home.Process exit.Untyped) = None
+role_of (home.Process (exit.Given t)) = Some (process (Some (kind_of t)))
+
+-- each slot is of the kind of its type
+abbrev pub SlotsHave : Scope → List Ty → Type 0
+SlotsHave scope slots = (slot : ℕ) (t : Ty) → slice_get slots slot ≡ Some t → slice_get scope.slots slot ≡ Some (kind_of t)
+
+-- what counts as set after statements in turn
+abbrev pub set_by : List CStat → Set → Set
+set_by [] set = set
+set_by (x ∷ xs) set = set_by xs (sets (out-CStat x) set)
+
+-- a body with its streams, however many calls come before it; its text literals are short
+abbrev pub SoundBody : Scope → Bool → Set → List CStat → Type 0
+SoundBody scope loop set body = IsTrue (body_texts body) → (count : ℕ) → SoundBlock scope loop set (each (map of_statement body) count).part
+
+-- names and slots are only added
+pub record Grows (before after : State) : Type 0 where
+  pub names : (more : List (List ℕ × Known)) × (after.names ≡ before.names ++ more)
+  pub slots : (more : List Ty) × (after.slots ≡ before.slots ++ more)
+
+-- each visible variable has one of the slots
+abbrev pub HaveSlots : State → Type 0
+HaveSlots s = (name : List ℕ) (slot : ℕ) (t : Ty) → known_in s.names name ≡ Some (known.Var slot t) → slot < length s.slots

@@ -1,0 +1,31 @@
+//! What holds of all that is made of statements. The functions compute nothing: their contracts are the laws.
+
+ghost use Rattle.std.specs.Prelude.{◌≡◌, ℕ, Bool, List, Some, IsTrue, length, map};
+ghost use Rattle.chi_tree.specs.declared.statement.Step.{Step};
+ghost use Rattle.chi_core.specs.declared.statement.CStat.{CStat};
+ghost use Rattle.chi_core.specs.Fills.{UnwindsOwn, by_body};
+ghost use Rattle.chi_core.specs.Scopes.{Scope};
+ghost use Rattle.chi_core.specs.SetSlots.{Known as Set};
+ghost use Rattle.chi_streams.specs.Streams.{each, of_statement};
+ghost use Rattle.chi_stat_rules.specs.declared.home.Home.{Home};
+ghost use Rattle.chi_typing_laws.specs.Standing.{AllStand};
+ghost use Rattle.chi_check.specs.declared.state.State.{State};
+ghost use Rattle.chi_check.specs.Statements.{stating_all};
+ghost use Rattle.chi_check_laws.specs.Bodies.{role_of, SlotsHave, set_by, SoundBody, Grows, HaveSlots};
+ghost use Rattle.chi_check_laws.specs.Whole.{steps_are_whole};
+
+/// Statements that come to something are sound with their streams, where their text literals are short,
+/// all visible names agree with the program, and each slot is of the kind of its type. The names that are
+/// visible after them agree with it too.
+pub fn statements_are_sound()
+    ensures sound { (home : Home) (scope : Scope) (set : Set) (loop : Bool) (steps : List Step) (s : State) (body : List CStat) → role_of home ≡ Some scope.role
+        → IsTrue (steps_are_whole steps) → SlotsHave scope (stating_all home loop steps s).next.slots → AllStand scope set s.names
+        → (stating_all home loop steps s).made ≡ Some body → SoundBody scope loop set body × AllStand scope (set_by body set) (stating_all home loop steps s).next.names }
+{}
+
+/// Statements only add names and slots. A slot that an unwind binds is new, and nothing else in them sets it.
+pub fn slots_are_new()
+    ensures grows { (home : Home) (loop : Bool) (steps : List Step) (s : State) → IsTrue (steps_are_whole steps) → Grows s (stating_all home loop steps s).next }
+    ensures unwinds { (home : Home) (loop : Bool) (steps : List Step) (s : State) (body : List CStat) → IsTrue (steps_are_whole steps) → HaveSlots s
+        → (stating_all home loop steps s).made ≡ Some body → (count : ℕ) → UnwindsOwn (length s.slots) (by_body (each (map of_statement body) count).part) }
+{}
