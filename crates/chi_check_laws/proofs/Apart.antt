@@ -1,7 +1,7 @@
 -- What unwinds bind is apart from all else that is set: of two fills of which an unwind has one, the slots differ.
-use Rattle.std.proofs.Common.{◌≡◌, ◌⊎◌, inl, inr, ℕ, zero, suc, Bool, true, false, List, [], ◌∷◌, ◌++◌, map, Some, refl, sym, ap, subst, ◌∙◌, append_assoc}
+use Rattle.std.proofs.Common.{◌≡◌, ◌⊎◌, inl, inr, ℕ, zero, suc, true, List, [], ◌∷◌, ◌++◌, map, Some, refl, sym, ap, subst, ◌∙◌, append_assoc}
 use Rattle.std.specs.Prelude.{slice_get}
-use Rattle.chi_core.specs.Fills.{Fill, Fills, filled, unwound, one_after_another, SetOnce}
+use Rattle.chi_core.specs.Fills.{Fill, Fills, unwound, one_after_another, SetOnce}
 use Rattle.chi_check_expr.proofs.Kept.{Each}
 use Rattle.chi_typing_laws.proofs.Conversions.{some_is}
 
@@ -32,6 +32,7 @@ crossed {A = A} R (x ∷ xs) ys h = (firsts x xs ys h, crossed R xs ys (rests x 
     firsts : (x : A) (xs ys : List A) → Each (λ y. Each (λ x. R x y) (x ∷ xs)) ys → Each (R x) ys
     firsts x xs [] h = tt
     firsts x xs (y ∷ ys) h = (h.0.0, firsts x xs ys h.1)
+
     rests : (x : A) (xs ys : List A) → Each (λ y. Each (λ x. R x y) (x ∷ xs)) ys → Each (λ y. Each (λ x. R x y) xs) ys
     rests x xs [] h = tt
     rests x xs (y ∷ ys) h = (h.0.1, rests x xs ys h.1)

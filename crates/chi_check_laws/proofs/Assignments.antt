@@ -6,11 +6,9 @@ use Rattle.chi_token.specs.declared.place.Place.{Place}
 use Rattle.chi_tree.specs.declared.expr.Expr.{Expr}
 use Rattle.chi_tree.specs.declared.statement.Target.{Target}
 use Rattle.chi_types.specs.declared.ty.Ty.{Ty, Ty-F, out-Ty}
-use Rattle.chi_types.specs.Fits.{fits_unconverted}
 use Rattle.chi_types.specs.Same.{nameless, beside}
-use Rattle.chi_core.specs.declared.expression.CExpr.{CExpr}
 use Rattle.chi_core.specs.declared.statement.CStat.{CStat}
-use Rattle.chi_core.specs.Kinds.{Kind, kind_of, kinds_of, erased, part_kinds}
+use Rattle.chi_core.specs.Kinds.{kind_of, kinds_of, erased, part_kinds}
 use Rattle.chi_core.specs.Scopes.{Scope}
 use Rattle.chi_core.specs.SetSlots.{Known as Set}
 use Rattle.chi_core.proofs.Erased.{kind_at, served_kind}
@@ -26,7 +24,7 @@ use Rattle.chi_typing_laws.proofs.Conversions.{some_is, mapped, chained, chosen,
 use Rattle.chi_typing_laws.proofs.Has.{Have}
 use Rattle.chi_stat_rules.specs.declared.home.Home.{Home}
 use Rattle.chi_stat_rules.specs.declared.parts.Aim.{Aim}
-use Rattle.chi_stat_rules.specs.Assignments.{all_aims, assign, stored, parts_fit, spread, spread_parts, spread_value, spread_one, only_one, uneven, even, assigned}
+use Rattle.chi_stat_rules.specs.Assignments.{all_aims, assign, stored, parts_fit, spread, spread_value, spread_one, only_one, uneven, even}
 use Rattle.chi_stat_laws.specs.Parts.{SoundAim}
 use Rattle.chi_stat_laws.proofs.Targets.{aims_take}
 use Rattle.chi_check.specs.Stated.{alone}

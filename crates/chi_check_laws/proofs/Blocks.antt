@@ -1,7 +1,6 @@
 -- Statements with blocks inside, and what is offered and started for each element of a container.
-use Rattle.std.proofs.Common.{◌≡◌, ℕ, Bool, true, List, [], ◌∷◌, ◌++◌, map, length, Option, Some, None, refl, sym, ap, subst, ◌∙◌}
+use Rattle.std.proofs.Common.{◌≡◌, ℕ, Bool, true, List, [], ◌∷◌, map, Option, Some, sym, subst}
 use Rattle.std.proofs.lemmas.Bool.{and_parts}
-use Rattle.std.specs.Prelude.{option_map}
 use Rattle.chi_token.specs.declared.place.Place.{Place}
 use Rattle.chi_tree.specs.declared.expr.Expr.{Expr}
 use Rattle.chi_tree.specs.declared.statement.Alternative.{Alternative-F}
@@ -32,12 +31,11 @@ use Rattle.chi_typing_laws.proofs.Conversions.{mapped, chained}
 use Rattle.chi_stat_rules.specs.declared.home.Home.{Home}
 use Rattle.chi_stat_rules.specs.Homes.{running_rule}
 use Rattle.chi_check.specs.declared.state.Binder.TheVariants as binder
-use Rattle.chi_check.specs.declared.state.Opened.{Opened}
 use Rattle.chi_check.specs.declared.state.State.{State}
 use Rattle.chi_check.specs.Stated.{Turn, both, in_turn}
 use Rattle.chi_check.specs.States.{block}
-use Rattle.chi_check.specs.Statements.{Going, each_in, starting, test_in, guard_in, communication_in, walk_in, element_step, statement_step, branch_step, alternative_step, offers, runs, starts, chosen, looped, walked, branched, guarded, offered, unwound}
-use Rattle.chi_check_laws.specs.Bodies.{role_of, set_by, Grows}
+use Rattle.chi_check.specs.Statements.{Going, each_in, starting, test_in, guard_in, communication_in, walk_in, element_step, statement_step, branch_step, alternative_step, offers, runs, starts}
+use Rattle.chi_check_laws.specs.Bodies.{role_of, set_by}
 use Rattle.chi_check_laws.specs.Whole.{has_any}
 use Rattle.chi_check_laws.proofs.Bodies.{SoundOne, BranchAt, SoundBranch, SoundOffer, SoundMake, AllSound, StatementKept, BranchKept, OfferKept, MakeKept, nothing_more, statements_by_parts, each_by_parts, branch_at, offer_at, make_at, body_sound, offers_sound, makes_sound}
 use Rattle.chi_check_laws.proofs.Communications.{offer_sound, communication_sound, guard_sound}
@@ -46,7 +44,7 @@ use Rattle.chi_check_laws.proofs.More.{set_by_more, names_more}
 use Rattle.chi_check_laws.proofs.Nodes.{Goes}
 use Rattle.chi_check_laws.proofs.States.{grows_on, cut_grows, cut_stands, slots_before}
 use Rattle.chi_check_laws.proofs.Statements.{SoundWalk, one_choose, one_while, one_walk, one_select, one_run, one_start}
-use Rattle.chi_check_laws.proofs.Turns.{both_made, held_made, Kept, ByParts, in_turn_kept, block_sound, block_grows}
+use Rattle.chi_check_laws.proofs.Turns.{both_made, held_made, in_turn_kept, block_sound, block_grows}
 use Rattle.chi_check_laws.proofs.Values.{test_has}
 use Rattle.chi_check_laws.proofs.Walks.{walk_grows, walk_sound}
 

@@ -1,5 +1,5 @@
 -- Statements, branches, alternatives and elements that are sound with their streams.
-use Rattle.std.proofs.Common.{◌≡◌, ℕ, Bool, true, List, [], ◌∷◌, ◌++◌, map, Option, Some, refl, sym, ap, subst, ◌∙◌}
+use Rattle.std.proofs.Common.{◌≡◌, ℕ, Bool, true, List, [], ◌∷◌, ◌++◌, map, Option, refl, sym, subst, ◌∙◌}
 use Rattle.std.proofs.lemmas.Bool.{and_parts}
 use Rattle.std.specs.List.{list_all}
 use Rattle.chi_value.specs.Plain.{itself}
@@ -8,7 +8,7 @@ use Rattle.chi_core.specs.declared.element.CElem.{CElem, CElem-F, out-CElem}
 use Rattle.chi_core.specs.declared.expression.CExpr.{out-CExpr}
 use Rattle.chi_core.specs.declared.statement.Branch.{Branch, Branch-F, out-Branch}
 use Rattle.chi_core.specs.declared.statement.CAlt.{CAlt, CAlt-F, out-CAlt}
-use Rattle.chi_core.specs.declared.statement.CStat.{CStat, CStat-F, out-CStat}
+use Rattle.chi_core.specs.declared.statement.CStat.{CStat, out-CStat}
 use Rattle.chi_core.specs.Kinds.{Kind}
 use Rattle.chi_core.specs.Scopes.{Scope, process}
 use Rattle.chi_core.specs.SetSlots.{StatLayer, Known as Set, sets}

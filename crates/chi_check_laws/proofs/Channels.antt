@@ -1,7 +1,7 @@
 -- A channel is in the kind of a type exactly where one is in the type.
 use Rattle.std.proofs.Common.{◌≡◌, ℕ, Bool, ◌||◌, List, [], ◌∷◌, map, refl, sym, ap, subst, ◌∙◌}
 use Rattle.std.specs.List.{list_any}
-use Rattle.chi_types.specs.declared.ty.Ty.{Ty, Ty-F, map-Ty, fold-Ty, fold-roll-Ty, fold_out-Ty, ind-Ty, roll-Ty}
+use Rattle.chi_types.specs.declared.ty.Ty.{Ty, Ty-F, map-Ty, fold-roll-Ty, fold_out-Ty, ind-Ty, roll-Ty}
 use Rattle.chi_types.specs.Plain.{holds}
 use Rattle.chi_types.specs.Same.{beside, nameless}
 use Rattle.chi_core.specs.Kinds.{without_ways_and_names, erased, kind_of, holds_channel_step, holds_channel}

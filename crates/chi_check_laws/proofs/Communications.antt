@@ -1,5 +1,5 @@
 -- Targets, and sends, receives and delays.
-use Rattle.std.proofs.Common.{◌≡◌, ℕ, Bool, true, false, List, [], ◌∷◌, map, Option, Some, None, refl, sym, ap, subst, ◌∙◌}
+use Rattle.std.proofs.Common.{◌≡◌, ℕ, Bool, true, false, List, [], ◌∷◌, Option, Some, None, refl, sym, ap, subst, ◌∙◌}
 use Rattle.std.proofs.lemmas.Bool.{and_parts}
 use Rattle.std.specs.Prelude.{option_map, if◌then◌else◌}
 use Rattle.chi_token.specs.declared.place.Place.{Place}
@@ -15,12 +15,10 @@ use Rattle.chi_tree.specs.declared.type_tree.Name.{Name}
 use Rattle.chi_tree.specs.declared.type_tree.TypeTree.{TypeTree}
 use Rattle.chi_types.specs.declared.ty.Ty.{Ty, Ty-F, out-Ty}
 use Rattle.chi_core.specs.declared.communication.CComm.{CComm}
-use Rattle.chi_core.specs.declared.communication.CComm.TheVariants as comm
 use Rattle.chi_core.specs.declared.expression.CExpr.{CExpr}
-use Rattle.chi_core.specs.declared.statement.CAlt.{CAlt}
 use Rattle.chi_core.specs.declared.statement.CAlt.TheVariants as alternative
 use Rattle.chi_core.specs.declared.statement.CStat.{CStat}
-use Rattle.chi_core.specs.Kinds.{Kind, is_void}
+use Rattle.chi_core.specs.Kinds.{is_void}
 use Rattle.chi_core.specs.Scopes.{Scope}
 use Rattle.chi_core.specs.SetSlots.{Known as Set}
 use Rattle.chi_core.specs.SoundParts as part
@@ -38,16 +36,15 @@ use Rattle.chi_typing.specs.Names.{Names, known_in}
 use Rattle.chi_typing.specs.Predefined.{is_predefined}
 use Rattle.chi_typing.specs.Typed.{Typed, refused}
 use Rattle.chi_expr_rules.specs.Nodes.{of_one}
-use Rattle.chi_check_expr.proofs.Kept.{Each}
 use Rattle.chi_check_expr.proofs.Nodes.{barred_made}
 use Rattle.chi_typing_laws.specs.Standing.{AllStand, Has, SoundMade, Stands}
 use Rattle.chi_typing_laws.proofs.Conversions.{some_is, mapped}
 use Rattle.chi_stat_rules.specs.declared.home.Home.{Home}
 use Rattle.chi_stat_rules.specs.declared.parts.Aim.{Aim}
 use Rattle.chi_stat_rules.specs.declared.parts.Receiver.{Receiver}
-use Rattle.chi_stat_rules.specs.Channels.{sent_type, send_void, sending, send_value, send_on, send_of, received_type, receiver, untyped_receiver, visible_receiver, named_receiver, receive_void, receiving, receive_value, receive_on, receive_of, delaying, delay_of}
+use Rattle.chi_stat_rules.specs.Channels.{sent_type, send_void, sending, send_value, send_on, send_of, received_type, receiver, untyped_receiver, visible_receiver, receive_void, receiving, receive_value, receive_on, receive_of, delaying}
 use Rattle.chi_stat_rules.specs.Homes.{running_rule}
-use Rattle.chi_stat_rules.specs.Targets.{visible_target, named_target, is_text, indexed, index_into, index_step, field_of, field_step}
+use Rattle.chi_stat_rules.specs.Targets.{visible_target, named_target, is_text, indexed, index_step, field_of, field_step}
 use Rattle.chi_stat_laws.specs.Parts.{texts_if_any, SoundAim, SoundReceiver, Communicates}
 use Rattle.chi_stat_laws.proofs.Communications.{sending_sound, void_sending_sound, receiving_sound, void_receiving_sound, delaying_sound}
 use Rattle.chi_stat_laws.proofs.Targets.{target_name_sound, target_index_sound, target_field_sound}

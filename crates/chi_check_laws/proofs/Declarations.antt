@@ -1,9 +1,7 @@
 -- Declarations: each variable begins with a value of its type.
 use Rattle.std.proofs.Common.{◌≡◌, ℕ, Bool, true, false, not, List, [], ◌∷◌, ◌++◌, map, Option, Some, None, refl, sym, ap, subst, ◌∙◌}
 use Rattle.std.specs.Prelude.{option_map}
-use Rattle.std.specs.Option.{option_and_then}
 use Rattle.chi_token.specs.declared.place.Place.{Place}
-use Rattle.chi_tree.specs.declared.expr.Expr.{Expr}
 use Rattle.chi_tree.specs.declared.statement.Initial.{Initial}
 use Rattle.chi_tree.specs.declared.statement.Variable.{Variable}
 use Rattle.chi_tree.specs.declared.type_tree.TypeTree.{TypeTree}
@@ -11,32 +9,30 @@ use Rattle.chi_types.specs.declared.ty.Ty.{Ty}
 use Rattle.chi_core.specs.declared.expression.CExpr.{CExpr}
 use Rattle.chi_core.specs.declared.statement.CStat.{CStat, out-CStat}
 use Rattle.chi_core.specs.declared.statement.CStat.TheVariants as statement
-use Rattle.chi_core.specs.Kinds.{Kind, kind_of, holds_channel}
-use Rattle.chi_core.specs.Scopes.{Role, constant, function, process, Scope, may_declare}
+use Rattle.chi_core.specs.Kinds.{kind_of, holds_channel}
+use Rattle.chi_core.specs.Scopes.{Role, function, process, Scope, may_declare}
 use Rattle.chi_core.specs.SetSlots.{Known as Set, also, sets}
-use Rattle.chi_typing.specs.declared.meant.Made.{Made}
 use Rattle.chi_typing.specs.declared.meant.Meant.{Meant}
 use Rattle.chi_typing.specs.declared.rules.TheConstants.{NEW_NAME, INITIAL_VALUE, CHANNEL_IN_FUNCTION}
-use Rattle.chi_typing.specs.Defaults.{default_of}
 use Rattle.chi_typing.specs.Names.{Names}
 use Rattle.chi_check_expr.specs.Typing.{reading}
-use Rattle.chi_typing_laws.specs.Standing.{AllStand, Has, SoundMade, SoundMeant, may_make_default}
-use Rattle.chi_typing_laws.proofs.Conversions.{some_is, mapped, chained}
+use Rattle.chi_typing_laws.specs.Standing.{AllStand, Has, SoundMeant, may_make_default}
+use Rattle.chi_typing_laws.proofs.Conversions.{some_is, mapped}
 use Rattle.chi_typing_laws.proofs.Types.{default_sound}
 use Rattle.chi_stat_rules.specs.declared.home.ExitType.TheVariants as exit
 use Rattle.chi_stat_rules.specs.declared.home.Home.{Home}
 use Rattle.chi_stat_rules.specs.declared.home.Home.TheVariants as home
 use Rattle.chi_stat_rules.specs.Homes.{site_of, has_channel, channel_rule}
 use Rattle.chi_stat_rules.specs.Places.{type_place}
-use Rattle.chi_stat_rules.specs.Values.{fitted, initial_value}
+use Rattle.chi_stat_rules.specs.Values.{fitted}
 use Rattle.chi_stat_laws.proofs.Values.{fitted_has}
 use Rattle.chi_check.specs.declared.state.Binder.TheVariants as binder
 use Rattle.chi_check.specs.declared.state.State.{State}
 use Rattle.chi_check.specs.Stated.{in_turn}
-use Rattle.chi_check.specs.States.{is_taken, next_slot, new_name_rule, with_variable}
-use Rattle.chi_check.specs.Statements.{default_in, declaration, value_in, initial_in, declared, declaration_in}
+use Rattle.chi_check.specs.States.{is_taken, next_slot, new_name_rule}
+use Rattle.chi_check.specs.Statements.{declaration, value_in, initial_in, declared, declaration_in}
 use Rattle.chi_check_laws.specs.Bodies.{role_of, SlotsHave, set_by, Grows}
-use Rattle.chi_check_laws.proofs.Bodies.{SoundOne, AllSound, StatementKept, all_append, set_append}
+use Rattle.chi_check_laws.proofs.Bodies.{AllSound, StatementKept, all_append, set_append}
 use Rattle.chi_check_laws.proofs.Channels.{channel_kind}
 use Rattle.chi_check_laws.proofs.More.{also_more, meant_more}
 use Rattle.chi_check_laws.proofs.States.{grows_none, grows_on, slots_before, variable_grows}
@@ -115,10 +111,11 @@ module _ (h : Home) (scope : Scope) (role : role_of h ≡ Some scope.role) (loop
       let new = unbroken (is_taken s.names v.name.text) NEW_NAME v.name.place b.0 in
       let var = variable_stands scope binder.Variable v.name meant.ty set s new own.meant.ty have all in
       let sets_slot = declare_sets line slot m.0 set in
-      let one = one_declare scope loop set line slot m.0 (kind_of meant.ty) var.0 own.may (initial_has set s.names all meant v.initial m.0 own m.1) in
-      (subst (AllSound scope loop set) m.2 (one, tt),
-      subst (λ xs. AllStand scope (set_by xs set) (declared h line (Some meant) v s).next.names) m.2 (subst (λ set. AllStand scope set (declared h line (Some meant) v s).next.names) (sym sets_slot) var.1),
-      subst (λ xs. set_by xs set ≡ also slot set) m.2 sets_slot)
+      let one = one_declare scope loop set line slot m.0 (kind_of meant.ty) var.0 own.may (initial_has set s.names all meant v.initial m.0 own m.1) in (
+        subst (AllSound scope loop set) m.2 (one, tt),
+        subst (λ xs. AllStand scope (set_by xs set) (declared h line (Some meant) v s).next.names) m.2 (subst (λ set. AllStand scope set (declared h line (Some meant) v s).next.names) (sym sets_slot) var.1),
+        subst (λ xs. set_by xs set ≡ also slot set) m.2 sets_slot,
+      )
 
   all_declared : (meant : Option Meant) (vs : List Variable) (set : Set) (s : State) (xs : List CStat) → ((m : Meant) → meant ≡ Some m → Declares set m) → SlotsHave scope (in_turn (map (declared h line meant) vs) s).next.slots → AllStand scope set s.names
       → (in_turn (map (declared h line meant) vs) s).made ≡ Some xs → AllSound scope loop set xs × AllStand scope (set_by xs set) (in_turn (map (declared h line meant) vs) s).next.names
@@ -131,9 +128,10 @@ module _ (h : Home) (scope : Scope) (role : role_of h ≡ Some scope.role) (loop
       let m = both_made (λ x y. x ++ y) (declared h line meant v s).made (in_turn (map (declared h line meant) vs) middle).made xs e in
       let first = declared_sound meant v set s m.0 d (slots_before scope middle last (all_grow meant vs middle) have) all m.2 in
       let own : (other : Meant) → meant ≡ Some other → Declares (set_by m.0 set) other = λ other is. subst (λ set. Declares set other) (sym first.2) (declares_more (next_slot s) set other (d other is)) in
-      let rest = all_declared meant vs (set_by m.0 set) middle m.1 own have first.1 m.3 in
-      (subst (AllSound scope loop set) m.4 (all_append scope loop set m.0 m.1 first.0 rest.0),
-      subst (λ xs. AllStand scope (set_by xs set) last.names) m.4 (subst (λ set. AllStand scope set last.names) (sym (set_append scope loop set m.0 m.1)) rest.1))
+      let rest = all_declared meant vs (set_by m.0 set) middle m.1 own have first.1 m.3 in (
+        subst (AllSound scope loop set) m.4 (all_append scope loop set m.0 m.1 first.0 rest.0),
+        subst (λ xs. AllStand scope (set_by xs set) last.names) m.4 (subst (λ set. AllStand scope set last.names) (sym (set_append scope loop set m.0 m.1)) rest.1),
+      )
 
 pub declare_kept : (h : Home) (scope : Scope) → role_of h ≡ Some scope.role → (loop : Bool) (tree : TypeTree) (variables : List Variable) → StatementKept scope loop (declaration_in h tree variables)
 declare_kept h scope role loop tree variables = record {
@@ -143,8 +141,8 @@ declare_kept h scope role loop tree variables = record {
       let place = type_place tree in
       let b = held_made (channel_rule h place (option_map (λ m. m.ty) meant)) (in_turn (map (declared h place.line meant) variables) s).made xs e in
       let own : (m : Meant) → meant ≡ Some m → Declares h scope role loop place.line set m = λ m is.
-          let may = may_hold h scope.role place m.ty role (ap (λ o. channel_rule h place (option_map (λ m. m.ty) o)) (sym is) ∙ b.0) in
-          record { meant = read_sound h scope role set s.names all tree true m is; may = may.0; default = may.1 }
+      let may = may_hold h scope.role place m.ty role (ap (λ o. channel_rule h place (option_map (λ m. m.ty) o)) (sym is) ∙ b.0) in
+      record { meant = read_sound h scope role set s.names all tree true m is; may = may.0; default = may.1 }
       in
       all_declared h scope role loop place.line meant variables set s xs own have all b.1;
 }

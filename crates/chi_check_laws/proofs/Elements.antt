@@ -1,7 +1,7 @@
 -- What is run and started.
-use Rattle.std.proofs.Common.{◌≡◌, ℕ, Bool, true, false, not, List, [], ◌∷◌, map, length, Option, Some, None, refl, sym, ap, subst, ◌∙◌}
+use Rattle.std.proofs.Common.{◌≡◌, ℕ, Bool, true, false, not, List, [], map, length, Option, Some, None, refl, sym, ap, subst, ◌∙◌}
 use Rattle.std.proofs.lemmas.Bool.{and_parts}
-use Rattle.std.specs.Prelude.{nat_eq, option_map, slice_get, if◌then◌else◌}
+use Rattle.std.specs.Prelude.{nat_eq, option_map, if◌then◌else◌}
 use Rattle.chi_token.specs.declared.place.Place.{Place}
 use Rattle.chi_tree.specs.declared.expr.Expr.{Expr}
 use Rattle.chi_tree.specs.declared.statement.Target.{Target}
@@ -10,11 +10,9 @@ use Rattle.chi_types.specs.declared.ty.Ty.{Ty, Ty-F, out-Ty}
 use Rattle.chi_types.specs.Same.{same}
 use Rattle.chi_core.specs.declared.element.CElem.{CElem}
 use Rattle.chi_core.specs.declared.element.CElem.TheVariants as element
-use Rattle.chi_core.specs.declared.expression.CExpr.{CExpr}
-use Rattle.chi_core.specs.declared.program.ProcDef.{ProcDef}
 use Rattle.chi_core.specs.declared.target.CTarget.{CTarget}
 use Rattle.chi_core.specs.Kinds.{Kind, kind_of, kinds_of}
-use Rattle.chi_core.specs.Scopes.{Role, process, Scope, exit_of}
+use Rattle.chi_core.specs.Scopes.{Role, process, Scope}
 use Rattle.chi_core.specs.SetSlots.{Known as Set}
 use Rattle.chi_core.specs.SoundExpressions.{HaveKinds}
 use Rattle.chi_core.specs.SoundParts as part
@@ -43,14 +41,14 @@ use Rattle.chi_stat_rules.specs.declared.home.Home.{Home}
 use Rattle.chi_stat_rules.specs.declared.home.Home.TheVariants as home
 use Rattle.chi_stat_rules.specs.declared.parts.Aim.{Aim}
 use Rattle.chi_stat_rules.specs.declared.parts.Started.{Started}
-use Rattle.chi_stat_rules.specs.Elements.{as_instance_target, instance_target, is_other_exit, exit_rule, started, process_start, untyped_start, visible_start, make, element_made}
+use Rattle.chi_stat_rules.specs.Elements.{as_instance_target, is_other_exit, exit_rule, started, process_start, untyped_start, visible_start, make, element_made}
 use Rattle.chi_stat_rules.specs.Values.{is_inst}
 use Rattle.chi_stat_laws.specs.Parts.{SoundAim}
 use Rattle.chi_stat_laws.proofs.Targets.{aim_takes}
 use Rattle.chi_check.specs.Stated.{alone}
-use Rattle.chi_check.specs.Statements.{made_of, made_if, value_in, values_in, goal_in, element_in, target_in}
+use Rattle.chi_check.specs.Statements.{made_of, made_if, values_in, goal_in, element_in, target_in}
 use Rattle.chi_check_laws.specs.Bodies.{role_of}
-use Rattle.chi_check_laws.specs.Texts.{target_texts_if, all_texts}
+use Rattle.chi_check_laws.specs.Texts.{target_texts_if}
 use Rattle.chi_check_laws.proofs.Bodies.{SoundMake, MakeKept, make_at, nothing_more, each_by_parts}
 use Rattle.chi_check_laws.proofs.Communications.{target_aim}
 use Rattle.chi_check_laws.proofs.Turns.{alone_kept, unbroken}

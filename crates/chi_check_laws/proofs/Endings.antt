@@ -1,9 +1,9 @@
 -- Returns and exits, and what else stands alone in a line: pass, break, continue, and waiting for instances.
-use Rattle.std.proofs.Common.{◌≡◌, ℕ, Bool, true, false, List, [], ◌∷◌, map, Option, Some, None, refl, sym, ap, subst, ◌∙◌}
+use Rattle.std.proofs.Common.{◌≡◌, ℕ, Bool, true, false, List, [], ◌∷◌, map, Option, Some, None, refl, sym, ap, subst}
 use Rattle.std.specs.Prelude.{option_map}
 use Rattle.chi_token.specs.declared.place.Place.{Place}
 use Rattle.chi_tree.specs.declared.expr.Expr.{Expr}
-use Rattle.chi_types.specs.declared.ty.Ty.{Ty, Ty-F}
+use Rattle.chi_types.specs.declared.ty.Ty.{Ty-F}
 use Rattle.chi_core.specs.declared.expression.CExpr.{CExpr}
 use Rattle.chi_core.specs.declared.statement.CStat.{CStat}
 use Rattle.chi_core.specs.declared.statement.CStat.TheVariants as statement
@@ -25,7 +25,7 @@ use Rattle.chi_stat_rules.specs.Endings.{returning, return_of, exiting, exit_of,
 use Rattle.chi_stat_rules.specs.Homes.{running_rule}
 use Rattle.chi_stat_rules.specs.Values.{fitted}
 use Rattle.chi_stat_laws.proofs.Values.{fitted_has, exiting_sound}
-use Rattle.chi_check.specs.Stated.{both, alone}
+use Rattle.chi_check.specs.Stated.{alone}
 use Rattle.chi_check.specs.Statements.{value_in, instance_in, all_of, made_if, return_in, exit_in, finish_in}
 use Rattle.chi_check_laws.specs.Bodies.{role_of}
 use Rattle.chi_check_laws.proofs.Bodies.{SoundOne, StatementKept, statements_by_parts}

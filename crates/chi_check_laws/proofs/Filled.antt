@@ -1,5 +1,5 @@
 -- What statements set: variables that were visible before them, and new slots, of which those that unwinds bind are set once.
-use Rattle.std.proofs.Common.{◌≡◌, ◌⊎◌, inl, inr, ℕ, suc, ◌+◌, ◌<◌, ◌≤◌, Bool, true, false, List, [], ◌∷◌, ◌++◌, map, length, Option, Some, None, refl, sym, ap, subst, ◌∙◌, append-nil, arith}
+use Rattle.std.proofs.Common.{◌≡◌, ◌⊎◌, inl, inr, ℕ, ◌<◌, ◌≤◌, Bool, true, false, List, [], ◌∷◌, ◌++◌, map, length, Some, sym, subst, append-nil, arith}
 use Rattle.chi_types.specs.declared.ty.Ty.{Ty}
 use Rattle.chi_core.specs.Fills.{Fill, Fills, one_after_another}
 use Rattle.chi_typing.specs.declared.known.Known.TheVariants as known
@@ -8,7 +8,7 @@ use Rattle.chi_typing.specs.Typed.{Typed}
 use Rattle.chi_check_expr.proofs.Kept.{Each}
 use Rattle.chi_typing_laws.proofs.Conversions.{some_is, mapped}
 use Rattle.chi_check.specs.declared.state.State.{State}
-use Rattle.chi_check.specs.Stated.{Stated, Turn, in_turn, alone}
+use Rattle.chi_check.specs.Stated.{Turn, in_turn, alone}
 use Rattle.chi_check.specs.States.{cut, block}
 use Rattle.chi_check_laws.specs.Bodies.{Grows}
 use Rattle.chi_check_laws.proofs.Apart.{each_map, Apart, AllApart, apart_append, crossed, in_two}
@@ -66,9 +66,11 @@ module _ (a b : State) (fs : Fills) (low : Below a) (h : Filled a b fs) where
       later v f (inl first) (inl unwinds) same = absurd (not_both f.by_unwind unwinds first.0)
       later v f (inr first) (inl unwinds) same = let less = low g.slot v in absurd (omega (arith, less, first.0, same))
       later v f mine (inr unwinds) same = absurd (not_both g.by_unwind unwinds old.0)
+
       other : (f : Fill) → Other g.slot f → Apart f g
       other f differs (inl unwinds) same = differs unwinds same
       other f differs (inr unwinds) same = absurd (not_both g.by_unwind unwinds old.0)
+
       by : Visible a.names g.slot ⊎ ((length a.slots ≤ g.slot) × (g.slot < length b.slots) × Each (Other g.slot) fs) → Each (λ f. Apart f g) fs
       by (inl v) = each_map (Mine a b) (λ f. Apart f g) fs (later v) h.each
       by (inr new) = each_map (Other g.slot) (λ f. Apart f g) fs other new.2
@@ -98,6 +100,7 @@ module _ (a b : State) (fs : Fills) (low : Below a) (h : Filled a b fs) where
         first (inr new) =
             let less : slot < length c.slots = omega (arith, new.1, k.long) in
             inr (new.0, less, each_append (Other slot) fs gs new.2 (each_map (Mine b c) (Other slot) gs (before_other slot new.1) k.each))
+
         second : Visible b.names slot ⊎ ((length b.slots ≤ slot) × (slot < length c.slots) × Each (Other slot) gs) → Visible a.names slot ⊎ ((length a.slots ≤ slot) × (slot < length c.slots) × Each (Other slot) (fs ++ gs))
         second (inl old) = first (h.names slot old)
         second (inr new) =

@@ -1,5 +1,5 @@
 -- What statements with blocks set, and what unwinds bind.
-use Rattle.std.proofs.Common.{◌≡◌, ℕ, Bool, true, List, [], ◌∷◌, ◌++◌, map, length, Option, Some, None, refl, sym, ap, subst, ◌∙◌, append-nil}
+use Rattle.std.proofs.Common.{◌≡◌, Bool, true, List, [], ◌∷◌, ◌++◌, map, length, Option, Some, sym, subst, ◌∙◌, append-nil}
 use Rattle.std.specs.Prelude.{option_map}
 use Rattle.chi_token.specs.declared.place.Place.{Place}
 use Rattle.chi_tree.specs.declared.expr.Expr.{Expr}
@@ -19,7 +19,6 @@ use Rattle.chi_core.specs.declared.statement.CStat.{CStat}
 use Rattle.chi_core.specs.declared.statement.CStat.TheVariants as statement
 use Rattle.chi_core.specs.Fills.{Fills, one_after_another, by_communication, by_element, by_alternative, by_branch, by_statement}
 use Rattle.chi_check_expr.proofs.Kept.{Each}
-use Rattle.chi_check_expr.proofs.Nodes.{barred_made}
 use Rattle.chi_typing_laws.proofs.Conversions.{mapped, chained}
 use Rattle.chi_stat_rules.specs.declared.home.Home.{Home}
 use Rattle.chi_stat_rules.specs.declared.parts.Walked.{Walked}
@@ -30,14 +29,14 @@ use Rattle.chi_check.specs.declared.state.Binder.{Binder}
 use Rattle.chi_check.specs.declared.state.Binder.TheVariants as binder
 use Rattle.chi_check.specs.declared.state.Opened.{Opened}
 use Rattle.chi_check.specs.declared.state.State.{State}
-use Rattle.chi_check.specs.Stated.{Stated, Turn, both, in_turn}
+use Rattle.chi_check.specs.Stated.{Turn, both, in_turn}
 use Rattle.chi_check.specs.States.{bindings, block}
 use Rattle.chi_check.specs.Statements.{Going, each_in, starting, opened, types_of, value_in, walk_place, test_in, guard_in, communication_in, walk_in, element_step, statement_step, branch_step, alternative_step, offers, runs, starts}
 use Rattle.chi_check_laws.specs.Bodies.{Grows}
 use Rattle.chi_check_laws.specs.Whole.{has_any}
 use Rattle.chi_check_laws.proofs.Filled.{Below, Filled, Filling, still_below, filled_on, filled_old, filled_cut, in_turn_filling, block_filling}
 use Rattle.chi_check_laws.proofs.FilledLines.{communication_old}
-use Rattle.chi_check_laws.proofs.FilledNames.{fill, fill_one, bindings_filling, fills_are}
+use Rattle.chi_check_laws.proofs.FilledNames.{fill, bindings_filling, fills_are}
 use Rattle.chi_check_laws.proofs.Nodes.{Goes}
 use Rattle.chi_check_laws.proofs.Set.{branch_sets, choose_sets, while_sets, walk_sets, select_sets, run_sets, start_sets, guarded_sets, offered_sets, unwound_sets}
 use Rattle.chi_check_laws.proofs.States.{grows_on, cut_grows}

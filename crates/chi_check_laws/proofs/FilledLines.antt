@@ -16,19 +16,17 @@ use Rattle.chi_core.specs.declared.communication.CComm.{CComm}
 use Rattle.chi_core.specs.declared.communication.CComm.TheVariants as comm
 use Rattle.chi_core.specs.declared.element.CElem.{CElem}
 use Rattle.chi_core.specs.declared.expression.CExpr.{CExpr}
-use Rattle.chi_core.specs.declared.statement.CAlt.{CAlt}
-use Rattle.chi_core.specs.declared.statement.CAlt.TheVariants as alternative
 use Rattle.chi_core.specs.declared.statement.CStat.{CStat}
 use Rattle.chi_core.specs.declared.statement.CStat.TheVariants as statement
 use Rattle.chi_core.specs.declared.target.CTarget.{CTarget}
-use Rattle.chi_core.specs.Fills.{Fill, Fills, filled, one_after_another, by_target, by_target_if, by_communication, by_element, by_alternative, by_statement}
+use Rattle.chi_core.specs.Fills.{filled, one_after_another, by_target, by_communication, by_element, by_statement}
 use Rattle.chi_core.specs.Kinds.{is_void}
 use Rattle.chi_typing.specs.declared.meant.Made.{Made}
 use Rattle.chi_typing.specs.declared.meant.Meant.{Meant}
-use Rattle.chi_typing.specs.declared.rules.TheConstants.{ASSIGNED_VALUE, TARGET_COUNT, SENT_VALUE, RECEIVING_NAME, DELAY, ELEMENT_TARGET, NEW_NAME, RETURN, EXIT, FORMAT}
-use Rattle.chi_typing.specs.Names.{Names, known_in}
+use Rattle.chi_typing.specs.declared.rules.TheConstants.{ASSIGNED_VALUE, TARGET_COUNT, SENT_VALUE, RECEIVING_NAME, DELAY, ELEMENT_TARGET, RETURN, EXIT, FORMAT}
+use Rattle.chi_typing.specs.Names.{Names}
 use Rattle.chi_typing.specs.Predefined.{is_predefined}
-use Rattle.chi_typing.specs.Typed.{Typed, unless, untyped, refused}
+use Rattle.chi_typing.specs.Typed.{unless, untyped, refused}
 use Rattle.chi_expr_rules.specs.Conversions.{converted, passed}
 use Rattle.chi_expr_rules.specs.Nodes.{of_one, all_made}
 use Rattle.chi_check_expr.specs.Typing.{reading}
@@ -43,9 +41,9 @@ use Rattle.chi_stat_rules.specs.declared.home.Home.TheVariants as home
 use Rattle.chi_stat_rules.specs.declared.parts.Aim.{Aim}
 use Rattle.chi_stat_rules.specs.declared.parts.Receiver.{Receiver}
 use Rattle.chi_stat_rules.specs.declared.parts.Started.{Started}
-use Rattle.chi_stat_rules.specs.Assignments.{all_aims, assign, stored, parts_fit, spread, spread_parts, spread_value, spread_one, only_one, uneven, even, assigned}
-use Rattle.chi_stat_rules.specs.Channels.{sent_type, send_void, sending, send_value, send_on, send_of, received_type, receive_void, receiving, receive_value, receive_on, receive_of, delayed, delaying, delay_of}
-use Rattle.chi_stat_rules.specs.Elements.{as_instance_target, instance_target, make, element_made}
+use Rattle.chi_stat_rules.specs.Assignments.{all_aims, assign, stored, parts_fit, spread, spread_value, only_one, uneven, even}
+use Rattle.chi_stat_rules.specs.Channels.{sent_type, send_void, sending, send_value, send_on, send_of, received_type, receive_void, receiving, receive_value, receive_on, receive_of, delayed, delaying}
+use Rattle.chi_stat_rules.specs.Elements.{as_instance_target, make, element_made}
 use Rattle.chi_stat_rules.specs.Endings.{returning, return_of, exiting, exit_of, loop_rule}
 use Rattle.chi_stat_rules.specs.Homes.{site_of, running_rule, channel_rule}
 use Rattle.chi_stat_rules.specs.Places.{type_place}
@@ -54,11 +52,11 @@ use Rattle.chi_stat_rules.specs.Writes.{ended, pieces_of, shown_count, Written, 
 use Rattle.chi_check.specs.declared.state.Binder.TheVariants as binder
 use Rattle.chi_check.specs.declared.state.State.{State}
 use Rattle.chi_check.specs.Stated.{in_turn, alone}
-use Rattle.chi_check.specs.States.{is_taken, next_slot, new_name_rule, with_variable}
+use Rattle.chi_check.specs.States.{next_slot, new_name_rule}
 use Rattle.chi_check.specs.Statements.{made_of, made_if, all_of, placed, assignment_place, communication_place, selected, declaration, value_in, values_in, instance_in, target_in, receiver_in, parts_in, communication_in, communicating, goal_in, element_in, initial_in, declared, declaration_in, assignment_in, return_in, exit_in, finish_in, write_in}
 use Rattle.chi_check_laws.proofs.Declarations.{no_initial}
 use Rattle.chi_check_laws.proofs.Filled.{Visible, Old, Filled, Filling, in_turn_filling, alone_filling}
-use Rattle.chi_check_laws.proofs.FilledNames.{SeenIf, new_filled, target_seen, receiver_seen}
+use Rattle.chi_check_laws.proofs.FilledNames.{new_filled, target_seen, receiver_seen}
 use Rattle.chi_check_laws.proofs.Set.{declare_sets, assign_sets, pass_sets, break_sets, continue_sets, return_sets, exit_sets, write_sets, finish_sets, select_sets, guarded_sets, make_sets}
 use Rattle.chi_check_laws.proofs.States.{variable_grows}
 use Rattle.chi_check_laws.proofs.Turns.{held_made}
@@ -171,6 +169,7 @@ module _ (h : Home) (names : Names) where
           let f = one_made SENT_VALUE place (sending a t) v c e in
           let m = mapped (λ e. comm.Send a.target (Some e)) (fitted f.0 t) c f.2 in
           ap by_communication (sym m.2)
+
       on : (o : Option Ty) → (send_on place a o value).made ≡ Some c → by_communication c ≡ []
       on None e = absurd (cc)
       on (Some t) e = full (is_void (out-Ty t)) t value e
@@ -193,6 +192,7 @@ module _ (h : Home) (names : Names) where
           let f = one_made RECEIVING_NAME place (receiving a t) r c e in
           let m = chosen (same f.0.ty t) (comm.Receive a.target (Some f.0.slot)) c f.2 in
           subst (λ c. Each (Old names) (by_communication c)) m.1 ((refl, seen f.0 (ap Some f.1)), tt)
+
       on : (o : Option Ty) → (receive_on place a o r).made ≡ Some c → Each (Old names) (by_communication c)
       on None e = absurd (cc)
       on (Some t) e = full (is_void (out-Ty t)) t r seen e

@@ -1,6 +1,6 @@
 -- Slots of new names, and of targets and receivers that are visible.
-use Rattle.std.proofs.Common.{◌≡◌, ◌⊎◌, inl, inr, ℕ, suc, ◌+◌, ◌<◌, ◌≤◌, Bool, true, false, List, [], ◌∷◌, ◌++◌, map, length, Option, Some, None, is_some, refl, sym, ap, subst, ◌∙◌, append-nil, length-append, arith}
-use Rattle.std.specs.Prelude.{if◌then◌else◌, option_map}
+use Rattle.std.proofs.Common.{◌≡◌, ◌⊎◌, inl, inr, ℕ, ◌+◌, ◌<◌, ◌≤◌, Bool, true, false, List, [], ◌∷◌, ◌++◌, map, length, Option, Some, None, is_some, refl, sym, ap, subst, ◌∙◌, length-append, arith}
+use Rattle.std.specs.Prelude.{if◌then◌else◌}
 use Rattle.chi_token.specs.declared.place.Place.{Place}
 use Rattle.chi_tree.specs.declared.expr.Entry.{Entry}
 use Rattle.chi_tree.specs.declared.expr.Expr.{Expr}
@@ -33,15 +33,15 @@ use Rattle.chi_stat_rules.specs.declared.home.Home.{Home}
 use Rattle.chi_stat_rules.specs.declared.parts.Aim.{Aim}
 use Rattle.chi_stat_rules.specs.declared.parts.Receiver.{Receiver}
 use Rattle.chi_stat_rules.specs.Channels.{receiver, untyped_receiver, visible_receiver}
-use Rattle.chi_stat_rules.specs.Targets.{aim, untyped_target, visible_target, named_target, is_text, stepped, to_element, to_key, indexed, index_into, index_step, to_part, field_of, field_step}
+use Rattle.chi_stat_rules.specs.Targets.{aim, untyped_target, visible_target, named_target, is_text, stepped, indexed, index_step, to_part, field_of, field_step}
 use Rattle.chi_check.specs.declared.state.Binder.{Binder}
 use Rattle.chi_check.specs.declared.state.Binder.TheVariants as binder
 use Rattle.chi_check.specs.declared.state.State.{State}
 use Rattle.chi_check.specs.Stated.{in_turn}
-use Rattle.chi_check.specs.States.{is_taken, with_name, bound, with_variable, slot_if, binding, first_type, other_types, bindings}
+use Rattle.chi_check.specs.States.{is_taken, bound, with_variable, slot_if, binding, first_type, other_types, bindings}
 use Rattle.chi_check.specs.Statements.{value_in, step_in, steps_in, target_in}
 use Rattle.chi_check_laws.proofs.Communications.{unrefused}
-use Rattle.chi_check_laws.proofs.Filled.{Visible, Filled, Filling, Mine, Other, in_turn_filling}
+use Rattle.chi_check_laws.proofs.Filled.{Visible, Filled, Filling, Other, in_turn_filling}
 use Rattle.chi_check_laws.proofs.States.{found_in, variable_grows}
 use Rattle.chi_check_laws.proofs.Values.{one_made}
 
@@ -74,6 +74,7 @@ module _ (b : Binder) (name : Name) (t : Ty) (s : State) where
     where
       true_false : true ≡ false → ⊥
       true_false e = cc
+
       by : (known_in s.names v.0 ≡ Some (known.Var slot v.1)) ⊎ (bound b (length s.slots) (Some t) ≡ known.Var slot v.1)
           → Visible s.names slot ⊎ ((length s.slots ≤ slot) × (slot < length next.slots) × Each (Other slot) (fill b (length s.slots) ∷ []))
       by (inl old) = inl (v.0, v.1, old)

@@ -1,5 +1,5 @@
 -- What each form keeps, each tree has: the induction over trees, once for every fact.
-use Rattle.std.proofs.Common.{◌≡◌, ℕ, Bool, true, ◌&&◌, List, [], ◌∷◌, map, Option, refl, sym, subst, ◌∙◌}
+use Rattle.std.proofs.Common.{◌≡◌, Bool, true, List, [], ◌∷◌, map, sym, subst, ◌∙◌}
 use Rattle.std.proofs.lemmas.Bool.{and_parts}
 use Rattle.std.specs.List.{list_all}
 use Rattle.chi_value.specs.Plain.{itself}
@@ -7,7 +7,7 @@ use Rattle.chi_tree.specs.declared.statement.Alternative.{Alternative, Alternati
 use Rattle.chi_tree.specs.declared.statement.Branch.{Branch, Branch-F, map-Branch, roll-Branch, fold-roll-Branch}
 use Rattle.chi_tree.specs.declared.statement.Element.{Element, Element-F, map-Element, roll-Element, fold-roll-Element, ind-Element}
 use Rattle.chi_tree.specs.declared.statement.Statement.{Statement, Statement-F, map-Statement, roll-Statement, fold-roll-Statement}
-use Rattle.chi_tree.specs.declared.statement.Step.{Step, Step-F, map-Step, roll-Step, fold-roll-Step, ind-Step}
+use Rattle.chi_tree.specs.declared.statement.Step.{Step, Step-F, roll-Step, fold-roll-Step, ind-Step}
 use Rattle.chi_core.specs.declared.element.CElem.{CElem}
 use Rattle.chi_core.specs.declared.statement.Branch.{Branch as CBranch}
 use Rattle.chi_core.specs.declared.statement.CAlt.{CAlt}

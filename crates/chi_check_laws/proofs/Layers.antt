@@ -1,5 +1,5 @@
 -- Statements with their streams: what each comes to by its outermost layer, and what it sets.
-use Rattle.std.proofs.Common.{◌≡◌, ℕ, Bool, List, [], ◌∷◌, map, refl, sym, ap, ◌∙◌}
+use Rattle.std.proofs.Common.{◌≡◌, ℕ, Bool, List, [], ◌∷◌, map, refl, ap, ◌∙◌}
 use Rattle.chi_core.specs.declared.element.CElem.{CElem, CElem-F, out-CElem, map-CElem, fold_out-CElem}
 use Rattle.chi_core.specs.declared.statement.Branch.{Branch, Branch-F, out-Branch, map-Branch, fold_out-Branch}
 use Rattle.chi_core.specs.declared.statement.CAlt.{CAlt, CAlt-F, out-CAlt, map-CAlt, fold_out-CAlt}

@@ -1,6 +1,6 @@
 -- What holds where some slots count as set holds where more of them do.
-use Rattle.std.proofs.Common.{◌≡◌, ℕ, Bool, true, false, ◌||◌, nat_eq, List, [], ◌∷◌, Some, refl, ap}
-use Rattle.chi_core.specs.declared.expression.CExpr.{CExpr, CExpr-F, out-CExpr}
+use Rattle.std.proofs.Common.{◌≡◌, ℕ, Bool, true, false, ◌||◌, nat_eq, List, [], ◌∷◌, refl}
+use Rattle.chi_core.specs.declared.expression.CExpr.{CExpr, CExpr-F}
 use Rattle.chi_core.specs.declared.statement.CStat.{CStat, CStat-F, out-CStat}
 use Rattle.chi_core.specs.Kinds.{Kind}
 use Rattle.chi_core.specs.Scopes.{Scope}

@@ -1,5 +1,5 @@
 -- What each form of a statement keeps, over parts that keep it.
-use Rattle.std.proofs.Common.{◌≡◌, ℕ, Bool, true, List, ◌∷◌, map, Option}
+use Rattle.std.proofs.Common.{◌≡◌, ℕ, Bool, true, List, map, Option}
 use Rattle.chi_token.specs.declared.place.Place.{Place}
 use Rattle.chi_tree.specs.declared.type_tree.Name.{Name}
 use Rattle.chi_tree.specs.declared.type_tree.TypeTree.{TypeTree}

@@ -1,11 +1,11 @@
 -- What each form of a statement sets.
-use Rattle.std.proofs.Common.{◌≡◌, ℕ, List, [], ◌∷◌, ◌++◌, map, Option, None, Some, refl, ap, ◌∙◌}
+use Rattle.std.proofs.Common.{◌≡◌, ℕ, List, [], ◌∷◌, ◌++◌, map, Option, ap, ◌∙◌}
 use Rattle.chi_value.specs.declared.format.Piece.{Piece}
 use Rattle.chi_core.specs.declared.communication.CComm.{CComm}
 use Rattle.chi_core.specs.declared.element.CElem.{CElem, CElem-F, out-CElem, map-CElem, fold_out-CElem}
 use Rattle.chi_core.specs.declared.element.CElem.TheVariants as element
 use Rattle.chi_core.specs.declared.expression.CExpr.{CExpr}
-use Rattle.chi_core.specs.declared.statement.Branch.{Branch, Branch-F, out-Branch, map-Branch, fold_out-Branch}
+use Rattle.chi_core.specs.declared.statement.Branch.{Branch, Branch-F, out-Branch, fold_out-Branch}
 use Rattle.chi_core.specs.declared.statement.CAlt.{CAlt, CAlt-F, out-CAlt, map-CAlt, fold_out-CAlt}
 use Rattle.chi_core.specs.declared.statement.CAlt.TheVariants as alternative
 use Rattle.chi_core.specs.declared.statement.CStat.{CStat, CStat-F, out-CStat, map-CStat, fold_out-CStat}

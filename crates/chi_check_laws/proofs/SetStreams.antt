@@ -103,7 +103,7 @@ statement_layer (CStat-F.Start line elements) count = start_sets line _ ∙ all_
 statement_layer (CStat-F.Finish line es) count = finish_sets line _
 
 alternative_layer : (y : CAlt-F XA XS XB) (count : ℕ) → by_alternative (alternative_step (alternative_parts (alternative_of y)) count).part ≡ alternative_fills (alternative_of y)
-alternative_layer (CAlt-F.Guarded guard c xs) count = 
+alternative_layer (CAlt-F.Guarded guard c xs) count =
     let at = (some of_expression guard count).next in
     guarded_sets _ _ _ ∙ (λ i. communication_counted c at i ++ each_still by_statement of_statement xs (of_communication c at).next i)
 alternative_layer (CAlt-F.Unwind slots container xs) count = offered_sets slots _ _ ∙ ap (λ rest. map unwound slots ++ rest) (each_still by_alternative of_alternative xs _)

@@ -1,5 +1,5 @@
 -- Names and slots are only added, and the end of a block cuts off just the names that it has added.
-use Rattle.std.proofs.Common.{◌≡◌, ◌⊎◌, inl, inr, ℕ, zero, suc, Bool, true, false, ◌||◌, List, [], ◌∷◌, ◌++◌, length, take, Option, Some, None, is_some, refl, sym, ap, subst, ◌∙◌, append_assoc, append-nil}
+use Rattle.std.proofs.Common.{◌≡◌, ◌⊎◌, inl, inr, ℕ, zero, suc, Bool, true, false, List, [], ◌∷◌, ◌++◌, length, take, Option, Some, None, refl, sym, ap, subst, ◌∙◌, append_assoc, append-nil}
 use Rattle.std.specs.Prelude.{slice_get, if◌then◌else◌}
 use Rattle.std.specs.Str.{bytes_eq}
 use Rattle.chi_tree.specs.declared.type_tree.Name.{Name}
@@ -12,7 +12,7 @@ use Rattle.chi_typing_laws.specs.Standing.{Stands, AllStand}
 use Rattle.chi_typing_laws.proofs.Conversions.{chosen}
 use Rattle.chi_check.specs.declared.state.Binder.{Binder}
 use Rattle.chi_check.specs.declared.state.State.{State}
-use Rattle.chi_check.specs.States.{is_taken, with_name, bound, with_slot, with_variable, cut}
+use Rattle.chi_check.specs.States.{is_taken, bound, with_slot, with_variable, cut}
 use Rattle.chi_check_laws.specs.Bodies.{SlotsHave, Grows}
 
 -- ---- lists

@@ -1,5 +1,5 @@
 -- What keeps the names in agreement with the program, and makes what is sound: one after another, alone, and in blocks.
-use Rattle.std.proofs.Common.{◌≡◌, ℕ, Bool, true, false, List, [], ◌∷◌, ◌++◌, map, length, Option, Some, None, refl, sym, ap, subst, ◌∙◌}
+use Rattle.std.proofs.Common.{◌≡◌, ℕ, Bool, true, false, List, [], ◌∷◌, ◌++◌, Option, Some, None, refl, sym, subst}
 use Rattle.std.specs.Prelude.{option_map, if◌then◌else◌}
 use Rattle.chi_token.specs.declared.place.Place.{Place}
 use Rattle.chi_core.specs.Scopes.{Scope}
@@ -12,7 +12,7 @@ use Rattle.chi_check_expr.proofs.Kept.{Each}
 use Rattle.chi_typing_laws.specs.Standing.{AllStand}
 use Rattle.chi_typing_laws.proofs.Conversions.{some_is, mapped, chained}
 use Rattle.chi_check.specs.declared.state.State.{State}
-use Rattle.chi_check.specs.Stated.{Stated, Turn, both, joined, in_turn, one, alone}
+use Rattle.chi_check.specs.Stated.{Turn, both, in_turn, alone}
 use Rattle.chi_check.specs.States.{block}
 use Rattle.chi_check_laws.specs.Bodies.{SlotsHave, Grows}
 use Rattle.chi_check_laws.proofs.More.{Within, names_more}
@@ -70,9 +70,10 @@ module _ (scope : Scope) {A : Type 0} (P : Set → List A → Type 0) (next : Li
           let last = (in_turn fs middle).next in
           let m = both_made (λ x y. x ++ y) (f s).made (in_turn fs middle).made xs e in
           let first = h.0.sound set s m.0 (slots_before scope middle last (rest.grows middle) have) all m.2 in
-          let second = rest.sound (next m.0 set) middle m.1 have first.1 m.3 in
-          (subst (P set) m.4 (parts.append set m.0 m.1 first.0 second.0),
-          subst (λ xs. AllStand scope (next xs set) last.names) m.4 (subst (λ set. AllStand scope set last.names) (sym (parts.next_append set m.0 m.1)) second.1));
+          let second = rest.sound (next m.0 set) middle m.1 have first.1 m.3 in (
+            subst (P set) m.4 (parts.append set m.0 m.1 first.0 second.0),
+            subst (λ xs. AllStand scope (next xs set) last.names) m.4 (subst (λ set. AllStand scope set last.names) (sym (parts.next_append set m.0 m.1)) second.1),
+          );
     }
 
     -- what changes no state

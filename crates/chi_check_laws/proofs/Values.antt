@@ -1,5 +1,5 @@
 -- The values of expressions, conditions and targets, where all visible names agree with the program.
-use Rattle.std.proofs.Common.{◌≡◌, ℕ, Bool, true, List, [], ◌∷◌, map, Option, Some, None, refl, sym, ap, subst, ◌∙◌}
+use Rattle.std.proofs.Common.{◌≡◌, ℕ, Bool, List, [], ◌∷◌, map, Option, Some, None, refl, subst}
 use Rattle.std.specs.Prelude.{option_map}
 use Rattle.chi_token.specs.declared.place.Place.{Place}
 use Rattle.chi_tree.specs.declared.expr.Expr.{Expr}
@@ -12,7 +12,6 @@ use Rattle.chi_core.specs.SetSlots.{Known as Set}
 use Rattle.chi_typing.specs.declared.meant.Made.{Made}
 use Rattle.chi_typing.specs.declared.meant.Meant.{Meant}
 use Rattle.chi_typing.specs.Names.{Names}
-use Rattle.chi_typing.specs.Typed.{Typed}
 use Rattle.chi_expr_rules.specs.Nodes.{of_one, of_two, all_made}
 use Rattle.chi_check_expr.specs.Typing.{reading}
 use Rattle.chi_check_expr.proofs.Kept.{Each}

@@ -1,14 +1,13 @@
 -- Walks: the names that they bind are of the kinds of what is walked over.
-use Rattle.std.proofs.Common.{◌≡◌, ℕ, suc, Bool, true, false, List, [], ◌∷◌, ◌++◌, map, length, Option, Some, None, is_some, not, refl, sym, ap, subst, ◌∙◌, arith}
+use Rattle.std.proofs.Common.{◌≡◌, ℕ, suc, Bool, true, false, List, [], ◌∷◌, ◌++◌, map, length, Option, Some, None, is_some, refl, sym, ap, subst, ◌∙◌, arith}
 use Rattle.std.proofs.lemmas.Bool.{eqb-true, eq-eqb}
-use Rattle.std.specs.Prelude.{nat_eq, option_map, slice_get, ◌||◌, if◌then◌else◌}
+use Rattle.std.specs.Prelude.{nat_eq, slice_get, if◌then◌else◌}
 use Rattle.chi_token.specs.declared.place.Place.{Place}
 use Rattle.chi_tree.specs.declared.statement.Walk.{Walk}
 use Rattle.chi_tree.specs.declared.type_tree.Name.{Name}
 use Rattle.chi_types.specs.declared.ty.Ty.{Ty, Ty-F, out-Ty}
 use Rattle.chi_types.specs.Same.{nameless, beside}
-use Rattle.chi_core.specs.declared.expression.CExpr.{CExpr}
-use Rattle.chi_core.specs.Kinds.{Kind, kind_of, erased}
+use Rattle.chi_core.specs.Kinds.{kind_of, erased}
 use Rattle.chi_core.specs.Scopes.{Scope}
 use Rattle.chi_core.specs.SetSlots.{Known as Set, also, also_all}
 use Rattle.chi_core.specs.Sound.{SoundIn}
@@ -17,11 +16,9 @@ use Rattle.chi_core.specs.SoundParts.{SlotsTake, SlotsTakeParts}
 use Rattle.chi_core.specs.SoundTypes.{SoundParts, no_part, one_part}
 use Rattle.chi_core.proofs.Erased.{kind_at}
 use Rattle.chi_typing.specs.declared.known.Known.{Known}
-use Rattle.chi_typing.specs.declared.known.Known.TheVariants as known
 use Rattle.chi_typing.specs.declared.meant.Made.{Made}
 use Rattle.chi_typing.specs.declared.rules.TheConstants.{WALK_NAMES}
-use Rattle.chi_typing.specs.Names.{Names, known_in}
-use Rattle.chi_typing.specs.Predefined.{is_predefined}
+use Rattle.chi_typing.specs.Names.{Names}
 use Rattle.chi_check_expr.proofs.Kept.{Each}
 use Rattle.chi_check_expr.proofs.Nodes.{settled_made}
 use Rattle.chi_typing_laws.specs.Standing.{AllStand, SlotStands, SoundMade, Stands}
@@ -35,8 +32,8 @@ use Rattle.chi_check.specs.declared.state.Binder.{Binder}
 use Rattle.chi_check.specs.declared.state.Binder.TheVariants as binder
 use Rattle.chi_check.specs.declared.state.Opened.{Opened}
 use Rattle.chi_check.specs.declared.state.State.{State}
-use Rattle.chi_check.specs.Stated.{Turn, in_turn}
-use Rattle.chi_check.specs.States.{is_taken, with_name, bound, with_variable, next_slot, slot_if, binding, first_type, other_types, bindings}
+use Rattle.chi_check.specs.Stated.{in_turn}
+use Rattle.chi_check.specs.States.{is_taken, bound, with_variable, next_slot, slot_if, first_type, other_types, bindings}
 use Rattle.chi_check.specs.Statements.{opened, opening, types_of, value_in, walk_in, walk_place}
 use Rattle.chi_stat_rules.specs.Places.{expr_place}
 use Rattle.chi_check_laws.specs.Bodies.{role_of, SlotsHave, Grows}
@@ -65,9 +62,11 @@ module _ (scope : Scope) where
   variable_stands b name t set s new ty have all =
       let slot = next_slot s in
       let is = have slot t (get_last s.slots t) in
-      let counts = also_itself slot set (eq-eqb slot slot refl) in
-      (is, with_new (is_taken s.names name.text) (also slot set) s.names name.text (bound b slot (Some t)) new (names_more scope set (also slot set) (also_more slot set) s.names all)
-      (bound_stands b (also slot set) slot t (record { counts = counts; is = is; ty = ty })))
+      let counts = also_itself slot set (eq-eqb slot slot refl) in (
+        is,
+        with_new (is_taken s.names name.text) (also slot set) s.names name.text (bound b slot (Some t)) new (names_more scope set (also slot set) (also_more slot set) s.names all)
+            (bound_stands b (also slot set) slot t (record { counts = counts; is = is; ty = ty })),
+      )
 
   slot_made : (taken : Bool) (t : Option Ty) (slot : ℕ) (slots : List ℕ) → slot_if taken (is_some t) slot ≡ Some slots → (taken ≡ false) × (u : Ty) × (t ≡ Some u) × (slot ∷ [] ≡ slots)
   slot_made true t slot slots e = absurd (cc)

@@ -1,18 +1,16 @@
 -- What whole lists of statements set.
-use Rattle.std.proofs.Common.{◌≡◌, ℕ, ◌<◌, ◌≤◌, Bool, true, false, List, map, length, Option, Some, inl, inr, refl, sym, ap, subst, arith}
-use Rattle.std.specs.Prelude.{slice_get}
+use Rattle.std.proofs.Common.{◌≡◌, ℕ, ◌≤◌, Bool, true, false, List, map, length, Some, inl, inr, sym, subst}
 use Rattle.chi_tree.specs.declared.statement.Step.{Step}
 use Rattle.chi_core.specs.declared.statement.CStat.{CStat}
-use Rattle.chi_core.specs.Fills.{Fill, Fills, unwound, by_statement, by_body, UnwindsOwn}
+use Rattle.chi_core.specs.Fills.{Fills, unwound, by_statement, by_body, UnwindsOwn}
 use Rattle.chi_stat_rules.specs.declared.home.Home.{Home}
-use Rattle.chi_check_expr.proofs.Kept.{Each}
 use Rattle.chi_streams.specs.Streams.{each, of_statement}
 use Rattle.chi_check.specs.declared.state.State.{State}
 use Rattle.chi_check.specs.Statements.{stepping_in, stating_all}
 use Rattle.chi_check_laws.specs.Bodies.{HaveSlots, Grows}
 use Rattle.chi_check_laws.specs.Whole.{steps_are_whole}
 use Rattle.chi_check_laws.proofs.Apart.{each_found, set_once}
-use Rattle.chi_check_laws.proofs.Filled.{Visible, Below, Mine, Filled, Filling, in_turn_filling}
+use Rattle.chi_check_laws.proofs.Filled.{Mine, Filled, Filling, in_turn_filling}
 use Rattle.chi_check_laws.proofs.FilledBlocks.{StatementFills, BranchFills, OfferFills, MakeFills, select_fills, guarded_fills, offered_fills, choose_fills, branch_fills, while_fills, loop_fills, unwound_fills, run_fills, start_fills}
 use Rattle.chi_check_laws.proofs.FilledLines.{declare_filling, assign_filling, communicate_filling, pass_filling, break_filling, continue_filling, return_filling, exit_filling, finish_filling, write_filling, make_filling}
 use Rattle.chi_check_laws.proofs.Induction.{all_stepping}
@@ -24,6 +22,7 @@ own_slots s n fs h k slot is = (new (each_found (Mine s n) fs k (unwound slot) h
   where
     true_false : true ≡ false → ⊥
     true_false e = cc
+
     new : Mine s n (unwound slot) → length s.slots ≤ slot
     new (inl old) = absurd (true_false old.0)
     new (inr fresh) = fresh.0

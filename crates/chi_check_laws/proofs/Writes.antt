@@ -1,5 +1,5 @@
 -- Writes: each value is of the kind that its piece shows.
-use Rattle.std.proofs.Common.{◌≡◌, inl, inr, ℕ, zero, suc, ◌+◌, ◌≤◌, Bool, true, false, cond, List, [], ◌∷◌, map, length, Option, Some, None, refl, sym, ap, subst, ◌∙◌, arith}
+use Rattle.std.proofs.Common.{◌≡◌, inl, inr, ℕ, ◌+◌, ◌≤◌, Bool, true, false, cond, List, [], ◌∷◌, map, length, Option, Some, None, refl, sym, subst, ◌∙◌, arith}
 use Rattle.std.specs.Prelude.{nat_eq, All, option_map, if◌then◌else◌}
 use Rattle.std.proofs.lemmas.Bool.{eqb-true}
 use Rattle.std.proofs.lemmas.List.Elements.{All-head, All-tail}
@@ -9,7 +9,6 @@ use Rattle.chi_tree.specs.declared.expr.Expr.{Expr}
 use Rattle.chi_types.specs.declared.ty.Ty.{Ty-F, out-Ty}
 use Rattle.chi_types.specs.declared.ty.Ty.TheVariants as ty
 use Rattle.chi_types.specs.Plain.{is_plain}
-use Rattle.chi_value.specs.declared.format.Field.{Field}
 use Rattle.chi_value.specs.declared.format.Piece.{Piece}
 use Rattle.chi_value.specs.declared.format.Piece.TheVariants as piece
 use Rattle.chi_format.specs.FormatCodes as codes
@@ -40,7 +39,7 @@ use Rattle.chi_stat_rules.specs.Homes.{running_rule}
 use Rattle.chi_stat_rules.specs.Writes.{ended, read_pieces, pieces_of, is_shown, shown_count, showing, Written, shown_one, with_first, all_shown, written, write_of}
 use Rattle.chi_stat_laws.proofs.Values.{fitted_has}
 use Rattle.chi_check.specs.Stated.{alone}
-use Rattle.chi_check.specs.Statements.{value_in, values_in, made_of, placed, write_in}
+use Rattle.chi_check.specs.Statements.{values_in, made_of, placed, write_in}
 use Rattle.chi_check_laws.specs.Bodies.{role_of}
 use Rattle.chi_check_laws.proofs.Bodies.{SoundOne, StatementKept, statements_by_parts}
 use Rattle.chi_check_laws.proofs.Endings.{runs_in}
