@@ -26,7 +26,7 @@ use Rattle.chi_core.specs.SoundStatements as sound
 use Rattle.chi_core.specs.SoundStatements.{SoundAlternative}
 use Rattle.chi_typing.specs.Names.{Names}
 use Rattle.chi_check_expr.proofs.Kept.{Each}
-use Rattle.chi_typing_laws.specs.Standing.{AllStand, Has}
+use Rattle.chi_typing_laws.specs.Standing.{Has}
 use Rattle.chi_typing_laws.proofs.Conversions.{mapped, chained}
 use Rattle.chi_stat_rules.specs.declared.home.Home.{Home}
 use Rattle.chi_stat_rules.specs.Homes.{running_rule}
@@ -35,14 +35,14 @@ use Rattle.chi_check.specs.declared.state.State.{State}
 use Rattle.chi_check.specs.Stated.{Turn, both, in_turn}
 use Rattle.chi_check.specs.States.{block}
 use Rattle.chi_check.specs.Statements.{Going, each_in, starting, test_in, guard_in, communication_in, walk_in, element_step, statement_step, branch_step, alternative_step, offers, runs, starts}
-use Rattle.chi_check_laws.specs.Bodies.{role_of, set_by}
+use Rattle.chi_check_laws.specs.Bodies.{Agrees, role_of, set_by}
 use Rattle.chi_check_laws.specs.Whole.{has_any}
 use Rattle.chi_check_laws.proofs.Bodies.{SoundOne, BranchAt, SoundBranch, SoundOffer, SoundMake, AllSound, StatementKept, BranchKept, OfferKept, MakeKept, nothing_more, statements_by_parts, each_by_parts, branch_at, offer_at, make_at, body_sound, offers_sound, makes_sound}
 use Rattle.chi_check_laws.proofs.Communications.{offer_sound, communication_sound, guard_sound}
 use Rattle.chi_check_laws.proofs.Endings.{runs_in}
-use Rattle.chi_check_laws.proofs.More.{set_by_more, names_more}
+use Rattle.chi_check_laws.proofs.More.{set_by_more}
 use Rattle.chi_check_laws.proofs.Nodes.{Goes}
-use Rattle.chi_check_laws.proofs.States.{grows_on, cut_grows, cut_stands, slots_before}
+use Rattle.chi_check_laws.proofs.States.{grows_on, cut_grows, agrees_cut, agrees_more, slots_before}
 use Rattle.chi_check_laws.proofs.Statements.{SoundWalk, one_choose, one_while, one_walk, one_select, one_run, one_start}
 use Rattle.chi_check_laws.proofs.Turns.{both_made, held_made, in_turn_kept, block_sound, block_grows}
 use Rattle.chi_check_laws.proofs.Values.{test_has}
@@ -54,8 +54,8 @@ each_going P loop (g ∷ gs) h = (h.0 loop, each_going P loop gs h.1)
 
 module _ (h : Home) (scope : Scope) (role : role_of h ≡ Some scope.role) where
   -- one statement, after which as many names agree with the program as before it
-  alone_in : (loop : Bool) (set : Set) (names : Names) (x : CStat) (xs : List CStat) → x ∷ [] ≡ xs → SoundOne scope loop set x → AllStand scope set names → AllSound scope loop set xs × AllStand scope (set_by xs set) names
-  alone_in loop set names x xs is h all = (subst (AllSound scope loop set) is (h, tt), names_more scope set (set_by xs set) (set_by_more xs set) names all)
+  alone_in : (loop : Bool) (set : Set) (s : State) (x : CStat) (xs : List CStat) → x ∷ [] ≡ xs → SoundOne scope loop set x → Agrees scope set s → AllSound scope loop set xs × Agrees scope (set_by xs set) s
+  alone_in loop set s x xs is h all = (subst (AllSound scope loop set) is (h, tt), agrees_more scope set (set_by xs set) s (set_by_more xs set) all)
 
   steps_in : (loop : Bool) (gs : List (Going CStat)) → Each (Goes (StatementKept scope)) gs → Each (StatementKept scope loop) (each_in loop gs)
   steps_in loop gs = each_going (StatementKept scope) loop gs
@@ -83,7 +83,7 @@ module _ (h : Home) (scope : Scope) (role : role_of h ≡ Some scope.role) where
         let p = runs_in h scope.role place role b.0 in
         let m = mapped (λ each. statement.Select place.line each ∷ []) t.made xs b.1 in
         let i = inner.sound set s m.0 have all m.1 in
-        alone_in loop set t.next.names (statement.Select place.line m.0) xs m.2 (one_select scope loop set place.line m.0 p.0 p.1 i.0) i.1;
+        alone_in loop set t.next (statement.Select place.line m.0) xs m.2 (one_select scope loop set place.line m.0 p.0 p.1 i.0) i.1;
   }
 
   pub guarded_kept : (guard : Option Expr) (c : Communication) (gs : List (Going CStat)) → Each (Goes (StatementKept scope)) gs → Goes (OfferKept scope) (alternative_step h (Alternative-F.Guarded guard c gs))
@@ -94,7 +94,7 @@ module _ (h : Home) (scope : Scope) (role : role_of h ≡ Some scope.role) where
         let g = chained (λ g. both (λ c b. alternative.Guarded g c b ∷ []) (communication_in h s.names c).made t.made) (guard_in h s.names guard).made xs e in
         let m = both_made (λ c b. alternative.Guarded g.0 c b ∷ []) (communication_in h s.names c).made t.made xs g.2 in
         let i = block_sound scope (AllSound scope loop) set_by (statements_by_parts scope loop) (each_in loop gs) (steps_in loop gs k) set s m.1 have all m.3 in
-        let one = offer_sound scope set loop g.0 m.0 m.1 (guard_sound h scope role set s.names all guard g.0 g.1) (communication_sound h scope role set s.names all c m.0 m.2) i.0 in
+        let one = offer_sound scope set loop g.0 m.0 m.1 (guard_sound h scope role set s.names all.names guard g.0 g.1) (communication_sound h scope role set s.names all.names c m.0 m.2) i.0 in
         (subst (Each (SoundOffer scope loop set)) m.4 (one, tt), i.1);
   }
 
@@ -118,7 +118,7 @@ module _ (h : Home) (scope : Scope) (role : role_of h ≡ Some scope.role) where
             let o = walk_sound h scope role binder.Unwind walk set s m.0 some (slots_before scope w.next t.next (inner.grows w.next) have) all m.2 in
             let i = inner.sound (also_all m.0.slots set) w.next m.1 have o.1 m.3 in
             let grown = grows_on s w.next t.next (walk_grows h scope role binder.Unwind walk s) (inner.grows w.next) in
-            (subst (Each (SoundOffer scope loop set)) m.4 (offer_unwound loop set m.0.slots m.0.container m.1 o.0 i.0, tt), cut_stands scope set s t.next grown all);
+            (subst (Each (SoundOffer scope loop set)) m.4 (offer_unwound loop set m.0.slots m.0.container m.1 o.0 i.0, tt), agrees_cut scope set _ s t.next grown all i.1);
       }
 
   -- ---- branches
@@ -137,7 +137,7 @@ module _ (h : Home) (scope : Scope) (role : role_of h ≡ Some scope.role) where
             let m = both_made (λ branches otherwise. statement.If place.line branches otherwise ∷ []) t.made u.made xs e in
             let i = first.sound set s m.0 (slots_before scope t.next u.next (last_grows t.next) have) all m.2 in
             let j = block_sound scope (AllSound scope loop) set_by (statements_by_parts scope loop) (each_in loop hs) (steps_in loop hs l) set t.next m.1 have i.1 m.3 in
-            alone_in loop set u.next.names (statement.If place.line m.0 m.1) xs m.4 (one_choose scope loop set place.line m.0 m.1 i.0 j.0) j.1;
+            alone_in loop set u.next (statement.If place.line m.0 m.1) xs m.4 (one_choose scope loop set place.line m.0 m.1 i.0 j.0) j.1;
       }
 
   abbrev branch : CExpr → List CStat → CBranch
@@ -155,7 +155,7 @@ module _ (h : Home) (scope : Scope) (role : role_of h ≡ Some scope.role) where
         let t = block (each_in loop b.block) s in
         let m = both_made (λ test inner. branch test inner ∷ []) (test_in h s.names b.condition).made t.made xs e in
         let i = block_sound scope (AllSound scope loop) set_by (statements_by_parts scope loop) (each_in loop b.block) (steps_in loop b.block k) set s m.1 have all m.3 in
-        (subst (Each (SoundBranch scope loop set)) m.4 (branch_sound loop set m.0 m.1 (test_has h scope role set s.names all b.condition m.0 m.2) i.0, tt), i.1);
+        (subst (Each (SoundBranch scope loop set)) m.4 (branch_sound loop set m.0 m.1 (test_has h scope role set s.names all.names b.condition m.0 m.2) i.0, tt), i.1);
   }
 
   -- ---- loops
@@ -167,7 +167,7 @@ module _ (h : Home) (scope : Scope) (role : role_of h ≡ Some scope.role) where
         let t = block (each_in true gs) s in
         let m = both_made (λ test inner. statement.While place.line test inner ∷ []) (test_in h s.names test).made t.made xs e in
         let i = block_sound scope (AllSound scope true) set_by (statements_by_parts scope true) (each_in true gs) (steps_in true gs k) set s m.1 have all m.3 in
-        alone_in loop set t.next.names (statement.While place.line m.0 m.1) xs m.4 (one_while scope loop set place.line m.0 m.1 (test_has h scope role set s.names all test m.0 m.2) i.0) i.1;
+        alone_in loop set t.next (statement.While place.line m.0 m.1) xs m.4 (one_while scope loop set place.line m.0 m.1 (test_has h scope role set s.names all.names test m.0 m.2) i.0) i.1;
   }
 
   pub walk_kept : (place : Place) (walk : Walk) (gs : List (Going CStat)) → has_any walk.names ≡ true → Each (Goes (StatementKept scope)) gs → Goes (StatementKept scope) (statement_step h (Statement-F.For place walk gs))
@@ -185,7 +185,7 @@ module _ (h : Home) (scope : Scope) (role : role_of h ≡ Some scope.role) where
             let o = walk_sound h scope role binder.Variable walk set s m.0 some (slots_before scope w.next t.next (inner.grows w.next) have) all m.2 in
             let i = inner.sound (also_all m.0.slots set) w.next m.1 have o.1 m.3 in
             let grown = grows_on s w.next t.next (walk_grows h scope role binder.Variable walk s) (inner.grows w.next) in
-            let after = cut_stands scope set s t.next grown all in
+            let after = agrees_cut scope set _ s t.next grown all i.1 in
             alone_in loop set _ (statement.For place.line m.0.slots m.0.container m.1) xs m.4 (one_walk scope loop set place.line m.0.slots m.0.container m.1 o.0 i.0) after;
       }
 
@@ -211,7 +211,7 @@ module _ (h : Home) (scope : Scope) (role : role_of h ≡ Some scope.role) where
             let o = walk_sound h scope role binder.Unwind walk set s m.0 some (slots_before scope w.next t.next (inner.grows w.next) have) all m.2 in
             let i = inner.sound (also_all m.0.slots set) w.next m.1 have o.1 m.3 in
             let grown = grows_on s w.next t.next (walk_grows h scope role binder.Unwind walk s) (inner.grows w.next) in
-            (subst (Each (SoundMake scope set)) m.4 (make_unwound set m.0.slots m.0.container m.1 o.0 i.0, tt), cut_stands scope set s t.next grown all);
+            (subst (Each (SoundMake scope set)) m.4 (make_unwound set m.0.slots m.0.container m.1 o.0 i.0, tt), agrees_cut scope set _ s t.next grown all i.1);
       }
 
   pub run_kept : (place : Place) (elements : List Element) → Each (MakeKept scope) (map (starting h) elements) → Goes (StatementKept scope) (statement_step h (Statement-F.Run place elements))
@@ -223,7 +223,7 @@ module _ (h : Home) (scope : Scope) (role : role_of h ≡ Some scope.role) where
         let p = runs_in h scope.role place role b.0 in
         let m = mapped (λ each. statement.Run place.line each ∷ []) t.made xs b.1 in
         let i = inner.sound set s m.0 have all m.1 in
-        alone_in loop set t.next.names (statement.Run place.line m.0) xs m.2 (one_run scope loop set place.line m.0 p.0 p.1 i.0) i.1;
+        alone_in loop set t.next (statement.Run place.line m.0) xs m.2 (one_run scope loop set place.line m.0 p.0 p.1 i.0) i.1;
   }
 
   pub start_kept : (place : Place) (elements : List Element) → Each (MakeKept scope) (map (starting h) elements) → Goes (StatementKept scope) (statement_step h (Statement-F.Start place elements))
@@ -235,5 +235,5 @@ module _ (h : Home) (scope : Scope) (role : role_of h ≡ Some scope.role) where
         let p = runs_in h scope.role place role b.0 in
         let m = mapped (λ each. statement.Start place.line each ∷ []) t.made xs b.1 in
         let i = inner.sound set s m.0 have all m.1 in
-        alone_in loop set t.next.names (statement.Start place.line m.0) xs m.2 (one_start scope loop set place.line m.0 p.0 p.1 i.0) i.1;
+        alone_in loop set t.next (statement.Start place.line m.0) xs m.2 (one_start scope loop set place.line m.0 p.0 p.1 i.0) i.1;
   }

@@ -31,7 +31,7 @@ use Rattle.chi_check.specs.declared.state.State.{State}
 use Rattle.chi_check.specs.Stated.{in_turn}
 use Rattle.chi_check.specs.States.{is_taken, next_slot, new_name_rule}
 use Rattle.chi_check.specs.Statements.{declaration, value_in, initial_in, declared, declaration_in}
-use Rattle.chi_check_laws.specs.Bodies.{role_of, SlotsHave, set_by, Grows}
+use Rattle.chi_check_laws.specs.Bodies.{role_of, SlotsHave, set_by, Agrees, Grows}
 use Rattle.chi_check_laws.proofs.Bodies.{AllSound, StatementKept, all_append, set_append}
 use Rattle.chi_check_laws.proofs.Channels.{channel_kind}
 use Rattle.chi_check_laws.proofs.More.{also_more, meant_more}
@@ -97,8 +97,8 @@ module _ (h : Home) (scope : Scope) (role : role_of h ≡ Some scope.role) (loop
       let middle = (declared h line meant v s).next in
       grows_on s middle (in_turn (map (declared h line meant) vs) middle).next (declared_grows meant v s) (all_grow meant vs middle)
 
-  declared_sound : (meant : Option Meant) (v : Variable) (set : Set) (s : State) (xs : List CStat) → ((m : Meant) → meant ≡ Some m → Declares set m) → SlotsHave scope (declared h line meant v s).next.slots → AllStand scope set s.names
-      → (declared h line meant v s).made ≡ Some xs → AllSound scope loop set xs × AllStand scope (set_by xs set) (declared h line meant v s).next.names × (set_by xs set ≡ also (next_slot s) set)
+  declared_sound : (meant : Option Meant) (v : Variable) (set : Set) (s : State) (xs : List CStat) → ((m : Meant) → meant ≡ Some m → Declares set m) → SlotsHave scope (declared h line meant v s).next.slots → Agrees scope set s
+      → (declared h line meant v s).made ≡ Some xs → AllSound scope loop set xs × Agrees scope (set_by xs set) (declared h line meant v s).next × (set_by xs set ≡ also (next_slot s) set)
   declared_sound None v set s xs d have all e =
       let b = held_made (new_name_rule s.names v.name) (declaration line (next_slot s) (initial_in h s.names None v.initial).made) xs e in
       let m = mapped (λ e. statement.Declare line (next_slot s) e ∷ []) (initial_in h s.names None v.initial).made xs b.1 in
@@ -111,17 +111,17 @@ module _ (h : Home) (scope : Scope) (role : role_of h ≡ Some scope.role) (loop
       let new = unbroken (is_taken s.names v.name.text) NEW_NAME v.name.place b.0 in
       let var = variable_stands scope binder.Variable v.name meant.ty set s new own.meant.ty have all in
       let sets_slot = declare_sets line slot m.0 set in
-      let one = one_declare scope loop set line slot m.0 (kind_of meant.ty) var.0 own.may (initial_has set s.names all meant v.initial m.0 own m.1) in (
+      let one = one_declare scope loop set line slot m.0 (kind_of meant.ty) var.0 own.may (initial_has set s.names all.names meant v.initial m.0 own m.1) in (
         subst (AllSound scope loop set) m.2 (one, tt),
-        subst (λ xs. AllStand scope (set_by xs set) (declared h line (Some meant) v s).next.names) m.2 (subst (λ set. AllStand scope set (declared h line (Some meant) v s).next.names) (sym sets_slot) var.1),
+        subst (λ xs. Agrees scope (set_by xs set) (declared h line (Some meant) v s).next) m.2 (subst (λ set. Agrees scope set (declared h line (Some meant) v s).next) (sym sets_slot) var.1),
         subst (λ xs. set_by xs set ≡ also slot set) m.2 sets_slot,
       )
 
-  all_declared : (meant : Option Meant) (vs : List Variable) (set : Set) (s : State) (xs : List CStat) → ((m : Meant) → meant ≡ Some m → Declares set m) → SlotsHave scope (in_turn (map (declared h line meant) vs) s).next.slots → AllStand scope set s.names
-      → (in_turn (map (declared h line meant) vs) s).made ≡ Some xs → AllSound scope loop set xs × AllStand scope (set_by xs set) (in_turn (map (declared h line meant) vs) s).next.names
+  all_declared : (meant : Option Meant) (vs : List Variable) (set : Set) (s : State) (xs : List CStat) → ((m : Meant) → meant ≡ Some m → Declares set m) → SlotsHave scope (in_turn (map (declared h line meant) vs) s).next.slots → Agrees scope set s
+      → (in_turn (map (declared h line meant) vs) s).made ≡ Some xs → AllSound scope loop set xs × Agrees scope (set_by xs set) (in_turn (map (declared h line meant) vs) s).next
   all_declared meant [] set s xs d have all e =
       let none : [] ≡ xs = some_is [] xs e in
-      (subst (AllSound scope loop set) none tt, subst (λ xs. AllStand scope (set_by xs set) s.names) none all)
+      (subst (AllSound scope loop set) none tt, subst (λ xs. Agrees scope (set_by xs set) s) none all)
   all_declared meant (v ∷ vs) set s xs d have all e =
       let middle = (declared h line meant v s).next in
       let last = (in_turn (map (declared h line meant) vs) middle).next in
@@ -130,7 +130,7 @@ module _ (h : Home) (scope : Scope) (role : role_of h ≡ Some scope.role) (loop
       let own : (other : Meant) → meant ≡ Some other → Declares (set_by m.0 set) other = λ other is. subst (λ set. Declares set other) (sym first.2) (declares_more (next_slot s) set other (d other is)) in
       let rest = all_declared meant vs (set_by m.0 set) middle m.1 own have first.1 m.3 in (
         subst (AllSound scope loop set) m.4 (all_append scope loop set m.0 m.1 first.0 rest.0),
-        subst (λ xs. AllStand scope (set_by xs set) last.names) m.4 (subst (λ set. AllStand scope set last.names) (sym (set_append scope loop set m.0 m.1)) rest.1),
+        subst (λ xs. Agrees scope (set_by xs set) last) m.4 (subst (λ set. Agrees scope set last) (sym (set_append scope loop set m.0 m.1)) rest.1),
       )
 
 pub declare_kept : (h : Home) (scope : Scope) → role_of h ≡ Some scope.role → (loop : Bool) (tree : TypeTree) (variables : List Variable) → StatementKept scope loop (declaration_in h tree variables)
@@ -142,7 +142,7 @@ declare_kept h scope role loop tree variables = record {
       let b = held_made (channel_rule h place (option_map (λ m. m.ty) meant)) (in_turn (map (declared h place.line meant) variables) s).made xs e in
       let own : (m : Meant) → meant ≡ Some m → Declares h scope role loop place.line set m = λ m is.
       let may = may_hold h scope.role place m.ty role (ap (λ o. channel_rule h place (option_map (λ m. m.ty) o)) (sym is) ∙ b.0) in
-      record { meant = read_sound h scope role set s.names all tree true m is; may = may.0; default = may.1 }
+      record { meant = read_sound h scope role set s.names all.names tree true m is; may = may.0; default = may.1 }
       in
       all_declared h scope role loop place.line meant variables set s xs own have all b.1;
 }

@@ -108,7 +108,7 @@ binding_made false b name (Some t) s slots e =
     let one : length s.slots ∷ [] ≡ slots = some_is (length s.slots ∷ []) slots e in
     subst (λ slots. Filled s (with_variable b name (Some t) s) (one_after_another (map (fill_one b) slots))) one (new_filled b name t s)
 
-binding_filling : (b : Binder) (name : Name) (t : Option Ty) → Filling (fill_one b) (binding b name t)
+pub binding_filling : (b : Binder) (name : Name) (t : Option Ty) → Filling (fill_one b) (binding b name t)
 binding_filling b name t = record { grows = variable_grows b name t; fills = λ s xs low e. binding_made (is_taken s.names name.text) b name t s xs e }
 
 all_binding : (b : Binder) (names : List Name) (types : List Ty) → Each (Filling (fill_one b)) (bindings b names types)

@@ -4,16 +4,19 @@ use Rattle.std.specs.Prelude.{slice_get, if◌then◌else◌}
 use Rattle.std.specs.Str.{bytes_eq}
 use Rattle.chi_tree.specs.declared.type_tree.Name.{Name}
 use Rattle.chi_types.specs.declared.ty.Ty.{Ty}
+use Rattle.chi_core.specs.Kinds.{Every}
 use Rattle.chi_core.specs.Scopes.{Scope}
 use Rattle.chi_core.specs.SetSlots.{Known as Set}
+use Rattle.chi_core.specs.Sound.{SoundIn}
 use Rattle.chi_typing.specs.declared.known.Known.{Known}
 use Rattle.chi_typing.specs.Names.{Names, known_in}
 use Rattle.chi_typing_laws.specs.Standing.{Stands, AllStand}
-use Rattle.chi_typing_laws.proofs.Conversions.{chosen}
+use Rattle.chi_typing_laws.proofs.Conversions.{some_is, chosen}
 use Rattle.chi_check.specs.declared.state.Binder.{Binder}
 use Rattle.chi_check.specs.declared.state.State.{State}
 use Rattle.chi_check.specs.States.{is_taken, bound, with_slot, with_variable, cut}
-use Rattle.chi_check_laws.specs.Bodies.{SlotsHave, Grows}
+use Rattle.chi_check_laws.specs.Bodies.{SlotsHave, Grows, Agrees}
+use Rattle.chi_check_laws.proofs.More.{Within, names_more}
 
 -- ---- lists
 
@@ -26,7 +29,7 @@ pub get_last : {A : Type 0} (xs : List A) (x : A) → slice_get (xs ++ x ∷ [])
 get_last [] x = refl
 get_last (y ∷ xs) x = get_last xs x
 
-take_front : {A : Type 0} (xs more : List A) → take (length xs) (xs ++ more) ≡ xs
+pub take_front : {A : Type 0} (xs more : List A) → take (length xs) (xs ++ more) ≡ xs
 take_front [] more = refl
 take_front (x ∷ xs) more = ap (λ rest. x ∷ rest) (take_front xs more)
 
@@ -85,5 +88,21 @@ module _ (scope : Scope) (set : Set) where
       by (inl old) = all name found old
       by (inr same) = subst (Stands scope set) same st
 
-  pub cut_stands : (s t : State) → Grows s t → AllStand scope set s.names → AllStand scope set (cut (length s.names) t).names
-  cut_stands s t g all = subst (AllStand scope set) (sym (cut_names s t g)) all
+-- ---- agreement
+
+module _ (scope : Scope) where
+  -- the slots of a block stay, and their types are sound
+  pub agrees_cut : (set later : Set) (s t : State) → Grows s t → Agrees scope set s → Agrees scope later t → Agrees scope set (cut (length s.names) t)
+  agrees_cut set later s t g h k = record { names = subst (AllStand scope set) (sym (cut_names s t g)) h.names; slots = k.slots }
+
+  pub agrees_more : (set more : Set) (s : State) → Within set more → Agrees scope set s → Agrees scope more s
+  agrees_more set more s w h = record { names = names_more scope set more w s.names h.names; slots = h.slots }
+
+every_last : {A : Type 0} (P : A → Type 0) (xs : List A) (x : A) → Every P xs → P x → Every P (xs ++ x ∷ [])
+every_last P [] x h p zero y e = subst P (some_is x y e) p
+every_last P [] x h p (suc k) y e = absurd (cc)
+every_last P (z ∷ xs) x h p zero y e = h zero y e
+every_last P (z ∷ xs) x h p (suc k) y e = every_last P xs x (λ k. h (suc k)) p k y e
+
+pub slots_more : (scope : Scope) (b : Binder) (name : Name) (t : Ty) (s : State) → Every (SoundIn scope.core) s.slots → SoundIn scope.core t → Every (SoundIn scope.core) (with_variable b name (Some t) s).slots
+slots_more scope b name t s h sound = every_last (SoundIn scope.core) s.slots t h sound

@@ -14,9 +14,9 @@ use Rattle.chi_typing_laws.proofs.Conversions.{some_is, mapped, chained}
 use Rattle.chi_check.specs.declared.state.State.{State}
 use Rattle.chi_check.specs.Stated.{Turn, both, in_turn, alone}
 use Rattle.chi_check.specs.States.{block}
-use Rattle.chi_check_laws.specs.Bodies.{SlotsHave, Grows}
-use Rattle.chi_check_laws.proofs.More.{Within, names_more}
-use Rattle.chi_check_laws.proofs.States.{grows_none, grows_on, cut_grows, cut_stands, slots_before}
+use Rattle.chi_check_laws.specs.Bodies.{SlotsHave, Grows, Agrees}
+use Rattle.chi_check_laws.proofs.More.{Within}
+use Rattle.chi_check_laws.proofs.States.{grows_none, grows_on, cut_grows, agrees_cut, agrees_more, slots_before}
 
 -- ---- what several parts come to
 
@@ -44,8 +44,8 @@ module _ (scope : Scope) {A : Type 0} (P : Set → List A → Type 0) (next : Li
   -- P of what is made, where some slots count as set, and what counts after it
   pub record Kept (f : Turn State A) : Type 0 where
     pub grows : (s : State) → Grows s (f s).next
-    pub sound : (set : Set) (s : State) (xs : List A) → SlotsHave scope (f s).next.slots → AllStand scope set s.names → (f s).made ≡ Some xs
-        → P set xs × AllStand scope (next xs set) (f s).next.names
+    pub sound : (set : Set) (s : State) (xs : List A) → SlotsHave scope (f s).next.slots → Agrees scope set s → (f s).made ≡ Some xs
+        → P set xs × Agrees scope (next xs set) (f s).next
 
   -- P holds of lists by their parts
   pub record ByParts : Type 0 where
@@ -61,7 +61,7 @@ module _ (scope : Scope) {A : Type 0} (P : Set → List A → Type 0) (next : Li
       grows = grows_none;
       sound = λ set s xs have all e.
           let none : [] ≡ xs = some_is [] xs e in
-          (subst (P set) none (parts.none set), subst (λ xs. AllStand scope (next xs set) s.names) none (subst (λ set. AllStand scope set s.names) (sym (parts.next_none set)) all));
+          (subst (P set) none (parts.none set), subst (λ xs. Agrees scope (next xs set) s) none (subst (λ set. Agrees scope set s) (sym (parts.next_none set)) all));
     }
     in_turn_kept (f ∷ fs) h = let rest = in_turn_kept fs h.1 in record {
       grows = λ s. grows_on s (f s).next (in_turn fs (f s).next).next (h.0.grows s) (rest.grows (f s).next);
@@ -72,7 +72,7 @@ module _ (scope : Scope) {A : Type 0} (P : Set → List A → Type 0) (next : Li
           let first = h.0.sound set s m.0 (slots_before scope middle last (rest.grows middle) have) all m.2 in
           let second = rest.sound (next m.0 set) middle m.1 have first.1 m.3 in (
             subst (P set) m.4 (parts.append set m.0 m.1 first.0 second.0),
-            subst (λ xs. AllStand scope (next xs set) last.names) m.4 (subst (λ set. AllStand scope set last.names) (sym (parts.next_append set m.0 m.1)) second.1),
+            subst (λ xs. Agrees scope (next xs set) last) m.4 (subst (λ set. Agrees scope set last) (sym (parts.next_append set m.0 m.1)) second.1),
           );
     }
 
@@ -82,15 +82,16 @@ module _ (scope : Scope) {A : Type 0} (P : Set → List A → Type 0) (next : Li
       grows = grows_none;
       sound = λ set s xs have all e.
           let m = mapped (λ x. x ∷ []) (t s.names).made xs e in
-          (subst (P set) m.2 (h set s.names m.0 all m.1), names_more scope set (next xs set) (parts.next_more set xs) s.names all);
+          (subst (P set) m.2 (h set s.names m.0 all.names m.1), agrees_more scope set (next xs set) s (parts.next_more set xs) all);
     }
 
     -- a block, after which the names are those before it
-    pub block_sound : (fs : List (Turn State A)) → Each Kept fs → (set : Set) (s : State) (xs : List A) → SlotsHave scope (block fs s).next.slots → AllStand scope set s.names → (block fs s).made ≡ Some xs
-        → P set xs × AllStand scope set (block fs s).next.names
+    pub block_sound : (fs : List (Turn State A)) → Each Kept fs → (set : Set) (s : State) (xs : List A) → SlotsHave scope (block fs s).next.slots → Agrees scope set s → (block fs s).made ≡ Some xs
+        → P set xs × Agrees scope set (block fs s).next
     block_sound fs h set s xs have all e =
         let inner = in_turn_kept fs h in
-        ((inner.sound set s xs have all e).0, cut_stands scope set s (in_turn fs s).next (inner.grows s) all)
+        let made = inner.sound set s xs have all e in
+        (made.0, agrees_cut scope set (next xs set) s (in_turn fs s).next (inner.grows s) all made.1)
 
     pub block_grows : (fs : List (Turn State A)) → Each Kept fs → (s : State) → Grows s (block fs s).next
     block_grows fs h s = cut_grows s (in_turn fs s).next ((in_turn_kept fs h).grows s)

@@ -36,10 +36,10 @@ use Rattle.chi_check.specs.Stated.{in_turn}
 use Rattle.chi_check.specs.States.{is_taken, bound, with_variable, next_slot, slot_if, first_type, other_types, bindings}
 use Rattle.chi_check.specs.Statements.{opened, opening, types_of, value_in, walk_in, walk_place}
 use Rattle.chi_stat_rules.specs.Places.{expr_place}
-use Rattle.chi_check_laws.specs.Bodies.{role_of, SlotsHave, Grows}
+use Rattle.chi_check_laws.specs.Bodies.{role_of, SlotsHave, Agrees, Grows}
 use Rattle.chi_check_laws.specs.Whole.{has_any}
 use Rattle.chi_check_laws.proofs.More.{also_more, also_itself, names_more}
-use Rattle.chi_check_laws.proofs.States.{get_last, name_stands, variable_grows, slots_before, grows_none, grows_on}
+use Rattle.chi_check_laws.proofs.States.{get_last, name_stands, slots_more, variable_grows, slots_before, grows_none, grows_on}
 use Rattle.chi_check_laws.proofs.Statements.{SoundWalk}
 use Rattle.chi_check_laws.proofs.Turns.{both_made}
 use Rattle.chi_check_laws.proofs.Values.{value_sound}
@@ -57,18 +57,22 @@ module _ (scope : Scope) where
   with_new false set names name k new all st = name_stands scope set names name k all st
 
   -- a new variable is the next slot, of the kind of its type
-  pub variable_stands : (b : Binder) (name : Name) (t : Ty) (set : Set) (s : State) → is_taken s.names name.text ≡ false → SoundIn scope.core t → SlotsHave scope (with_variable b name (Some t) s).slots → AllStand scope set s.names
-      → (slice_get scope.slots (next_slot s) ≡ Some (kind_of t)) × AllStand scope (also (next_slot s) set) (with_variable b name (Some t) s).names
+  pub variable_stands : (b : Binder) (name : Name) (t : Ty) (set : Set) (s : State) → is_taken s.names name.text ≡ false → SoundIn scope.core t → SlotsHave scope (with_variable b name (Some t) s).slots → Agrees scope set s
+      → (slice_get scope.slots (next_slot s) ≡ Some (kind_of t)) × Agrees scope (also (next_slot s) set) (with_variable b name (Some t) s)
   variable_stands b name t set s new ty have all =
       let slot = next_slot s in
       let is = have slot t (get_last s.slots t) in
-      let counts = also_itself slot set (eq-eqb slot slot refl) in (
+      let counts = also_itself slot set (eq-eqb slot slot refl) in
+      let before = names_more scope set (also slot set) (also_more slot set) s.names all.names in
+      let stands = bound_stands b (also slot set) slot t (record { counts = counts; is = is; ty = ty }) in (
         is,
-        with_new (is_taken s.names name.text) (also slot set) s.names name.text (bound b slot (Some t)) new (names_more scope set (also slot set) (also_more slot set) s.names all)
-            (bound_stands b (also slot set) slot t (record { counts = counts; is = is; ty = ty })),
+        record {
+          names = with_new (is_taken s.names name.text) (also slot set) s.names name.text (bound b slot (Some t)) new before stands;
+          slots = slots_more scope b name t s all.slots ty;
+        },
       )
 
-  slot_made : (taken : Bool) (t : Option Ty) (slot : ℕ) (slots : List ℕ) → slot_if taken (is_some t) slot ≡ Some slots → (taken ≡ false) × (u : Ty) × (t ≡ Some u) × (slot ∷ [] ≡ slots)
+  pub slot_made : (taken : Bool) (t : Option Ty) (slot : ℕ) (slots : List ℕ) → slot_if taken (is_some t) slot ≡ Some slots → (taken ≡ false) × (u : Ty) × (t ≡ Some u) × (slot ∷ [] ≡ slots)
   slot_made true t slot slots e = absurd (cc)
   slot_made false None slot slots e = absurd (cc)
   slot_made false (Some u) slot slots e = (refl, u, refl, some_is _ slots e)
@@ -88,11 +92,11 @@ module _ (scope : Scope) where
       grows_on s middle (in_turn (bindings b names (other_types types)) middle).next (variable_grows b name (first_type types) s) (bindings_grow b names (other_types types) middle)
 
   bindings_stand : (b : Binder) (names : List Name) (types : List Ty) (set : Set) (s : State) (slots : List ℕ) → length names ≡ length types → Each (SoundIn scope.core) types
-      → SlotsHave scope (in_turn (bindings b names types) s).next.slots → AllStand scope set s.names → (in_turn (bindings b names types) s).made ≡ Some slots
-      → SlotsAre slots types × AllStand scope (also_all slots set) (in_turn (bindings b names types) s).next.names
+      → SlotsHave scope (in_turn (bindings b names types) s).next.slots → Agrees scope set s → (in_turn (bindings b names types) s).made ≡ Some slots
+      → SlotsAre slots types × Agrees scope (also_all slots set) (in_turn (bindings b names types) s).next
   bindings_stand b [] [] set s slots long ty have all e =
       let none : [] ≡ slots = some_is [] slots e in
-      (subst (λ slots. SlotsAre slots []) none tt, subst (λ slots. AllStand scope (also_all slots set) s.names) none all)
+      (subst (λ slots. SlotsAre slots []) none tt, subst (λ slots. Agrees scope (also_all slots set) s) none all)
   bindings_stand b [] (t ∷ types) set s slots long ty have all e = absurd (omega (arith, long))
   bindings_stand b (name ∷ names) [] set s slots long ty have all e = absurd (omega (arith, long))
   bindings_stand b (name ∷ names) (t ∷ types) set s slots long ty have all e =
@@ -104,7 +108,7 @@ module _ (scope : Scope) where
       let fewer : length names ≡ length types = omega (arith, long) in
       let rest = bindings_stand b names types (also (next_slot s) set) middle m.1 fewer ty.1 have first.1 m.3 in
       let is : next_slot s ∷ m.1 ≡ slots = ap (λ xs. xs ++ m.1) new.3 ∙ m.4 in
-      (subst (λ slots. SlotsAre slots (t ∷ types)) is (first.0, rest.0), subst (λ slots. AllStand scope (also_all slots set) last.names) is rest.1)
+      (subst (λ slots. SlotsAre slots (t ∷ types)) is (first.0, rest.0), subst (λ slots. Agrees scope (also_all slots set) last) is rest.1)
 
   -- ---- the types of the names
 
@@ -186,15 +190,15 @@ module _ (scope : Scope) where
   walk_by set place first count (Some m) w some s e = over_by set place first count m (element_type (out-Ty m.ty)) w some (s m refl) refl e
 
   opened_by : (b : Binder) (names : List Name) (over : Option Walked) (set : Set) (s : State) (o : Opened) → ((w : Walked) → over ≡ Some w → SoundWalked set (length names) w)
-      → SlotsHave scope (in_turn (bindings b names (types_of over)) s).next.slots → AllStand scope set s.names → opening over (in_turn (bindings b names (types_of over)) s).made ≡ Some o
-      → SoundWalk scope set o.slots o.container × AllStand scope (also_all o.slots set) (in_turn (bindings b names (types_of over)) s).next.names
+      → SlotsHave scope (in_turn (bindings b names (types_of over)) s).next.slots → Agrees scope set s → opening over (in_turn (bindings b names (types_of over)) s).made ≡ Some o
+      → SoundWalk scope set o.slots o.container × Agrees scope (also_all o.slots set) (in_turn (bindings b names (types_of over)) s).next
   opened_by b names None set s o sound have all e = absurd (cc)
   opened_by b names (Some w) set s o sound have all e =
       let m = both_made opened (Some w.container) (in_turn (bindings b names w.types) s).made o e in
       let walks = sound w refl in
       let bind = bindings_stand b names w.types set s m.1 walks.long walks.ty have all m.3 in
       let container : w.container ≡ m.0 = some_is w.container m.0 m.2 in
-      subst (λ (o : Opened). SoundWalk scope set o.slots o.container × AllStand scope (also_all o.slots set) (in_turn (bindings b names w.types) s).next.names) m.4
+      subst (λ (o : Opened). SoundWalk scope set o.slots o.container × Agrees scope (also_all o.slots set) (in_turn (bindings b names w.types) s).next) m.4
       (subst (SoundWalk scope set m.1) container (walks.walk m.1 bind.0), bind.1)
 
 any_names : (names : List Name) → has_any names ≡ true → length names ≡ 0 → ⊥
@@ -208,10 +212,10 @@ module _ (h : Home) (scope : Scope) (role : role_of h ≡ Some scope.role) (b : 
   pub walk_grows : (s : State) → Grows s (walk_in h b walk s).next
   walk_grows s = bindings_grow scope b walk.names (types_of (walk_of (expr_place walk.container) (walk_place walk.names (expr_place walk.container)) (length walk.names) (value_in h s.names walk.container).made).made) s
 
-  pub walk_sound : (set : Set) (s : State) (o : Opened) → has_any walk.names ≡ true → SlotsHave scope (walk_in h b walk s).next.slots → AllStand scope set s.names → (walk_in h b walk s).made ≡ Some o
-      → SoundWalk scope set o.slots o.container × AllStand scope (also_all o.slots set) (walk_in h b walk s).next.names
+  pub walk_sound : (set : Set) (s : State) (o : Opened) → has_any walk.names ≡ true → SlotsHave scope (walk_in h b walk s).next.slots → Agrees scope set s → (walk_in h b walk s).made ≡ Some o
+      → SoundWalk scope set o.slots o.container × Agrees scope (also_all o.slots set) (walk_in h b walk s).next
   walk_sound set s o w have all e =
       let place = expr_place walk.container in
       let over = walk_of place (walk_place walk.names place) (length walk.names) (value_in h s.names walk.container).made in
       opened_by scope b walk.names over.made set s o
-      (λ found is. walk_by scope set place (walk_place walk.names place) (length walk.names) (value_in h s.names walk.container).made found (any_names walk.names w) (value_sound h scope role set s.names all walk.container) is) have all e
+      (λ found is. walk_by scope set place (walk_place walk.names place) (length walk.names) (value_in h s.names walk.container).made found (any_names walk.names w) (value_sound h scope role set s.names all.names walk.container) is) have all e

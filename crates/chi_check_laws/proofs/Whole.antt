@@ -5,10 +5,9 @@ use Rattle.chi_core.specs.declared.statement.CStat.{CStat}
 use Rattle.chi_core.specs.Scopes.{Scope}
 use Rattle.chi_core.specs.SetSlots.{Known as Set}
 use Rattle.chi_stat_rules.specs.declared.home.Home.{Home}
-use Rattle.chi_typing_laws.specs.Standing.{AllStand}
 use Rattle.chi_check.specs.declared.state.State.{State}
 use Rattle.chi_check.specs.Statements.{stepping_in, stating_all}
-use Rattle.chi_check_laws.specs.Bodies.{role_of, SlotsHave, set_by, SoundBody}
+use Rattle.chi_check_laws.specs.Bodies.{role_of, SlotsHave, set_by, Agrees, SoundBody}
 use Rattle.chi_check_laws.specs.Whole.{steps_are_whole}
 use Rattle.chi_check_laws.proofs.Assignments.{assign_kept}
 use Rattle.chi_check_laws.proofs.Blocks.{select_kept, guarded_kept, offered_kept, choose_kept, branch_kept, while_kept, walk_kept, unwound_kept, run_kept, start_kept}
@@ -52,8 +51,8 @@ module _ (h : Home) (scope : Scope) (role : role_of h ≡ Some scope.role) where
   all_kept loop steps w = in_turn_kept scope (AllSound scope loop) set_by (statements_by_parts scope loop) (map (stepping_in h loop) steps)
       (all_stepping h (StatementKept scope) (BranchKept scope) (OfferKept scope) (MakeKept scope) keeps_sound steps w loop)
 
-  pub statements_sound : (set : Set) (loop : Bool) (steps : List Step) (s : State) (body : List CStat) → steps_are_whole steps ≡ true → SlotsHave scope (stating_all h loop steps s).next.slots → AllStand scope set s.names
-      → (stating_all h loop steps s).made ≡ Some body → SoundBody scope loop set body × AllStand scope (set_by body set) (stating_all h loop steps s).next.names
+  pub statements_sound : (set : Set) (loop : Bool) (steps : List Step) (s : State) (body : List CStat) → steps_are_whole steps ≡ true → SlotsHave scope (stating_all h loop steps s).next.slots → Agrees scope set s
+      → (stating_all h loop steps s).made ≡ Some body → SoundBody scope loop set body × Agrees scope (set_by body set) (stating_all h loop steps s).next
   statements_sound set loop steps s body w have all e =
       let k = (all_kept loop steps w).sound set s body have all e in
       (body_sound scope loop set body k.0, k.1)

@@ -2,9 +2,10 @@
 use Rattle.std.specs.Prelude.{◌≡◌, ℕ, ◌<◌, Bool, Option, Some, None, List, [], ◌∷◌, ◌++◌, map, length, slice_get, IsTrue}
 use Rattle.chi_types.specs.declared.ty.Ty.{Ty}
 use Rattle.chi_core.specs.declared.statement.CStat.{CStat, out-CStat}
-use Rattle.chi_core.specs.Kinds.{kind_of}
+use Rattle.chi_core.specs.Kinds.{kind_of, kinds_of, Every}
 use Rattle.chi_core.specs.Scopes.{Role, function, process, Scope}
 use Rattle.chi_core.specs.SetSlots.{Known as Set, sets}
+use Rattle.chi_core.specs.Sound.{SoundIn, SoundHome}
 use Rattle.chi_core.specs.SoundStatements.{SoundBlock}
 use Rattle.chi_streams.specs.Streams.{each, of_statement}
 use Rattle.chi_stat_rules.specs.declared.home.ExitType.TheVariants as exit
@@ -13,6 +14,7 @@ use Rattle.chi_stat_rules.specs.declared.home.Home.TheVariants as home
 use Rattle.chi_typing.specs.declared.known.Known.{Known}
 use Rattle.chi_typing.specs.declared.known.Known.TheVariants as known
 use Rattle.chi_typing.specs.Names.{known_in}
+use Rattle.chi_typing_laws.specs.Standing.{AllStand}
 use Rattle.chi_check.specs.declared.state.State.{State}
 use Rattle.chi_check_laws.specs.Texts.{body_texts}
 
@@ -27,6 +29,11 @@ role_of (home.Process (exit.Given t)) = Some (process (Some (kind_of t)))
 -- each slot is of the kind of its type
 abbrev pub SlotsHave : Scope → List Ty → Type 0
 SlotsHave scope slots = (slot : ℕ) (t : Ty) → slice_get slots slot ≡ Some t → slice_get scope.slots slot ≡ Some (kind_of t)
+
+-- the visible names agree with the program, and the types of all slots are sound
+pub record Agrees (scope : Scope) (set : Set) (s : State) : Type 0 where
+  pub names : AllStand scope set s.names
+  pub slots : Every (SoundIn scope.core) s.slots
 
 -- what counts as set after statements in turn
 abbrev pub set_by : List CStat → Set → Set
@@ -45,3 +52,9 @@ pub record Grows (before after : State) : Type 0 where
 -- each visible variable has one of the slots
 abbrev pub HaveSlots : State → Type 0
 HaveSlots s = (name : List ℕ) (slot : ℕ) (t : Ty) → known_in s.names name ≡ Some (known.Var slot t) → slot < length s.slots
+
+-- the body of a definition: its parameters are the first slots, the types of all slots are sound, and so is the body with its streams
+pub record SoundBodyOf (scope : Scope) (params slots : List Ty) (body : List CStat) : Type 0 where
+  pub first : (others : List Ty) × (slots ≡ params ++ others)
+  pub types : Every (SoundIn scope.core) slots
+  pub home : IsTrue (body_texts body) → (count : ℕ) → SoundHome (record { scope = scope; params = kinds_of params; body = (each (map of_statement body) count).part })
