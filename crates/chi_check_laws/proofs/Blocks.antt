@@ -24,7 +24,6 @@ use Rattle.chi_core.specs.SoundParts as part
 use Rattle.chi_core.specs.SoundParts.{SoundElement}
 use Rattle.chi_core.specs.SoundStatements as sound
 use Rattle.chi_core.specs.SoundStatements.{SoundAlternative}
-use Rattle.chi_typing.specs.Names.{Names}
 use Rattle.chi_check_expr.proofs.Kept.{Each}
 use Rattle.chi_typing_laws.specs.Standing.{Has}
 use Rattle.chi_typing_laws.proofs.Conversions.{mapped, chained}

@@ -1,33 +1,31 @@
 -- Bodies of functions, processes and models, whose formals are the first slots.
-use Rattle.std.proofs.Common.{◌≡◌, ℕ, zero, suc, ◌+◌, ◌<◌, ◌≤◌, Bool, true, false, ◌||◌, nat_eq, nat_lt, List, [], ◌∷◌, ◌++◌, map, length, take, Option, Some, None, refl, sym, ap, subst, ◌∙◌, append_assoc, append-nil, length-append, arith}
+use Rattle.std.proofs.Common.{◌≡◌, ℕ, zero, suc, ◌+◌, ◌<◌, Bool, true, false, ◌||◌, nat_eq, nat_lt, List, [], ◌∷◌, ◌++◌, map, length, take, Option, Some, None, refl, sym, ap, subst, ◌∙◌, append_assoc, append-nil, length-append, arith}
 use Rattle.std.proofs.lemmas.Bool.{eqb-true, lt-ltb}
-use Rattle.std.specs.Prelude.{slice_get, option_map}
-use Rattle.std.specs.Option.{option_and_then}
+use Rattle.std.specs.Prelude.{slice_get}
 use Rattle.chi_tree.specs.declared.statement.Step.{Step}
 use Rattle.chi_tree.specs.declared.type_tree.Formal.{Formal}
 use Rattle.chi_types.specs.declared.ty.Ty.{Ty}
 use Rattle.chi_core.specs.declared.statement.CStat.{CStat}
 use Rattle.chi_core.specs.Fills.{by_body, UnwindsOwn}
-use Rattle.chi_core.specs.Kinds.{Kind, kind_of, kinds_of, Every}
+use Rattle.chi_core.specs.Kinds.{kind_of, kinds_of, Every}
 use Rattle.chi_core.specs.Scopes.{Scope}
 use Rattle.chi_core.specs.SetSlots.{Known as Set, also, also_all}
-use Rattle.chi_core.specs.Sound.{SoundIn, nothing_known, SoundHome}
+use Rattle.chi_core.specs.Sound.{SoundIn, nothing_known}
 use Rattle.chi_streams.specs.Streams.{each, of_statement}
 use Rattle.chi_typing.specs.declared.known.Known.TheVariants as known
-use Rattle.chi_typing.specs.Names.{Names, known_in}
+use Rattle.chi_typing.specs.Names.{Names}
 use Rattle.chi_check_expr.proofs.Kept.{Each}
 use Rattle.chi_typing_laws.specs.Standing.{AllStand}
-use Rattle.chi_typing_laws.proofs.Conversions.{some_is, mapped, chained}
+use Rattle.chi_typing_laws.proofs.Conversions.{some_is, mapped}
 use Rattle.chi_check.specs.declared.header.Header.{Header}
 use Rattle.chi_check.specs.declared.state.Binder.TheVariants as binder
 use Rattle.chi_check.specs.declared.state.State.{State}
-use Rattle.chi_check.specs.Stated.{Turn, in_turn}
-use Rattle.chi_check.specs.States.{is_taken, with_variable, next_slot, slot_if, binding}
+use Rattle.chi_check.specs.Stated.{in_turn}
+use Rattle.chi_check.specs.States.{is_taken, with_variable, next_slot, slot_if}
 use Rattle.chi_check.specs.Headers.{all_types}
 use Rattle.chi_check.specs.Definitions.{formals_bound, body_in}
 use Rattle.chi_check.specs.Statements.{stating_all}
-use Rattle.chi_check_laws.specs.Bodies.{role_of, SlotsHave, Agrees, Grows, SoundBodyOf}
-use Rattle.chi_check_laws.specs.Texts.{body_texts}
+use Rattle.chi_check_laws.specs.Bodies.{role_of, SlotsHave, Agrees, SoundBodyOf}
 use Rattle.chi_check_laws.specs.Whole.{steps_are_whole}
 use Rattle.chi_check_laws.proofs.Apart.{each_map}
 use Rattle.chi_check_laws.proofs.Filled.{Visible, Below, Filling, in_turn_filling, still_below}
