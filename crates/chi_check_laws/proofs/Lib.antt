@@ -11,6 +11,7 @@ pub mod Filled
 pub mod FilledBlocks
 pub mod FilledLines
 pub mod FilledNames
+pub mod Formed
 pub mod Homes
 pub mod Induction
 pub mod Layers

@@ -1,6 +1,7 @@
 //! What holds of all that is made of statements. The functions compute nothing: their contracts are the laws.
 
 ghost use Rattle.std.specs.Prelude.{◌≡◌, ℕ, Bool, List, Some, IsTrue, length, map};
+ghost use Rattle.chi_grammar_laws.specs.Statements.{FormedBlock, FormedInner};
 ghost use Rattle.chi_tree.specs.declared.statement.Step.{Step};
 ghost use Rattle.chi_tree.specs.declared.type_tree.Formal.{Formal};
 ghost use Rattle.chi_types.specs.declared.ty.Ty.{Ty};
@@ -46,4 +47,10 @@ pub fn bodies_are_sound()
         → IsTrue (steps_are_whole steps) → all_types h.formals ≡ Some params → length formals ≡ length h.formals → Every (SoundIn scope.core) params → AllStand scope nothing_known names
         → scope.slots ≡ kinds_of slots → (body_in h formals steps names).made ≡ Some (body, slots) → SoundBodyOf scope params slots body }
     ensures names { (h : Header) (formals : List Formal) (steps : List Step) (names : Names) → IsTrue (steps_are_whole steps) → (body_in h formals steps names).next ≡ names }
+{}
+
+/// What the grammar forms is whole.
+pub fn formed_blocks_are_whole()
+    ensures blocks { (b d : ℕ) (block : List Step) → FormedBlock b d block → IsTrue (steps_are_whole block) }
+    ensures inner_blocks { (b d : ℕ) (block : List Step) → FormedInner b d block → IsTrue (steps_are_whole block) }
 {}

@@ -3,4 +3,4 @@
 
 mod laws;
 
-pub use laws::{bodies_are_sound, slots_are_new, statements_are_sound};
+pub use laws::{bodies_are_sound, formed_blocks_are_whole, slots_are_new, statements_are_sound};
