@@ -1,8 +1,18 @@
-//! The rules of statements, as definitions over typed parts: what is made of them, or that a rule is broken.
+//! What the rules of statements speak of, and the rules of values and endings; the crates above have those of targets, channels and writes.
 #![tactic(auto)]
 
+mod endings;
 mod home;
+mod homes;
+mod nodes;
 mod parts;
+mod places;
+mod values;
 
+pub use endings::{exit_of, note_loop_word, return_of};
 pub use home::{ExitType, Home};
+pub use homes::{note_channel, note_running, site_of};
+pub use nodes::settle;
 pub use parts::{Aim, Receiver, Started, Walked};
+pub use places::{expr_place, type_place};
+pub use values::{condition, constant_value, finished_one, fitted, initial_value, is_inst};

@@ -1,0 +1,303 @@
+//! Sends, receives and delays. The place is that of `!`, `?` or `delay`.
+
+#![tactic(auto, using(chi_typing::proofs::Firsts::first_of_none))]
+
+ghost use Rattle.std.specs.Prelude.{◌≡◌, IfOk, OnOk};
+ghost use Rattle.std.specs.Option.{option_copied};
+ghost use Rattle.chi_types.specs.declared.ty.Ty.{out-Ty};
+ghost use Rattle.chi_core.specs.Kinds.{is_void};
+ghost use Rattle.chi_typing.specs.Faults.{first_of};
+ghost use Rattle.chi_stat_rules.specs.Channels as spec;
+
+use chi_base::NoMemory;
+use chi_core::CComm;
+use chi_expr_rules::converted;
+use chi_stat_rules::{Aim, Receiver, fitted, settle};
+use chi_token::Place;
+use chi_tree::Name;
+use chi_types::{Ty, Way, same};
+use chi_typing::{Fault, Known, Made, NameKind, Scope, is_predefined, note, rules};
+use std::alloc::Global;
+
+fn is_void(ty: &Ty) -> bool
+    ensures { result ≡ is_void (out-Ty ty.now) }
+{
+    match ty {
+        Ty::Void => true,
+        _ => false,
+    }
+}
+
+fn sent_type(alloc: Global, ty: &Ty) -> Result<Option<Ty>, NoMemory>
+    ensures { IfOk result (λ t. t ≡ spec.sent_type (out-Ty ty.now)) }
+{
+    match ty {
+        Ty::Chan(Way::Both, carried) | Ty::Chan(Way::Send, carried) => {
+            Ok(Some(carried.get().copy(alloc)?))
+        }
+        _ => Ok(None),
+    }
+}
+
+fn received_type(alloc: Global, ty: &Ty) -> Result<Option<Ty>, NoMemory>
+    ensures { IfOk result (λ t. t ≡ spec.received_type (out-Ty ty.now)) }
+{
+    match ty {
+        Ty::Chan(Way::Both, carried) | Ty::Chan(Way::Receive, carried) => {
+            Ok(Some(carried.get().copy(alloc)?))
+        }
+        _ => Ok(None),
+    }
+}
+
+fn send_void(
+    place: Place,
+    aim: Aim,
+    value: Option<Option<Made>>,
+    kept: &mut Option<Fault>,
+) -> Option<CComm>
+    ensures made { result ≡ (spec.send_void place aim value).made }
+    ensures noted { kept.new ≡ first_of kept.old (spec.send_void place aim value).faults }
+{
+    match value {
+        None => Some(CComm::Send(aim.target, None)),
+        Some(_) => {
+            note(kept, rules::SENT_VALUE, place);
+            None
+        }
+    }
+}
+
+fn sending(alloc: Global, aim: Aim, ty: &Ty, made: Made) -> Result<Option<CComm>, NoMemory>
+    ensures { IfOk result (λ c. c ≡ spec.sending aim ty.now made) }
+{
+    let Some(value) = fitted(alloc, made, ty)? else {
+        return Ok(None);
+    };
+    Ok(Some(CComm::Send(aim.target, Some(value))))
+}
+
+fn send_value(
+    alloc: Global,
+    place: Place,
+    aim: Aim,
+    ty: &Ty,
+    value: Option<Option<Made>>,
+    kept: &mut Option<Fault>,
+) -> Result<Option<CComm>, NoMemory>
+    ensures made { IfOk result (λ c. c ≡ (spec.send_value place aim ty.now value).made) }
+    ensures noted { OnOk result (kept.new ≡ first_of kept.old (spec.send_value place aim ty.now value).faults) }
+{
+    let Some(value) = value else {
+        note(kept, rules::SENT_VALUE, place);
+        return Ok(None);
+    };
+    let Some(made) = value else {
+        return Ok(None);
+    };
+    Ok(settle(
+        sending(alloc, aim, ty, made)?,
+        rules::SENT_VALUE,
+        place,
+        kept,
+    ))
+}
+
+/// A send, of a value where one stands there; that may have no type.
+pub fn send_of(
+    alloc: Global,
+    place: Place,
+    aim: Option<Aim>,
+    value: Option<Option<Made>>,
+    kept: &mut Option<Fault>,
+) -> Result<Option<CComm>, NoMemory>
+    ensures made { IfOk result (λ c. c ≡ (spec.send_of place aim value).made) }
+    ensures noted { OnOk result (kept.new ≡ first_of kept.old (spec.send_of place aim value).faults) }
+{
+    let Some(aim) = aim else {
+        return Ok(None);
+    };
+    let Some(ty) = sent_type(alloc, &aim.ty)? else {
+        note(kept, rules::SEND, place);
+        return Ok(None);
+    };
+    if is_void(&ty) {
+        return Ok(send_void(place, aim, value, kept));
+    }
+    send_value(alloc, place, aim, &ty, value, kept)
+}
+
+fn untyped_receiver(place: Place, kind: NameKind, kept: &mut Option<Fault>) -> Option<Receiver>
+    ensures made { result ≡ (spec.untyped_receiver place kind).made }
+    ensures noted { kept.new ≡ first_of kept.old (spec.untyped_receiver place kind).faults }
+{
+    match kind {
+        NameKind::Variable => None,
+        NameKind::Unwound
+        | NameKind::Constant
+        | NameKind::Type
+        | NameKind::Function
+        | NameKind::Process => {
+            note(kept, rules::RECEIVING_NAME, place);
+            None
+        }
+    }
+}
+
+#[tactic(auto, using(chi_typing::proofs::Firsts::first_of_none, crate::proofs::Twice::first_of_two))]
+fn visible_receiver(
+    alloc: Global,
+    place: Place,
+    name: Place,
+    known: Option<&Known>,
+    kept: &mut Option<Fault>,
+) -> Result<Option<Receiver>, NoMemory>
+    ensures made { IfOk result (λ r. r ≡ (spec.visible_receiver place name (option_copied known.entry)).made) }
+    ensures noted { OnOk result (kept.new ≡ first_of kept.old (spec.visible_receiver place name (option_copied known.entry)).faults) }
+{
+    match known {
+        None => {
+            note(kept, rules::RECEIVING_NAME, place);
+            note(kept, rules::VISIBLE_NAME, name);
+            Ok(None)
+        }
+        Some(Known::Var(slot, ty)) => {
+            let ty = ty.copy(alloc)?;
+            let slot = *slot;
+            Ok(Some(Receiver { slot, ty }))
+        }
+        Some(Known::Untyped(kind)) => Ok(untyped_receiver(place, *kind, kept)),
+        Some(Known::Fixed(_, _))
+        | Some(Known::Const(_, _))
+        | Some(Known::Kind(_))
+        | Some(Known::Value(_, _))
+        | Some(Known::Func(_, _, _))
+        | Some(Known::Proc(_, _, _))
+        | Some(Known::Model(_))
+        | Some(Known::Xper(_)) => {
+            note(kept, rules::RECEIVING_NAME, place);
+            Ok(None)
+        }
+    }
+}
+
+/// What a name comes to that receives.
+pub fn named_receiver(
+    alloc: Global,
+    place: Place,
+    scope: &Scope,
+    name: &Name,
+    kept: &mut Option<Fault>,
+) -> Result<Option<Receiver>, NoMemory>
+    ensures made { IfOk result (λ r. r ≡ (spec.named_receiver place scope.now name.now).made) }
+    ensures noted { OnOk result (kept.new ≡ first_of kept.old (spec.named_receiver place scope.now name.now).faults) }
+{
+    if is_predefined(&name.text) {
+        note(kept, rules::RECEIVING_NAME, place);
+        return Ok(None);
+    }
+    visible_receiver(alloc, place, name.place, scope.known(&name.text), kept)
+}
+
+fn receive_void(
+    place: Place,
+    aim: Aim,
+    receiver: Option<Option<Receiver>>,
+    kept: &mut Option<Fault>,
+) -> Option<CComm>
+    ensures made { result ≡ (spec.receive_void place aim receiver).made }
+    ensures noted { kept.new ≡ first_of kept.old (spec.receive_void place aim receiver).faults }
+{
+    match receiver {
+        None => Some(CComm::Receive(aim.target, None)),
+        Some(_) => {
+            note(kept, rules::RECEIVING_NAME, place);
+            None
+        }
+    }
+}
+
+fn receiving(aim: Aim, ty: &Ty, receiver: Receiver) -> Option<CComm>
+    ensures { result ≡ spec.receiving aim ty.now receiver }
+{
+    if same(&receiver.ty, ty) {
+        Some(CComm::Receive(aim.target, Some(receiver.slot)))
+    } else {
+        None
+    }
+}
+
+fn receive_value(
+    place: Place,
+    aim: Aim,
+    ty: &Ty,
+    receiver: Option<Option<Receiver>>,
+    kept: &mut Option<Fault>,
+) -> Option<CComm>
+    ensures made { result ≡ (spec.receive_value place aim ty.now receiver).made }
+    ensures noted { kept.new ≡ first_of kept.old (spec.receive_value place aim ty.now receiver).faults }
+{
+    let Some(receiver) = receiver else {
+        note(kept, rules::RECEIVING_NAME, place);
+        return None;
+    };
+    let Some(receiver) = receiver else {
+        return None;
+    };
+    settle(
+        receiving(aim, ty, receiver),
+        rules::RECEIVING_NAME,
+        place,
+        kept,
+    )
+}
+
+/// A receive, into a variable where one stands there; that may have no type.
+pub fn receive_of(
+    alloc: Global,
+    place: Place,
+    aim: Option<Aim>,
+    receiver: Option<Option<Receiver>>,
+    kept: &mut Option<Fault>,
+) -> Result<Option<CComm>, NoMemory>
+    ensures made { IfOk result (λ c. c ≡ (spec.receive_of place aim receiver).made) }
+    ensures noted { OnOk result (kept.new ≡ first_of kept.old (spec.receive_of place aim receiver).faults) }
+{
+    let Some(aim) = aim else {
+        return Ok(None);
+    };
+    let Some(ty) = received_type(alloc, &aim.ty)? else {
+        note(kept, rules::RECEIVE, place);
+        return Ok(None);
+    };
+    if is_void(&ty) {
+        return Ok(receive_void(place, aim, receiver, kept));
+    }
+    Ok(receive_value(place, aim, &ty, receiver, kept))
+}
+
+fn delaying(alloc: Global, made: Made) -> Result<Option<CComm>, NoMemory>
+    ensures { IfOk result (λ c. c ≡ spec.delaying made) }
+{
+    match &made.ty {
+        Ty::Int => Ok(Some(CComm::Delay(converted(alloc, made, &Ty::Real)?))),
+        Ty::Real => Ok(Some(CComm::Delay(made.core))),
+        Ty::Timer => Ok(Some(CComm::Timer(made.core))),
+        _ => Ok(None),
+    }
+}
+
+pub fn delay_of(
+    alloc: Global,
+    place: Place,
+    made: Option<Made>,
+    kept: &mut Option<Fault>,
+) -> Result<Option<CComm>, NoMemory>
+    ensures made { IfOk result (λ c. c ≡ (spec.delay_of place made).made) }
+    ensures noted { OnOk result (kept.new ≡ first_of kept.old (spec.delay_of place made).faults) }
+{
+    let Some(made) = made else {
+        return Ok(None);
+    };
+    Ok(settle(delaying(alloc, made)?, rules::DELAY, place, kept))
+}
