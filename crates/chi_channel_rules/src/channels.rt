@@ -11,8 +11,8 @@ ghost use Rattle.chi_stat_rules.specs.Channels as spec;
 
 use chi_base::NoMemory;
 use chi_core::CComm;
-use chi_expr_rules::converted;
-use chi_stat_rules::{Aim, Receiver, fitted, settle};
+use chi_expr_rules::{converted, settle};
+use chi_stat_rules::{Aim, Receiver, fitted};
 use chi_token::Place;
 use chi_tree::Name;
 use chi_types::{Ty, Way, same};

@@ -1,6 +1,6 @@
 //! What is run and started.
 
-#![tactic(auto, using(chi_typing::proofs::Firsts::first_of_none, chi_typing::proofs::Firsts::first_of_append, chi_stat_rules::proofs::Barred::made_barred, chi_stat_rules::proofs::Barred::faults_barred))]
+#![tactic(auto, using(chi_typing::proofs::Firsts::first_of_none, chi_typing::proofs::Firsts::first_of_append, chi_expr_rules::proofs::Barred::made_barred, chi_expr_rules::proofs::Barred::faults_barred))]
 
 ghost use Rattle.std.specs.Prelude.{◌≡◌, not, IfOk, OnOk};
 ghost use Rattle.std.specs.Option.{option_copied};
@@ -10,8 +10,8 @@ ghost use Rattle.chi_stat_rules.specs.Elements as spec;
 
 use chi_base::{Items, NoMemory};
 use chi_core::{CElem, CTarget};
-use chi_expr_rules::{all_made, passed};
-use chi_stat_rules::{Aim, ExitType, Home, Started, is_inst, settle};
+use chi_expr_rules::{all_made, passed, settle};
+use chi_stat_rules::{Aim, ExitType, Home, Started, is_inst};
 use chi_token::Place;
 use chi_tree::Name;
 use chi_types::{Ty, same};

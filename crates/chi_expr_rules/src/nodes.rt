@@ -11,7 +11,12 @@ use std::alloc::Global;
 
 /// What the rule makes, or the rule is broken there.
 #[tactic(auto, using(chi_typing::proofs::Firsts::first_of_none))]
-pub fn settle(made: Option<Made>, rule: u8, place: Place, kept: &mut Option<Fault>) -> Option<Made>
+pub fn settle<T: Drop>(
+    made: Option<T>,
+    rule: u8,
+    place: Place,
+    kept: &mut Option<Fault>,
+) -> Option<T>
     ensures made { result ≡ (spec.settled rule place made).made }
     ensures noted { kept.new ≡ first_of kept.old (spec.settled rule place made).faults }
 {

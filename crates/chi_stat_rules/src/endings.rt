@@ -7,10 +7,10 @@ ghost use Rattle.chi_typing.specs.Faults.{first_of, are_none};
 ghost use Rattle.chi_stat_rules.specs.Endings as spec;
 
 use crate::home::{ExitType, Home};
-use crate::nodes::settle;
 use crate::values::fitted;
 use chi_base::NoMemory;
 use chi_core::CStat;
+use chi_expr_rules::settle;
 use chi_token::Place;
 use chi_types::{Ty, is_plain};
 use chi_typing::{Fault, Made, note, rules};

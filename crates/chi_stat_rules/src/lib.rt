@@ -4,7 +4,6 @@
 mod endings;
 mod home;
 mod homes;
-mod nodes;
 mod parts;
 mod places;
 mod values;
@@ -12,7 +11,6 @@ mod values;
 pub use endings::{exit_of, note_loop_word, return_of};
 pub use home::{ExitType, Home};
 pub use homes::{note_channel, note_running, site_of};
-pub use nodes::settle;
 pub use parts::{Aim, Receiver, Started, Walked};
 pub use places::{expr_place, type_place};
 pub use values::{condition, constant_value, finished_one, fitted, initial_value, is_inst};

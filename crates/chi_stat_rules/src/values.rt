@@ -1,6 +1,6 @@
 //! Values where a type is wanted: initial values, values of constants, conditions, and instances that are waited for.
 
-#![tactic(auto, using(chi_typing::proofs::Firsts::first_of_none, chi_typing::proofs::Firsts::first_of_append, crate::proofs::Barred::made_barred, crate::proofs::Barred::faults_barred))]
+#![tactic(auto, using(chi_typing::proofs::Firsts::first_of_none, chi_typing::proofs::Firsts::first_of_append, chi_expr_rules::proofs::Barred::made_barred, chi_expr_rules::proofs::Barred::faults_barred))]
 
 ghost use Rattle.std.specs.Prelude.{◌≡◌, map, not, IfOk, OnOk};
 ghost use Rattle.std.specs.List.{list_any};
@@ -11,10 +11,9 @@ ghost use Rattle.chi_types.specs.Plain.{holds};
 ghost use Rattle.chi_typing.specs.Faults.{first_of, are_none};
 ghost use Rattle.chi_stat_rules.specs.Values as spec;
 
-use crate::nodes::settle;
 use chi_base::NoMemory;
 use chi_core::CExpr;
-use chi_expr_rules::converted;
+use chi_expr_rules::{converted, settle};
 use chi_token::{Bytes, Place};
 use chi_types::{Ty, fits};
 use chi_typing::{Fault, Made, note, rules};

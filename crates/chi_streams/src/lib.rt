@@ -1,2 +1,9 @@
 //! The streams of distributions: a pass over a core that numbers the calls that make one.
 #![tactic(auto)]
+
+mod expressions;
+mod parts;
+mod programs;
+mod statements;
+
+pub use programs::with_streams;

@@ -10,8 +10,9 @@ ghost use Rattle.chi_stat_rules.specs.Writes as spec;
 
 use chi_base::{Items, NoMemory};
 use chi_core::{CExpr, CStat};
+use chi_expr_rules::settle;
 use chi_format::{FormatFault, read_format};
-use chi_stat_rules::{fitted, settle};
+use chi_stat_rules::fitted;
 use chi_token::{Bytes, Place};
 use chi_types::{Ty, is_plain};
 use chi_typing::{Fault, Made, note, rules};
