@@ -108,13 +108,14 @@ pub length-pairs_below-none : (config : Config) (p a channel : ℕ) → length (
 unfolding pairs_below
 length-pairs_below-none config p a channel = refl
 
-pub length-pairs_below-more : (config : Config) (p a channel q n : ℕ) (j : Instance) → slice_get config.instances q ≡ Some j
-    → n ≡ length (pairs_with p a channel q (Some j))
+pub length-pairs_below-more : (config : Config) (p a channel q n : ℕ) (is : List Instance) (j : Instance) → is ≡ config.instances → q < length is → j ≡ get_or is q j
+    → ((b : ℕ) → n ≡ length (pairs_with p b channel q (Some j)))
     → length (pairs_below config p a channel (q + 1)) ≡ length (pairs_below config p a channel q) + n
 unfolding pairs_below
-length-pairs_below-more config p a channel q n j at e =
+length-pairs_below-more config p a channel q n is j all h at e =
+    let there : slice_get config.instances q ≡ Some j = ap (λ l. slice_get l q) (sym all) ∙ slice_get_read is (length is) q j refl h at in
     let here : length (pairs_with p a channel q (slice_get config.instances q)) ≡ n
-    = ap (λ o. length (pairs_with p a channel q o)) at ∙ sym e in
+    = ap (λ o. length (pairs_with p a channel q o)) there ∙ sym (e a) in
     length-flat-suc (λ q. pairs_with p a channel q (slice_get config.instances q)) q
     ∙ ap (λ k. length (pairs_below config p a channel q) + k) here
 
@@ -126,15 +127,17 @@ length-pairs config p a a' channel n all =
     (numbers n) (λ q. length-pairs_with p a a' channel q (slice_get config.instances q))
     ∙ ap (λ k. length (flat_map (λ q. pairs_with p a' channel q (slice_get config.instances q)) (numbers k))) all
 
-pub pairs-at : (config : Config) (p a channel q seen i k : ℕ) (j : Instance) (label : Label) → q < length config.instances
-    → slice_get config.instances q ≡ Some j → seen ≡ length (pairs_below config p a channel q) → i ≡ seen + k
+pub pairs-at : (config : Config) (p a channel q seen i k : ℕ) (is : List Instance) (j : Instance) (label : Label) → is ≡ config.instances → q < length is
+    → j ≡ get_or is q j → seen ≡ length (pairs_below config p a channel q) → i ≡ seen + k
     → slice_get (pairs_with p a channel q (Some j)) k ≡ Some label → slice_get (pairs config p a channel) i ≡ Some label
 unfolding pairs_below
-pairs-at config p a channel q seen i k j label within at e is has =
+pairs-at config p a channel q seen i k is j label all h at e same has =
+    let there : slice_get config.instances q ≡ Some j = ap (λ l. slice_get l q) (sym all) ∙ slice_get_read is (length is) q j refl h at in
+    let within : q < length config.instances = let n = ap length all in omega (arith, h, n) in
     let f : ℕ → List Label = λ q. pairs_with p a channel q (slice_get config.instances q) in
-    let place : i ≡ length (flat_map f (numbers q)) + k = is ∙ ap (λ n. n + k) e in
+    let place : i ≡ length (flat_map f (numbers q)) + k = same ∙ ap (λ n. n + k) e in
     ap (slice_get (pairs config p a channel)) place
-    ∙ flat-at f (length config.instances) q k label within (ap (λ o. slice_get (pairs_with p a channel q o) k) at ∙ has)
+    ∙ flat-at f (length config.instances) q k label within (ap (λ o. slice_get (pairs_with p a channel q o) k) there ∙ has)
 
 -- all offers
 

@@ -1,8 +1,7 @@
 pub mod Stage
 pub mod Scanning
-pub mod Configurations
-pub mod Meetings
-pub mod Plans
-pub mod Takings
-pub mod Begun
+pub mod Marked
+pub mod Watching
+pub mod Led
+pub mod Taken
 pub mod Standings

@@ -11,6 +11,7 @@ use Rattle.chi_core.specs.Options.{Ending, options, actors, enabled, ending, end
 use Rattle.chi_core.specs.Beginning.{Beginning, Begins, Breaks}
 use Rattle.chi_core.specs.Beginning as beginning
 use Rattle.chi_core.specs.VerdictLine.{may_tell, told_length}
+pub use Rattle.chi_steps.specs.Takings.{Appends}
 use Rattle.chi_plain.specs.declared.stepped.Stepped.{Stepped}
 use Rattle.chi_plain.specs.declared.stepped.Stepped.TheVariants.{Next, Over, Spent, NoMemory}
 
@@ -87,7 +88,3 @@ Steps core (At config) new label left text Spent =
     (step core config label left ≡ outcome.Spent) × (new ≡ At config) × (text ≡ [])
 Steps core old new label left text NoMemory = (new ≡ Lost) × (text ≡ [])
 Steps core old new label left text answer = ⊥
-
--- a text goes to the end of what was there, and P holds of it
-abbrev pub Appends : List ℕ → List ℕ → (List ℕ → Type 0) → Type 0
-Appends before after P = (text : List ℕ) × (after ≡ before ++ text) × P text

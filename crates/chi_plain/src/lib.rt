@@ -1,19 +1,20 @@
-//! Runs a core by scanning: what may happen is found by going over all instances and all offers.
+//! Runs a core by scanning: the options of an instance are found by going over all offers. Which instances have one
+//! is kept, and mended after each step for those that the step may have given or taken one.
 //! It is slow and plain, and keeps to the semantics step by step.
 #![tactic(auto)]
 
-mod beginning;
+mod acting;
+mod actors;
 mod choices;
-mod configuration;
-mod deed;
 mod ending;
-mod meeting;
-mod performing;
+mod listing;
+mod marks;
+mod parties;
 mod plain;
-mod planning;
 mod standing;
 mod stepped;
-mod stepping;
+mod taking;
+mod watching;
 
 pub use plain::Plain;
 pub use stepped::Stepped;

@@ -1,0 +1,11 @@
+pub mod Changes
+pub mod Meetings
+pub mod Named
+pub mod Owned
+pub mod Planned
+pub mod Adding
+pub mod Steps
+pub mod Finishing
+pub mod Moves
+pub mod Carrying
+pub mod Starts

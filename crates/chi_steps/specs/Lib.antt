@@ -1,0 +1,5 @@
+pub mod Configurations
+pub mod Meetings
+pub mod Plans
+pub mod Takings
+pub mod Begun
