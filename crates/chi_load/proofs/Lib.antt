@@ -1,2 +1,2 @@
 mod Grouped
-mod Short
+pub mod Short

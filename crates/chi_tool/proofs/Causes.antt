@@ -8,14 +8,14 @@ use Rattle.chi_core.specs.Runs.{Told}
 use Rattle.chi_value.specs.declared.value.Value.{Value}
 use Rattle.chi_tool.specs.Arguments.{Means}
 use Rattle.chi_tool.specs.Call.{Call}
-use Rattle.chi_tool.specs.Headline.{IsReportedOrLost, AsksFor, AsksForDone, AsksForLog, AsksForUnbuilt, ComesUp, HasMisfit, HasLexicalFault, HasSyntaxFault, IsAskedSource, EndsAs, Ends, IsDone, IsExit, IsFault, HasUnfitArguments, IsExactly}
+use Rattle.chi_tool.specs.Headline.{IsReportedOrLost, AsksFor, AsksForDone, AsksForLog, AsksForMistyped, ComesUp, HasMisfit, HasLexicalFault, HasSyntaxFault, HasTypeFault, IsAskedSource, EndsAs, Ends, IsDone, IsExit, IsFault, HasUnfitArguments, IsExactly}
 use Rattle.chi_tool.specs.Refusals as refusal
 use Rattle.chi_tool.specs.Refusals.{Report}
 use Rattle.chi_tool.specs.Report.{IsReportOfSource, refused, program, IsReportOfProgram, IsReportOfLog, IsReport}
 use Rattle.chi_tool.specs.Report as report
 use Rattle.chi_tool.specs.Running.{IsRunOf, run_report}
 use Rattle.chi_tool.specs.Settings.{Wanted, Aim, simulates, checks, settings_with}
-use Rattle.chi_tool.specs.Sources.{IsNotBuilt, by_lexer, by_parser, by_form, ComesTo}
+use Rattle.chi_tool.specs.Sources.{by_lexer, by_parser, by_checker, ComesTo}
 use Rattle.chi_tool.specs.Statuses.{status_of}
 use Rattle.chi_tool.proofs.Cases.{CaseOf, asks_nothing, asks_unbuilt, is_missing, is_long, of_log, of_source, case_of, asked_report, asked_log_report, unbuilt_report}
 use Rattle.chi_tool.proofs.Contents.{status_ap, source_program, source_bound, log_bound}
@@ -66,7 +66,7 @@ module _ (n : ℕ) (Q : Verdict → Type 0) (low : (n ≡ 0) ⊎ ((10 ≤ n) × 
     ends : (aim : Aim) (source : List ℕ) (r : Report) → IsReportOfSource source aim r → r.status ≡ n → Ends Q aim source
     ends aim source r (refused (by_lexer fault has e)) is = absurd (no_source_refusal 20 r (omega arith) (status_ap r _ e) is)
     ends aim source r (refused (by_parser tokens fault has e)) is = absurd (no_source_refusal 21 r (omega arith) (status_ap r _ e) is)
-    ends aim source r (refused (by_form has e)) is = absurd (no_source_refusal 22 r (omega arith) (status_ap r _ e) is)
+    ends aim source r (refused (by_checker fault has e)) is = absurd (no_source_refusal 22 r (omega arith) (status_ap r _ e) is)
     ends (simulates w) source r (program core comes of) is = run_ends w source core r comes of is
     ends checks source r (program core comes of) is = let none = status_ap r _ of in let some = positive in absurd (omega arith)
 
@@ -84,7 +84,7 @@ module _ (n : ℕ) (Q : Verdict → Type 0) (low : (n ≡ 0) ⊎ ((10 ≤ n) × 
 done_of : (aim : Aim) (source : List ℕ) (r : Report) → IsReportOfSource source aim r → r.status ≡ 0 → IsDone aim source
 done_of aim source r (refused (by_lexer fault has e)) is = let h = status_ap r _ e in absurd (omega arith)
 done_of aim source r (refused (by_parser tokens fault has e)) is = let h = status_ap r _ e in absurd (omega arith)
-done_of aim source r (refused (by_form has e)) is = let h = status_ap r _ e in absurd (omega arith)
+done_of aim source r (refused (by_checker fault has e)) is = let h = status_ap r _ e in absurd (omega arith)
 done_of (simulates w) source r (program core comes of) is =
     inl (run_ends 0 (λ v. v ≡ verdict.Completed) (inl refl) completed_by (λ v e. ap status_of e) w source core r comes of is)
 done_of checks source r (program core comes of) is = inr (core, comes)
@@ -118,7 +118,7 @@ stopped_status = run_status 14 (λ v. v ≡ verdict.Stopped) (inr (omega arith, 
 lexical_of : (aim : Aim) (source : List ℕ) (r : Report) → IsReportOfSource source aim r → r.status ≡ 20 → HasLexicalFault source
 lexical_of aim source r (refused (by_lexer fault has e)) is = (fault, has)
 lexical_of aim source r (refused (by_parser tokens fault has e)) is = let h = status_ap r _ e in absurd (omega arith)
-lexical_of aim source r (refused (by_form has e)) is = let h = status_ap r _ e in absurd (omega arith)
+lexical_of aim source r (refused (by_checker fault has e)) is = let h = status_ap r _ e in absurd (omega arith)
 lexical_of aim source r (program core comes of) is = absurd (no_program 20 (omega arith, omega arith) core aim r of is)
 
 pub lexical_status : StatusOf 20 (λ aim. HasLexicalFault)
@@ -131,7 +131,7 @@ lexical_status = record {
 syntax_of : (aim : Aim) (source : List ℕ) (r : Report) → IsReportOfSource source aim r → r.status ≡ 21 → HasSyntaxFault source
 syntax_of aim source r (refused (by_lexer fault has e)) is = let h = status_ap r _ e in absurd (omega arith)
 syntax_of aim source r (refused (by_parser tokens fault has e)) is = (tokens, fault, has)
-syntax_of aim source r (refused (by_form has e)) is = let h = status_ap r _ e in absurd (omega arith)
+syntax_of aim source r (refused (by_checker fault has e)) is = let h = status_ap r _ e in absurd (omega arith)
 syntax_of aim source r (program core comes of) is = absurd (no_program 21 (omega arith, omega arith) core aim r of is)
 
 pub syntax_status : StatusOf 21 (λ aim. HasSyntaxFault)
@@ -141,17 +141,17 @@ syntax_status = record {
   from = λ aim source p. (refusal.syntax source p.0 p.1, refused (by_parser p.0 p.1 p.2 refl), refl);
 }
 
-unbuilt_of : (aim : Aim) (source : List ℕ) (r : Report) → IsReportOfSource source aim r → r.status ≡ 22 → IsNotBuilt source
-unbuilt_of aim source r (refused (by_lexer fault has e)) is = let h = status_ap r _ e in absurd (omega arith)
-unbuilt_of aim source r (refused (by_parser tokens fault has e)) is = let h = status_ap r _ e in absurd (omega arith)
-unbuilt_of aim source r (refused (by_form has e)) is = has
-unbuilt_of aim source r (program core comes of) is = absurd (no_program 22 (omega arith, omega arith) core aim r of is)
+mistyped_of : (aim : Aim) (source : List ℕ) (r : Report) → IsReportOfSource source aim r → r.status ≡ 22 → HasTypeFault source
+mistyped_of aim source r (refused (by_lexer fault has e)) is = let h = status_ap r _ e in absurd (omega arith)
+mistyped_of aim source r (refused (by_parser tokens fault has e)) is = let h = status_ap r _ e in absurd (omega arith)
+mistyped_of aim source r (refused (by_checker fault has e)) is = (fault, has)
+mistyped_of aim source r (program core comes of) is = absurd (no_program 22 (omega arith, omega arith) core aim r of is)
 
-pub unbuilt_status : StatusOf 22 (λ aim. IsNotBuilt)
-unbuilt_status = record {
+pub mistyped_status : StatusOf 22 (λ aim. HasTypeFault)
+mistyped_status = record {
   other = (λ e. omega arith, λ e. omega arith, λ e. omega arith);
-  to = unbuilt_of;
-  from = λ aim source p. (refusal.not_built, refused (by_form p refl), refl);
+  to = mistyped_of;
+  from = λ aim source p. (refusal.typing p.0, refused (by_checker p.0 p.1 refl), refl);
 }
 
 unfit_run : (w : Wanted) (source : List ℕ) (core : Core) (r : Report) → ComesTo source core → IsReportOfProgram core (simulates w) r → r.status ≡ 23 → HasUnfitArguments (simulates w) source
@@ -163,7 +163,7 @@ unfit_run w source core r comes (report.run values means of) is =
 unfit_of : (aim : Aim) (source : List ℕ) (r : Report) → IsReportOfSource source aim r → r.status ≡ 23 → HasUnfitArguments aim source
 unfit_of aim source r (refused (by_lexer fault has e)) is = let h = status_ap r _ e in absurd (omega arith)
 unfit_of aim source r (refused (by_parser tokens fault has e)) is = let h = status_ap r _ e in absurd (omega arith)
-unfit_of aim source r (refused (by_form has e)) is = let h = status_ap r _ e in absurd (omega arith)
+unfit_of aim source r (refused (by_checker fault has e)) is = let h = status_ap r _ e in absurd (omega arith)
 unfit_of (simulates w) source r (program core comes of) is = unfit_run w source core r comes of is
 unfit_of checks source r (program core comes of) is = let h = status_ap r _ of in absurd (omega arith)
 
@@ -283,23 +283,23 @@ module _ (law : ReportLaw) (call : Call) (files : Files) (one : MetOne call file
   misfit_exactly =
       exactly one.0 call 24 (AsksForLog call files HasMisfit) (λ e. omega arith) met (λ is. asks_misfit (case_of call files one.0 one.1) is) misfit_is
 
-  -- what isn't built: the form of what is asked for, or that of the source
+  -- a rule is broken, or what is asked for isn't built
 
-  asks_not_built : CaseOf call files one.0 → one.0.status ≡ 22 → AsksForUnbuilt call files
-  asks_not_built (asks_nothing asked e) is = let h = status_ap one.0 _ e in absurd (omega arith)
-  asks_not_built (asks_unbuilt asked e) is = inl asked
-  asks_not_built (is_missing e) is = let h = status_ap one.0 _ e in absurd (omega arith)
-  asks_not_built (is_long e) is = let h = status_ap one.0 _ e in absurd (omega arith)
-  asks_not_built (of_log text asked of) is = let b = log_bound text one.0 of in absurd (grind arith)
-  asks_not_built (of_source aim source asked of) is = inr (aim, source, asked, unbuilt_of aim source one.0 of is)
+  asks_mistyped : CaseOf call files one.0 → one.0.status ≡ 22 → AsksForMistyped call files
+  asks_mistyped (asks_nothing asked e) is = let h = status_ap one.0 _ e in absurd (omega arith)
+  asks_mistyped (asks_unbuilt asked e) is = inl asked
+  asks_mistyped (is_missing e) is = let h = status_ap one.0 _ e in absurd (omega arith)
+  asks_mistyped (is_long e) is = let h = status_ap one.0 _ e in absurd (omega arith)
+  asks_mistyped (of_log text asked of) is = let b = log_bound text one.0 of in absurd (grind arith)
+  asks_mistyped (of_source aim source asked of) is = inr (aim, source, asked, mistyped_of aim source one.0 of is)
 
-  not_built_status : AsksForUnbuilt call files → one.0.status ≡ 22
-  not_built_status (inl asked) = same_status refusal.not_built (unbuilt_report call files asked)
-  not_built_status (inr h) = asked_status 22 (λ aim. IsNotBuilt) unbuilt_status h
+  typing_is : AsksForMistyped call files → one.0.status ≡ 22
+  typing_is (inl asked) = same_status refusal.not_built (unbuilt_report call files asked)
+  typing_is (inr h) = asked_status 22 (λ aim. HasTypeFault) mistyped_status h
 
-  pub not_built_exactly : IsExactly call 22 (AsksForUnbuilt call files)
-  not_built_exactly =
-      exactly one.0 call 22 (AsksForUnbuilt call files) (λ e. omega arith) met (λ is. asks_not_built (case_of call files one.0 one.1) is) not_built_status
+  pub typing_exactly : IsExactly call 22 (AsksForMistyped call files)
+  typing_exactly =
+      exactly one.0 call 22 (AsksForMistyped call files) (λ e. omega arith) met (λ is. asks_mistyped (case_of call files one.0 one.1) is) typing_is
 
   -- a program that is asked to be run is run to its end
   pub ends_complete : (w : Wanted) (source : List ℕ) → IsAskedSource call files (simulates w) source → (core : Core) → ComesTo source core

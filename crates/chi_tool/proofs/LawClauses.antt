@@ -1,5 +1,5 @@
 -- The laws that the promises rest on, as their functions' contracts give them.
-use Rattle.std.proofs.Common.{◌≡◌, ℕ, List, Result, Some, ◌⊎◌}
+use Rattle.std.proofs.Common.{◌≡◌, ℕ, ◌≤◌, List, [], length, Result, Some, ◌⊎◌}
 use Rattle.std.specs.Prelude.{Ok}
 use Rattle.chi_cli.specs.declared.request.Request.{Request}
 use Rattle.chi_cli.specs.Arguments.{values_of}
@@ -15,7 +15,8 @@ use Rattle.chi_core.specs.Kinds.{kinds_of}
 use Rattle.chi_core.specs.Of.{at_start, AreOf}
 use Rattle.chi_core.specs.Runs.{Told}
 use Rattle.chi_core.specs.Sound.{Sound}
-use Rattle.chi_form.specs.Form.{built}
+use Rattle.chi_lex.specs.declared.lexer.TheConstants.{MOST_BYTES}
+use Rattle.chi_check.specs.Programs.{checked}
 use Rattle.chi_trace.specs.Logs as logs
 use Rattle.chi_trace.specs.Logs.{IsUp}
 use Rattle.chi_types.specs.declared.ty.Ty.{Ty}
@@ -24,7 +25,7 @@ use Rattle.chi_tool.specs.Refusals.{Report}
 use Rattle.chi_tool.specs.Report.{IsReportOfSource, IsReport}
 use Rattle.chi_tool.specs.Running.{IsRunOf, MayHave}
 use Rattle.chi_tool.specs.Settings.{Aim, MayBeAimed, Settings}
-use Rattle.chi_tool.specs.Sources.{ComesTo}
+use Rattle.chi_tool.specs.Sources.{IsWritten, ComesTo}
 
 -- tokens are one program, or have one fault
 pub record AnswerLaw : Type 0 where
@@ -32,14 +33,15 @@ pub record AnswerLaw : Type 0 where
   pub one : (tokens : List Spanned) (result other : Result Program ParseFault)
       → IsAnswer tokens result → IsAnswer tokens other → result ≡ other
 
--- the program that a source comes to has one run with settings that it may have
+-- the program that a source within the limit comes to has one run with settings that it may have
 pub record RunLaw : Type 0 where
-  pub some : (source : List ℕ) (core : Core) → ComesTo source core → (s : Settings) → MayHave core s → (told : Told) × IsRunOf core s told
+  pub some : (source : List ℕ) (core : Core) → length source ≤ MOST_BYTES → ComesTo source core → (s : Settings) → MayHave core s → (told : Told) × IsRunOf core s told
   pub one : (core : Core) (s : Settings) (told other : Told) → IsRunOf core s told → IsRunOf core s other → told ≡ other
 
--- the program that a source comes to is sound
-abbrev pub SoundLaw : Type 0
-SoundLaw = (tree : Program) (core : Core) → built tree ≡ Some core → Sound core
+-- a program that breaks no rule comes to a core, which is sound where its source is within the limit
+pub record CheckLaw : Type 0 where
+  pub some : (source : List ℕ) (tree : Program) → IsWritten source tree → (checked tree).faults ≡ [] → (core : Core) × ((checked tree).made ≡ Some core)
+  pub sound : (source : List ℕ) (core : Core) → length source ≤ MOST_BYTES → ComesTo source core → Sound core
 
 -- the numbers of a request are in their ranges
 abbrev pub RangeLaw : Type 0
@@ -58,9 +60,9 @@ pub record LogLaw : Type 0 where
   pub one_line : (text : List ℕ) (j k : ℕ) → logs.Misfits text j → logs.Misfits text k → j ≡ k
   pub apart : (text up : List ℕ) (k : ℕ) → IsUp text up → logs.Misfits text k → ⊥
 
--- a source has one report
+-- a source within the limit has one report
 pub record SourceLaw : Type 0 where
-  pub some : (source : List ℕ) (aim : Aim) → MayBeAimed aim → (r : Report) × IsReportOfSource source aim r
+  pub some : (source : List ℕ) (aim : Aim) → length source ≤ MOST_BYTES → MayBeAimed aim → (r : Report) × IsReportOfSource source aim r
   pub one : (source : List ℕ) (aim : Aim) (r other : Report) → IsReportOfSource source aim r → IsReportOfSource source aim other → r ≡ other
 
 -- words and files have one report

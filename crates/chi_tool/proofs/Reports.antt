@@ -23,21 +23,21 @@ use Rattle.chi_tool.specs.Running.{IsRunOf, run_report}
 use Rattle.chi_tool.specs.Settings.{Wanted, Aim, simulates, checks, wanted_of, aim_of, MayBeAimed, plain, settings_with}
 use Rattle.chi_tool.specs.Sources.{ComesTo}
 use Rattle.chi_tool.specs.Words.{Wish, nothing, unbuilt, of_task, wish_of}
-use Rattle.chi_tool.proofs.LawClauses.{AnswerLaw, RunLaw, SoundLaw, ValuesLaw, RangeLaw, LogLaw}
+use Rattle.chi_tool.proofs.LawClauses.{AnswerLaw, RunLaw, CheckLaw, ValuesLaw, RangeLaw, LogLaw}
 use Rattle.chi_tool.proofs.Runs.{may_be_aimed, asked_settings}
 use Rattle.chi_tool.proofs.Sources.{Comes, source_comes, one_refusal, refused_or_comes, one_core}
-use Rattle.chi_tool.proofs.Wishes.{IsBoundedWish, bounded_wish}
+use Rattle.chi_tool.proofs.Wishes.{IsBoundedWish, bounded_wish, factory_within}
 
 -- a file has one report where its content has
 
 module _ (most : ℕ) (P : List ℕ → Report → Type 0) where
-  file_some : ((content : List ℕ) → (r : Report) × P content r) → (o : Option (List ℕ)) → (r : Report) × IsReportOfFile most P o r
+  file_some : ((content : List ℕ) → length content ≤ most → (r : Report) × P content r) → (o : Option (List ℕ)) → (r : Report) × IsReportOfFile most P o r
   file_some some None = (no_such_file, missing refl refl)
   file_some some (Some content) = by_length (let c : (most < length content) ⊎ (length content ≤ most) = grind arith in c)
     where
       by_length : (most < length content) ⊎ (length content ≤ most) → (r : Report) × IsReportOfFile most P (Some content) r
       by_length (inl above) = (file_too_long, long content refl above refl)
-      by_length (inr within) = let p = some content in (p.0, fetched content refl within p.1)
+      by_length (inr within) = let p = some content within in (p.0, fetched content refl within p.1)
 
   file_one : ((content : List ℕ) (r s : Report) → P content r → P content s → r ≡ s) → (o : Option (List ℕ)) (r s : Report)
       → IsReportOfFile most P o r → IsReportOfFile most P o s → r ≡ s
@@ -67,38 +67,38 @@ module _ (law : LogLaw) where
   log_one text r s (misfit k p a) (up log q b) = absurd (law.apart text log k q p)
   log_one text r s (misfit j p a) (misfit k q b) = a ∙ ap refusal.misfit (law.one_line text j k p q) ∙ sym b
 
-module _ (answers : AnswerLaw) (runs : RunLaw) (sound : SoundLaw) (fit : ValuesLaw) where
+module _ (answers : AnswerLaw) (runs : RunLaw) (check : CheckLaw) (fit : ValuesLaw) where
   -- there is one
 
-  arguments_some : (w : Wanted) → MayBeAimed (simulates w) → (source : List ℕ) (core : Core) → ComesTo source core → (d : ProcDef) → slice_get core.procs core.model ≡ Some d
+  arguments_some : (w : Wanted) → MayBeAimed (simulates w) → (source : List ℕ) (core : Core) → length source ≤ MOST_BYTES → ComesTo source core → (d : ProcDef) → slice_get core.procs core.model ≡ Some d
       → (o : Result (List Value) ArgFault) → values_of d.params w.texts ≡ o → (r : Report) × IsReportOfRun core w r
-  arguments_some w bounded source core comes d is (Ok values) read =
-      let told = runs.some source core comes (settings_with w values) (asked_settings fit core w values d is read bounded) in
+  arguments_some w bounded source core within comes d is (Ok values) read =
+      let told = runs.some source core within comes (settings_with w values) (asked_settings fit core w values d is read bounded) in
       (run_report core told.0, run values (record { model = d; is = is; read = read }) (record { told = told.0; run = told.1; is = refl }))
-  arguments_some w bounded source core comes d is (Err fault) read =
+  arguments_some w bounded source core within comes d is (Err fault) read =
       (unfit_arguments (length d.params) (length w.texts) fault, unfit (length d.params) fault (record { model = d; is = is; read = read; count = refl }) refl)
 
-  program_some : (aim : Aim) → MayBeAimed aim → (source : List ℕ) (core : Core) → ComesTo source core → (r : Report) × IsReportOfProgram core aim r
-  program_some (simulates w) bounded source core comes =
-      let s : Sound core = sound comes.tree core comes.built in
+  program_some : (aim : Aim) → MayBeAimed aim → (source : List ℕ) (core : Core) → length source ≤ MOST_BYTES → ComesTo source core → (r : Report) × IsReportOfProgram core aim r
+  program_some (simulates w) bounded source core within comes =
+      let s : Sound core = check.sound source core within comes in
       let m = s.model in
-      arguments_some w bounded source core comes m.0 m.1 (values_of m.0.params w.texts) refl
-  program_some checks bounded source core comes = (accepted, refl)
+      arguments_some w bounded source core within comes m.0 m.1 (values_of m.0.params w.texts) refl
+  program_some checks bounded source core within comes = (accepted, refl)
 
-  come_to_some : (aim : Aim) → MayBeAimed aim → (source : List ℕ) → Comes source → (r : Report) × IsReportOfSource source aim r
-  come_to_some aim bounded source (inl (r, is)) = (r, refused is)
-  come_to_some aim bounded source (inr (core, is)) = let p = program_some aim bounded source core is in (p.0, program core is p.1)
+  come_to_some : (aim : Aim) → MayBeAimed aim → (source : List ℕ) → length source ≤ MOST_BYTES → Comes source → (r : Report) × IsReportOfSource source aim r
+  come_to_some aim bounded source within (inl (r, is)) = (r, refused is)
+  come_to_some aim bounded source within (inr (core, is)) = let p = program_some aim bounded source core within is in (p.0, program core is p.1)
 
-  pub source_some : (aim : Aim) → MayBeAimed aim → (source : List ℕ) → (r : Report) × IsReportOfSource source aim r
-  source_some aim bounded source = come_to_some aim bounded source (source_comes answers source)
+  pub source_some : (aim : Aim) → MayBeAimed aim → (source : List ℕ) → length source ≤ MOST_BYTES → (r : Report) × IsReportOfSource source aim r
+  source_some aim bounded source within = come_to_some aim bounded source within (source_comes answers check source)
 
   wish_some : LogLaw → (w : Wish) → IsBoundedWish w → (files : Files) → (r : Report) × IsReportOfWish w files r
   wish_some log_law nothing bounded files = (usage, refl)
   wish_some log_law unbuilt bounded files = (not_built, refl)
   wish_some log_law (of_task (OfFile name purpose)) bounded files =
       file_some MOST_BYTES (IsReportFor (aim_of purpose)) (source_some (aim_of purpose) (may_be_aimed purpose bounded)) (files name)
-  wish_some log_law (of_task (OfLog name)) bounded files = file_some MOST_LOG_BYTES IsReportOfLog (log_some log_law) (files name)
-  wish_some log_law (of_task (OfFactory size)) bounded files = source_some (simulates (wanted_of plain)) (may_be_aimed (Simulate plain) (omega arith)) (factory_source size)
+  wish_some log_law (of_task (OfLog name)) bounded files = file_some MOST_LOG_BYTES IsReportOfLog (λ text within. log_some log_law text) (files name)
+  wish_some log_law (of_task (OfFactory size)) bounded files = source_some (simulates (wanted_of plain)) (may_be_aimed (Simulate plain) (omega arith)) (factory_source size) (factory_within size bounded)
 
   pub report_some : LogLaw → RangeLaw → (words : List (List ℕ)) (files : Files) → (r : Report) × IsReport words files r
   report_some log_law bounds words files = wish_some log_law (wish_of words) (bounded_wish bounds words) files

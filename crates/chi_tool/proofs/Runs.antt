@@ -1,5 +1,5 @@
 -- The program that a source comes to has one run.
-use Rattle.std.proofs.Common.{◌≡◌, ℕ, ◌<◌, true, List, length, Some, refl, sym, subst, arith}
+use Rattle.std.proofs.Common.{◌≡◌, ℕ, ◌<◌, ◌≤◌, true, List, length, Some, refl, sym, subst, arith}
 use Rattle.std.proofs.Math.Nat.{mod-lt}
 use Rattle.std.specs.Prelude.{slice_get, ℤ, ◌-◌, Option, Result, Ok, Err, IfOk}
 use Rattle.chi_base.specs.declared.no_memory.NoMemory.{NoMemory}
@@ -8,6 +8,7 @@ use Rattle.chi_cli.specs.declared.request.Pick.TheVariants as pick
 use Rattle.chi_cli.specs.declared.args.ArgFault.{ArgFault}
 use Rattle.chi_cli.specs.declared.args.ArgFault.TheVariants as arg
 use Rattle.chi_cli.specs.Arguments.{values_of, IsRefused}
+use Rattle.chi_lex.specs.declared.lexer.TheConstants.{MOST_BYTES}
 use Rattle.chi_value.specs.declared.value.Value.{Value}
 use Rattle.chi_core.specs.declared.program.Core.{Core}
 use Rattle.chi_core.specs.declared.program.ProcDef.{ProcDef}
@@ -29,7 +30,7 @@ use Rattle.chi_tool.specs.Running.{IsRunOf, IsRunReport, MayHave}
 use Rattle.chi_tool.specs.Settings.{Settings, Wanted, Aim, simulates, wanted_of, aim_of, IsBounded, MayBeAimed, policy_of, settings_with}
 use Rattle.chi_tool.specs.Sources.{ComesTo}
 use Rattle.chi_tool.specs.Turns.{RunsTo}
-use Rattle.chi_tool.proofs.LawClauses.{SoundLaw, ValuesLaw}
+use Rattle.chi_tool.proofs.LawClauses.{CheckLaw, ValuesLaw}
 
 -- what the three formulas pick is one of the choices
 
@@ -57,9 +58,9 @@ asked_settings fit core w values d is read bounded = record {
   bound = bounded.0;
 }
 
-pub run_some : PickedAlways → SoundLaw → (source : List ℕ) (core : Core) → ComesTo source core → (s : Settings) → MayHave core s → (told : Told) × IsRunOf core s told
-run_some always sound source core comes s may =
-    let p = always core (sound comes.tree core comes.built) (start core s.arguments s.seed s.until)
+pub run_some : PickedAlways → CheckLaw → (source : List ℕ) (core : Core) → length source ≤ MOST_BYTES → ComesTo source core → (s : Settings) → MayHave core s → (told : Told) × IsRunOf core s told
+run_some always check source core within comes s may =
+    let p = always core (check.sound source core within comes) (start core s.arguments s.seed s.until)
     (record {
       model = may.model;
       is = may.is;

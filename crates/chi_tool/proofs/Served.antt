@@ -1,21 +1,22 @@
 -- When each status comes of a call, by how it was served.
-use Rattle.std.proofs.Common.{◌≡◌, ◌≢◌, ℕ, ◌<◌, true, false, List, Option, Some, None, length, ◌⊎◌, inl, inr, sym, ◌∙◌, subst, arith}
+use Rattle.std.proofs.Common.{◌≡◌, ◌≢◌, ℕ, ◌<◌, ◌≤◌, true, false, List, Option, Some, None, length, ◌⊎◌, inl, inr, sym, ◌∙◌, subst, arith}
 use Rattle.std.specs.Prelude.{IsSomeAnd}
 use Rattle.chi_io.specs.Shelf.{Files}
+use Rattle.chi_lex.specs.declared.lexer.TheConstants.{MOST_BYTES}
 use Rattle.chi_tool.specs.Call.{Call, SinkUse}
 use Rattle.chi_tool.specs.Delivery.{Delivers, whole, out_broke, log_broke, DeliversReport, Serves, reported, missing, long, failed, lost}
 use Rattle.chi_tool.specs.declared.task.Purpose.TheVariants.{Simulate}
 use Rattle.chi_tool.specs.declared.task.Task.{Task}
 use Rattle.chi_tool.specs.Headline.{Headline, IsAskedSource, held, made, IsNoContent, IsUnread, CannotBeRead, IsExactly, StoppedByFailure, Causes, IsComplete}
 use Rattle.chi_tool.specs.Refusals.{Report, usage, not_built}
-use Rattle.chi_tool.specs.Settings.{Wanted, simulates, MayBeAimed, plain, settings_with}
+use Rattle.chi_tool.specs.Settings.{Wanted, Aim, simulates, MayBeAimed, plain, settings_with}
 use Rattle.chi_tool.specs.Words.{Wish, nothing, unbuilt, of_task, wish_of}
-use Rattle.chi_tool.proofs.Causes.{done_exactly, exit_exactly, deadlock_exactly, fault_exactly, out_of_steps_exactly, stopped_exactly, lexical_exactly, syntax_exactly, not_built_exactly, unfit_exactly, misfit_exactly, ends_complete}
+use Rattle.chi_tool.proofs.Causes.{done_exactly, exit_exactly, deadlock_exactly, fault_exactly, out_of_steps_exactly, stopped_exactly, lexical_exactly, syntax_exactly, typing_exactly, unfit_exactly, misfit_exactly, ends_complete}
 use Rattle.chi_tool.proofs.Contents.{IsOfContent, IsOfFile}
 use Rattle.chi_tool.proofs.LawClauses.{RunLaw, ReportLaw, ValuesLaw, RangeLaw}
 use Rattle.chi_tool.proofs.Promises.{IsLost, met_of, goes_stopped, asks_something, served-headline, usage-headline, unbuilt-headline, lost-headline}
 use Rattle.chi_tool.proofs.Runs.{may_be_aimed, asked_settings}
-use Rattle.chi_tool.proofs.Wishes.{IsBoundedWish, bounded_wish}
+use Rattle.chi_tool.proofs.Wishes.{IsBoundedWish, bounded_wish, factory_within}
 
 -- a status that a delivery doesn't have by itself tells which of the sinks broke off
 pub delivered_status : (status n : ℕ) (output lines : List ℕ) (result : ℕ) (out log : SinkUse) → status ≢ n → n ≢ 5
@@ -107,6 +108,12 @@ asked_bound bounds call files w source (held name purpose asked there within sam
     subst MayBeAimed (sym same) (may_be_aimed purpose (subst IsBoundedWish asked (bounded_wish bounds call.words)))
 asked_bound bounds call files w source (made size asked same plainly) = subst MayBeAimed (sym plainly) (may_be_aimed (Simulate plain) (omega arith))
 
+-- and its source within the limit
+asked_within : RangeLaw → (call : Call) (files : Files) (aim : Aim) (source : List ℕ) → IsAskedSource call files aim source → length source ≤ MOST_BYTES
+asked_within bounds call files aim source (held name purpose asked there within same) = within
+asked_within bounds call files aim source (made size asked same plainly) =
+    subst (λ s. length s ≤ MOST_BYTES) (sym same) (factory_within size (subst IsBoundedWish asked (bounded_wish bounds call.words)))
+
 -- the parts of the causes that rest on how the call was served
 module _ (law : ReportLaw) (call : Call) (head : Headline call) where
   pub causes : Breaks call.status call.out call.log
@@ -121,7 +128,7 @@ module _ (law : ReportLaw) (call : Call) (head : Headline call) where
     stopped = λ files well. stopped_exactly law call files (met_of call head files well);
     lexical = λ files well. lexical_exactly law call files (met_of call head files well);
     syntax = λ files well. syntax_exactly law call files (met_of call head files well);
-    not_built = λ files well. not_built_exactly law call files (met_of call head files well);
+    typing = λ files well. typing_exactly law call files (met_of call head files well);
     arguments = λ files well. unfit_exactly law call files (met_of call head files well);
     misfit = λ files well. misfit_exactly law call files (met_of call head files well);
     no_request = request;
@@ -135,7 +142,7 @@ module _ (law : ReportLaw) (call : Call) (head : Headline call) where
   complete runs fit bounds =
       λ files well w source asked core comes arguments means.
       let bounded = asked_bound bounds call files w source asked in
-      let ran = runs.some source core comes (settings_with w arguments) (asked_settings fit core w arguments means.model means.is means.read bounded) in
+      let ran = runs.some source core (asked_within bounds call files (simulates w) source asked) comes (settings_with w arguments) (asked_settings fit core w arguments means.model means.is means.read bounded) in
       (ran.0, ran.1, ends_complete law call files (met_of call head files well) w source asked core comes arguments means ran.0 ran.1)
 
 module _ (t : Task) (name : List ℕ) (most : ℕ) (P : List ℕ → Report → Type 0) (of : IsOfFile t name most P) (call : Call)

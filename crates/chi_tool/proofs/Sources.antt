@@ -1,6 +1,6 @@
 -- A source is refused with one report, or comes to one program.
-use Rattle.std.proofs.Common.{◌≡◌, ℕ, List, Option, Some, None, ◌⊎◌, inl, inr, sym, ◌∙◌, ap, subst, refl}
-use Rattle.std.specs.Prelude.{Result, Ok, Err}
+use Rattle.std.proofs.Common.{◌≡◌, ℕ, List, [], ◌∷◌, Option, Some, None, ◌⊎◌, inl, inr, sym, ◌∙◌, ap, subst, refl}
+use Rattle.std.specs.Prelude.{Result, Ok, Err, option_map}
 use Rattle.chi_token.specs.declared.place.Spanned.{Spanned}
 use Rattle.chi_lex.specs.declared.fault.LexFault.{LexFault}
 use Rattle.chi_lex.specs.Reading.{Reads}
@@ -10,13 +10,16 @@ use Rattle.chi_grammar.specs.declared.fault.ParseFault.{ParseFault}
 use Rattle.chi_grammar.specs.declared.fault.ParseFault.TheVariants.{Syntax, TooDeep, NoMemory}
 use Rattle.chi_grammar_laws.specs.Answers.{IsAnswer}
 use Rattle.chi_tree.specs.declared.definition.Program.{Program}
-use Rattle.chi_form.specs.Form.{built}
+use Rattle.chi_typing.specs.declared.fault.Fault.{Fault}
+use Rattle.chi_typing.specs.Faults.{first_of, first, sooner_of}
+use Rattle.chi_check.specs.Programs.{checked}
+use Rattle.chi_streams.specs.Streams.{with_streams}
 use Rattle.chi_core.specs.declared.program.Core.{Core}
 use Rattle.chi_tool.specs.Refusals as refusal
 use Rattle.chi_tool.specs.Refusals.{Report}
-use Rattle.chi_tool.specs.Sources.{IsWritten, IsNoProgram, IsRefused, by_lexer, by_parser, by_form, ComesTo}
+use Rattle.chi_tool.specs.Sources.{IsWritten, IsNoProgram, IsRefused, BreaksRule, by_lexer, by_parser, by_checker, ComesTo}
 use Rattle.chi_tool.specs.Syntax.{HasTree, HasFault}
-use Rattle.chi_tool.proofs.LawClauses.{AnswerLaw}
+use Rattle.chi_tool.proofs.LawClauses.{AnswerLaw, CheckLaw}
 
 -- what a source comes to
 abbrev pub Comes : List ℕ → Type 0
@@ -24,25 +27,43 @@ Comes source = ((r : Report) × IsRefused source r) ⊎ ((core : Core) × ComesT
 
 -- something
 
-tree_comes : (source : List ℕ) (tree : Program) → IsWritten source tree → (o : Option Core) → built tree ≡ o → Comes source
-tree_comes source tree written None e = inl (refusal.not_built, by_form (record { tree = tree; written = written; unbuilt = e }) refl)
-tree_comes source tree written (Some core) e = inr (core, record { tree = tree; written = written; built = e })
+some_first : (kept : Fault) (fs : List Fault) → (f : Fault) × (first_of (Some kept) fs ≡ Some f)
+unfolding first_of
+some_first kept [] = (kept, refl)
+some_first kept (f ∷ fs) = some_first (sooner_of (Some kept) f) fs
+
+first_some : (f : Fault) (fs : List Fault) → (g : Fault) × (first (f ∷ fs) ≡ Some g)
+unfolding first_of
+first_some f fs = some_first f fs
+
+first_none : (fs : List Fault) (f : Fault) → fs ≡ [] → first fs ≡ Some f → ⊥
+unfolding first_of
+first_none [] f none is = cc
+first_none (g ∷ gs) f none is = cc
+
+tree_comes : CheckLaw → (source : List ℕ) (tree : Program) → IsWritten source tree → (fs : List Fault) → (checked tree).faults ≡ fs → Comes source
+tree_comes check source tree written [] e =
+    let made = check.some source tree written e in
+    inr (with_streams made.0, record { tree = tree; written = written; unbroken = e; made = ap (option_map with_streams) made.1 })
+tree_comes check source tree written (f ∷ fs) e =
+    let g = first_some f fs in
+    inl (refusal.typing g.0, by_checker g.0 (record { tree = tree; written = written; first = ap first e ∙ g.1 }) refl)
 
 faulty : (source : List ℕ) (tokens : List Spanned) (fault : ParseFault) → Reads source tokens → HasFault tokens fault → Comes source
 faulty source tokens fault reads has = inl (refusal.syntax source tokens fault, by_parser tokens fault (record { read = reads; has = has }) refl)
 
-tokens_come : (source : List ℕ) (tokens : List Spanned) → Reads source tokens → (result : Result Program ParseFault) → IsAnswer tokens result → Comes source
-tokens_come source tokens reads (Ok tree) is =
-    tree_comes source tree (record { tokens = tokens; read = reads; parsed = is }) (built tree) refl
-tokens_come source tokens reads (Err (Syntax k)) is = faulty source tokens (Syntax k) reads is
-tokens_come source tokens reads (Err (TooDeep k)) is = faulty source tokens (TooDeep k) reads is
-tokens_come source tokens reads (Err NoMemory) is = absurd is
+tokens_come : CheckLaw → (source : List ℕ) (tokens : List Spanned) → Reads source tokens → (result : Result Program ParseFault) → IsAnswer tokens result → Comes source
+tokens_come check source tokens reads (Ok tree) is =
+    tree_comes check source tree (record { tokens = tokens; read = reads; parsed = is }) (checked tree).faults refl
+tokens_come check source tokens reads (Err (Syntax k)) is = faulty source tokens (Syntax k) reads is
+tokens_come check source tokens reads (Err (TooDeep k)) is = faulty source tokens (TooDeep k) reads is
+tokens_come check source tokens reads (Err NoMemory) is = absurd is
 
-pub source_comes : AnswerLaw → (source : List ℕ) → Comes source
-source_comes law source = by (some_reading source)
+pub source_comes : AnswerLaw → CheckLaw → (source : List ℕ) → Comes source
+source_comes law check source = by (some_reading source)
   where
     by : ((tokens : List Spanned) × Reads source tokens) ⊎ ((fault : LexFault) × lexical.HasFault source fault) → Comes source
-    by (inl (tokens, reads)) = let a = law.some tokens in tokens_come source tokens reads a.0 a.1
+    by (inl (tokens, reads)) = let a = law.some tokens in tokens_come check source tokens reads a.0 a.1
     by (inr (fault, has)) = inl (refusal.lexical fault, by_lexer fault has refl)
 
 -- and nothing else
@@ -72,29 +93,33 @@ module _ (law : AnswerLaw) (source : List ℕ) where
       let same : ◌≡◌ {A = Result Program ParseFault} (Ok t) (Err f) = law.one p.tokens (Ok t) (Err f) p.parsed (fault_answer p.tokens f there) in
       cc
 
+  one_rule : (e f : Fault) → BreaksRule source e → BreaksRule source f → e ≡ f
+  one_rule e f p q =
+      let there : first (checked q.tree).faults ≡ Some e = subst (λ t. first (checked t).faults ≡ Some e) (one_written p.tree q.tree p.written q.written) p.first in
+      let both : Some e ≡ Some f = sym there ∙ q.first in
+      cc
+
   pub one_refusal : (r s : Report) → IsRefused source r → IsRefused source s → r ≡ s
   one_refusal r s (by_lexer e p a) (by_lexer f q b) = a ∙ ap refusal.lexical (one_fault source e f p q) ∙ sym b
   one_refusal r s (by_lexer e p a) (by_parser us f q b) = absurd (never_both source us e q.read p)
-  one_refusal r s (by_lexer e p a) (by_form q b) = absurd (never_both source q.written.tokens e q.written.read p)
+  one_refusal r s (by_lexer e p a) (by_checker f q b) = absurd (never_both source q.written.tokens e q.written.read p)
   one_refusal r s (by_parser ts e p a) (by_lexer f q b) = absurd (never_both source ts f p.read q)
   one_refusal r s (by_parser ts e p a) (by_parser us f q b) = a ∙ one_syntax_fault ts us e f p q ∙ sym b
-  one_refusal r s (by_parser ts e p a) (by_form q b) = absurd (written_or_fault q.tree ts e q.written p)
-  one_refusal r s (by_form p a) (by_lexer f q b) = absurd (never_both source p.written.tokens f p.written.read q)
-  one_refusal r s (by_form p a) (by_parser us f q b) = absurd (written_or_fault p.tree us f p.written q)
-  one_refusal r s (by_form p a) (by_form q b) = a ∙ sym b
+  one_refusal r s (by_parser ts e p a) (by_checker f q b) = absurd (written_or_fault q.tree ts e q.written p)
+  one_refusal r s (by_checker e p a) (by_lexer f q b) = absurd (never_both source p.written.tokens f p.written.read q)
+  one_refusal r s (by_checker e p a) (by_parser us f q b) = absurd (written_or_fault p.tree us f p.written q)
+  one_refusal r s (by_checker e p a) (by_checker f q b) = a ∙ ap refusal.typing (one_rule e f p q) ∙ sym b
 
   pub refused_or_comes : (r : Report) (core : Core) → IsRefused source r → ComesTo source core → ⊥
   refused_or_comes r core (by_lexer e p a) q = never_both source q.written.tokens e q.written.read p
   refused_or_comes r core (by_parser ts e p a) q = written_or_fault q.tree ts e q.written p
-  refused_or_comes r core (by_form p a) q =
+  refused_or_comes r core (by_checker e p a) q =
       let same : p.tree ≡ q.tree = one_written p.tree q.tree p.written q.written in
-      let none : built q.tree ≡ None = subst (λ t. built t ≡ None) same p.unbuilt in
-      let both : ◌≡◌ {A = Option Core} None (Some core) = sym none ∙ q.built in
-      cc
+      first_none (checked q.tree).faults e q.unbroken (subst (λ t. first (checked t).faults ≡ Some e) same p.first)
 
   pub one_core : (core other : Core) → ComesTo source core → ComesTo source other → core ≡ other
   one_core core other p q =
       let same : p.tree ≡ q.tree = one_written p.tree q.tree p.written q.written in
-      let there : built q.tree ≡ Some core = subst (λ t. built t ≡ Some core) same p.built in
-      let both : Some core ≡ Some other = sym there ∙ q.built in
+      let there : option_map with_streams (checked q.tree).made ≡ Some core = subst (λ t. option_map with_streams (checked t).made ≡ Some core) same p.made in
+      let both : Some core ≡ Some other = sym there ∙ q.made in
       cc

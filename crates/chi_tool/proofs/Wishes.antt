@@ -1,5 +1,5 @@
 -- The bounds of what words ask for.
-use Rattle.std.proofs.Common.{◌≡◌, ℕ, ◌<◌, ◌≤◌, List, Some, None, refl, sym, ◌∙◌, ap, arith}
+use Rattle.std.proofs.Common.{◌≡◌, ℕ, ◌<◌, ◌≤◌, List, length, Some, None, refl, sym, ◌∙◌, ap, arith}
 use Rattle.std.specs.Prelude.{◌^◌, true, false, Result, Ok, Err}
 use Rattle.chi_cli.specs.declared.fault.CliFault.{CliFault}
 use Rattle.chi_cli.specs.declared.request.Request.{Request}
@@ -7,7 +7,10 @@ use Rattle.chi_cli.specs.declared.request.Request.TheVariants as request
 use Rattle.chi_cli.specs.declared.fault.CliFault.TheVariants as fault
 use Rattle.chi_cli.specs.declared.words.TheConstants.{MOST_STEPS}
 use Rattle.chi_cli.specs.Requests.{request_of, IsRefused}
+use Rattle.chi_lex.specs.declared.lexer.TheConstants.{MOST_BYTES}
 use Rattle.chi_load.specs.declared.source.TheConstants.{MOST_MACHINES}
+use Rattle.chi_load.specs.Factory.{factory_source}
+use Rattle.chi_load.proofs.Short.{source_short}
 use Rattle.chi_tool.specs.Settings.{IsBounded}
 use Rattle.chi_tool.specs.declared.task.Task.{Task}
 use Rattle.chi_tool.specs.declared.task.Task.TheVariants.{OfFile, OfLog, OfFactory}
@@ -32,6 +35,10 @@ by_reading law words (Ok (request.Sim file texts seed bound until pick true)) is
 by_reading law words (Ok (request.Check file)) is = tt
 by_reading law words (Ok (request.Load n)) is = law words _ is
 by_reading law words (Ok (request.TraceUp file)) is = tt
+
+-- the source of a factory is within the limit
+pub factory_within : (size : ℕ) → (1 ≤ size) × (size ≤ MOST_MACHINES) → length (factory_source size) ≤ MOST_BYTES
+factory_within size bounded = let short = source_short size bounded.1 in omega arith
 
 pub bounded_wish : RangeLaw → (words : List (List ℕ)) → IsBoundedWish (wish_of words)
 bounded_wish law words = by_reading law words (request_of words) refl

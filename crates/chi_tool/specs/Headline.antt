@@ -7,6 +7,7 @@ use Rattle.chi_lex.specs.declared.fault.LexFault.{LexFault}
 use Rattle.chi_lex.specs.declared.lexer.TheConstants.{MOST_BYTES}
 use Rattle.chi_lex.specs.Reading as lexical
 use Rattle.chi_grammar.specs.declared.fault.ParseFault.{ParseFault}
+use Rattle.chi_typing.specs.declared.fault.Fault.{Fault}
 use Rattle.chi_core.specs.declared.program.Core.{Core}
 use Rattle.chi_core.specs.declared.fault.FaultKind.{FaultKind}
 use Rattle.chi_core.specs.declared.verdict.Verdict.{Verdict}
@@ -24,7 +25,7 @@ use Rattle.chi_tool.specs.Refusals.{Report, no_such_file, file_too_long}
 use Rattle.chi_tool.specs.Report.{IsReport}
 use Rattle.chi_tool.specs.Running.{IsRunOf}
 use Rattle.chi_tool.specs.Settings.{Wanted, Aim, simulates, checks, wanted_of, aim_of, settings_with, plain}
-use Rattle.chi_tool.specs.Sources.{IsNoProgram, IsNotBuilt, ComesTo}
+use Rattle.chi_tool.specs.Sources.{IsNoProgram, BreaksRule, ComesTo}
 use Rattle.chi_tool.specs.Statuses as statuses
 use Rattle.chi_tool.specs.Statuses.{status_of}
 use Rattle.chi_tool.specs.Call.{Call, SinkUse, ShelfUse, Took, TookFront, TookSome, SinkRose, SinkStood, ShelfRose, ShelfStood}
@@ -126,6 +127,10 @@ HasLexicalFault source = (fault : LexFault) × lexical.HasFault source fault
 abbrev pub HasSyntaxFault : List ℕ → Type 0
 HasSyntaxFault source = (tokens : List Spanned) × (fault : ParseFault) × IsNoProgram source tokens fault
 
+-- it is a program, and breaks a rule
+abbrev pub HasTypeFault : List ℕ → Type 0
+HasTypeFault source = (fault : Fault) × BreaksRule source fault
+
 -- it comes to a program whose run, as it is asked for, ends with a verdict of which P holds
 pub record EndsAs (P : Verdict → Type 0) (w : Wanted) (source : List ℕ) : Type 0 where
   pub core : Core
@@ -203,9 +208,9 @@ IsExactlyIn call n P = (files : Files) → GoesWell call files → IsExactly cal
 abbrev pub IsExactlyOf : Call → ℕ → (Aim → List ℕ → Type 0) → Type 0
 IsExactlyOf call n P = IsExactlyIn call n (λ files. AsksFor call files P)
 
--- what is asked for isn't built, or the source's form isn't
-abbrev pub AsksForUnbuilt : Call → Files → Type 0
-AsksForUnbuilt call files = (wish_of call.words ≡ unbuilt) ⊎ AsksFor call files (λ aim. IsNotBuilt)
+-- the source that is asked for breaks a rule, or what is asked for isn't built
+abbrev pub AsksForMistyped : Call → Files → Type 0
+AsksForMistyped call files = (wish_of call.words ≡ unbuilt) ⊎ AsksFor call files (λ aim. HasTypeFault)
 
 -- a run has completed, a program is accepted, or a log is brought up
 abbrev pub AsksForDone : Call → Files → Type 0
@@ -225,7 +230,7 @@ pub record Causes (call : Call) : Type 0 where
   pub stopped : IsExactlyOf call statuses.stopped (Ends (λ v. v ≡ verdict.Stopped))
   pub lexical : IsExactlyOf call statuses.lexical (λ aim. HasLexicalFault)
   pub syntax : IsExactlyOf call statuses.syntax (λ aim. HasSyntaxFault)
-  pub not_built : IsExactlyIn call statuses.not_built (AsksForUnbuilt call)
+  pub typing : IsExactlyIn call statuses.typing (AsksForMistyped call)
   pub arguments : IsExactlyOf call statuses.arguments HasUnfitArguments
   pub misfit : IsExactlyIn call statuses.misfit (λ files. AsksForLog call files HasMisfit)
   pub no_request : call.out.stopped ≡ false → call.log.stopped ≡ false → IsExactly call statuses.no_request (wish_of call.words ≡ nothing)

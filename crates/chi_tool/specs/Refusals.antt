@@ -7,6 +7,7 @@ use Rattle.chi_token.specs.declared.place.Spanned.{Spanned}
 use Rattle.chi_lex.specs.declared.fault.LexFault.{LexFault}
 use Rattle.chi_lex.specs.declared.fault.LexFault.TheVariants as fault
 use Rattle.chi_grammar.specs.declared.fault.ParseFault.{ParseFault}
+use Rattle.chi_typing.specs.declared.fault.Fault.{Fault}
 use Rattle.chi_tool.specs.Statuses as statuses
 use Rattle.chi_tool.specs.Syntax.{placed, syntax_text}
 
@@ -44,6 +45,10 @@ lexical fault = refused statuses.lexical (lexical_text fault)
 
 abbrev pub syntax : List ℕ → List Spanned → ParseFault → Report
 syntax source tokens fault = refused statuses.syntax (syntax_text source tokens fault)
+
+-- the rule that a program breaks first, and where
+abbrev pub typing : Fault → Report
+typing fault = refused statuses.typing (placed fault.place (codes "rule " ++ decimal fault.rule))
 
 abbrev pub not_built : Report
 not_built = refused statuses.not_built (codes "form not built")

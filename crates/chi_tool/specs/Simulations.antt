@@ -6,12 +6,12 @@ use Rattle.chi_core.specs.Runs.{Told}
 use Rattle.chi_value.specs.declared.value.Value.{Value}
 use Rattle.chi_tool.specs.Arguments.{Means}
 use Rattle.chi_tool.specs.Call.{Call, SinkUse, Took, SinkStood}
-use Rattle.chi_tool.specs.Headline.{MeetsAlone, HasLexicalFault, HasSyntaxFault, EndsAs, IsUnfit, IsExit, IsFault, IsExactly, StoppedByFailure}
+use Rattle.chi_tool.specs.Headline.{MeetsAlone, HasLexicalFault, HasSyntaxFault, HasTypeFault, EndsAs, IsUnfit, IsExit, IsFault, IsExactly, StoppedByFailure}
 use Rattle.chi_tool.specs.Refusals.{Report, not_built}
 use Rattle.chi_tool.specs.Report.{IsReportOfSource}
 use Rattle.chi_tool.specs.Running.{IsRunOf}
 use Rattle.chi_tool.specs.Settings.{Wanted, simulates, settings_with}
-use Rattle.chi_tool.specs.Sources.{IsNotBuilt, ComesTo}
+use Rattle.chi_tool.specs.Sources.{ComesTo}
 use Rattle.chi_tool.specs.Statuses as statuses
 use Rattle.chi_tool.specs.Statuses.{status_of}
 
@@ -63,7 +63,7 @@ pub record SimulationCauses (s : Simulation) : Type 0 where
   pub stopped : ComesOf s statuses.stopped (EndsAs (λ v. v ≡ verdict.Stopped) s.wanted)
   pub lexical : ComesOf s statuses.lexical HasLexicalFault
   pub syntax : ComesOf s statuses.syntax HasSyntaxFault
-  pub not_built : IsExactlyFor s statuses.not_built ((s.trace ≡ true) ⊎ IsNotBuilt s.source)
+  pub typing : IsExactlyFor s statuses.typing ((s.trace ≡ true) ⊎ HasTypeFault s.source)
   pub arguments : ComesOf s statuses.arguments (IsUnfit s.wanted)
   -- no words and no file are to blame
   pub no_request : s.status ≢ statuses.no_request

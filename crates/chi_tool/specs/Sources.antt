@@ -1,12 +1,15 @@
--- What a source comes to: it is refused with its first fault, or it is a program that can be run.
-use Rattle.std.specs.Prelude.{◌≡◌, ℕ, List, Some, None}
+-- What a source comes to: it is refused with its first fault, or it is a program that can be run, which breaks no rule.
+use Rattle.std.specs.Prelude.{◌≡◌, ℕ, List, [], Some, option_map}
 use Rattle.chi_token.specs.declared.place.Spanned.{Spanned}
 use Rattle.chi_lex.specs.declared.fault.LexFault.{LexFault}
 use Rattle.chi_lex.specs.Reading.{Reads}
 use Rattle.chi_lex.specs.Reading as lexical
 use Rattle.chi_grammar.specs.declared.fault.ParseFault.{ParseFault}
 use Rattle.chi_tree.specs.declared.definition.Program.{Program}
-use Rattle.chi_form.specs.Form.{built}
+use Rattle.chi_typing.specs.declared.fault.Fault.{Fault}
+use Rattle.chi_typing.specs.Faults.{first}
+use Rattle.chi_check.specs.Programs.{checked}
+use Rattle.chi_streams.specs.Streams.{with_streams}
 use Rattle.chi_core.specs.declared.program.Core.{Core}
 use Rattle.chi_tool.specs.Refusals as refusal
 use Rattle.chi_tool.specs.Refusals.{Report}
@@ -23,20 +26,21 @@ pub record IsNoProgram (source : List ℕ) (tokens : List Spanned) (fault : Pars
   pub read : Reads source tokens
   pub has : HasFault tokens fault
 
--- it is a program whose form isn't built yet
-pub record IsNotBuilt (source : List ℕ) : Type 0 where
+-- it is a program that breaks rules, this one first
+pub record BreaksRule (source : List ℕ) (fault : Fault) : Type 0 where
   pub tree : Program
   pub written : IsWritten source tree
-  pub unbuilt : built tree ≡ None
+  pub first : first (checked tree).faults ≡ Some fault
 
 -- a source is refused with its first fault
 pub data IsRefused (source : List ℕ) (r : Report) : Type 0 where
   by_lexer : (fault : LexFault) → lexical.HasFault source fault → r ≡ refusal.lexical fault → IsRefused source r
   by_parser : (tokens : List Spanned) (fault : ParseFault) → IsNoProgram source tokens fault → r ≡ refusal.syntax source tokens fault → IsRefused source r
-  by_form : IsNotBuilt source → r ≡ refusal.not_built → IsRefused source r
+  by_checker : (fault : Fault) → BreaksRule source fault → r ≡ refusal.typing fault → IsRefused source r
 
--- or it comes to a program that can be run
+-- or it comes to a program that can be run: the core of what breaks no rule, each distribution with its stream
 pub record ComesTo (source : List ℕ) (core : Core) : Type 0 where
   pub tree : Program
   pub written : IsWritten source tree
-  pub built : built tree ≡ Some core
+  pub unbroken : (checked tree).faults ≡ []
+  pub made : option_map with_streams (checked tree).made ≡ Some core

@@ -59,7 +59,12 @@ lexical = 20
 abbrev pub syntax : ℕ
 syntax = 21
 
--- the program's form isn't built yet, or what the words ask for isn't
+-- the source is a program that breaks a rule
+
+abbrev pub typing : ℕ
+typing = 22
+
+-- or what the words ask for isn't built yet
 
 abbrev pub not_built : ℕ
 not_built = 22

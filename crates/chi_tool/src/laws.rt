@@ -1,8 +1,9 @@
-ghost use Rattle.std.specs.Prelude.{◌≡◌, ℕ, All, List};
+ghost use Rattle.std.specs.Prelude.{◌≡◌, ◌≤◌, ℕ, All, List, length};
 ghost use Rattle.chi_io.specs.Shelf.{Files};
 ghost use Rattle.chi_grammar_laws.specs.Answers.{IsProgram};
 ghost use Rattle.chi_core.specs.declared.program.Core.{Core};
 ghost use Rattle.chi_core.specs.Runs.{Told};
+ghost use Rattle.chi_lex.specs.declared.lexer.TheConstants.{MOST_BYTES};
 ghost use Rattle.chi_lex.specs.Reading.{Reads};
 ghost use Rattle.chi_spell.specs.Statements.{spelled};
 ghost use Rattle.chi_token.specs.declared.place.Spanned.{Spanned};
@@ -15,28 +16,27 @@ ghost use Rattle.chi_tool.specs.Sources.{ComesTo};
 ghost use Rattle.chi_tree.specs.declared.definition.Program.{Program};
 
 use chi_cli::{numbers_are_in_range, values_are_of_parameters};
-use chi_form::built_law;
 use chi_grammar_laws::answer_law;
-use chi_kinded::kinded_law;
+use chi_parsed_laws::parsed_programs_are_sound;
 use chi_runs::picked_law;
 use chi_trace::logs_law;
 
-/// The program that a source comes to has exactly one run with settings that it may have.
+/// The program that a source within the limit comes to has exactly one run with settings that it may have.
 pub fn one_run_law()
-    ensures some { (source : List ℕ) (core : Core) → ComesTo source core → (s : Settings) → MayHave core s → (told : Told) × IsRunOf core s told }
+    ensures some { (source : List ℕ) (core : Core) → length source ≤ MOST_BYTES → ComesTo source core → (s : Settings) → MayHave core s → (told : Told) × IsRunOf core s told }
     ensures one { (core : Core) (s : Settings) (told other : Told) → IsRunOf core s told → IsRunOf core s other → told ≡ other }
 {
-    built_law();
+    parsed_programs_are_sound();
     picked_law();
 }
 
-/// A source has exactly one report, for each aim that may be had with it.
+/// A source within the limit has exactly one report, for each aim that may be had with it.
 pub fn source_law()
-    ensures some { (source : List ℕ) (aim : Aim) → MayBeAimed aim → (r : Report) × IsReportOfSource source aim r }
+    ensures some { (source : List ℕ) (aim : Aim) → length source ≤ MOST_BYTES → MayBeAimed aim → (r : Report) × IsReportOfSource source aim r }
     ensures one { (source : List ℕ) (aim : Aim) (r other : Report) → IsReportOfSource source aim r → IsReportOfSource source aim other → r ≡ other }
 {
     answer_law();
-    built_law();
+    parsed_programs_are_sound();
     one_run_law();
     values_are_of_parameters();
 }
@@ -48,7 +48,7 @@ pub fn report_law()
         → IsReport words files r → IsReport words files other → r ≡ other }
 {
     answer_law();
-    built_law();
+    parsed_programs_are_sound();
     one_run_law();
     numbers_are_in_range();
     values_are_of_parameters();

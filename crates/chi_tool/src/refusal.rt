@@ -1,9 +1,11 @@
 ghost use Rattle.std.specs.Prelude.{◌≡◌, IfOk};
 ghost use Rattle.chi_tool.specs.Syntax.{placed};
 ghost use Rattle.chi_tool.specs.Reported.{report_in};
-ghost use Rattle.chi_tool.specs.Refusals.{refused};
+ghost use Rattle.chi_typing.specs.Faults.{fault};
+ghost use Rattle.chi_tool.specs.Refusals.{refused, typing};
 
 use crate::report::Reported;
+use crate::status::TYPING;
 use chi_base::NoMemory;
 use chi_token::Place;
 use std::alloc::Global;
@@ -45,4 +47,12 @@ pub fn refused_at(
 {
     let text = placed(alloc, place, what)?;
     refused(alloc, status, &text)
+}
+
+/// The report of a program that breaks this rule first, there.
+pub fn refused_rule(alloc: Global, place: Place, rule: u8) -> Result<Reported, NoMemory>
+    ensures { IfOk result (λ r. report_in r ≡ typing (fault rule place)) }
+{
+    let what = format!(in alloc; "rule {rule}")?;
+    refused_at(alloc, TYPING, place, what.as_bytes())
 }

@@ -5,19 +5,21 @@ ghost use Rattle.chi_tool.specs.Readings.{IsReadAs, IsRefusal};
 ghost use Rattle.chi_tool.specs.Sources.{IsWritten};
 ghost use Rattle.chi_tool.specs.Syntax.{placed};
 
-use crate::refusal::{refused, refused_at};
+use crate::refusal::{refused_at, refused_rule};
 use crate::report::Reported;
-use crate::status::{LEXICAL, NOT_BUILT};
+use crate::status::LEXICAL;
 use crate::syntax::refused_token;
 use chi_base::NoMemory;
+use chi_check::check;
 use chi_core::Core;
-use chi_form::program_of;
 use chi_grammar::ParseFault;
 use chi_grammar_laws::parsed_law;
 use chi_lex::{LexFault, MOST_BYTES, lex};
 use chi_parse::parse;
+use chi_parsed_laws::parsed_programs_are_sound;
 use chi_token::{Place, Spanned};
 use chi_tree::Program;
+use chi_typing::TypeFault;
 use std::alloc::Global;
 
 /// What a source comes to.
@@ -68,12 +70,17 @@ fn read_tokens(alloc: Global, source: &[u8], tokens: &[Spanned]) -> Result<Sourc
 }
 
 fn read_tree(alloc: Global, source: &[u8], tree: &Program) -> Result<Source, NoMemory>
-    requires { IsWritten source.now tree.now }
+    requires within { length source.now ≤ MOST_BYTES }
+    requires written { IsWritten source.now tree.now }
     ensures { IfOk result (IsReadAs source.now) }
 {
     let _source = source;
-    match program_of(alloc, tree)? {
-        None => Ok(Source::Refused(refused(alloc, NOT_BUILT, b"form not built")?)),
-        Some(core) => Ok(Source::Program(core)),
+    parsed_programs_are_sound();
+    match check(alloc, tree) {
+        Ok(core) => Ok(Source::Program(core)),
+        Err(TypeFault::Broken { rule, place }) => {
+            Ok(Source::Refused(refused_rule(alloc, place, rule)?))
+        }
+        Err(TypeFault::NoMemory) => Err(NoMemory),
     }
 }

@@ -42,7 +42,10 @@ pub const LEXICAL: u8 = 20;
 /// The source's tokens are no program.
 pub const SYNTAX: u8 = 21;
 
-/// The program's form isn't built yet, or what the words ask for isn't.
+/// The source is a program that breaks a rule.
+pub const TYPING: u8 = 22;
+
+/// What the words ask for isn't built yet.
 pub const NOT_BUILT: u8 = 22;
 
 /// The arguments don't fit the model's parameters.

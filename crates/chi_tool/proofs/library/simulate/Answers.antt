@@ -6,36 +6,36 @@ pub returns-then-trace-clause-headline : goal.returns-then-trace-clause-headline
 returns-then-trace-clause-headline g c pick answers =
     let law : SourceLaw = record { some = c.source_law.ensures.some; one = c.source_law.ensures.one } in
     let may = may_be_simulated (g.P.Chooser.gives c.args.policy) (record { seed = c.args.seed; bound = c.args.bound; pick = pick; texts = c.args.args.now; until = c.args.until }) c.requires.bound answers in
-    simulation-headline law _ may (traced_told _ _ _ _ _ _ c.if-trace.true c.deliver.ensures)
+    simulation-headline law _ c.requires.within may (traced_told _ _ _ _ _ _ c.if-trace.true c.deliver.ensures)
 
 pub returns-clause-headline : goal.returns-clause-headline
 returns-clause-headline g c pick answers =
     let law : SourceLaw = record { some = c.source_law.ensures.some; one = c.source_law.ensures.one } in
     let may = may_be_simulated (g.P.Chooser.gives c.args.policy) (record { seed = c.args.seed; bound = c.args.bound; pick = pick; texts = c.args.args.now; until = c.args.until }) c.requires.bound answers in
-    simulation-headline law _ may (untraced_told _ _ _ _ _ _ c.if-trace.false (c.tell_terms.ensures pick answers))
+    simulation-headline law _ c.requires.within may (untraced_told _ _ _ _ _ _ c.if-trace.false (c.tell_terms.ensures pick answers))
 
 pub returns-then-trace-clause-causes : goal.returns-then-trace-clause-causes
 returns-then-trace-clause-causes g c pick answers =
     let law : SourceLaw = record { some = c.source_law.ensures.some; one = c.source_law.ensures.one } in
     let may = may_be_simulated (g.P.Chooser.gives c.args.policy) (record { seed = c.args.seed; bound = c.args.bound; pick = pick; texts = c.args.args.now; until = c.args.until }) c.requires.bound answers in
-    simulation-causes law _ may (traced_told _ _ _ _ _ _ c.if-trace.true c.deliver.ensures)
+    simulation-causes law _ c.requires.within may (traced_told _ _ _ _ _ _ c.if-trace.true c.deliver.ensures)
 
 pub returns-clause-causes : goal.returns-clause-causes
 returns-clause-causes g c pick answers =
     let law : SourceLaw = record { some = c.source_law.ensures.some; one = c.source_law.ensures.one } in
     let may = may_be_simulated (g.P.Chooser.gives c.args.policy) (record { seed = c.args.seed; bound = c.args.bound; pick = pick; texts = c.args.args.now; until = c.args.until }) c.requires.bound answers in
-    simulation-causes law _ may (untraced_told _ _ _ _ _ _ c.if-trace.false (c.tell_terms.ensures pick answers))
+    simulation-causes law _ c.requires.within may (untraced_told _ _ _ _ _ _ c.if-trace.false (c.tell_terms.ensures pick answers))
 
 pub returns-then-trace-clause-complete : goal.returns-then-trace-clause-complete
 returns-then-trace-clause-complete g c pick answers =
     let law : SourceLaw = record { some = c.source_law.ensures.some; one = c.source_law.ensures.one } in
     let runs : RunLaw = record { some = c.one_run_law.ensures.some; one = c.one_run_law.ensures.one } in
     let may = may_be_simulated (g.P.Chooser.gives c.args.policy) (record { seed = c.args.seed; bound = c.args.bound; pick = pick; texts = c.args.args.now; until = c.args.until }) c.requires.bound answers in
-    simulation-complete law _ may (traced_told _ _ _ _ _ _ c.if-trace.true c.deliver.ensures) runs c.values_are_of_parameters.ensures
+    simulation-complete law _ c.requires.within may (traced_told _ _ _ _ _ _ c.if-trace.true c.deliver.ensures) runs c.values_are_of_parameters.ensures
 
 pub returns-clause-complete : goal.returns-clause-complete
 returns-clause-complete g c pick answers =
     let law : SourceLaw = record { some = c.source_law.ensures.some; one = c.source_law.ensures.one } in
     let runs : RunLaw = record { some = c.one_run_law.ensures.some; one = c.one_run_law.ensures.one } in
     let may = may_be_simulated (g.P.Chooser.gives c.args.policy) (record { seed = c.args.seed; bound = c.args.bound; pick = pick; texts = c.args.args.now; until = c.args.until }) c.requires.bound answers in
-    simulation-complete law _ may (untraced_told _ _ _ _ _ _ c.if-trace.false (c.tell_terms.ensures pick answers)) runs c.values_are_of_parameters.ensures
+    simulation-complete law _ c.requires.within may (untraced_told _ _ _ _ _ _ c.if-trace.false (c.tell_terms.ensures pick answers)) runs c.values_are_of_parameters.ensures
