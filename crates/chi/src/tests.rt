@@ -1,6 +1,8 @@
 //! The top call over files and sinks in memory: what is written, and the status.
 
+mod computing;
 mod library;
+mod processes;
 mod refusals;
 mod runs;
 mod words;
@@ -28,6 +30,11 @@ const fn row(
 ) -> (&'static str, Wanted) {
     (source, Wanted { out, log, status })
 }
+
+/// Words of the command line, and what the call writes and answers.
+type Row = (&'static [&'static str], &'static str, &'static str, u8);
+
+const DONE: &str = "completed at time 0.0\n";
 
 /// A source: texts one after another, each so many times.
 fn written(alloc: Global, texts: &[(&str, usize)]) -> Result<Vec<u8>, AllocError> {
@@ -96,6 +103,20 @@ fn expect_rows(
             source,
             *wanted,
         )?;
+    }
+    Ok(())
+}
+
+/// Runs each words over the file `m.chi`.
+fn expect_words(rt: &impl Abort, alloc: Global, source: &str, rows: &[Row]) -> Result<(), Fail> {
+    for (words, out, log, status) in rows {
+        let wanted = Wanted {
+            out,
+            log,
+            status: *status,
+        };
+        let about = words.last().copied().unwrap_or("nothing");
+        expect(rt, alloc, words, source.as_bytes(), about, wanted)?;
     }
     Ok(())
 }

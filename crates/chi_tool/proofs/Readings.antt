@@ -1,10 +1,11 @@
--- What a source comes to, by what the lexer and the parser answer; and a log, by what bringing it up answers.
-use Rattle.std.proofs.Common.{◌≡◌, ℕ, List, Result, Ok, Err, subst}
+-- What a source comes to, by what the lexer, the parser and the checker answer; and a log, by what bringing it up answers.
+use Rattle.std.proofs.Common.{◌≡◌, ℕ, ◌≤◌, List, length, Result, Ok, Err, subst}
 use Rattle.std.specs.Prelude.{IfOk, codes}
 use Rattle.chi_base.specs.declared.no_memory.NoMemory.{NoMemory}
 use Rattle.chi_token.specs.declared.place.Place.{Place}
 use Rattle.chi_token.specs.declared.place.Spanned.{Spanned}
 use Rattle.chi_lex.specs.declared.fault.LexFault.{LexFault}
+use Rattle.chi_lex.specs.declared.lexer.TheConstants.{MOST_BYTES}
 use Rattle.chi_lex.specs.declared.fault.LexFault.TheVariants.{BadByte, OpenString, BadEscape}
 use Rattle.chi_lex.specs.Reading.{Reads, IsFaultOf}
 use Rattle.chi_grammar.specs.declared.fault.ParseFault.{ParseFault}
@@ -17,10 +18,15 @@ use Rattle.chi_tree.specs.Parts as s
 use Rattle.chi_tree.specs.Rules.{grammar}
 use Rattle.chi_tree.specs.Statements.{program_of}
 use Rattle.chi_tree.specs.declared.definition.Program as tree
+use Rattle.chi_typing.specs.declared.fault.TypeFault.{TypeFault}
+use Rattle.chi_typing.specs.declared.fault.TypeFault.TheVariants.{Broken}
+use Rattle.chi_typing.specs.Faults.{fault as broken}
+use Rattle.chi_check.specs.Programs.{checked, Answers}
+use Rattle.chi_core.specs.declared.program.Core.{Core}
 use Rattle.chi_tool.specs.declared.report.Reported.{Reported}
 use Rattle.chi_tool.specs.declared.source.Source.{Source}
 use Rattle.chi_tool.specs.declared.source.Source.TheVariants.{Refused, Program}
-use Rattle.chi_tool.specs.Readings.{IsReadAs, IsRefusal}
+use Rattle.chi_tool.specs.Readings.{IsReadAs, IsRefusal, SoundlyComes}
 use Rattle.chi_trace.specs.declared.fault.LogFault.{LogFault}
 use Rattle.chi_trace.specs.declared.fault.LogFault.TheVariants.{Form}
 use Rattle.chi_trace.specs.Logs as logs
@@ -28,8 +34,9 @@ use Rattle.chi_tool.specs.Refusals as refusal
 use Rattle.chi_tool.specs.Refusals.{refused}
 use Rattle.chi_tool.specs.Report.{IsReportOfLog, misfit}
 use Rattle.chi_tool.specs.Reported.{report_in}
-use Rattle.chi_tool.specs.Sources.{IsRefused, by_lexer, by_parser}
+use Rattle.chi_tool.specs.Sources.{IsWritten, IsRefused, by_lexer, by_parser, by_checker, ComesTo}
 use Rattle.chi_tool.specs.Syntax.{placed, syntax_text}
+use Rattle.chi_tool.proofs.LawClauses.{CheckLaw}
 
 module _ (source : List ℕ) where
   pub bad_byte : (fault : LexFault) (place : Place) (result : Result Source NoMemory) → fault ≡ BadByte place → IsFaultOf source fault
@@ -69,3 +76,17 @@ pub misfit_refused : (text : List ℕ) (fault : LogFault) (number : ℕ) (result
     → IfOk result (λ r. report_in r ≡ refusal.misfit number) → IfOk result (λ r. IsReportOfLog text (report_in r))
 misfit_refused text fault number (Ok r) e has is = misfit number (subst (λ f. logs.IsRefused text f) e has) is
 misfit_refused text fault number (Err lost) e has is = tt
+
+-- what the checker answers
+
+module _ (source : List ℕ) (program : tree.Program) (written : IsWritten source program) where
+  pub soundly_read : CheckLaw → (core : Core) → length source ≤ MOST_BYTES → Answers (Ok core) (checked program) → SoundlyComes source core
+  soundly_read law core within answer =
+      let comes : ComesTo source core = record { tree = program; written = written; unbroken = answer.0; made = answer.1 } in
+      record { comes = comes; sound = law.sound source core within comes }
+
+  pub rule_refused : (fault : TypeFault) (rule : ℕ) (place : Place) (r : Reported) → fault ≡ Broken rule place → Answers (Err fault) (checked program)
+      → report_in r ≡ refusal.typing (broken rule place) → IsRefused source (report_in r)
+  rule_refused fault rule place r e answer is =
+      by_checker (broken rule place)
+      (record { tree = program; written = written; first = subst (λ f. Answers (Err f) (checked program)) e answer }) is

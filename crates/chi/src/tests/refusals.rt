@@ -1,12 +1,12 @@
 //! Sources that are refused.
 
-use crate::tests::{Wanted, expect_rows, expect_written, row};
+use crate::tests::{DONE, Wanted, expect_rows, expect_written, row};
 use std::test::Fail;
 
-const NOT_BUILT: Wanted = Wanted {
+const RUNS: Wanted = Wanted {
     out: "",
-    log: "form not built\n",
-    status: 22,
+    log: DONE,
+    status: 0,
 };
 
 /// What a refused source gives.
@@ -88,7 +88,7 @@ fn tokens_are_no_program(rt: HostRuntime) -> Result<(), Fail> {
 #[test]
 fn tokens_stand_too_deep(rt: HostRuntime) -> Result<(), Fail> {
     let too_deep = refusal("line 1 column 220: too deep at token 208\n", 21);
-    for (levels, wanted) in [(201, too_deep), (200, NOT_BUILT)] {
+    for (levels, wanted) in [(201, too_deep), (200, RUNS)] {
         let brackets = [
             ("model M(): int x = ", 1),
             ("(", levels),
@@ -101,7 +101,7 @@ fn tokens_stand_too_deep(rt: HostRuntime) -> Result<(), Fail> {
         expect_written(&rt, rt.alloc(), &minuses, wanted)?;
     }
     let too_deep = refusal("line 1 column 588: too deep at token 197\n", 21);
-    for (levels, ends, wanted) in [(64, 65, too_deep), (63, 64, NOT_BUILT)] {
+    for (levels, ends, wanted) in [(64, 65, too_deep), (63, 64, RUNS)] {
         let blocks = [
             ("model M(): ", 1),
             ("if true: ", levels),
@@ -124,19 +124,41 @@ fn long_sources_are_read(rt: HostRuntime) -> Result<(), Fail> {
 }
 
 #[test]
-fn programs_have_a_form_that_is_not_built(rt: HostRuntime) -> Result<(), Fail> {
-    for source in [
-        "model abs(): pass end",
-        "model M(): write(\"%d\") end",
-        "model M(): delay 9223372036.854775808 end",
-        "model M(): delay -1 end",
-        "model M(): pass end model N(): pass end",
-        "model M(): chan int a; a!b end",
-        "proc S(chan? int a): a!1 end model M(): pass end",
-        "proc S(chan! int a): a!1 end model M(): chan int a; run S(a) end",
-    ] {
-        expect_rows(&rt, rt.alloc(), &[(source, NOT_BUILT)])?;
+fn programs_break_rules(rt: HostRuntime) -> Result<(), Fail> {
+    let rows = [
+        refused("model abs(): pass end", "line 1 column 7: rule 1\n", 22),
+        refused(
+            "model M(): chan int a; a!b end",
+            "line 1 column 26: rule 2\n",
+            22,
+        ),
+        refused(
+            "model M(): delay 9223372036.854775808 end",
+            "line 1 column 18: rule 5\n",
+            22,
+        ),
+        refused(
+            "model M(): real r = 9223372036.854775808 end",
+            "line 1 column 21: rule 5\n",
+            22,
+        ),
+        refused(
+            "proc S(chan? int a): a!1 end model M(): pass end",
+            "line 1 column 23: rule 23\n",
+            22,
+        ),
+        refused(
+            "model M(): write(\"%d\") end",
+            "line 1 column 18: rule 32\n",
+            22,
+        ),
+        refused("proc P(): pass end", "line 1 column 16: rule 40\n", 22),
+    ];
+    expect_rows(&rt, rt.alloc(), &rows)?;
+    let deep = refusal("line 1 column 12: rule 4\n", 22);
+    for (lists, wanted) in [(32, deep), (31, RUNS)] {
+        let source = [("model M(): ", 1), ("list ", lists), ("int x end", 1)];
+        expect_written(&rt, rt.alloc(), &source, wanted)?;
     }
-    let lists = [("model M(): ", 1), ("list ", 32), ("int x end", 1)];
-    expect_written(&rt, rt.alloc(), &lists, NOT_BUILT)
+    Ok(())
 }

@@ -1,29 +1,9 @@
 //! What words ask for: commands, options and arguments.
 
-use crate::tests::{WORKS, Wanted, expect};
-use std::alloc::Global;
-use std::process::Abort;
+use crate::tests::{DONE, Row, WORKS, expect_words};
 use std::test::Fail;
 
-/// Words of the command line, and what the call writes and answers.
-type Row = (&'static [&'static str], &'static str, &'static str, u8);
-
 const USAGE: &str = "usage: chi COMMAND [OPTIONS] FILE [ARGS]\n";
-
-const DONE: &str = "completed at time 0.0\n";
-
-fn expect_words(rt: &impl Abort, alloc: Global, source: &str, rows: &[Row]) -> Result<(), Fail> {
-    for (words, out, log, status) in rows {
-        let wanted = Wanted {
-            out,
-            log,
-            status: *status,
-        };
-        let about = words.last().copied().unwrap_or("nothing");
-        expect(rt, alloc, words, source.as_bytes(), about, wanted)?;
-    }
-    Ok(())
-}
 
 #[test]
 fn words_are_read(rt: HostRuntime) -> Result<(), Fail> {
@@ -51,7 +31,7 @@ fn words_are_read(rt: HostRuntime) -> Result<(), Fail> {
         (&["check"], "", USAGE, 3),
         (&["check", "m.chi"], "", "accepted\n", 0),
         (&["load", "0"], "", USAGE, 3),
-        (&["load", "3"], "", "form not built\n", 22),
+        (&["load", "3"], "100 lots\n", "exit 100 at time 102.0\n", 10),
     ];
     expect_words(&rt, rt.alloc(), WORKS, &rows)
 }
@@ -152,7 +132,12 @@ fn what_is_checked_is_refused_as_what_is_run(rt: HostRuntime) -> Result<(), Fail
     )];
     expect_words(&rt, rt.alloc(), "model M(): end", &check)?;
     let check: [Row; 2] = [
-        (&["check", "m.chi"], "", "form not built\n", 22),
+        (&["check", "m.chi"], "", "line 1 column 12: rule 14\n", 22),
+        (&["sim", "m.chi"], "", "line 1 column 12: rule 14\n", 22),
+    ];
+    expect_words(&rt, rt.alloc(), "model M(): return 1 end", &check)?;
+    let check: [Row; 2] = [
+        (&["check", "m.chi"], "", "accepted\n", 0),
         (&["sim", "--trace", "m.chi"], "", "form not built\n", 22),
     ];
     expect_words(&rt, rt.alloc(), "model M(): exit end", &check)
