@@ -128,10 +128,6 @@ fn computations_have_faults(rt: HostRuntime) -> Result<(), Fail> {
             "fault TooManyChannels in M line 1 at time 0.0\n",
         ),
         faulty(
-            "func int f(int n): return f(n + 1) end model M(): writeln(\"%d\", f(0)) end",
-            "fault CallDepth in M line 1 at time 0.0\n",
-        ),
-        faulty(
             "func int f(): pass end model M(): int x = f() end",
             "fault NoReturn in M line 1 at time 0.0\n",
         ),
@@ -169,4 +165,13 @@ fn a_constant_ends_the_run_before_it_begins(rt: HostRuntime) -> Result<(), Fail>
         "const int n = 1 div 0; model M(): pass end",
         &rows,
     )
+}
+
+#[test]
+fn calls_are_too_deep(rt: HostRuntime) -> Result<(), Fail> {
+    let rows = [faulty(
+        "func int f(int n): return f(n + 1) end model M(): writeln(\"%d\", f(0)) end",
+        "fault CallDepth in M line 1 at time 0.0\n",
+    )];
+    expect_rows(&rt, rt.alloc(), &rows)
 }
