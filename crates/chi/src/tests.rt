@@ -1,5 +1,6 @@
 //! The top call over files and sinks in memory: what is written, and the status.
 
+mod checking;
 mod computing;
 mod library;
 mod processes;
