@@ -1,5 +1,5 @@
 -- The laws that the promises rest on, as their functions' contracts give them.
-use Rattle.std.proofs.Common.{◌≡◌, ℕ, ◌≤◌, List, [], length, Result, Some, ◌⊎◌}
+use Rattle.std.proofs.Common.{◌≡◌, ℕ, ◌≤◌, List, length, Result, ◌⊎◌}
 use Rattle.std.specs.Prelude.{Ok}
 use Rattle.chi_cli.specs.declared.request.Request.{Request}
 use Rattle.chi_cli.specs.Arguments.{values_of}
@@ -9,14 +9,16 @@ use Rattle.chi_io.specs.Shelf.{Files}
 use Rattle.chi_token.specs.declared.place.Spanned.{Spanned}
 use Rattle.chi_grammar.specs.declared.fault.ParseFault.{ParseFault}
 use Rattle.chi_tree.specs.declared.definition.Program.{Program}
-use Rattle.chi_grammar_laws.specs.Answers.{IsAnswer}
+use Rattle.chi_grammar_laws.specs.Answers.{IsAnswer, IsProgram}
 use Rattle.chi_core.specs.declared.program.Core.{Core}
 use Rattle.chi_core.specs.Kinds.{kinds_of}
 use Rattle.chi_core.specs.Of.{at_start, AreOf}
 use Rattle.chi_core.specs.Runs.{Told}
 use Rattle.chi_core.specs.Sound.{Sound}
 use Rattle.chi_lex.specs.declared.lexer.TheConstants.{MOST_BYTES}
-use Rattle.chi_check.specs.Programs.{checked}
+use Rattle.chi_lex.specs.Reading.{Reads}
+use Rattle.chi_check.specs.Programs.{checked, Answers}
+use Rattle.chi_program_laws.specs.Laws.{IsWhole}
 use Rattle.chi_trace.specs.Logs as logs
 use Rattle.chi_trace.specs.Logs.{IsUp}
 use Rattle.chi_types.specs.declared.ty.Ty.{Ty}
@@ -25,7 +27,7 @@ use Rattle.chi_tool.specs.Refusals.{Report}
 use Rattle.chi_tool.specs.Report.{IsReportOfSource, IsReport}
 use Rattle.chi_tool.specs.Running.{IsRunOf, MayHave}
 use Rattle.chi_tool.specs.Settings.{Aim, MayBeAimed, Settings}
-use Rattle.chi_tool.specs.Sources.{IsWritten, ComesTo}
+use Rattle.chi_tool.specs.Sources.{ComesTo}
 
 -- tokens are one program, or have one fault
 pub record AnswerLaw : Type 0 where
@@ -40,8 +42,14 @@ pub record RunLaw : Type 0 where
 
 -- a program that breaks no rule comes to a core, which is sound where its source is within the limit
 pub record CheckLaw : Type 0 where
-  pub some : (source : List ℕ) (tree : Program) → IsWritten source tree → (checked tree).faults ≡ [] → (core : Core) × ((checked tree).made ≡ Some core)
-  pub sound : (source : List ℕ) (core : Core) → length source ≤ MOST_BYTES → ComesTo source core → Sound core
+  pub whole : (tokens : List Spanned) (tree : Program) → IsProgram tokens tree → IsWhole (checked tree)
+  pub sound : (source : List ℕ) (tokens : List Spanned) (tree : Program) (core : Core) → length source ≤ MOST_BYTES → Reads source tokens → IsProgram tokens tree
+      → Answers (Ok core) (checked tree) → Sound core
+
+-- so the program that a source comes to is sound
+pub comes_sound : CheckLaw → (source : List ℕ) (core : Core) → length source ≤ MOST_BYTES → ComesTo source core → Sound core
+comes_sound law source core within comes =
+    law.sound source comes.written.tokens comes.tree core within comes.written.read comes.written.parsed (comes.unbroken, comes.made)
 
 -- the numbers of a request are in their ranges
 abbrev pub RangeLaw : Type 0

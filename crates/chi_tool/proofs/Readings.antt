@@ -36,7 +36,7 @@ use Rattle.chi_tool.specs.Report.{IsReportOfLog, misfit}
 use Rattle.chi_tool.specs.Reported.{report_in}
 use Rattle.chi_tool.specs.Sources.{IsWritten, IsRefused, by_lexer, by_parser, by_checker, ComesTo}
 use Rattle.chi_tool.specs.Syntax.{placed, syntax_text}
-use Rattle.chi_tool.proofs.LawClauses.{CheckLaw}
+use Rattle.chi_tool.proofs.LawClauses.{CheckLaw, comes_sound}
 
 module _ (source : List ℕ) where
   pub bad_byte : (fault : LexFault) (place : Place) (result : Result Source NoMemory) → fault ≡ BadByte place → IsFaultOf source fault
@@ -83,7 +83,7 @@ module _ (source : List ℕ) (program : tree.Program) (written : IsWritten sourc
   pub soundly_read : CheckLaw → (core : Core) → length source ≤ MOST_BYTES → Answers (Ok core) (checked program) → SoundlyComes source core
   soundly_read law core within answer =
       let comes : ComesTo source core = record { tree = program; written = written; unbroken = answer.0; made = answer.1 } in
-      record { comes = comes; sound = law.sound source core within comes }
+      record { comes = comes; sound = comes_sound law source core within comes }
 
   pub rule_refused : (fault : TypeFault) (rule : ℕ) (place : Place) (r : Reported) → fault ≡ Broken rule place → Answers (Err fault) (checked program)
       → report_in r ≡ refusal.typing (broken rule place) → IsRefused source (report_in r)

@@ -23,7 +23,7 @@ use Rattle.chi_tool.specs.Running.{IsRunOf, run_report}
 use Rattle.chi_tool.specs.Settings.{Wanted, Aim, simulates, checks, wanted_of, aim_of, MayBeAimed, plain, settings_with}
 use Rattle.chi_tool.specs.Sources.{ComesTo}
 use Rattle.chi_tool.specs.Words.{Wish, nothing, unbuilt, of_task, wish_of}
-use Rattle.chi_tool.proofs.LawClauses.{AnswerLaw, RunLaw, CheckLaw, ValuesLaw, RangeLaw, LogLaw}
+use Rattle.chi_tool.proofs.LawClauses.{AnswerLaw, RunLaw, CheckLaw, comes_sound, ValuesLaw, RangeLaw, LogLaw}
 use Rattle.chi_tool.proofs.Runs.{may_be_aimed, asked_settings}
 use Rattle.chi_tool.proofs.Sources.{Comes, source_comes, one_refusal, refused_or_comes, one_core}
 use Rattle.chi_tool.proofs.Wishes.{IsBoundedWish, bounded_wish, factory_within}
@@ -80,7 +80,7 @@ module _ (answers : AnswerLaw) (runs : RunLaw) (check : CheckLaw) (fit : ValuesL
 
   program_some : (aim : Aim) → MayBeAimed aim → (source : List ℕ) (core : Core) → length source ≤ MOST_BYTES → ComesTo source core → (r : Report) × IsReportOfProgram core aim r
   program_some (simulates w) bounded source core within comes =
-      let s : Sound core = check.sound source core within comes in
+      let s : Sound core = comes_sound check source core within comes in
       let m = s.model in
       arguments_some w bounded source core within comes m.0 m.1 (values_of m.0.params w.texts) refl
   program_some checks bounded source core within comes = (accepted, refl)

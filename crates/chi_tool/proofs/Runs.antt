@@ -30,7 +30,7 @@ use Rattle.chi_tool.specs.Running.{IsRunOf, IsRunReport, MayHave}
 use Rattle.chi_tool.specs.Settings.{Settings, Wanted, Aim, simulates, wanted_of, aim_of, IsBounded, MayBeAimed, policy_of, settings_with}
 use Rattle.chi_tool.specs.Sources.{ComesTo}
 use Rattle.chi_tool.specs.Turns.{RunsTo}
-use Rattle.chi_tool.proofs.LawClauses.{CheckLaw, ValuesLaw}
+use Rattle.chi_tool.proofs.LawClauses.{CheckLaw, ValuesLaw, comes_sound}
 
 -- what the three formulas pick is one of the choices
 
@@ -60,7 +60,7 @@ asked_settings fit core w values d is read bounded = record {
 
 pub run_some : PickedAlways → CheckLaw → (source : List ℕ) (core : Core) → length source ≤ MOST_BYTES → ComesTo source core → (s : Settings) → MayHave core s → (told : Told) × IsRunOf core s told
 run_some always check source core within comes s may =
-    let p = always core (check.sound source core within comes) (start core s.arguments s.seed s.until)
+    let p = always core (comes_sound check source core within comes) (start core s.arguments s.seed s.until)
     (record {
       model = may.model;
       is = may.is;

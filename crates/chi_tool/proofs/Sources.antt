@@ -43,7 +43,7 @@ first_none (g ∷ gs) f none is = cc
 
 tree_comes : CheckLaw → (source : List ℕ) (tree : Program) → IsWritten source tree → (fs : List Fault) → (checked tree).faults ≡ fs → Comes source
 tree_comes check source tree written [] e =
-    let made = check.some source tree written e in
+    let made = check.whole written.tokens tree written.parsed e in
     inr (with_streams made.0, record { tree = tree; written = written; unbroken = e; made = ap (option_map with_streams) made.1 })
 tree_comes check source tree written (f ∷ fs) e =
     let g = first_some f fs in

@@ -6,7 +6,7 @@ pub returns : goal.returns
 returns c =
     let answers : AnswerLaw = record { some = c.answer_law.ensures.some; one = c.answer_law.ensures.one } in
     let runs : RunLaw = record { some = c.one_run_law.ensures.some; one = c.one_run_law.ensures.one } in
-    let check : CheckLaw = record { some = c.parsed_programs_are_sound.ensures.some; sound = c.parsed_programs_are_sound.ensures.sound } in
+    let check : CheckLaw = record { whole = c.parsed_programs_are_sound.ensures.whole; sound = c.parsed_programs_are_sound.ensures.sound } in
     record {
       some = λ source aim within may. source_some answers runs check c.values_are_of_parameters.ensures aim may source within;
       one = source_one answers runs check c.values_are_of_parameters.ensures;
