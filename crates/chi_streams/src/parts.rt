@@ -1,11 +1,12 @@
 //! Targets, communications and elements with their streams.
 
 ghost use Rattle.std.specs.Prelude.{◌≡◌, map, IfOk, OnOk};
+ghost use Rattle.chi_core.specs.declared.statement.CAlt.TheVariants as alternative;
 ghost use Rattle.chi_streams.specs.Streams as spec;
 
 use crate::expressions::{expression, expressions};
 use chi_base::{Items, NoMemory};
-use chi_core::{CComm, CElem, CExpr, CStep, CTarget};
+use chi_core::{CAlt, CComm, CElem, CExpr, CStat, CStep, CTarget};
 use std::alloc::Global;
 
 fn step(alloc: Global, s: CStep, count: &mut u64) -> Result<CStep, NoMemory>
@@ -81,7 +82,7 @@ fn some_target(
     }
 }
 
-pub(crate) fn communication(alloc: Global, c: CComm, count: &mut u64) -> Result<CComm, NoMemory>
+fn communication(alloc: Global, c: CComm, count: &mut u64) -> Result<CComm, NoMemory>
     ensures part { IfOk result (λ r. r ≡ (spec.of_communication c count.old).part) }
     ensures next { OnOk result (count.new ≡ (spec.of_communication c count.old).next) }
 {
@@ -94,6 +95,36 @@ pub(crate) fn communication(alloc: Global, c: CComm, count: &mut u64) -> Result<
         CComm::Delay(length) => Ok(CComm::Delay(expression(alloc, length, count)?)),
         CComm::Timer(timer) => Ok(CComm::Timer(expression(alloc, timer, count)?)),
     }
+}
+
+/// A guard, if there is one, and what is offered where it holds.
+#[derive(Drop)]
+pub(crate) struct Offer {
+    guard: Option<CExpr>,
+    comm: CComm,
+}
+
+pub(crate) fn offered(
+    alloc: Global,
+    guard: Option<CExpr>,
+    comm: CComm,
+    count: &mut u64,
+) -> Result<Offer, NoMemory>
+    ensures guard { IfOk result (λ o. o.guard ≡ (spec.some spec.of_expression guard count.old).part) }
+    ensures comm { IfOk result (λ o. o.comm ≡ (spec.of_communication comm (spec.some spec.of_expression guard count.old).next).part) }
+    ensures next { OnOk result (count.new ≡ (spec.of_communication comm (spec.some spec.of_expression guard count.old).next).next) }
+{
+    let guard = some_expression(alloc, guard, count)?;
+    let comm = communication(alloc, comm, count)?;
+    Ok(Offer { guard, comm })
+}
+
+/// The alternative of an offer that is followed by this block.
+pub(crate) fn followed(offer: Offer, block: Items<CStat>) -> CAlt
+    ensures { result ≡ alternative.Guarded offer.guard offer.comm block }
+{
+    let Offer { guard, comm } = offer;
+    CAlt::Guarded(guard, comm, block)
 }
 
 #[cycle(element)]

@@ -5,7 +5,7 @@ ghost use Rattle.chi_core.specs.declared.statement.CAlt.{CAlt-F};
 ghost use Rattle.chi_streams.specs.Streams as spec;
 
 use crate::expressions::{expression, expressions};
-use crate::parts::{communication, elements, some_expression, targets};
+use crate::parts::{elements, followed, offered, some_expression, targets};
 use chi_base::{Items, NoMemory};
 use chi_core::{Branch, CAlt, CComm, CExpr, CStat};
 use std::alloc::Global;
@@ -95,16 +95,16 @@ fn branches(alloc: Global, all: Items<Branch>, count: &mut u64) -> Result<Items<
 fn guarded(
     alloc: Global,
     guard: Option<CExpr>,
-    offer: CComm,
+    comm: CComm,
     block: Items<CStat>,
     count: &mut u64,
 ) -> Result<CAlt, NoMemory>
-    ensures part { IfOk result (λ r. r ≡ (spec.alternative_step (CAlt-F.Guarded guard offer (map spec.of_statement block)) count.old).part) }
-    ensures next { OnOk result (count.new ≡ (spec.alternative_step (CAlt-F.Guarded guard offer (map spec.of_statement block)) count.old).next) }
+    ensures part { IfOk result (λ r. r ≡ (spec.alternative_step (CAlt-F.Guarded guard comm (map spec.of_statement block)) count.old).part) }
+    ensures next { OnOk result (count.new ≡ (spec.alternative_step (CAlt-F.Guarded guard comm (map spec.of_statement block)) count.old).next) }
 {
-    let guard = some_expression(alloc, guard, count)?;
-    let offer = communication(alloc, offer, count)?;
-    Ok(CAlt::Guarded(guard, offer, statements(alloc, block, count)?))
+    let offer = offered(alloc, guard, comm, count)?;
+    let block = statements(alloc, block, count)?;
+    Ok(followed(offer, block))
 }
 
 #[cycle(statement)]
