@@ -108,21 +108,6 @@ fn guarded(
 }
 
 #[cycle(statement)]
-fn unwound(
-    alloc: Global,
-    slots: Items<u32>,
-    container: CExpr,
-    inner: Items<CAlt>,
-    count: &mut u64,
-) -> Result<CAlt, NoMemory>
-    ensures part { IfOk result (λ r. r ≡ (spec.alternative_step (CAlt-F.Unwind slots container (map spec.of_alternative inner)) count.old).part) }
-    ensures next { OnOk result (count.new ≡ (spec.alternative_step (CAlt-F.Unwind slots container (map spec.of_alternative inner)) count.old).next) }
-{
-    let container = expression(alloc, container, count)?;
-    Ok(CAlt::Unwind(slots, container, alternatives(alloc, inner, count)?))
-}
-
-#[cycle(statement)]
 #[tactic(auto, using(crate::proofs::Equations::part_guarded, crate::proofs::Equations::next_guarded, crate::proofs::Equations::part_unwind_alternatives, crate::proofs::Equations::next_unwind_alternatives))]
 fn alternative(alloc: Global, a: CAlt, count: &mut u64) -> Result<CAlt, NoMemory>
     ensures part { IfOk result (λ r. r ≡ (spec.of_alternative a count.old).part) }
@@ -130,7 +115,10 @@ fn alternative(alloc: Global, a: CAlt, count: &mut u64) -> Result<CAlt, NoMemory
 {
     match a {
         CAlt::Guarded(guard, offer, block) => guarded(alloc, guard, offer, block, count),
-        CAlt::Unwind(slots, container, inner) => unwound(alloc, slots, container, inner, count),
+        CAlt::Unwind(slots, container, inner) => {
+            let container = expression(alloc, container, count)?;
+            Ok(CAlt::Unwind(slots, container, alternatives(alloc, inner, count)?))
+        }
     }
 }
 
