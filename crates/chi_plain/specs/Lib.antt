@@ -1,7 +1,3 @@
 pub mod Stage
 pub mod Scanning
-pub mod Marked
-pub mod Watching
-pub mod Led
-pub mod Taken
 pub mod Standings

@@ -1,11 +1,11 @@
 -- Private to proofs: options, counted one instance and one offer after another.
-use Rattle.std.specs.Prelude.{ℕ, ◌*◌, Bool, true, false, List, slice_get}
+use Rattle.std.specs.Prelude.{ℕ, ◌*◌, Bool, true, false, List, length, nat_lt, filter, slice_get}
 use Rattle.std.specs.List.{flat_map}
 use Rattle.chi_core.specs.declared.label.Label.{Label}
 use Rattle.chi_core.specs.declared.label.Label.TheVariants.{Local, Pair, Wake, Join, Advance}
 use Rattle.chi_core.specs.declared.limits.TheConstants.{MOST_OFFERS, MOST_INSTANCES}
 use Rattle.chi_core.specs.Config.{Config, Offer}
-use Rattle.chi_core.specs.Options.{numbers, pairs_with, options_for}
+use Rattle.chi_core.specs.Options.{numbers, pairs_with, options_for, options}
 
 -- how many pairs one offer may make
 abbrev pub MOST_PAIRS : ℕ
@@ -19,6 +19,10 @@ pairs_below config p a channel n =
 -- the options of instance p for those of its offers below number n
 unfoldable pub offered_below : Config → ℕ → List Offer → ℕ → List Label
 offered_below config p offers n = flat_map (λ a. options_for config p a (slice_get offers a)) (numbers n)
+
+-- the instances below number n that have an option, ascending
+unfoldable pub actors_below : Config → ℕ → List ℕ
+actors_below config n = filter (λ p. nat_lt 0 (length (options config p))) (numbers n)
 
 abbrev pub is_advance : Label → Bool
 is_advance (Local p) = false

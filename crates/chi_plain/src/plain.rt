@@ -8,6 +8,9 @@ ghost use Rattle.chi_core.specs.Of.{at_start, AreOf};
 ghost use Rattle.chi_core.specs.Sound.{Sound};
 ghost use Rattle.chi_plain.specs.Stage.{Begun, actors_at, options_at, enabled_at, verdict_at, clock_at, MayTell, MayStep, Steps, Appends};
 
+use crate::actors::{actor_at, actor_count};
+use crate::choices::{option_at, option_count};
+use crate::ending::can_advance;
 use crate::standing::{Standing, standing_of, step};
 use crate::stepped::Stepped;
 use chi_base::NoMemory;
@@ -63,7 +66,7 @@ impl<'a> Plain<'a> {
         ensures start { IfOk result (λ plain. Begun (start core.now args.items seed until) plain.stage) }
     {
         kinded_law();
-        let standing = standing_of(alloc, begin(alloc, core, args, seed, until)?)?;
+        let standing = standing_of(begin(alloc, core, args, seed, until)?);
         Ok(Plain {
             alloc,
             core,
@@ -76,7 +79,7 @@ impl<'a> Plain<'a> {
         ensures count { result ≡ length (actors_at self.now.stage) }
     {
         match &self.standing {
-            Standing::At(watched, _) => watched.actor_count(),
+            Standing::At(configuration, _) => actor_count(configuration),
             Standing::Ended(_) => 0,
             Standing::Lost => 0,
         }
@@ -88,7 +91,7 @@ impl<'a> Plain<'a> {
         ensures actor { slice_get (actors_at self.now.stage) i ≡ Some result }
     {
         match &self.standing {
-            Standing::At(watched, _) => watched.actor_at(i),
+            Standing::At(configuration, _) => actor_at(configuration, i),
             Standing::Ended(_) => unreachable!(),
             Standing::Lost => unreachable!(),
         }
@@ -99,7 +102,7 @@ impl<'a> Plain<'a> {
         ensures count { result ≡ length (options_at self.now.stage pid) }
     {
         match &self.standing {
-            Standing::At(watched, _) => watched.option_count(pid),
+            Standing::At(configuration, _) => option_count(configuration, pid),
             Standing::Ended(_) => 0,
             Standing::Lost => 0,
         }
@@ -111,7 +114,7 @@ impl<'a> Plain<'a> {
         ensures option { slice_get (options_at self.now.stage pid) i ≡ Some result }
     {
         match &self.standing {
-            Standing::At(watched, _) => watched.option_at(pid, i),
+            Standing::At(configuration, _) => option_at(configuration, pid, i),
             Standing::Ended(_) => unreachable!(),
             Standing::Lost => unreachable!(),
         }
@@ -122,7 +125,7 @@ impl<'a> Plain<'a> {
         ensures advance { IsTrue result ↔ Contains (enabled_at self.now.stage) Advance }
     {
         match &self.standing {
-            Standing::At(watched, _) => watched.can_advance(),
+            Standing::At(configuration, _) => can_advance(configuration),
             Standing::Ended(_) => false,
             Standing::Lost => false,
         }
@@ -147,7 +150,7 @@ impl<'a> Plain<'a> {
     {
         match &self.standing {
             Standing::At(_, Some(ending)) => ending.clock(),
-            Standing::At(watched, None) => watched.clock(),
+            Standing::At(configuration, None) => configuration.clock(),
             Standing::Ended(ending) => ending.clock(),
             Standing::Lost => 0,
         }
