@@ -17,7 +17,7 @@ use Rattle.chi_tool.specs.Report as report
 use Rattle.chi_tool.specs.Report.{IsReportOfProgram, IsReportOfSource, refused, program, IsReportOfLog, up, misfit, IsReportOfFile, IsReportFor, IsReportOfTask}
 use Rattle.chi_tool.specs.Running.{run_report}
 use Rattle.chi_tool.specs.Settings.{Wanted, Aim, simulates, checks, aim_of}
-use Rattle.chi_tool.specs.Sources.{by_lexer, by_parser, by_form}
+use Rattle.chi_tool.specs.Sources.{by_lexer, by_parser, by_checker}
 use Rattle.chi_tool.specs.Words.{of_task, NamesNoFile}
 use Rattle.chi_tool.proofs.Verdicts.{status_bound}
 
@@ -52,7 +52,7 @@ source_program core aim r is = program_status core aim r (program_case core aim 
 pub source_bound : (source : List ℕ) (aim : Aim) (r : Report) → IsReportOfSource source aim r → (r.status ≡ 0) ⊎ ((10 ≤ r.status) × (r.status ≤ 23))
 source_bound source aim r (refused (by_lexer fault has e)) = let is = status_ap r _ e in inr (omega arith, omega arith)
 source_bound source aim r (refused (by_parser tokens fault has e)) = let is = status_ap r _ e in inr (omega arith, omega arith)
-source_bound source aim r (refused (by_form has e)) = let is = status_ap r _ e in inr (omega arith, omega arith)
+source_bound source aim r (refused (by_checker fault has e)) = let is = status_ap r _ e in inr (omega arith, omega arith)
 source_bound source aim r (program core comes of) = widened (source_program core aim r of)
   where
     widened : (r.status ≡ 0) ⊎ (((10 ≤ r.status) × (r.status ≤ 14)) ⊎ (r.status ≡ 23)) → (r.status ≡ 0) ⊎ ((10 ≤ r.status) × (r.status ≤ 23))

@@ -1,8 +1,11 @@
 use Rattle.chi_tool.proofs.Readings.{syntax_refused, too_deep_refused}
 use Rattle.chi_tool.proofs.source.read_tokens.Goals as goal
 
-pub read_tree-requires : goal.read_tree-requires
-read_tree-requires c =
+pub read_tree-requires-clause-within : goal.read_tree-requires-clause-within
+read_tree-requires-clause-within c = c.requires.within
+
+pub read_tree-requires-clause-written : goal.read_tree-requires-clause-written
+read_tree-requires-clause-written c =
     record { tokens = c.args.tokens.now; read = c.requires.read; parsed = (c.parsed_law.ensures.tree _ _).0 c.in-Ok.ensures.parsed }
 
 pub returns-in_ok-refused_token-in-Err-Syntax : goal.returns-in_ok-refused_token-in-Err-Syntax
