@@ -4,7 +4,8 @@ use Rattle.chi_typing.specs.Faults.{first_of}
 use Rattle.chi_check.specs.declared.state.State.{State}
 use Rattle.chi_check.specs.Statements.{stepping_in, branching_in, offering_in, test_in, guard_in, communication_in, walk_in, chosen, looped, walked, guarded, offered}
 use Rattle.std.proofs.lemmas.Grind.{common_steps}
-use Rattle.std.proofs.lemmas.Result.{IfOk-weaker}
+use Rattle.std.proofs.lemmas.Result.{IfOk-weaker, on_ok_weaker}
+use Rattle.chi_tree.specs.declared.statement.Branch.{Branch}
 use Rattle.chi_check.specs.declared.state.Binder.TheVariants as binder
 use Rattle.chi_check.specs.States.{block}
 use Rattle.chi_check.proofs.Folds.{step_is}
@@ -157,16 +158,27 @@ pub check_statement-returns-in-Select-clause-noted : goal.check_statement-return
 check_statement-returns-in-Select-clause-noted t c = grind (arith, common_steps, noted_select)
 
 pub check_statement-returns-in-If-clause-next : goal.check_statement-returns-in-If-clause-next
-check_statement-returns-in-If-clause-next t c = grind (arith, common_steps, next_if)
+check_statement-returns-in-If-clause-next t c =
+    let p = c.as_slice-parts.ensures.same in
+    let o = c.as_slice-steps.ensures.same in
+    let n = c.in_ok-made.ensures.next ∙ ap (λ (bs : List Branch). (in_turn (map (branching_in c.args.home.now c.args.loops) bs) c.args.state.now).next) p in
+    on_ok_weaker c.check_otherwise.result (λ d. d ∙ (λ j. (block (map (stepping_in c.args.home.now c.args.loops) (o j)) (n j)).next) ∙ sym (next_if c.args.home.now c.args.statement.now c.args.loops c.args.state.now _ _ _ c.in-If.is)) c.check_otherwise.ensures.next
 
 pub check_statement-returns-in-If-clause-made : goal.check_statement-returns-in-If-clause-made
 check_statement-returns-in-If-clause-made t c =
-    let b = c.as_slice-branches.ensures.same in
-    let o = c.as_slice-otherwise.ensures.same in
-    IfOk-weaker c.check_if.result _ _ (λ r d. d ∙ (λ j. chosen c.in-If.place.line (in_turn (map (branching_in c.args.home.now c.args.loops) (b j)) c.args.state.now).made (block (map (stepping_in c.args.home.now c.args.loops) (o j)) (in_turn (map (branching_in c.args.home.now c.args.loops) (b j)) c.args.state.now).next).made) ∙ sym (made_if c.args.home.now c.args.statement.now c.args.loops c.args.state.now _ _ _ c.in-If.is)) c.check_if.ensures.made
+    let p = c.as_slice-parts.ensures.same in
+    let o = c.as_slice-steps.ensures.same in
+    let n = c.in_ok-made.ensures.next ∙ ap (λ (bs : List Branch). (in_turn (map (branching_in c.args.home.now c.args.loops) bs) c.args.state.now).next) p in
+    let m = c.in_ok-made.ensures.made ∙ ap (λ (bs : List Branch). (in_turn (map (branching_in c.args.home.now c.args.loops) bs) c.args.state.now).made) p in
+    IfOk-weaker c.check_otherwise.result _ _ (λ r d. d ∙ (λ j. chosen c.in-If.place.line (m j) (block (map (stepping_in c.args.home.now c.args.loops) (o j)) (n j)).made) ∙ sym (made_if c.args.home.now c.args.statement.now c.args.loops c.args.state.now _ _ _ c.in-If.is)) c.check_otherwise.ensures.made
 
 pub check_statement-returns-in-If-clause-noted : goal.check_statement-returns-in-If-clause-noted
-check_statement-returns-in-If-clause-noted t c = grind (arith, common_steps, noted_if)
+check_statement-returns-in-If-clause-noted t c =
+    let p = c.as_slice-parts.ensures.same in
+    let o = c.as_slice-steps.ensures.same in
+    let n = c.in_ok-made.ensures.next ∙ ap (λ (bs : List Branch). (in_turn (map (branching_in c.args.home.now c.args.loops) bs) c.args.state.now).next) p in
+    let k = c.in_ok-made.ensures.noted ∙ ap (λ (bs : List Branch). first_of c.args.kept.now (in_turn (map (branching_in c.args.home.now c.args.loops) bs) c.args.state.now).faults) p in
+    on_ok_weaker c.check_otherwise.result (λ d. d ∙ (λ j. first_of (k j) (block (map (stepping_in c.args.home.now c.args.loops) (o j)) (n j)).faults) ∙ sym (noted_if c.args.home.now c.args.statement.now c.args.loops c.args.state.now c.args.kept.now _ _ _ c.in-If.is)) c.check_otherwise.ensures.noted
 
 pub check_statement-returns-in-While-clause-next : goal.check_statement-returns-in-While-clause-next
 check_statement-returns-in-While-clause-next t c = grind (arith, common_steps, next_while)
