@@ -166,12 +166,3 @@ fn a_constant_ends_the_run_before_it_begins(rt: HostRuntime) -> Result<(), Fail>
         &rows,
     )
 }
-
-#[test]
-fn calls_are_too_deep(rt: HostRuntime) -> Result<(), Fail> {
-    let rows = [faulty(
-        "func int f(int n): return f(n + 1) end model M(): writeln(\"%d\", f(0)) end",
-        "fault CallDepth in M line 1 at time 0.0\n",
-    )];
-    expect_rows(&rt, rt.alloc(), &rows)
-}
