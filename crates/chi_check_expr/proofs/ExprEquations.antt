@@ -13,6 +13,7 @@ use Rattle.chi_tree.specs.declared.expr.Entry.{Entry}
 use Rattle.chi_tree.specs.declared.expr.Link.{Link}
 use Rattle.chi_typing.specs.declared.fault.Fault.{Fault}
 use Rattle.chi_typing.specs.declared.meant.Made.{Made}
+use Rattle.chi_typing.specs.declared.meant.Meant.{Meant}
 use Rattle.chi_typing.specs.declared.rules.TheConstants.{LITERAL_RANGE}
 use Rattle.chi_typing.specs.declared.site.Site.{Site}
 use Rattle.chi_typing.specs.Faults.{first_of}
@@ -210,3 +211,35 @@ module _ (site : Site) (names : Names) where
 
   pub noted_EmptyDict : (kept : Option Fault) (e : Expr) (place : Place) (key : TypeTree) (value : TypeTree) → e ≡ expr.EmptyDict place key value → first_of kept (typing site names e).faults ≡ first_of (first_of (first_of kept (reading site names key false).faults) (reading site names value false).faults) (empty_dict place (reading site names key false).made (reading site names value false).made).faults
   noted_EmptyDict kept e place key value h = ap (λ (t : Typed Made). first_of kept t.faults) (EmptyDict_typed e place key value h) ∙ noted_two kept (reading site names key false).faults (reading site names value false).faults _
+
+  -- ---- the first fault, by those of the parts in turn
+
+  pub kept_Chain : (kept one two : Option Fault) (e first' first : Expr) (links' links : List Link) (left : Option Made) → e ≡ expr.Chain first links → first' ≡ first → links' ≡ links → left ≡ (typing site names first').made
+      → one ≡ first_of kept (typing site names first').faults → two ≡ first_of one (chained left (map (linked site names) links')).faults → two ≡ first_of kept (typing site names e).faults
+  kept_Chain kept one two e first' first links' links left h f l m n t =
+      t ∙ (λ i. first_of (n i) (chained (m i) (map (linked site names) links')).faults)
+      ∙ (λ i. first_of (first_of kept (typing site names (f i)).faults) (chained (typing site names (f i)).made (map (linked site names) (l i))).faults)
+      ∙ sym (noted_Chain kept e first links h)
+
+  pub kept_Relation : (kept one two : Option Fault) (e left' left right' right : Expr) (sign : RelationSign) (place : Place) (a : Option Made) → e ≡ expr.Relation left sign place right → left' ≡ left → right' ≡ right
+      → a ≡ (typing site names left').made → one ≡ first_of kept (typing site names left').faults
+      → two ≡ first_of (first_of one (typing site names right').faults) (relation_of sign place a (typing site names right').made).faults → two ≡ first_of kept (typing site names e).faults
+  kept_Relation kept one two e left' left right' right sign place a h l r m n t =
+      t ∙ (λ i. first_of (first_of (n i) (typing site names right').faults) (relation_of sign place (m i) (typing site names right').made).faults)
+      ∙ (λ i. first_of (first_of (first_of kept (typing site names (l i)).faults) (typing site names (r i)).faults) (relation_of sign place (typing site names (l i)).made (typing site names (r i)).made).faults)
+      ∙ sym (noted_Relation kept e left sign place right h)
+
+  pub kept_Part : (kept one two : Option Fault) (e whole' whole : Expr) (postfixes' postfixes : List Postfix) (a : Option Made) → e ≡ expr.Part whole postfixes → whole' ≡ whole → postfixes' ≡ postfixes → a ≡ (typing site names whole').made
+      → one ≡ first_of kept (typing site names whole').faults → two ≡ first_of one (parted a (map (taken site names) postfixes')).faults → two ≡ first_of kept (typing site names e).faults
+  kept_Part kept one two e whole' whole postfixes' postfixes a h w p m n t =
+      t ∙ (λ i. first_of (n i) (parted (m i) (map (taken site names) postfixes')).faults)
+      ∙ (λ i. first_of (first_of kept (typing site names (w i)).faults) (parted (typing site names (w i)).made (map (taken site names) (p i))).faults)
+      ∙ sym (noted_Part kept e whole postfixes h)
+
+  pub kept_EmptyDict : (kept one two : Option Fault) (e : Expr) (key' key value' value : TypeTree) (place : Place) (k : Option Meant) → e ≡ expr.EmptyDict place key value → key' ≡ key → value' ≡ value
+      → k ≡ (reading site names key' false).made → one ≡ first_of kept (reading site names key' false).faults
+      → two ≡ first_of (first_of one (reading site names value' false).faults) (empty_dict place k (reading site names value' false).made).faults → two ≡ first_of kept (typing site names e).faults
+  kept_EmptyDict kept one two e key' key value' value place k h p q m n t =
+      t ∙ (λ i. first_of (first_of (n i) (reading site names value' false).faults) (empty_dict place (m i) (reading site names value' false).made).faults)
+      ∙ (λ i. first_of (first_of (first_of kept (reading site names (p i) false).faults) (reading site names (q i) false).faults) (empty_dict place (reading site names (p i) false).made (reading site names (q i) false).made).faults)
+      ∙ sym (noted_EmptyDict kept e place key value h)

@@ -1,10 +1,15 @@
+pub mod Answered
+pub mod CallEquations
 pub mod Calling
 pub mod Containers
 pub mod Exact
 pub mod ExprEquations
+pub mod HasDefaults
 pub mod Induction
 pub mod Kept
+pub mod Loops
 pub mod Nodes
 pub mod Opened
+pub mod PartEquations
 pub mod Parts
 pub mod TypeEquations

@@ -60,6 +60,9 @@ module _ (site : Site) (names : Names) where
   unfolding read taken paired linked formal reading
   formal_is f = fold_out-Formal Read Taken Reading Paired Linked Field (expr_step site names) postfix_step (type_step names) entry_step link_step formal_step f ∙ merged f.ty f.name
 
+  pub named_formal : (f : Formal) → (formal site names f).name ≡ f.name
+  named_formal f = ap (λ (x : Field). x.name) (formal_is f)
+
   pub map_typed : (es : List Expr) → map typed_of (map (read site names) es) ≡ map (typing site names) es
   map_typed [] = refl
   map_typed (e ∷ es) = ap (λ ts. typing site names e ∷ ts) (map_typed es)

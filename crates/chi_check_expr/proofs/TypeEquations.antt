@@ -16,10 +16,10 @@ use Rattle.chi_typing.specs.Names.{Names}
 use Rattle.chi_typing.specs.Typed.{Typed, after}
 use Rattle.chi_typing.specs.TypeRules as list
 use Rattle.chi_typing.specs.TypeRules.{word_of, named_type, sized_list_of, dist_of, chan_of, void_chan_of}
-use Rattle.chi_check_expr.specs.Reads.{Reading, made_of}
+use Rattle.chi_check_expr.specs.Reads.{Reading, Field, made_of}
 use Rattle.chi_check_expr.specs.TypeTrees.{field_faults, parts_from}
 use Rattle.chi_check_expr.specs.Typing.{read, formal, reading, typing}
-use Rattle.chi_check_expr.proofs.Opened.{reading_is, noted_one, noted_two}
+use Rattle.chi_check_expr.proofs.Opened.{reading_is, named_formal, noted_one, noted_two}
 
 module _ (site : Site) (names : Names) where
   Word_typed : (t : TypeTree) (sizes : Bool) (word : TypeWord) (place : Place) → t ≡ type.Word word place → reading site names t sizes ≡ word_of place word
@@ -85,13 +85,18 @@ module _ (site : Site) (names : Names) where
   pub noted_Dict : (kept : Option Fault) (t : TypeTree) (sizes : Bool) (place : Place) (key : TypeTree) (value : TypeTree) → t ≡ type.Dict place key value → first_of kept (reading site names t sizes).faults ≡ first_of (first_of (first_of kept (reading site names key false).faults) (reading site names value false).faults) (list.dict_of place (reading site names key false).made (reading site names value false).made).faults
   noted_Dict kept t sizes place key value h = ap (λ (x : Typed Meant). first_of kept x.faults) (Dict_typed t sizes place key value h) ∙ noted_two kept (reading site names key false).faults (reading site names value false).faults _
 
-  Tuple_typed : (t : TypeTree) (sizes : Bool) (place : Place) (fields : List Formal) → t ≡ type.Tuple place fields → reading site names t sizes ≡ after (field_faults (map (formal site names) fields)) (list.tuple_of place (map (λ f. f.name) (map (formal site names) fields)) (parts_from None (map (formal site names) fields)))
-  Tuple_typed t sizes place fields h = ap (λ (r : Reading). r sizes) (reading_is site names t (TypeTree-F.Tuple place fields) (ap out-TypeTree h ∙ type.outs-Tuple place fields))
+  names_of : (fields : List Formal) → map (λ (f : Field). f.name) (map (formal site names) fields) ≡ map (λ (f : Formal). f.name) fields
+  names_of [] = refl
+  names_of (f ∷ fs) = (λ i. named_formal site names f i ∷ names_of fs i)
 
-  pub made_Tuple : (t : TypeTree) (sizes : Bool) (place : Place) (fields : List Formal) → t ≡ type.Tuple place fields → (reading site names t sizes).made ≡ (list.tuple_of place (map (λ f. f.name) (map (formal site names) fields)) (parts_from None (map (formal site names) fields))).made
+  Tuple_typed : (t : TypeTree) (sizes : Bool) (place : Place) (fields : List Formal) → t ≡ type.Tuple place fields → reading site names t sizes ≡ after (field_faults (map (formal site names) fields)) (list.tuple_of place (map (λ (f : Formal). f.name) fields) (parts_from None (map (formal site names) fields)))
+  Tuple_typed t sizes place fields h = ap (λ (r : Reading). r sizes) (reading_is site names t (TypeTree-F.Tuple place fields) (ap out-TypeTree h ∙ type.outs-Tuple place fields))
+      ∙ ap (λ ns. after (field_faults (map (formal site names) fields)) (list.tuple_of place ns (parts_from None (map (formal site names) fields)))) (names_of fields)
+
+  pub made_Tuple : (t : TypeTree) (sizes : Bool) (place : Place) (fields : List Formal) → t ≡ type.Tuple place fields → (reading site names t sizes).made ≡ (list.tuple_of place (map (λ (f : Formal). f.name) fields) (parts_from None (map (formal site names) fields))).made
   made_Tuple t sizes place fields h = ap made_of (Tuple_typed t sizes place fields h)
 
-  pub noted_Tuple : (kept : Option Fault) (t : TypeTree) (sizes : Bool) (place : Place) (fields : List Formal) → t ≡ type.Tuple place fields → first_of kept (reading site names t sizes).faults ≡ first_of (first_of kept (field_faults (map (formal site names) fields))) (list.tuple_of place (map (λ f. f.name) (map (formal site names) fields)) (parts_from None (map (formal site names) fields))).faults
+  pub noted_Tuple : (kept : Option Fault) (t : TypeTree) (sizes : Bool) (place : Place) (fields : List Formal) → t ≡ type.Tuple place fields → first_of kept (reading site names t sizes).faults ≡ first_of (first_of kept (field_faults (map (formal site names) fields))) (list.tuple_of place (map (λ (f : Formal). f.name) fields) (parts_from None (map (formal site names) fields))).faults
   noted_Tuple kept t sizes place fields h = ap (λ (x : Typed Meant). first_of kept x.faults) (Tuple_typed t sizes place fields h) ∙ noted_one kept (field_faults (map (formal site names) fields)) _
 
   Chan_void_typed : (t : TypeTree) (sizes : Bool) (place : Place) (way : Way) → t ≡ type.Chan place way None → reading site names t sizes ≡ void_chan_of place way

@@ -1,6 +1,12 @@
 //! Typing of expressions and types: what each comes to with the names that are visible, or its first broken rule.
 #![tactic(auto)]
 
+mod answers;
+mod calls;
+mod fields;
 mod laws;
+mod typing;
 
+pub use answers::{type_expr, type_tree};
 pub use laws::typing_is_exact;
+pub use typing::{mean_in, type_in};
