@@ -57,22 +57,40 @@ fn what_expressions_become(rt: HostRuntime) -> Result<(), Fail> {
 }
 
 #[test]
-fn what_the_calls_for_whole_trees_answer(rt: HostRuntime) -> Result<(), Fail> {
+fn the_call_for_an_expression(rt: HostRuntime) -> Result<(), Fail> {
     let scope = Scope::new(rt.alloc());
-    if let Some(tree) = expr_of(rt.alloc(), b"1 + 2.5")? {
+    if let Some(tree) = expr_of(rt.alloc(), b"1 + real(2)")? {
         let (core, _) = type_expr(rt.alloc(), &tree, &scope, Site::Constant)?;
         let text = shown(rt.alloc(), &core)?;
-        assert!(rt; text.as_str().starts_with("Add(Widen(Int(1)), "), "{text}");
+        assert_eq!(rt; text.as_str(), "Add(Widen(Int(1)), ToReal(Int(2)))");
     }
+    Ok(())
+}
+
+#[test]
+fn the_call_for_a_broken_expression(rt: HostRuntime) -> Result<(), Fail> {
+    let scope = Scope::new(rt.alloc());
     if let Some(tree) = expr_of(rt.alloc(), b"1 + true")? {
         let fault = type_expr(rt.alloc(), &tree, &scope, Site::Constant).err();
         assert!(rt; matches!(fault, Some(TypeFault::Broken { rule: 34, place: _ })));
     }
+    Ok(())
+}
+
+#[test]
+fn the_call_for_a_type(rt: HostRuntime) -> Result<(), Fail> {
+    let scope = Scope::new(rt.alloc());
     if let Some(tree) = type_of(rt.alloc(), b"list(2) list(3) int")? {
         let (_, default) = type_tree(rt.alloc(), &tree, &scope, Site::Process, true)?;
         let text = shown(rt.alloc(), &default)?;
         assert_eq!(rt; text.as_str(), "Repeat(Int(2), Repeat(Int(3), Int))");
     }
+    Ok(())
+}
+
+#[test]
+fn the_call_for_a_broken_type(rt: HostRuntime) -> Result<(), Fail> {
+    let scope = Scope::new(rt.alloc());
     if let Some(tree) = type_of(rt.alloc(), b"list(2) int")? {
         let fault = type_tree(rt.alloc(), &tree, &scope, Site::Process, false).err();
         assert!(rt; matches!(fault, Some(TypeFault::Broken { rule: 7, place: _ })));
