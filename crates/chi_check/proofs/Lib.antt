@@ -1,0 +1,9 @@
+pub mod AlternativeSteps
+pub mod Answered
+pub mod ElementSteps
+pub mod Folds
+pub mod Held
+pub mod Parts
+pub mod StatementSteps
+pub mod Turns
+pub mod Typed

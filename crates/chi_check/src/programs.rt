@@ -1,0 +1,190 @@
+//! Programs: the names of all definitions, then types and constants, then headers, then bodies.
+
+#![tactic(auto, using(chi_typing::proofs::Firsts::first_of_none, chi_typing::proofs::Firsts::first_of_append))]
+
+ghost use Rattle.std.specs.Prelude.{◌≡◌, length, map, take, IfOk, OnOk};
+ghost use Rattle.chi_typing.specs.Faults.{first_of};
+ghost use Rattle.chi_check.specs.Stated.{in_turn};
+ghost use Rattle.chi_check.specs.Headers.{header_in};
+ghost use Rattle.chi_check.specs.Definitions.{with_all_late, with_all_headed, functions_of, processes_of};
+ghost use Rattle.chi_check.specs.Programs as spec;
+
+use crate::bodies::{define_functions, define_processes};
+use crate::early::define_all_early;
+use crate::header::Header;
+use crate::late::{add_all_headed, add_all_late, headers_in};
+use crate::naming::{after, name_all};
+use crate::sketch::{Early, Named, Sketch};
+use chi_base::{Items, NoMemory};
+use chi_core::{ConstDef, Core, FuncDef, ProcDef};
+use chi_streams::with_streams;
+use chi_token::{Bytes, Place};
+use chi_tree::{Definition, Item, Program};
+use chi_typing::{Fault, Scope, TypeFault, note, rules};
+use chi_value::Names;
+use std::alloc::Global;
+
+/// The place of the first model among processes and models.
+fn first_model(items: &[Item]) -> Result<Option<u32>, NoMemory>
+    ensures { IfOk result (λ model. model ≡ spec.first_model 0 (map (λ item. item.definition) items.now)) }
+{
+    let mut number = 0;
+    for item in items {
+        match &item.definition {
+            Definition::Model { .. } => return Ok(Some(number)),
+            Definition::Proc { .. } => number = after(number)?,
+            Definition::Func { .. }
+            | Definition::Enum { .. }
+            | Definition::Const { .. }
+            | Definition::Type { .. }
+            | Definition::Xper { .. } => {}
+        }
+    }
+    Ok(None)
+}
+
+fn note_no_model(last: Place, model: Option<u32>, kept: &mut Option<Fault>)
+    ensures { kept.new ≡ first_of kept.old (spec.model_rule last model) }
+{
+    if model.is_none() {
+        note(kept, rules::MODEL, last);
+    }
+}
+
+fn core_of(
+    enumerations: Option<Items<Items<Bytes>>>,
+    consts: Option<Items<ConstDef>>,
+    funcs: Option<Items<FuncDef>>,
+    procs: Option<Items<ProcDef>>,
+    model: Option<u32>,
+) -> Option<Core>
+    ensures { result ≡ spec.core_of enumerations consts funcs procs model }
+{
+    let kinds = enumerations?;
+    let consts = consts?;
+    let funcs = funcs?;
+    let procs = procs?;
+    let model = model?;
+    let names = Names { kinds };
+    Some(Core {
+        consts,
+        funcs,
+        procs,
+        model,
+        names,
+    })
+}
+
+/// All functions, processes and models.
+fn define_bodies(
+    alloc: Global,
+    items: &[Item],
+    headers: &[Option<Header>],
+    names: Scope,
+    kept: &mut Option<Fault>,
+) -> Result<(Option<Items<FuncDef>>, Option<Items<ProcDef>>), NoMemory>
+    ensures funcs { let ds = map (λ item. item.definition) items.now in
+        let funcs = in_turn (functions_of ds headers.now) names in
+        IfOk result (λ r. r.0 ≡ funcs.made) }
+    ensures procs { let ds = map (λ item. item.definition) items.now in
+        let funcs = in_turn (functions_of ds headers.now) names in
+        let procs = in_turn (processes_of ds headers.now) funcs.next in
+        IfOk result (λ r. r.1 ≡ procs.made) }
+    ensures noted { let ds = map (λ item. item.definition) items.now in
+        let funcs = in_turn (functions_of ds headers.now) names in
+        let procs = in_turn (processes_of ds headers.now) funcs.next in
+        OnOk result (kept.new ≡ first_of (first_of kept.old funcs.faults) procs.faults) }
+{
+    let (scope, funcs) = define_functions(alloc, items, headers, names, kept)?;
+    let (_scope, procs) = define_processes(alloc, items, headers, scope, kept)?;
+    Ok((funcs, procs))
+}
+
+/// All functions, processes and models, where the names of types and constants are visible.
+fn define_late(
+    alloc: Global,
+    all: &Scope,
+    items: &[Item],
+    early: Scope,
+    kept: &mut Option<Fault>,
+) -> Result<(Option<Items<FuncDef>>, Option<Items<ProcDef>>), NoMemory>
+    ensures funcs { let ds = map (λ item. item.definition) items.now in
+        let late = with_all_late all.now early ds in
+        let given = map (λ h. h.given) (map (header_in late) ds) in
+        let named = with_all_headed all.now ds given (spec.first_named (take (length early) late)) in
+        let funcs = in_turn (functions_of ds given) named.names in
+        IfOk result (λ r. r.0 ≡ funcs.made) }
+    ensures procs { let ds = map (λ item. item.definition) items.now in
+        let late = with_all_late all.now early ds in
+        let given = map (λ h. h.given) (map (header_in late) ds) in
+        let named = with_all_headed all.now ds given (spec.first_named (take (length early) late)) in
+        let funcs = in_turn (functions_of ds given) named.names in
+        let procs = in_turn (processes_of ds given) funcs.next in
+        IfOk result (λ r. r.1 ≡ procs.made) }
+    ensures noted { let ds = map (λ item. item.definition) items.now in
+        let late = with_all_late all.now early ds in
+        let headers = map (header_in late) ds in
+        let given = map (λ h. h.given) headers in
+        let named = with_all_headed all.now ds given (spec.first_named (take (length early) late)) in
+        let funcs = in_turn (functions_of ds given) named.names in
+        let procs = in_turn (processes_of ds given) funcs.next in
+        OnOk result (kept.new ≡ first_of (first_of (first_of kept.old (spec.header_faults headers)) funcs.faults) procs.faults) }
+{
+    let mut names = early;
+    let count = names.count();
+    add_all_late(all, &mut names, items)?;
+    let headers = headers_in(alloc, &names, items, kept)?;
+    names.cut(count);
+    let mut named = Named {
+        names,
+        functions: 0,
+        processes: 0,
+    };
+    add_all_headed(alloc, all, items, headers.as_slice(), &mut named)?;
+    define_bodies(alloc, items, headers.as_slice(), named.names, kept)
+}
+
+fn check_definitions(
+    alloc: Global,
+    items: &[Item],
+    last: Place,
+    kept: &mut Option<Fault>,
+) -> Result<Option<Core>, NoMemory>
+    ensures made { IfOk result (λ core. core ≡ (spec.definitions_checked (map (λ item. item.definition) items.now) last).made) }
+    ensures noted { OnOk result (kept.new ≡ first_of kept.old (spec.definitions_checked (map (λ item. item.definition) items.now) last).faults) }
+{
+    let mut sketch = Sketch {
+        all: Scope::new(alloc),
+        early: Scope::new(alloc),
+        enumerations: 0,
+        processes: 0,
+        experiments: 0,
+    };
+    let enumerations = name_all(alloc, items, &mut sketch, kept)?;
+    let Sketch { all, early, .. } = sketch;
+    let mut early = Early {
+        names: early,
+        constants: 0,
+    };
+    let consts = define_all_early(alloc, &all, items, &mut early, kept)?;
+    let (funcs, procs) = define_late(alloc, &all, items, early.names, kept)?;
+    let model = first_model(items)?;
+    note_no_model(last, model, kept);
+    Ok(core_of(enumerations, consts, funcs, procs, model))
+}
+
+/// The core of a program in which no rule is broken, each distribution with its stream; else the first rule that is broken.
+#[tactic(auto, using(crate::proofs::Answered::accepted), unfolding(crate::specs::Programs::checked))]
+pub fn check(alloc: Global, tree: &Program) -> Result<Core, TypeFault>
+    ensures answers { spec.Answers result (spec.checked tree.now) }
+{
+    let mut kept = None;
+    let made = check_definitions(alloc, tree.items.as_slice(), tree.last, &mut kept)?;
+    match kept {
+        Some(Fault { rule, place }) => Err(TypeFault::Broken { rule, place }),
+        None => match made {
+            Some(core) => Ok(with_streams(alloc, core)?),
+            None => Err(TypeFault::NoMemory),
+        },
+    }
+}
