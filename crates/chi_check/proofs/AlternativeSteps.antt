@@ -45,7 +45,7 @@ module _ (home : Home) (x : Alternative) (loop : Bool) (s : State) where
   made_guarded guard c inner h = ap (λ (t : Stated State (List CAlt)). t.made) (alternative_is home x (Alternative-F.Guarded guard c inner) loop s (ap out-Alternative h ∙ alternative.outs-Guarded guard c inner)) ∙ ap (λ (u : Stated State (List CStat)). guarded (guard_in home s.names guard).made (communication_in home s.names c).made u.made) (blocks loop (stepping home) inner s)
 
   pub noted_guarded : (kept : Option Fault) (guard : Option Expr) (c : Communication) (inner : List Step) → x ≡ alternative.Guarded guard c inner → first_of kept (offering home x loop s).faults ≡ first_of (first_of (first_of kept (guard_in home s.names guard).faults) (communication_in home s.names c).faults) (block (map (stepping_in home loop) inner) s).faults
-  noted_guarded kept guard c inner h = ap (λ (t : Stated State (List CAlt)). first_of kept t.faults) (alternative_is home x (Alternative-F.Guarded guard c inner) loop s (ap out-Alternative h ∙ alternative.outs-Guarded guard c inner)) ∙ ap (λ (u : Stated State (List CStat)). first_of kept ((guard_in home s.names guard).faults ++ (communication_in home s.names c).faults ++ u.faults)) (blocks loop (stepping home) inner s) ∙ first_of_append kept _ _ ∙ first_of_append _ _ _
+  noted_guarded kept guard c inner h = ap (λ (t : Stated State (List CAlt)). first_of kept t.faults) (alternative_is home x (Alternative-F.Guarded guard c inner) loop s (ap out-Alternative h ∙ alternative.outs-Guarded guard c inner)) ∙ ap (λ (u : Stated State (List CStat)). first_of kept ((guard_in home s.names guard).faults ++ (communication_in home s.names c).faults ++ u.faults)) (blocks loop (stepping home) inner s) ∙ first_of_append kept _ _ ∙ ap (λ k. first_of k (block (map (stepping_in home loop) inner) s).faults) (first_of_append kept (guard_in home s.names guard).faults (communication_in home s.names c).faults)
 
   pub next_unwind : (place : Place) (walk : Walk) (alternatives : List Alternative) → x ≡ alternative.Unwind place walk alternatives → (offering home x loop s).next ≡ cut (length s.names) (in_turn (map (offering_in home loop) alternatives) (walk_in home binder.Unwind walk s).next).next
   next_unwind place walk alternatives h = ap (λ (t : Stated State (List CAlt)). t.next) (alternative_is home x (Alternative-F.Unwind place walk alternatives) loop s (ap out-Alternative h ∙ alternative.outs-Unwind place walk alternatives)) ∙ ap (λ (u : Stated State (List CAlt)). cut (length s.names) u.next) (turns loop (offering home) alternatives (walk_in home binder.Unwind walk s).next)

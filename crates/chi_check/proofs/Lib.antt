@@ -3,6 +3,7 @@ pub mod Answered
 pub mod ElementSteps
 pub mod Folds
 pub mod Held
+pub mod Layers
 pub mod Parts
 pub mod StatementSteps
 pub mod Turns

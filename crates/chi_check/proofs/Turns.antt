@@ -4,7 +4,7 @@ use Rattle.std.proofs.lemmas.List.{append-nil}
 use Rattle.chi_typing.specs.declared.fault.Fault.{Fault}
 use Rattle.chi_typing.specs.Faults.{first_of}
 use Rattle.chi_typing.proofs.Firsts.{first_of_append, first_of_none}
-use Rattle.chi_check.specs.Stated.{Stated, Turn, in_turn, in_order, done, joined}
+use Rattle.chi_check.specs.Stated.{Turn, in_turn, joined}
 
 pub at : {A : Type 0} (xs : List A) (i : ℕ) (x : A) → i < length xs → x ≡ get_or xs i x → drop i xs ≡ x ∷ drop (i + 1) xs
 at xs i x h e = drop-cons xs i x h ∙ (λ j. sym e j ∷ drop (sym (add-one i) j) xs)
@@ -25,42 +25,33 @@ pub joined_end : {A : Type 0} (a : Option (List A)) → joined a (Some []) ≡ a
 joined_end None = refl
 joined_end (Some a) = ap Some (append-nil a)
 
-module _ {X S A : Type 0} (f : X → Turn S A) (xs : List X) where
-  pub turn_next : (i : ℕ) (s : S) (x : X) → i < length xs → x ≡ get_or xs i x → (in_turn (map f (drop i xs)) s).next ≡ (in_turn (map f (drop (i + 1) xs)) (f x s).next).next
-  turn_next i s x h e = ap (λ xs. (in_turn (map f xs) s).next) (at xs i x h e)
-
-  pub turn_made : (i : ℕ) (s : S) (all : Option (List A)) (x : X) → i < length xs → x ≡ get_or xs i x
-      → joined all (in_turn (map f (drop i xs)) s).made ≡ joined (joined all (f x s).made) (in_turn (map f (drop (i + 1) xs)) (f x s).next).made
-  turn_made i s all x h e = ap (λ xs. joined all (in_turn (map f xs) s).made) (at xs i x h e) ∙ joined_more all (f x s).made _
-
-  pub turn_noted : (i : ℕ) (s : S) (kept : Option Fault) (x : X) → i < length xs → x ≡ get_or xs i x
-      → first_of kept (in_turn (map f (drop i xs)) s).faults ≡ first_of (first_of kept (f x s).faults) (in_turn (map f (drop (i + 1) xs)) (f x s).next).faults
-  turn_noted i s kept x h e = ap (λ xs. first_of kept (in_turn (map f xs) s).faults) (at xs i x h e) ∙ first_of_append kept _ _
-
-  pub end_next : (i : ℕ) (s : S) → length xs ≤ i → (in_turn (map f (drop i xs)) s).next ≡ s
-  end_next i s h = ap (λ xs. (in_turn (map f xs) s).next) (none_left xs i h)
-
-  pub end_made : (i : ℕ) (s : S) (all : Option (List A)) → length xs ≤ i → joined all (in_turn (map f (drop i xs)) s).made ≡ all
-  end_made i s all h = ap (λ xs. joined all (in_turn (map f xs) s).made) (none_left xs i h) ∙ joined_end all
-
-  pub end_noted : (i : ℕ) (s : S) (kept : Option Fault) → length xs ≤ i → first_of kept (in_turn (map f (drop i xs)) s).faults ≡ kept
-  end_noted i s kept h = ap (λ xs. first_of kept (in_turn (map f xs) s).faults) (none_left xs i h) ∙ first_of_none kept [] refl
-
--- the same where what is left comes of a list in another way
+-- One more, where what is left comes of a list: what comes of all stays what was done so far and what is left.
 module _ {X S A : Type 0} (through : List X → List (Turn S A)) (xs : List X) where
-  pub left_next : (i : ℕ) (s : S) (x : X) (f : Turn S A) (more : List (Turn S A)) → i < length xs → x ≡ get_or xs i x → through (x ∷ drop (i + 1) xs) ≡ f ∷ more → (in_turn (through (drop i xs)) s).next ≡ (in_turn more (f s).next).next
-  left_next i s x f more h e t = ap (λ xs. (in_turn (through xs) s).next) (at xs i x h e) ∙ ap (λ fs. (in_turn fs s).next) t
+  pub step_next : (whole : S) (i : ℕ) (s next : S) (x : X) (f : Turn S A) (more : List (Turn S A)) → whole ≡ (in_turn (through (drop i xs)) s).next → i < length xs → x ≡ get_or xs i x → through (x ∷ drop (i + 1) xs) ≡ f ∷ more
+      → next ≡ (f s).next → whole ≡ (in_turn more next).next
+  step_next whole i s next x f more w h e t n =
+      w ∙ ap (λ xs. (in_turn (through xs) s).next) (at xs i x h e) ∙ ap (λ fs. (in_turn fs s).next) t ∙ ap (λ s. (in_turn more s).next) (sym n)
 
-  pub left_made : (i : ℕ) (s : S) (all : Option (List A)) (x : X) (f : Turn S A) (more : List (Turn S A)) → i < length xs → x ≡ get_or xs i x → through (x ∷ drop (i + 1) xs) ≡ f ∷ more
-      → joined all (in_turn (through (drop i xs)) s).made ≡ joined (joined all (f s).made) (in_turn more (f s).next).made
-  left_made i s all x f more h e t = ap (λ xs. joined all (in_turn (through xs) s).made) (at xs i x h e) ∙ ap (λ fs. joined all (in_turn fs s).made) t ∙ joined_more all (f s).made _
+  pub step_made : (whole : Option (List A)) (i : ℕ) (s next : S) (all grown : Option (List A)) (x : X) (f : Turn S A) (more : List (Turn S A)) → whole ≡ joined all (in_turn (through (drop i xs)) s).made → i < length xs → x ≡ get_or xs i x
+      → through (x ∷ drop (i + 1) xs) ≡ f ∷ more → next ≡ (f s).next → grown ≡ joined all (f s).made → whole ≡ joined grown (in_turn more next).made
+  step_made whole i s next all grown x f more w h e t n m =
+      w ∙ ap (λ xs. joined all (in_turn (through xs) s).made) (at xs i x h e) ∙ ap (λ fs. joined all (in_turn fs s).made) t ∙ joined_more all (f s).made _
+      ∙ (λ j. joined (sym m j) (in_turn more (sym n j)).made)
 
-  pub left_noted : (i : ℕ) (s : S) (kept : Option Fault) (x : X) (f : Turn S A) (more : List (Turn S A)) → i < length xs → x ≡ get_or xs i x → through (x ∷ drop (i + 1) xs) ≡ f ∷ more
-      → first_of kept (in_turn (through (drop i xs)) s).faults ≡ first_of (first_of kept (f s).faults) (in_turn more (f s).next).faults
-  left_noted i s kept x f more h e t = ap (λ xs. first_of kept (in_turn (through xs) s).faults) (at xs i x h e) ∙ ap (λ fs. first_of kept (in_turn fs s).faults) t ∙ first_of_append kept _ _
+  pub step_noted : (whole : Option Fault) (i : ℕ) (s next : S) (kept after : Option Fault) (x : X) (f : Turn S A) (more : List (Turn S A)) → whole ≡ first_of kept (in_turn (through (drop i xs)) s).faults → i < length xs → x ≡ get_or xs i x
+      → through (x ∷ drop (i + 1) xs) ≡ f ∷ more → next ≡ (f s).next → after ≡ first_of kept (f s).faults → whole ≡ first_of after (in_turn more next).faults
+  step_noted whole i s next kept after x f more w h e t n k =
+      w ∙ ap (λ xs. first_of kept (in_turn (through xs) s).faults) (at xs i x h e) ∙ ap (λ fs. first_of kept (in_turn fs s).faults) t ∙ first_of_append kept _ _
+      ∙ (λ j. first_of (sym k j) (in_turn more (sym n j)).faults)
 
-  pub gone_noted : (i : ℕ) (s : S) (kept : Option Fault) → length xs ≤ i → through [] ≡ [] → first_of kept (in_turn (through (drop i xs)) s).faults ≡ kept
-  gone_noted i s kept h e = ap (λ xs. first_of kept (in_turn (through xs) s).faults) (none_left xs i h) ∙ ap (λ fs. first_of kept (in_turn fs s).faults) e ∙ first_of_none kept [] refl
+  pub end_next : (i : ℕ) (s : S) → length xs ≤ i → through [] ≡ [] → (in_turn (through (drop i xs)) s).next ≡ s
+  end_next i s h e = ap (λ xs. (in_turn (through xs) s).next) (none_left xs i h) ∙ ap (λ fs. (in_turn fs s).next) e
+
+  pub end_made : (i : ℕ) (s : S) (all : Option (List A)) → length xs ≤ i → through [] ≡ [] → joined all (in_turn (through (drop i xs)) s).made ≡ all
+  end_made i s all h e = ap (λ xs. joined all (in_turn (through xs) s).made) (none_left xs i h) ∙ ap (λ fs. joined all (in_turn fs s).made) e ∙ joined_end all
+
+  pub end_noted : (i : ℕ) (s : S) (kept : Option Fault) → length xs ≤ i → through [] ≡ [] → first_of kept (in_turn (through (drop i xs)) s).faults ≡ kept
+  end_noted i s kept h e = ap (λ xs. first_of kept (in_turn (through xs) s).faults) (none_left xs i h) ∙ ap (λ fs. first_of kept (in_turn fs s).faults) e ∙ first_of_none kept [] refl
 
   pub short_noted : (i : ℕ) (s : S) (kept : Option Fault) (x : X) → i < length xs → x ≡ get_or xs i x → through (x ∷ drop (i + 1) xs) ≡ [] → first_of kept (in_turn (through (drop i xs)) s).faults ≡ kept
   short_noted i s kept x h e t = ap (λ xs. first_of kept (in_turn (through xs) s).faults) (at xs i x h e) ∙ ap (λ fs. first_of kept (in_turn fs s).faults) t ∙ first_of_none kept [] refl

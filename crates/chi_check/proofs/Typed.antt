@@ -42,19 +42,19 @@ module _ (types : List (Option Ty)) (all : List Ty) where
 -- ---- the types of formals
 
 module _ (s : Site) (names : Names) (formals : List Formal) where
-  pub one_given : (i : ℕ) (x : Formal) (last t : Option Ty) (types : List (Option Ty)) → i < length formals → x ≡ get_or formals i x → t ≡ (formal_type s names last x.ty).given
-      → types ++ (formal_types s names last (drop i formals)).given ≡ (types ++ t ∷ []) ++ (formal_types s names t (drop (i + 1) formals)).given
-  one_given i x last t types h e is =
-      ap (λ fs. types ++ (formal_types s names last fs).given) (at formals i x h e)
+  pub one_given : (whole types grown : List (Option Ty)) (i : ℕ) (x : Formal) (last t next : Option Ty) → whole ≡ types ++ (formal_types s names last (drop i formals)).given → i < length formals → x ≡ get_or formals i x
+      → t ≡ (formal_type s names last x.ty).given → next ≡ t → grown ≡ types ++ t ∷ [] → whole ≡ grown ++ (formal_types s names next (drop (i + 1) formals)).given
+  one_given whole types grown i x last t next w h e is n g =
+      w ∙ ap (λ fs. types ++ (formal_types s names last fs).given) (at formals i x h e)
       ∙ ap (λ t. types ++ t ∷ (formal_types s names t (drop (i + 1) formals)).given) (sym is)
       ∙ sym (append_assoc types (t ∷ []) _)
+      ∙ (λ j. sym g j ++ (formal_types s names (sym n j) (drop (i + 1) formals)).given)
 
-  pub one_noted : (i : ℕ) (x : Formal) (last t : Option Ty) (kept : Option Fault) → i < length formals → x ≡ get_or formals i x → t ≡ (formal_type s names last x.ty).given
-      → first_of kept (formal_types s names last (drop i formals)).faults ≡ first_of (first_of kept (formal_type s names last x.ty).faults) (formal_types s names t (drop (i + 1) formals)).faults
-  one_noted i x last t kept h e is =
-      ap (λ fs. first_of kept (formal_types s names last fs).faults) (at formals i x h e)
-      ∙ first_of_append kept _ _
-      ∙ ap (λ t. first_of (first_of kept (formal_type s names last x.ty).faults) (formal_types s names t (drop (i + 1) formals)).faults) (sym is)
+  pub one_noted : (whole kept after : Option Fault) (i : ℕ) (x : Formal) (last t next : Option Ty) → whole ≡ first_of kept (formal_types s names last (drop i formals)).faults → i < length formals → x ≡ get_or formals i x
+      → t ≡ (formal_type s names last x.ty).given → next ≡ t → after ≡ first_of kept (formal_type s names last x.ty).faults → whole ≡ first_of after (formal_types s names next (drop (i + 1) formals)).faults
+  one_noted whole kept after i x last t next w h e is n k =
+      w ∙ ap (λ fs. first_of kept (formal_types s names last fs).faults) (at formals i x h e) ∙ first_of_append kept _ _
+      ∙ (λ j. first_of (sym k j) (formal_types s names (sym (n ∙ is) j) (drop (i + 1) formals)).faults)
 
   pub given_end : (i : ℕ) (last : Option Ty) (types : List (Option Ty)) → length formals ≤ i → types ++ (formal_types s names last (drop i formals)).given ≡ types
   given_end i last types h = ap (λ fs. types ++ (formal_types s names last fs).given) (none_left formals i h) ∙ append-nil types
@@ -75,14 +75,19 @@ module _ (items : List Item) where
   no_rest i h = ap definitions (none_left items i h)
 
   module _ (names : Names) where
-    pub header_given : (i : ℕ) (x : Item) (headers : List (Option Header)) → i < length items → x ≡ get_or items i x
-        → headers ++ map (λ h. h.given) (map (header_in names) (definitions (drop i items))) ≡ (headers ++ (header_in names x.definition).given ∷ []) ++ map (λ h. h.given) (map (header_in names) (definitions (drop (i + 1) items)))
-    header_given i x headers h e =
-        ap (λ ds. headers ++ map (λ (h : Found (Option Header)). h.given) (map (header_in names) ds)) (rest i x h e) ∙ sym (append_assoc headers ((header_in names x.definition).given ∷ []) _)
+    pub header_given : (whole headers grown : List (Option Header)) (i : ℕ) (x : Item) (g : Option Header) → whole ≡ headers ++ map (λ h. h.given) (map (header_in names) (definitions (drop i items))) → i < length items → x ≡ get_or items i x
+        → g ≡ (header_in names x.definition).given → grown ≡ headers ++ g ∷ [] → whole ≡ grown ++ map (λ h. h.given) (map (header_in names) (definitions (drop (i + 1) items)))
+    header_given whole headers grown i x g w h e is m =
+        w ∙ ap (λ ds. headers ++ map (λ (h : Found (Option Header)). h.given) (map (header_in names) ds)) (rest i x h e)
+        ∙ ap (λ g. headers ++ g ∷ map (λ (h : Found (Option Header)). h.given) (map (header_in names) (definitions (drop (i + 1) items)))) (sym is)
+        ∙ sym (append_assoc headers (g ∷ []) _)
+        ∙ ap (λ hs. hs ++ map (λ (h : Found (Option Header)). h.given) (map (header_in names) (definitions (drop (i + 1) items)))) (sym m)
 
-    pub header_noted : (i : ℕ) (x : Item) (kept : Option Fault) → i < length items → x ≡ get_or items i x
-        → first_of kept (header_faults (map (header_in names) (definitions (drop i items)))) ≡ first_of (first_of kept (header_in names x.definition).faults) (header_faults (map (header_in names) (definitions (drop (i + 1) items))))
-    header_noted i x kept h e = ap (λ ds. first_of kept (header_faults (map (header_in names) ds))) (rest i x h e) ∙ first_of_append kept _ _
+    pub header_noted : (whole kept after : Option Fault) (i : ℕ) (x : Item) → whole ≡ first_of kept (header_faults (map (header_in names) (definitions (drop i items)))) → i < length items → x ≡ get_or items i x
+        → after ≡ first_of kept (header_in names x.definition).faults → whole ≡ first_of after (header_faults (map (header_in names) (definitions (drop (i + 1) items))))
+    header_noted whole kept after i x w h e k =
+        w ∙ ap (λ ds. first_of kept (header_faults (map (header_in names) ds))) (rest i x h e) ∙ first_of_append kept _ _
+        ∙ ap (λ k. first_of k (header_faults (map (header_in names) (definitions (drop (i + 1) items))))) (sym k)
 
     pub headers_end : (i : ℕ) (headers : List (Option Header)) → length items ≤ i → headers ++ map (λ h. h.given) (map (header_in names) (definitions (drop i items))) ≡ headers
     headers_end i headers h = ap (λ ds. headers ++ map (λ (h : Found (Option Header)). h.given) (map (header_in names) ds)) (no_rest i h) ∙ append-nil headers

@@ -100,6 +100,64 @@ fn define_bodies(
     Ok((funcs, procs))
 }
 
+/// The headers of all definitions, where the names of types and constants are visible, and nothing more after it.
+fn late_headers(
+    alloc: Global,
+    all: &Scope,
+    items: &[Item],
+    names: &mut Scope,
+    kept: &mut Option<Fault>,
+) -> Result<Vec<Option<Header>>, NoMemory>
+    ensures given { let ds = map (λ item. item.definition) items.now in
+        let late = with_all_late all.now names.old ds in
+        IfOk result (λ hs. hs.items ≡ map (λ h. h.given) (map (header_in late) ds)) }
+    ensures names { let ds = map (λ item. item.definition) items.now in
+        OnOk result (names.new ≡ take (length names.old) (with_all_late all.now names.old ds)) }
+    ensures noted { let ds = map (λ item. item.definition) items.now in
+        let late = with_all_late all.now names.old ds in
+        OnOk result (kept.new ≡ first_of kept.old (spec.header_faults (map (header_in late) ds))) }
+{
+    let count = names.count();
+    add_all_late(all, names, items)?;
+    let headers = headers_in(alloc, names, items, kept)?;
+    names.cut(count);
+    Ok(headers)
+}
+
+/// All functions, processes and models with their headers.
+fn define_headed(
+    alloc: Global,
+    all: &Scope,
+    items: &[Item],
+    headers: &[Option<Header>],
+    names: Scope,
+    kept: &mut Option<Fault>,
+) -> Result<(Option<Items<FuncDef>>, Option<Items<ProcDef>>), NoMemory>
+    ensures funcs { let ds = map (λ item. item.definition) items.now in
+        let named = with_all_headed all.now ds headers.now (spec.first_named names) in
+        let funcs = in_turn (functions_of ds headers.now) named.names in
+        IfOk result (λ r. r.0 ≡ funcs.made) }
+    ensures procs { let ds = map (λ item. item.definition) items.now in
+        let named = with_all_headed all.now ds headers.now (spec.first_named names) in
+        let funcs = in_turn (functions_of ds headers.now) named.names in
+        let procs = in_turn (processes_of ds headers.now) funcs.next in
+        IfOk result (λ r. r.1 ≡ procs.made) }
+    ensures noted { let ds = map (λ item. item.definition) items.now in
+        let named = with_all_headed all.now ds headers.now (spec.first_named names) in
+        let funcs = in_turn (functions_of ds headers.now) named.names in
+        let procs = in_turn (processes_of ds headers.now) funcs.next in
+        OnOk result (kept.new ≡ first_of (first_of kept.old funcs.faults) procs.faults) }
+{
+    let mut named = Named {
+        names,
+        functions: 0,
+        processes: 0,
+    };
+    add_all_headed(alloc, all, items, headers, &mut named)?;
+    let (funcs, procs) = define_bodies(alloc, items, headers, named.names, kept)?;
+    Ok((funcs, procs))
+}
+
 /// All functions, processes and models, where the names of types and constants are visible.
 fn define_late(
     alloc: Global,
@@ -123,25 +181,17 @@ fn define_late(
         IfOk result (λ r. r.1 ≡ procs.made) }
     ensures noted { let ds = map (λ item. item.definition) items.now in
         let late = with_all_late all.now early ds in
-        let headers = map (header_in late) ds in
-        let given = map (λ h. h.given) headers in
+        let given = map (λ h. h.given) (map (header_in late) ds) in
         let named = with_all_headed all.now ds given (spec.first_named (take (length early) late)) in
         let funcs = in_turn (functions_of ds given) named.names in
         let procs = in_turn (processes_of ds given) funcs.next in
-        OnOk result (kept.new ≡ first_of (first_of (first_of kept.old (spec.header_faults headers)) funcs.faults) procs.faults) }
+        OnOk result (kept.new ≡ first_of (first_of (first_of kept.old (spec.header_faults (map (header_in late) ds))) funcs.faults) procs.faults) }
 {
     let mut names = early;
-    let count = names.count();
-    add_all_late(all, &mut names, items)?;
-    let headers = headers_in(alloc, &names, items, kept)?;
-    names.cut(count);
-    let mut named = Named {
-        names,
-        functions: 0,
-        processes: 0,
-    };
-    add_all_headed(alloc, all, items, headers.as_slice(), &mut named)?;
-    define_bodies(alloc, items, headers.as_slice(), named.names, kept)
+    let headers = late_headers(alloc, all, items, &mut names, kept)?;
+    let given = headers.as_slice();
+    let (funcs, procs) = define_headed(alloc, all, items, given, names, kept)?;
+    Ok((funcs, procs))
 }
 
 fn check_definitions(
@@ -174,7 +224,7 @@ fn check_definitions(
 }
 
 /// The core of a program in which no rule is broken, each distribution with its stream; else the first rule that is broken.
-#[tactic(auto, using(crate::proofs::Answered::accepted), unfolding(crate::specs::Programs::checked))]
+#[tactic(auto, unfolding(crate::specs::Programs::checked))]
 pub fn check(alloc: Global, tree: &Program) -> Result<Core, TypeFault>
     ensures answers { spec.Answers result (spec.checked tree.now) }
 {

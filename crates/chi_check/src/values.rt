@@ -150,6 +150,7 @@ pub(crate) fn instances_in(
     Ok(all)
 }
 
+#[tactic(auto, using(chi_typing::proofs::Firsts::first_of_none, chi_typing::proofs::Firsts::first_of_append, crate::proofs::Parts::noted_index))]
 fn step_in(
     alloc: Global,
     home: &Home,
@@ -165,7 +166,7 @@ fn step_in(
     match step {
         Postfix::Index { place, index } => {
             let index = value_in(alloc, home, scope, index.get(), kept)?;
-            chi_target_rules::index_step(alloc, name, *place, aim, index, kept)
+            Ok(chi_target_rules::index_step(alloc, name, *place, aim, index, kept)?)
         }
         Postfix::Slice { place, .. } => {
             note(kept, rules::INDEX, *place);

@@ -232,8 +232,8 @@ fn is_report(statement: &CStat) -> bool {
     };
     count.width == 0
         && mean.width == 0
-        && between.as_slice() == b" lots, mean "
-        && end.as_slice() == b"\n"
+        && between.as_slice() == b" lots, mean ".as_slice()
+        && end.as_slice() == b"\n".as_slice()
         && are_slots(by.as_slice(), &[1])
 }
 

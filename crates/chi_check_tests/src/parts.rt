@@ -11,9 +11,9 @@ pub fn is_lot(ty: &Ty) -> bool {
     let [id, born] = parts.as_slice() else {
         return false;
     };
-    id.0.as_slice() == b"id"
+    id.0.as_slice() == b"id".as_slice()
         && matches!(id.1, Ty::Int)
-        && born.0.as_slice() == b"born"
+        && born.0.as_slice() == b"born".as_slice()
         && matches!(born.1, Ty::Real)
 }
 
