@@ -77,9 +77,10 @@ fn check_statement(
             branches,
             otherwise,
         } => {
-            let branches = branches.as_slice();
-            let otherwise = otherwise.as_slice();
-            check_if(alloc, home, *place, branches, otherwise, loops, state, kept)
+            let parts = branches.as_slice();
+            let steps = otherwise.as_slice();
+            let made = check_branches(alloc, home, parts, loops, state, kept)?;
+            check_otherwise(alloc, home, *place, steps, made, loops, state, kept)
         }
         Statement::While {
             place,
@@ -89,8 +90,8 @@ fn check_statement(
             alloc,
             home,
             *place,
-            condition,
             block.as_slice(),
+            condition,
             state,
             kept,
         ),
@@ -162,23 +163,23 @@ fn check_select(
     selected(alloc, barred, place.line, inner)
 }
 
+/// The block of `else`, after what the branches came to.
 #[cycle(statement)]
-fn check_if(
+fn check_otherwise(
     alloc: Global,
     home: &Home,
     place: Place,
-    branches: &[chi_tree::Branch],
-    otherwise: &[Step],
+    steps: &[Step],
+    branches: Option<Items<Branch>>,
     loops: bool,
     state: &mut State,
     kept: &mut Option<Fault>,
 ) -> Result<Option<Items<CStat>>, NoMemory>
-    ensures next { OnOk result (state.new ≡ (block (map (spec.stepping_in home.now loops) otherwise.now) (in_turn (map (spec.branching_in home.now loops) branches.now) state.old).next).next) }
-    ensures made { IfOk result (λ s. s ≡ spec.chosen place.line (in_turn (map (spec.branching_in home.now loops) branches.now) state.old).made (block (map (spec.stepping_in home.now loops) otherwise.now) (in_turn (map (spec.branching_in home.now loops) branches.now) state.old).next).made) }
-    ensures noted { OnOk result (kept.new ≡ first_of (first_of kept.old (in_turn (map (spec.branching_in home.now loops) branches.now) state.old).faults) (block (map (spec.stepping_in home.now loops) otherwise.now) (in_turn (map (spec.branching_in home.now loops) branches.now) state.old).next).faults) }
+    ensures next { OnOk result (state.new ≡ (block (map (spec.stepping_in home.now loops) steps.now) state.old).next) }
+    ensures made { IfOk result (λ s. s ≡ spec.chosen place.line branches (block (map (spec.stepping_in home.now loops) steps.now) state.old).made) }
+    ensures noted { OnOk result (kept.new ≡ first_of kept.old (block (map (spec.stepping_in home.now loops) steps.now) state.old).faults) }
 {
-    let branches = check_branches(alloc, home, branches, loops, state, kept)?;
-    let otherwise = check_block(alloc, home, otherwise, loops, state, kept)?;
+    let otherwise = check_block(alloc, home, steps, loops, state, kept)?;
     chosen(alloc, place.line, branches, otherwise)
 }
 
@@ -187,8 +188,8 @@ fn check_while(
     alloc: Global,
     home: &Home,
     place: Place,
-    condition: &Expr,
     steps: &[Step],
+    condition: &Expr,
     state: &mut State,
     kept: &mut Option<Fault>,
 ) -> Result<Option<Items<CStat>>, NoMemory>
@@ -197,7 +198,9 @@ fn check_while(
     ensures noted { OnOk result (kept.new ≡ first_of (first_of kept.old (spec.test_in home.now state.old.names condition.now).faults) (block (map (spec.stepping_in home.now true) steps.now) state.old).faults) }
 {
     let test = test_in(alloc, home, &state.names, condition, kept)?;
-    let inner = check_block(alloc, home, steps, true, state, kept)?;
+    let count = state.names.count();
+    let inner = check_all(alloc, home, steps, true, state, kept)?;
+    state.names.cut(count);
     looped(alloc, place.line, test, inner)
 }
 

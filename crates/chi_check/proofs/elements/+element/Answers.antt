@@ -37,8 +37,8 @@ start_all-returns-clause-noted t c =
 
 pub start_one-returns-in-Unwind-clause-noted : goal.start_one-returns-in-Unwind-clause-noted
 start_one-returns-in-Unwind-clause-noted t c =
-    let w = walk_in c.args.home.now binder.Unwind c.in-Unwind.walk.now c.args.state.now in
+    let w = walk_in c.args.home.now binder.Unwind c.in-Unwind.walk c.args.state.now in
     on_ok_weaker c.start_unwound.result
-    (λ e d. d ∙ ap (λ (es : List Element). first_of (first_of c.args.kept.now w.faults) (in_turn (map (starting c.args.home.now) es) w.next).faults) c.as_slice.ensures.same
+    (λ d. d ∙ ap (λ (es : List Element). first_of (first_of c.args.kept.now w.faults) (in_turn (map (starting c.args.home.now) es) w.next).faults) c.as_slice.ensures.same
     ∙ sym (noted_unwind c.args.home.now c.args.element.now c.args.state.now c.args.kept.now _ _ _ c.in-Unwind.is))
     c.start_unwound.ensures.noted

@@ -1,13 +1,17 @@
-use Rattle.std.proofs.Common.{◌≡◌, ◌+◌, List, ◌∷◌, [], map, drop, refl, sym, ap, ◌∙◌, arith}
+use Rattle.std.proofs.Common.{◌≡◌, ◌+◌, List, ◌∷◌, [], map, drop, refl, sym, ap, ◌∙◌, arith, true}
 use Rattle.chi_core.specs.declared.statement.CStat.{CStat}
 use Rattle.chi_typing.specs.Faults.{first_of}
 use Rattle.chi_check.specs.declared.state.State.{State}
-use Rattle.chi_check.specs.Statements.{stepping_in, branching_in, offering_in}
+use Rattle.chi_check.specs.Statements.{stepping_in, branching_in, offering_in, test_in, guard_in, communication_in, walk_in, chosen, looped, walked, guarded, offered}
 use Rattle.std.proofs.lemmas.Grind.{common_steps}
+use Rattle.std.proofs.lemmas.Result.{IfOk-weaker, on_ok_weaker}
+use Rattle.chi_tree.specs.declared.statement.Branch.{Branch}
+use Rattle.chi_check.specs.declared.state.Binder.TheVariants as binder
+use Rattle.chi_check.specs.States.{block}
 use Rattle.chi_check.proofs.Folds.{step_is}
 use Rattle.chi_check.proofs.StatementSteps.{next_declare, made_declare, noted_declare, next_assign, made_assign, noted_assign, next_communicate, made_communicate, noted_communicate, next_pass, made_pass, noted_pass, next_break, made_break, noted_break, next_continue, made_continue, noted_continue, next_select, made_select, noted_select, next_if, made_if, noted_if, next_while, made_while, noted_while, next_for, made_for, noted_for, next_return, made_return, noted_return, next_exit, made_exit, noted_exit, next_run, made_run, noted_run, next_start, made_start, noted_start, next_finish, made_finish, noted_finish, next_write, made_write, noted_write}
 use Rattle.chi_check.proofs.AlternativeSteps.{next_guarded, made_guarded, noted_guarded, next_unwind, made_unwind, noted_unwind, next_branch, made_branch, noted_branch}
-use Rattle.chi_check.specs.Stated.{Stated, joined}
+use Rattle.chi_check.specs.Stated.{Stated, in_turn, joined}
 use Rattle.chi_check.proofs.Turns.{step_next, step_made, step_noted, end_next, end_made, end_noted}
 use Rattle.chi_check.proofs.statements.+statement.Goals as goal
 
@@ -154,19 +158,35 @@ pub check_statement-returns-in-Select-clause-noted : goal.check_statement-return
 check_statement-returns-in-Select-clause-noted t c = grind (arith, common_steps, noted_select)
 
 pub check_statement-returns-in-If-clause-next : goal.check_statement-returns-in-If-clause-next
-check_statement-returns-in-If-clause-next t c = grind (arith, common_steps, next_if)
+check_statement-returns-in-If-clause-next t c =
+    let p = c.as_slice-parts.ensures.same in
+    let o = c.as_slice-steps.ensures.same in
+    let n = c.in_ok-made.ensures.next ∙ ap (λ (bs : List Branch). (in_turn (map (branching_in c.args.home.now c.args.loops) bs) c.args.state.now).next) p in
+    on_ok_weaker c.check_otherwise.result (λ d. d ∙ (λ j. (block (map (stepping_in c.args.home.now c.args.loops) (o j)) (n j)).next) ∙ sym (next_if c.args.home.now c.args.statement.now c.args.loops c.args.state.now _ _ _ c.in-If.is)) c.check_otherwise.ensures.next
 
 pub check_statement-returns-in-If-clause-made : goal.check_statement-returns-in-If-clause-made
-check_statement-returns-in-If-clause-made t c = ?
+check_statement-returns-in-If-clause-made t c =
+    let p = c.as_slice-parts.ensures.same in
+    let o = c.as_slice-steps.ensures.same in
+    let n = c.in_ok-made.ensures.next ∙ ap (λ (bs : List Branch). (in_turn (map (branching_in c.args.home.now c.args.loops) bs) c.args.state.now).next) p in
+    let m = c.in_ok-made.ensures.made ∙ ap (λ (bs : List Branch). (in_turn (map (branching_in c.args.home.now c.args.loops) bs) c.args.state.now).made) p in
+    IfOk-weaker c.check_otherwise.result _ _ (λ r d. d ∙ (λ j. chosen c.in-If.place.line (m j) (block (map (stepping_in c.args.home.now c.args.loops) (o j)) (n j)).made) ∙ sym (made_if c.args.home.now c.args.statement.now c.args.loops c.args.state.now _ _ _ c.in-If.is)) c.check_otherwise.ensures.made
 
 pub check_statement-returns-in-If-clause-noted : goal.check_statement-returns-in-If-clause-noted
-check_statement-returns-in-If-clause-noted t c = grind (arith, common_steps, noted_if)
+check_statement-returns-in-If-clause-noted t c =
+    let p = c.as_slice-parts.ensures.same in
+    let o = c.as_slice-steps.ensures.same in
+    let n = c.in_ok-made.ensures.next ∙ ap (λ (bs : List Branch). (in_turn (map (branching_in c.args.home.now c.args.loops) bs) c.args.state.now).next) p in
+    let k = c.in_ok-made.ensures.noted ∙ ap (λ (bs : List Branch). first_of c.args.kept.now (in_turn (map (branching_in c.args.home.now c.args.loops) bs) c.args.state.now).faults) p in
+    on_ok_weaker c.check_otherwise.result (λ d. d ∙ (λ j. first_of (k j) (block (map (stepping_in c.args.home.now c.args.loops) (o j)) (n j)).faults) ∙ sym (noted_if c.args.home.now c.args.statement.now c.args.loops c.args.state.now c.args.kept.now _ _ _ c.in-If.is)) c.check_otherwise.ensures.noted
 
 pub check_statement-returns-in-While-clause-next : goal.check_statement-returns-in-While-clause-next
 check_statement-returns-in-While-clause-next t c = grind (arith, common_steps, next_while)
 
 pub check_statement-returns-in-While-clause-made : goal.check_statement-returns-in-While-clause-made
-check_statement-returns-in-While-clause-made t c = ?
+check_statement-returns-in-While-clause-made t c =
+    let b = c.as_slice-in-While.ensures.same in
+    IfOk-weaker c.check_while.result _ _ (λ r d. d ∙ (λ j. looped c.in-While.place.line (test_in c.args.home.now c.args.state.now.names c.in-While.condition).made (block (map (stepping_in c.args.home.now true) (b j)) c.args.state.now).made) ∙ sym (made_while c.args.home.now c.args.statement.now c.args.loops c.args.state.now _ _ _ c.in-While.is)) c.check_while.ensures.made
 
 pub check_statement-returns-in-While-clause-noted : goal.check_statement-returns-in-While-clause-noted
 check_statement-returns-in-While-clause-noted t c = grind (arith, common_steps, noted_while)
@@ -175,7 +195,9 @@ pub check_statement-returns-in-For-clause-next : goal.check_statement-returns-in
 check_statement-returns-in-For-clause-next t c = grind (arith, common_steps, next_for)
 
 pub check_statement-returns-in-For-clause-made : goal.check_statement-returns-in-For-clause-made
-check_statement-returns-in-For-clause-made t c = ?
+check_statement-returns-in-For-clause-made t c =
+    let b = c.as_slice-in-For.ensures.same in
+    IfOk-weaker c.check_for.result _ _ (λ r d. d ∙ (λ j. walked c.in-For.place.line (walk_in c.args.home.now binder.Variable c.in-For.walk c.args.state.now).made (in_turn (map (stepping_in c.args.home.now true) (b j)) (walk_in c.args.home.now binder.Variable c.in-For.walk c.args.state.now).next).made) ∙ sym (made_for c.args.home.now c.args.statement.now c.args.loops c.args.state.now _ _ _ c.in-For.is)) c.check_for.ensures.made
 
 pub check_statement-returns-in-For-clause-noted : goal.check_statement-returns-in-For-clause-noted
 check_statement-returns-in-For-clause-noted t c = grind (arith, common_steps, noted_for)
@@ -238,7 +260,9 @@ pub check_alternative-returns-in-Guarded-clause-next : goal.check_alternative-re
 check_alternative-returns-in-Guarded-clause-next t c = grind (arith, common_steps, next_guarded)
 
 pub check_alternative-returns-in-Guarded-clause-made : goal.check_alternative-returns-in-Guarded-clause-made
-check_alternative-returns-in-Guarded-clause-made t c = ?
+check_alternative-returns-in-Guarded-clause-made t c =
+    let b = c.as_slice-steps.ensures.same in
+    IfOk-weaker c.check_guarded.result _ _ (λ r d. d ∙ (λ j. guarded (guard_in c.args.home.now c.args.state.now.names c.in-Guarded.guard).made (communication_in c.args.home.now c.args.state.now.names c.in-Guarded.communication).made (block (map (stepping_in c.args.home.now c.args.loops) (b j)) c.args.state.now).made) ∙ sym (made_guarded c.args.home.now c.args.alternative.now c.args.loops c.args.state.now _ _ _ c.in-Guarded.is)) c.check_guarded.ensures.made
 
 pub check_alternative-returns-in-Guarded-clause-noted : goal.check_alternative-returns-in-Guarded-clause-noted
 check_alternative-returns-in-Guarded-clause-noted t c = grind (arith, common_steps, noted_guarded)
@@ -247,7 +271,9 @@ pub check_alternative-returns-in-Unwind-clause-next : goal.check_alternative-ret
 check_alternative-returns-in-Unwind-clause-next t c = grind (arith, common_steps, next_unwind)
 
 pub check_alternative-returns-in-Unwind-clause-made : goal.check_alternative-returns-in-Unwind-clause-made
-check_alternative-returns-in-Unwind-clause-made t c = ?
+check_alternative-returns-in-Unwind-clause-made t c =
+    let b = c.as_slice.ensures.same in
+    IfOk-weaker c.check_unwound.result _ _ (λ r d. d ∙ (λ j. offered (walk_in c.args.home.now binder.Unwind c.in-Unwind.walk c.args.state.now).made (in_turn (map (offering_in c.args.home.now c.args.loops) (b j)) (walk_in c.args.home.now binder.Unwind c.in-Unwind.walk c.args.state.now).next).made) ∙ sym (made_unwind c.args.home.now c.args.alternative.now c.args.loops c.args.state.now _ _ _ c.in-Unwind.is)) c.check_unwound.ensures.made
 
 pub check_alternative-returns-in-Unwind-clause-noted : goal.check_alternative-returns-in-Unwind-clause-noted
 check_alternative-returns-in-Unwind-clause-noted t c = grind (arith, common_steps, noted_unwind)
@@ -260,12 +286,3 @@ check_branch-returns-clause-made t c = grind (arith, common_steps, made_branch)
 
 pub check_branch-returns-clause-noted : goal.check_branch-returns-clause-noted
 check_branch-returns-clause-noted t c = grind (arith, common_steps, noted_branch)
-
-pub check_if-check_block-requires : goal.check_if-check_block-requires
-check_if-check_block-requires t c = ?
-
-pub check_statement-check_while-requires : goal.check_statement-check_while-requires
-check_statement-check_while-requires t c = ?
-
-pub check_while-check_block-requires : goal.check_while-check_block-requires
-check_while-check_block-requires t c = ?
