@@ -157,27 +157,27 @@ check_statement-returns-in-Select-clause-made t c = grind (arith, common_steps, 
 pub check_statement-returns-in-Select-clause-noted : goal.check_statement-returns-in-Select-clause-noted
 check_statement-returns-in-Select-clause-noted t c = grind (arith, common_steps, noted_select)
 
-pub check_statement-returns-in-If-clause-next : goal.check_statement-returns-in-If-clause-next
-check_statement-returns-in-If-clause-next t c =
+pub check_statement-returns-in_ok-made-in-If-clause-next : goal.check_statement-returns-in_ok-made-in-If-clause-next
+check_statement-returns-in_ok-made-in-If-clause-next t c =
     let p = c.as_slice-parts.ensures.same in
     let o = c.as_slice-steps.ensures.same in
-    let n = c.in_ok-made.ensures.next ∙ ap (λ (bs : List Branch). (in_turn (map (branching_in c.args.home.now c.args.loops) bs) c.args.state.now).next) p in
+    let n = c.in_ok-made-in-If.ensures.next ∙ ap (λ (bs : List Branch). (in_turn (map (branching_in c.args.home.now c.args.loops) bs) c.args.state.now).next) p in
     on_ok_weaker c.check_otherwise.result (λ d. d ∙ (λ j. (block (map (stepping_in c.args.home.now c.args.loops) (o j)) (n j)).next) ∙ sym (next_if c.args.home.now c.args.statement.now c.args.loops c.args.state.now _ _ _ c.in-If.is)) c.check_otherwise.ensures.next
 
-pub check_statement-returns-in-If-clause-made : goal.check_statement-returns-in-If-clause-made
-check_statement-returns-in-If-clause-made t c =
+pub check_statement-returns-in_ok-made-in-If-clause-made : goal.check_statement-returns-in_ok-made-in-If-clause-made
+check_statement-returns-in_ok-made-in-If-clause-made t c =
     let p = c.as_slice-parts.ensures.same in
     let o = c.as_slice-steps.ensures.same in
-    let n = c.in_ok-made.ensures.next ∙ ap (λ (bs : List Branch). (in_turn (map (branching_in c.args.home.now c.args.loops) bs) c.args.state.now).next) p in
-    let m = c.in_ok-made.ensures.made ∙ ap (λ (bs : List Branch). (in_turn (map (branching_in c.args.home.now c.args.loops) bs) c.args.state.now).made) p in
+    let n = c.in_ok-made-in-If.ensures.next ∙ ap (λ (bs : List Branch). (in_turn (map (branching_in c.args.home.now c.args.loops) bs) c.args.state.now).next) p in
+    let m = c.in_ok-made-in-If.ensures.made ∙ ap (λ (bs : List Branch). (in_turn (map (branching_in c.args.home.now c.args.loops) bs) c.args.state.now).made) p in
     IfOk-weaker c.check_otherwise.result _ _ (λ r d. d ∙ (λ j. chosen c.in-If.place.line (m j) (block (map (stepping_in c.args.home.now c.args.loops) (o j)) (n j)).made) ∙ sym (made_if c.args.home.now c.args.statement.now c.args.loops c.args.state.now _ _ _ c.in-If.is)) c.check_otherwise.ensures.made
 
-pub check_statement-returns-in-If-clause-noted : goal.check_statement-returns-in-If-clause-noted
-check_statement-returns-in-If-clause-noted t c =
+pub check_statement-returns-in_ok-made-in-If-clause-noted : goal.check_statement-returns-in_ok-made-in-If-clause-noted
+check_statement-returns-in_ok-made-in-If-clause-noted t c =
     let p = c.as_slice-parts.ensures.same in
     let o = c.as_slice-steps.ensures.same in
-    let n = c.in_ok-made.ensures.next ∙ ap (λ (bs : List Branch). (in_turn (map (branching_in c.args.home.now c.args.loops) bs) c.args.state.now).next) p in
-    let k = c.in_ok-made.ensures.noted ∙ ap (λ (bs : List Branch). first_of c.args.kept.now (in_turn (map (branching_in c.args.home.now c.args.loops) bs) c.args.state.now).faults) p in
+    let n = c.in_ok-made-in-If.ensures.next ∙ ap (λ (bs : List Branch). (in_turn (map (branching_in c.args.home.now c.args.loops) bs) c.args.state.now).next) p in
+    let k = c.in_ok-made-in-If.ensures.noted ∙ ap (λ (bs : List Branch). first_of c.args.kept.now (in_turn (map (branching_in c.args.home.now c.args.loops) bs) c.args.state.now).faults) p in
     on_ok_weaker c.check_otherwise.result (λ d. d ∙ (λ j. first_of (k j) (block (map (stepping_in c.args.home.now c.args.loops) (o j)) (n j)).faults) ∙ sym (noted_if c.args.home.now c.args.statement.now c.args.loops c.args.state.now c.args.kept.now _ _ _ c.in-If.is)) c.check_otherwise.ensures.noted
 
 pub check_statement-returns-in-While-clause-next : goal.check_statement-returns-in-While-clause-next
