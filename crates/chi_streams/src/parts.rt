@@ -129,19 +129,3 @@ pub(crate) fn elements(
     }
     Ok(Items::of(alloc, done)?)
 }
-
-/// A guard and what is offered where it holds.
-pub(crate) fn guarded_offer(
-    alloc: Global,
-    guard: Option<CExpr>,
-    offer: CComm,
-    count: &mut u64,
-) -> Result<(Option<CExpr>, CComm), NoMemory>
-    ensures guard { IfOk result (λ r. r.0 ≡ (spec.some spec.of_expression guard count.old).part) }
-    ensures offer { IfOk result (λ r. r.1 ≡ (spec.of_communication offer (spec.some spec.of_expression guard count.old).next).part) }
-    ensures next { OnOk result (count.new ≡ (spec.of_communication offer (spec.some spec.of_expression guard count.old).next).next) }
-{
-    let guard = some_expression(alloc, guard, count)?;
-    let offer = communication(alloc, offer, count)?;
-    Ok((guard, offer))
-}

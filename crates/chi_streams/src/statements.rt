@@ -5,7 +5,7 @@ ghost use Rattle.chi_core.specs.declared.statement.CAlt.{CAlt-F};
 ghost use Rattle.chi_streams.specs.Streams as spec;
 
 use crate::expressions::{expression, expressions};
-use crate::parts::{elements, guarded_offer, some_expression, targets};
+use crate::parts::{communication, elements, some_expression, targets};
 use chi_base::{Items, NoMemory};
 use chi_core::{Branch, CAlt, CComm, CExpr, CStat};
 use std::alloc::Global;
@@ -102,7 +102,8 @@ fn guarded(
     ensures part { IfOk result (λ r. r ≡ (spec.alternative_step (CAlt-F.Guarded guard offer (map spec.of_statement block)) count.old).part) }
     ensures next { OnOk result (count.new ≡ (spec.alternative_step (CAlt-F.Guarded guard offer (map spec.of_statement block)) count.old).next) }
 {
-    let (guard, offer) = guarded_offer(alloc, guard, offer, count)?;
+    let guard = some_expression(alloc, guard, count)?;
+    let offer = communication(alloc, offer, count)?;
     Ok(CAlt::Guarded(guard, offer, statements(alloc, block, count)?))
 }
 
