@@ -1,0 +1,12 @@
+pub mod Blocks
+pub mod Formed
+pub mod Lines
+pub mod Parsed
+pub mod Parts
+pub mod Predefined
+pub mod Premises
+pub mod Programs
+pub mod Rules
+pub mod Short
+pub mod Tokens
+pub mod Trees
