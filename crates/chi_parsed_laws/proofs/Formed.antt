@@ -18,9 +18,7 @@ use Rattle.chi_grammar_laws.specs.Statements as formed
 use Rattle.chi_grammar_laws.specs.Statements.{FormedTargets, FormedWalk, FormedElement, FormedElements, FormedBlock, FormedInner, FormedStatement, FormedBranches, FormedAlternatives, FormedAlternative}
 use Rattle.chi_check_laws.specs.Whole as whole
 use Rattle.chi_check_laws.specs.Whole.{has_any, element_is_whole, elements_are_whole, statement_is_whole, step_is_whole, branch_is_whole, alternative_is_whole, steps_are_whole}
-
-both_true : (a b : Bool) → a ≡ true → b ≡ true → (a && b) ≡ true
-both_true a b p q = λ i. p i && q i
+use Rattle.chi_parsed_laws.proofs.Short.{both_true}
 
 -- ---- by the outermost layers
 

@@ -58,7 +58,8 @@ use Rattle.chi_stat_laws.specs.Parts.{step_texts, target_texts, texts_if_any, co
 use Rattle.chi_check_expr.proofs.Kept.{Each, IfGiven}
 use Rattle.chi_check_laws.specs.Texts.{element_texts, statement_texts, branch_texts, alternative_texts}
 use Rattle.chi_check_laws.proofs.Layers.{statement_short, element_short}
-use Rattle.chi_parsed_laws.proofs.Short.{on_map, on_any, on_then, on_if, each_append, settled_on, one_on, two_on, all_on, barred_on, made_on, Short, Shorts, MadeShort, both_true, all_short, converted_short, passed_on}
+use Rattle.chi_check_laws.proofs.Turns.{each_append}
+use Rattle.chi_parsed_laws.proofs.Short.{on_map, on_any, on_then, on_if, settled_on, one_on, two_on, all_on, barred_on, made_on, Short, Shorts, MadeShort, both_true, all_short, converted_short, passed_on}
 
 -- ---- parts of statements
 

@@ -52,8 +52,9 @@ use Rattle.chi_check.specs.States.{next_slot, new_name_rule, with_variable, bind
 use Rattle.chi_check.specs.Statements.{made_of, made_if, all_of, all_faults, communication_place, walk_place, declaration, types_of, opened, receiver_in, placed, selected, value_in, values_in, test_in, guard_in, instance_in, step_in, steps_in, target_in, assignment_place, assignment_in, initial_in, declared, declaration_in, walk_in, parts_in, communication_in, communicating, goal_in, element_in, write_in, return_in, exit_in, finish_in}
 use Rattle.chi_check_laws.proofs.Layers.{statement_short, alternative_short}
 use Rattle.chi_parsed_laws.proofs.Tokens.{Fits, AllFit, fit_left, fit_right}
-use Rattle.chi_parsed_laws.proofs.Short.{on_map, on_then, on_if, each_append, barred_on, Short, Shorts, MadeShort, SizesShort, both_true, all_short, default_on}
-use Rattle.chi_parsed_laws.proofs.Trees.{postfix_spelled, typing_short, reading_short}
+use Rattle.chi_check_laws.proofs.Turns.{each_append}
+use Rattle.chi_parsed_laws.proofs.Short.{on_map, on_then, on_if, barred_on, Short, Shorts, MadeShort, SizesShort, both_true, all_short, default_on}
+use Rattle.chi_parsed_laws.proofs.Trees.{postfix_spelled, expr_short, type_short}
 use Rattle.chi_parsed_laws.proofs.Lines.{any_given, AimShort, TargetShort, ShortIfAny, WrittenShort, CommunicationShort, StatementShort, OfferShort, MakeShort, WalkShort, initial_on, condition_on, finished_on, named_target_on, index_step_on, field_step_on, assigned_on, send_of_on, receive_of_on, delay_on, instance_target_on, start_on, element_on, return_on, exit_on, walk_on, write_on}
 
 -- ---- several parts
@@ -90,7 +91,7 @@ module _ (home : Home) where
   -- ---- values
 
   pub value_short : (names : Names) (d : ℕ) (e : Expr) → FormedExpr level.Expr d e → AllFit (spelled_expr e) → IfGiven MadeShort (value_in home names e).made
-  value_short names d e f = typing_short (site_of home) names level.Expr d e f
+  value_short names d e f = expr_short (site_of home) names level.Expr d e f
 
   after_values : (names : Names) (d : ℕ) (es : List Expr) → FormedExprs d es → AllFit (each_after (token.Sign sign.Comma) (map spelled_expr es)) → Each (IfGiven MadeShort) (map made_of (values_in home names es))
   after_values names _ _ expressions.no_exprs fit = tt
@@ -150,7 +151,7 @@ module _ (home : Home) where
   pub declaration_short : (d : ℕ) (t : TypeTree) (vs : List Variable) → FormedType d t → FormedVariables d vs → AllFit (spelled_type t ++ separated (token.Sign sign.Comma) (map spelled_variable vs)) → TurnShort StatementShort (declaration_in home t vs)
   declaration_short d t vs f g fit s =
       let m = (reading (site_of home) s.names t true).made in
-      let sizes = reading_short (site_of home) s.names d t f (fit_left (spelled_type t) _ fit) true in
+      let sizes = type_short (site_of home) s.names d t f (fit_left (spelled_type t) _ fit) true in
       held_on (Each StatementShort) (channel_rule home (type_place t) (option_map (λ m. m.ty) m)) (in_turn (map (declared home (type_place t).line m) vs) s)
       (turns_short StatementShort (map (declared home (type_place t).line m) vs) (after_variables (type_place t).line m d vs g sizes (after_each (token.Sign sign.Comma) tt (map spelled_variable vs) (fit_right (spelled_type t) _ fit))) s)
 

@@ -37,7 +37,8 @@ use Rattle.chi_expr_rules.specs.PredefinedCalls.{absolute_by, sign_by, is_counte
 use Rattle.chi_expr_rules.specs.Containers as literals
 use Rattle.chi_expr_rules.specs.Containers.{joined_all, literal_of}
 use Rattle.chi_check_expr.proofs.Kept.{Each, IfGiven}
-use Rattle.chi_parsed_laws.proofs.Short.{on_any, on_then, on_if, each_append, unless_on, settled_on, all_on, barred_on, made_on, Short, Shorts, MadeShort, SizesShort, operation_short, build_short, insertion_short, converted_short, all_converted_short, wanting_on, cores_short, as_they_are_short, both_as_short}
+use Rattle.chi_check_laws.proofs.Turns.{each_append}
+use Rattle.chi_parsed_laws.proofs.Short.{on_any, on_then, on_if, unless_on, settled_on, all_on, barred_on, made_on, Short, Shorts, MadeShort, SizesShort, operation_short, build_short, insertion_short, converted_short, all_converted_short, wanting_on, cores_short, as_they_are_short, both_as_short}
 
 -- ---- one argument
 

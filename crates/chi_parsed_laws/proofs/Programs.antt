@@ -45,7 +45,7 @@ use Rattle.chi_program_laws.specs.Bodies.{TextsAreShort}
 use Rattle.chi_program_laws.proofs.Positions.{each_every}
 use Rattle.chi_parsed_laws.proofs.Tokens.{AllFit, fit_left, fit_right}
 use Rattle.chi_parsed_laws.proofs.Short.{on_map, on_any, on_then, Short}
-use Rattle.chi_parsed_laws.proofs.Trees.{typing_short}
+use Rattle.chi_parsed_laws.proofs.Trees.{expr_short}
 use Rattle.chi_parsed_laws.proofs.Lines.{StatementShort, all_mapped, any_given, constant_on}
 use Rattle.chi_parsed_laws.proofs.Parts.{TurnShort, both_on, turns_short}
 use Rattle.chi_parsed_laws.proofs.Blocks.{body_short}
@@ -108,7 +108,7 @@ constant_early d place t name equals e f fit names s =
     let rest : AllFit (token.Name name.text ∷ token.Sign sign.Assign ∷ spelled_expr e) = fit_right (spelled_type t) _ fit.1 in
     let given = (type_in site.Constant s.names t).given in
     both_on (λ t. Unit {0}) Short (Each ConstantShort) (constant place.line) given (constant_value equals (typing site.Constant s.names e).made given).made (λ t e h k. (k, tt)) (any_given given)
-    (constant_on equals (typing site.Constant s.names e).made given (typing_short site.Constant s.names level.Expr d e f rest.1.1))
+    (constant_on equals (typing site.Constant s.names e).made given (expr_short site.Constant s.names level.Expr d e f rest.1.1))
 
 function_short : (b d : ℕ) (place : Place) (t : TypeTree) (name : Name) (fs : List Formal) (xs : List Step) → FormedInner b d xs → AllFit (spelled_definition (definition.Func place t name fs xs)) → (h : Option Header) → TurnShort FunctionShort (function_of (definition.Func place t name fs xs) h)
 function_short b d place t name fs xs f fit None names = tt

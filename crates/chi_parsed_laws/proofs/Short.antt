@@ -45,10 +45,6 @@ pub on_if : {A : Type 0} (P : A → Type 0) (b : Bool) (o : Option A) → IfGive
 on_if P true o h = h
 on_if P false o h = tt
 
-pub each_append : {A : Type 0} (P : A → Type 0) (xs ys : List A) → Each P xs → Each P ys → Each P (xs ++ ys)
-each_append P [] ys h k = k
-each_append P (x ∷ xs) ys h k = (h.0, each_append P xs ys h.1 k)
-
 -- ---- what nodes come to
 
 pub unless_on : {A : Type 0} (P : A → Type 0) (fs : List Fault) (a : A) → P a → IfGiven P (unless fs a).made

@@ -259,7 +259,7 @@ module _ (site : Site) (names : Names) where
   -- ---- all trees
 
   mutual
-    expr_short : (l : Level) (d : ℕ) (e : Expr) → FormedExpr l d e → ExprShort e
+    pub expr_short : (l : Level) (d : ℕ) (e : Expr) → FormedExpr l d e → ExprShort e
     expr_short _ _ _ (formed.disjunction {d = d} {e = e} {links = links} f fs) = chain_short e links (expr_short _ d e f) (links_short _ d links fs)
     expr_short _ _ _ (formed.conjunction {d = d} {e = e} {links = links} f fs) = chain_short e links (expr_short _ d e f) (links_short _ d links fs)
     expr_short _ _ _ (formed.negation {d = d} {place = place} {e = e} f) = at_expr _ _ (expr.outs-Prefix prefix.Not place e) (λ fit. prefix_on site prefix.Not place (typing site names e).made (expr_short _ d e f fit.1))
@@ -325,7 +325,7 @@ module _ (site : Site) (names : Names) where
     entries_short _ _ (formed.entries {d = d} {k = k} {v = v} {es = es} f g fs) = λ fit.
         (entry_short _ (expr_short _ d k f) (expr_short _ d v g) (fit_left (spelled_entry _) _ fit.1), entries_short d es fs (fit_right (spelled_entry _) _ fit.1))
 
-    type_short : (d : ℕ) (t : TypeTree) → FormedType d t → TypeShort t
+    pub type_short : (d : ℕ) (t : TypeTree) → FormedType d t → TypeShort t
     type_short _ _ (formed.word {word = word} {place = place}) = at_type _ _ (type.outs-Word word place) (λ fit sizes. type_on place [] (types.meaning (types.word_type word)) tt)
     type_short _ _ (formed.named {name = name}) = at_type _ _ (type.outs-Defined name) (λ fit sizes. type_name_on names name)
     type_short _ _ (formed.list {place = place} {t = t} f) = at_type _ _ (type.outs-List place None t) (λ fit sizes. unsized_list_on place (reading site names t false).made)
@@ -338,11 +338,3 @@ module _ (site : Site) (names : Names) where
     type_short _ _ (formed.tuple {place = place} {first = first} {second = second} {more = more} fs) = at_type _ _ (type.outs-Tuple place (first ∷ second ∷ more)) (λ fit sizes. tuple_type_on place (map (λ f. f.name) (map (formal site names) (first ∷ second ∷ more))) (parts_from None (map (formal site names) (first ∷ second ∷ more))))
     type_short _ _ (formed.void {place = place} {way = way}) = at_type _ _ (type.outs-Chan place way None) (λ fit sizes. type_on place [] (types.meaning (ty.Chan (types.way_of way) ty.Void)) tt)
     type_short _ _ (formed.chan {place = place} {way = way} {t = t} f) = at_type _ _ (type.outs-Chan place way (Some t)) (λ fit sizes. chan_on place way (reading site names t false).made)
-
-  -- ---- what the statements take
-
-  pub typing_short : (l : Level) (d : ℕ) (e : Expr) → FormedExpr l d e → AllFit (spelled_expr e) → TypedShort (typing site names e)
-  typing_short = expr_short
-
-  pub reading_short : (d : ℕ) (t : TypeTree) → FormedType d t → AllFit (spelled_type t) → (sizes : Bool) → IfGiven SizesShort (reading site names t sizes).made
-  reading_short = type_short
