@@ -1,5 +1,5 @@
 -- What is formed is whole.
-use Rattle.std.proofs.Common.{◌≡◌, ℕ, Bool, true, false, ◌&&◌, List, map, refl, ap, ◌∙◌}
+use Rattle.std.proofs.Common.{◌≡◌, ℕ, Bool, true, false, List, map, refl, ap, ◌∙◌}
 use Rattle.std.specs.List.{list_all}
 use Rattle.chi_value.specs.Plain.{itself}
 use Rattle.chi_tree.specs.declared.expr.Expr.{Expr}
