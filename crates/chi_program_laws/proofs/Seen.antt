@@ -81,20 +81,6 @@ module _ (scope : Scope) (set : Set) (reads : (number : ℕ) → IsTrue (may_rea
   seen_stands (known.Fixed slot t) h = absurd h
   seen_stands (known.Untyped k) h = absurd h
 
-pub seen_fine : (core : Core) (k : Known) → Seen core k → Fine k
-seen_fine core (known.Kind t) h = h.1
-seen_fine core (known.Value enumeration position) h = tt
-seen_fine core (known.Const number t) h = tt
-seen_fine core (known.Func number params result) h = tt
-seen_fine core (known.Proc number params exit) h = tt
-seen_fine core (known.Model number) h = tt
-seen_fine core (known.Xper number) h = tt
-seen_fine core (known.Var slot t) h = absurd h
-seen_fine core (known.Fixed slot t) h = absurd h
-seen_fine core (known.Untyped k) h = absurd h
-
--- ---- the parameters of a body are its first slots
-
 pub kinds_first : (params others : List Ty) → take (length params) (kinds_of (params ++ others)) ≡ kinds_of params
 kinds_first [] others = refl
 kinds_first (t ∷ params) others = ap (λ rest. kind_of t ∷ rest) (kinds_first params others)
