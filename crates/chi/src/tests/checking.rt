@@ -39,12 +39,12 @@ fn long_sources_are_checked(rt: HostRuntime) -> Result<(), Fail> {
         "(int x): return x + 1 end\n",
         "model M(): pass end",
     );
-    let source = numbered(alloc, functions, 1_000)?;
+    let source = numbered(alloc, functions, 10_000)?;
     expect_accepted(&rt, alloc, "many definitions", &source)?;
     let statements = ("model M(): int x; ", "x = x + ", "; ", "pass end");
-    let source = numbered(alloc, statements, 5_000)?;
+    let source = numbered(alloc, statements, 50_000)?;
     expect_accepted(&rt, alloc, "many statements", &source)?;
     let values = ("enum E = {", "v", ", ", "v} model M(): pass end");
-    let source = numbered(alloc, values, 10_000)?;
+    let source = numbered(alloc, values, 100_000)?;
     expect_accepted(&rt, alloc, "many values", &source)
 }

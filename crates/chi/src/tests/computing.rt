@@ -128,6 +128,10 @@ fn computations_have_faults(rt: HostRuntime) -> Result<(), Fail> {
             "fault TooManyChannels in M line 1 at time 0.0\n",
         ),
         faulty(
+            "func int f(int n): return f(n + 1) end model M(): writeln(\"%d\", f(0)) end",
+            "fault CallDepth in M line 1 at time 0.0\n",
+        ),
+        faulty(
             "func int f(): pass end model M(): int x = f() end",
             "fault NoReturn in M line 1 at time 0.0\n",
         ),
