@@ -9,11 +9,11 @@ use Rattle.chi_core.specs.Step.{Next, Over, step}
 use Rattle.chi_runs.specs.Tellings.{ToldSoFar}
 use Rattle.chi_runs.proofs.Turns.{along-none, along-step}
 
-module _ (tells : Tells ℕ) (last : TellsLast ℕ) (core : Core) (first : Config) (bound : ℕ) where
+module _ {A : Type 0} (tells : Tells A) (last : TellsLast A) (core : Core) (first : Config) (bound : ℕ) where
   pub nothing_told : ToldSoFar tells last core first bound [] [] first bound
   nothing_told = record { goes_on = λ more. refl }
 
-  module _ (labels : List Label) (told : List ℕ) (config : Config) (left : ℕ) (so_far : ToldSoFar tells last core first bound labels told config left) where
+  module _ (labels : List Label) (told : List A) (config : Config) (left : ℕ) (so_far : ToldSoFar tells last core first bound labels told config left) where
     pub more_told : (label : Label) (new : Config) (text : List ℕ) (rest : ℕ) → step core config label left ≡ Next new text rest
         → ToldSoFar tells last core first bound (labels ++ label ∷ []) (told ++ tells (length labels) config label (Next new text rest)) new rest
     more_told label new text rest e = record {

@@ -9,7 +9,7 @@ use Rattle.chi_core.specs.Step.{Next, Over, step}
 
 -- So much was told of a run from its first configuration on: along these labels, which led to a configuration with so
 -- much left of the bound. Whatever is told from there comes after it.
-pub record ToldSoFar (tells : Tells ℕ) (last : TellsLast ℕ) (core : Core) (first : Config) (bound : ℕ) (labels : List Label) (told : List ℕ) (config : Config) (left : ℕ) : Type 0 where
+pub record ToldSoFar {A : Type 0} (tells : Tells A) (last : TellsLast A) (core : Core) (first : Config) (bound : ℕ) (labels : List Label) (told : List A) (config : Config) (left : ℕ) : Type 0 where
   pub goes_on : (more : List Label)
       → along tells last core 0 first bound (labels ++ more) ≡ told ++ along tells last core (length labels) config left more
 

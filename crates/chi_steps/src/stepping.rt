@@ -96,7 +96,7 @@ fn stopped(
 
 impl<'a> Configuration<'a> {
     /// The line of the first item of instance `pid`.
-    fn line_at(&self, pid: u32) -> u32
+    pub fn line_at(&self, pid: u32) -> u32
         requires { IsSomeAnd (slice_get self.now.instances pid) (λ i. first_of i.term ≢ None) }
         ensures { IfSome (slice_get self.now.instances pid) (λ i. option_map line_of (first_of i.term) ≡ Some result) }
     {
