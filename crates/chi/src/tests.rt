@@ -6,6 +6,7 @@ mod library;
 mod processes;
 mod refusals;
 mod runs;
+mod traces;
 mod words;
 
 use chi_io::{MemShelf, MemSink};

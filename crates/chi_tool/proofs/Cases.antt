@@ -8,17 +8,16 @@ use Rattle.chi_tool.specs.declared.task.Task.{Task}
 use Rattle.chi_tool.specs.declared.task.Task.TheVariants.{OfFile, OfLog, OfFactory}
 use Rattle.chi_tool.specs.Call.{Call}
 use Rattle.chi_tool.specs.Headline.{IsAskedSource, held, made, IsAskedLog}
-use Rattle.chi_tool.specs.Refusals.{Report, usage, not_built, no_such_file, file_too_long}
+use Rattle.chi_tool.specs.Refusals.{Report, usage, no_such_file, file_too_long}
 use Rattle.chi_tool.specs.Report.{IsReportOfSource, IsReportOfLog, IsReportFor, IsReportOfFile, missing, long, fetched, IsReportOfTask, IsReportOfWish, IsReport}
 use Rattle.chi_tool.specs.Settings.{Aim, simulates, wanted_of, aim_of, plain}
-use Rattle.chi_tool.specs.Words.{Wish, nothing, unbuilt, of_task, wish_of}
+use Rattle.chi_tool.specs.Words.{Wish, nothing, of_task, wish_of}
 use Rattle.chi_tool.proofs.Contents.{source_of_file, log_of_file}
 use Rattle.chi_tool.proofs.Promises.{is_report}
 
 -- what a report is of
 pub data CaseOf (call : Call) (files : Files) (r : Report) : Type 0 where
   asks_nothing : wish_of call.words ≡ nothing → r ≡ usage → CaseOf call files r
-  asks_unbuilt : wish_of call.words ≡ unbuilt → r ≡ not_built → CaseOf call files r
   is_missing : r ≡ no_such_file → CaseOf call files r
   is_long : r ≡ file_too_long → CaseOf call files r
   of_log : (text : List ℕ) → IsAskedLog call files text → IsReportOfLog text r → CaseOf call files r
@@ -42,7 +41,6 @@ module _ (call : Call) (files : Files) (r : Report) where
 
   wish_case : (w : Wish) → wish_of call.words ≡ w → IsReportOfWish w files r → CaseOf call files r
   wish_case nothing asked is = asks_nothing asked is
-  wish_case unbuilt asked is = asks_unbuilt asked is
   wish_case (of_task t) asked is = task_case t asked is
 
 pub case_of : (call : Call) (files : Files) (r : Report) → IsReport call.words files r → CaseOf call files r
@@ -62,6 +60,3 @@ asked_report call files aim source r (made size asked same plainly) is =
 pub asked_log_report : (call : Call) (files : Files) (text : List ℕ) (r : Report) → IsAskedLog call files text → IsReportOfLog text r → IsReport call.words files r
 asked_log_report call files text r a is =
     is_report (OfLog a.name) a.name MOST_LOG_BYTES IsReportOfLog (log_of_file a.name) call a.asked files (Some text) r a.there (fetched text refl a.within is)
-
-pub unbuilt_report : (call : Call) (files : Files) → wish_of call.words ≡ unbuilt → IsReport call.words files not_built
-unbuilt_report call files asked = let at_wish : Wish → Type 0 = λ w. IsReportOfWish w files not_built in subst at_wish (sym asked) refl

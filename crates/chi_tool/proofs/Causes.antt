@@ -4,20 +4,19 @@ use Rattle.chi_io.specs.Shelf.{Files}
 use Rattle.chi_core.specs.declared.program.Core.{Core}
 use Rattle.chi_core.specs.declared.verdict.Verdict.{Verdict}
 use Rattle.chi_core.specs.declared.verdict.Verdict.TheVariants as verdict
-use Rattle.chi_core.specs.Runs.{Told}
 use Rattle.chi_value.specs.declared.value.Value.{Value}
 use Rattle.chi_tool.specs.Arguments.{Means}
 use Rattle.chi_tool.specs.Call.{Call}
-use Rattle.chi_tool.specs.Headline.{IsReportedOrLost, AsksFor, AsksForDone, AsksForLog, AsksForMistyped, ComesUp, HasMisfit, HasLexicalFault, HasSyntaxFault, HasTypeFault, IsAskedSource, EndsAs, Ends, IsDone, IsExit, IsFault, HasUnfitArguments, IsExactly}
+use Rattle.chi_tool.specs.Headline.{IsReportedOrLost, AsksFor, AsksForDone, AsksForLog, ComesUp, HasMisfit, HasLexicalFault, HasSyntaxFault, HasTypeFault, IsAskedSource, EndsAs, Ends, IsDone, IsExit, IsFault, HasUnfitArguments, IsExactly}
 use Rattle.chi_tool.specs.Refusals as refusal
 use Rattle.chi_tool.specs.Refusals.{Report}
 use Rattle.chi_tool.specs.Report.{IsReportOfSource, refused, program, IsReportOfProgram, IsReportOfLog, IsReport}
 use Rattle.chi_tool.specs.Report as report
-use Rattle.chi_tool.specs.Running.{IsRunOf, run_report}
+use Rattle.chi_tool.specs.Running.{Course, IsRunOf, run_report}
 use Rattle.chi_tool.specs.Settings.{Wanted, Aim, simulates, checks, settings_with}
 use Rattle.chi_tool.specs.Sources.{by_lexer, by_parser, by_checker, ComesTo}
 use Rattle.chi_tool.specs.Statuses.{status_of}
-use Rattle.chi_tool.proofs.Cases.{CaseOf, asks_nothing, asks_unbuilt, is_missing, is_long, of_log, of_source, case_of, asked_report, asked_log_report, unbuilt_report}
+use Rattle.chi_tool.proofs.Cases.{CaseOf, asks_nothing, is_missing, is_long, of_log, of_source, case_of, asked_report, asked_log_report}
 use Rattle.chi_tool.proofs.Contents.{status_ap, source_program, source_bound, log_bound}
 use Rattle.chi_tool.proofs.LawClauses.{ReportLaw}
 use Rattle.chi_tool.proofs.Promises.{MetOne}
@@ -49,14 +48,14 @@ module _ (n : ℕ) (Q : Verdict → Type 0) (low : (n ≡ 0) ⊎ ((10 ≤ n) × 
     program = comes;
     arguments = values;
     fit = means;
-    told = of.told;
+    course = of.course;
     run = of.run;
-    ends = to of.told.ending.verdict (sym (status_ap r _ of.is) ∙ is);
+    ends = to of.course.told.ending.verdict (sym (status_ap r _ of.is) ∙ is);
   }
 
   ends_run : (w : Wanted) (source : List ℕ) → EndsAs Q w source → (r : Report) × IsReportOfSource source (simulates w) r × (r.status ≡ n)
   ends_run w source p =
-      (run_report p.core p.told, program p.core p.program (report.run p.arguments p.fit (record { told = p.told; run = p.run; is = refl })), from p.told.ending.verdict p.ends)
+      (run_report p.core p.course, program p.core p.program (report.run p.arguments p.fit (record { course = p.course; run = p.run; is = refl })), from p.course.told.ending.verdict p.ends)
 
   -- a source's report with such a status is that of a program
   no_source_refusal : (m : ℕ) (r : Report) → 20 ≤ m → r.status ≡ m → r.status ≡ n → ⊥
@@ -158,7 +157,7 @@ unfit_run : (w : Wanted) (source : List ℕ) (core : Core) (r : Report) → Come
 unfit_run w source core r comes (report.unfit wanted fault misfits e) is =
     record { core = core; program = comes; wanted = wanted; fault = fault; misfits = misfits }
 unfit_run w source core r comes (report.run values means of) is =
-    let h : r.status ≡ status_of of.told.ending.verdict = status_ap r _ of.is in let b = status_bound of.told.ending.verdict in absurd (grind arith)
+    let h : r.status ≡ status_of of.course.told.ending.verdict = status_ap r _ of.is in let b = status_bound of.course.told.ending.verdict in absurd (grind arith)
 
 unfit_of : (aim : Aim) (source : List ℕ) (r : Report) → IsReportOfSource source aim r → r.status ≡ 23 → HasUnfitArguments aim source
 unfit_of aim source r (refused (by_lexer fault has e)) is = let h = status_ap r _ e in absurd (omega arith)
@@ -203,7 +202,7 @@ module _ (law : ReportLaw) (call : Call) (files : Files) (one : MetOne call file
     pub asked_status : AsksFor call files P → one.0.status ≡ n
     asked_status h = let p = status.from h.0 h.1 h.3 in same_status p.0 (asked_report call files h.0 h.1 p.0 h.2 p.1) ∙ p.2
 
-    module _ (built : n ≢ 22) (no_log : (n ≢ 0) × (n ≢ 24)) where
+    module _ (no_log : (n ≢ 0) × (n ≢ 24)) where
       no_log_status : (text : List ℕ) → IsReportOfLog text one.0 → one.0.status ≡ n → ⊥
       no_log_status text of is = by (log_bound text one.0 of)
         where
@@ -213,7 +212,6 @@ module _ (law : ReportLaw) (call : Call) (files : Files) (one : MetOne call file
 
       asks : CaseOf call files one.0 → one.0.status ≡ n → AsksFor call files P
       asks (asks_nothing asked e) is = absurd (status.other.0 (sym is ∙ status_ap one.0 _ e))
-      asks (asks_unbuilt asked e) is = absurd (built (sym is ∙ status_ap one.0 _ e))
       asks (is_missing e) is = absurd (status.other.1 (sym is ∙ status_ap one.0 _ e))
       asks (is_long e) is = absurd (status.other.1 (sym is ∙ status_ap one.0 _ e))
       asks (of_log text asked of) is = absurd (no_log_status text of is)
@@ -225,34 +223,36 @@ module _ (law : ReportLaw) (call : Call) (files : Files) (one : MetOne call file
           (λ is. asks (case_of call files one.0 one.1) is) asked_status
 
   pub exit_exactly : IsExactly call 10 (AsksFor call files (Ends IsExit))
-  exit_exactly = exactly_of 10 (Ends IsExit) exit_status (λ e. omega arith) (λ e. omega arith, λ e. omega arith)
+  exit_exactly = exactly_of 10 (Ends IsExit) exit_status (λ e. omega arith, λ e. omega arith)
 
   pub deadlock_exactly : IsExactly call 11 (AsksFor call files (Ends (λ v. v ≡ verdict.Deadlock)))
-  deadlock_exactly = exactly_of 11 (Ends (λ v. v ≡ verdict.Deadlock)) deadlock_status (λ e. omega arith) (λ e. omega arith, λ e. omega arith)
+  deadlock_exactly = exactly_of 11 (Ends (λ v. v ≡ verdict.Deadlock)) deadlock_status (λ e. omega arith, λ e. omega arith)
 
   pub fault_exactly : IsExactly call 12 (AsksFor call files (Ends IsFault))
-  fault_exactly = exactly_of 12 (Ends IsFault) fault_status (λ e. omega arith) (λ e. omega arith, λ e. omega arith)
+  fault_exactly = exactly_of 12 (Ends IsFault) fault_status (λ e. omega arith, λ e. omega arith)
 
   pub out_of_steps_exactly : IsExactly call 13 (AsksFor call files (Ends (λ v. v ≡ verdict.OutOfSteps)))
-  out_of_steps_exactly = exactly_of 13 (Ends (λ v. v ≡ verdict.OutOfSteps)) out_of_steps_status (λ e. omega arith) (λ e. omega arith, λ e. omega arith)
+  out_of_steps_exactly = exactly_of 13 (Ends (λ v. v ≡ verdict.OutOfSteps)) out_of_steps_status (λ e. omega arith, λ e. omega arith)
 
   pub stopped_exactly : IsExactly call 14 (AsksFor call files (Ends (λ v. v ≡ verdict.Stopped)))
-  stopped_exactly = exactly_of 14 (Ends (λ v. v ≡ verdict.Stopped)) stopped_status (λ e. omega arith) (λ e. omega arith, λ e. omega arith)
+  stopped_exactly = exactly_of 14 (Ends (λ v. v ≡ verdict.Stopped)) stopped_status (λ e. omega arith, λ e. omega arith)
 
   pub lexical_exactly : IsExactly call 20 (AsksFor call files (λ aim. HasLexicalFault))
-  lexical_exactly = exactly_of 20 (λ aim. HasLexicalFault) lexical_status (λ e. omega arith) (λ e. omega arith, λ e. omega arith)
+  lexical_exactly = exactly_of 20 (λ aim. HasLexicalFault) lexical_status (λ e. omega arith, λ e. omega arith)
 
   pub syntax_exactly : IsExactly call 21 (AsksFor call files (λ aim. HasSyntaxFault))
-  syntax_exactly = exactly_of 21 (λ aim. HasSyntaxFault) syntax_status (λ e. omega arith) (λ e. omega arith, λ e. omega arith)
+  syntax_exactly = exactly_of 21 (λ aim. HasSyntaxFault) syntax_status (λ e. omega arith, λ e. omega arith)
 
   pub unfit_exactly : IsExactly call 23 (AsksFor call files HasUnfitArguments)
-  unfit_exactly = exactly_of 23 HasUnfitArguments unfit_status (λ e. omega arith) (λ e. omega arith, λ e. omega arith)
+  unfit_exactly = exactly_of 23 HasUnfitArguments unfit_status (λ e. omega arith, λ e. omega arith)
+
+  pub typing_exactly : IsExactly call 22 (AsksFor call files (λ aim. HasTypeFault))
+  typing_exactly = exactly_of 22 (λ aim. HasTypeFault) mistyped_status (λ e. omega arith, λ e. omega arith)
 
   -- what is done: with a source, or with a log
 
   asks_done : CaseOf call files one.0 → one.0.status ≡ 0 → AsksForDone call files
   asks_done (asks_nothing asked e) is = let h = status_ap one.0 _ e in absurd (omega arith)
-  asks_done (asks_unbuilt asked e) is = let h = status_ap one.0 _ e in absurd (omega arith)
   asks_done (is_missing e) is = let h = status_ap one.0 _ e in absurd (omega arith)
   asks_done (is_long e) is = let h = status_ap one.0 _ e in absurd (omega arith)
   asks_done (of_log text asked of) is = inr (text, asked, up_of text one.0 of is)
@@ -270,7 +270,6 @@ module _ (law : ReportLaw) (call : Call) (files : Files) (one : MetOne call file
 
   asks_misfit : CaseOf call files one.0 → one.0.status ≡ 24 → AsksForLog call files HasMisfit
   asks_misfit (asks_nothing asked e) is = let h = status_ap one.0 _ e in absurd (omega arith)
-  asks_misfit (asks_unbuilt asked e) is = let h = status_ap one.0 _ e in absurd (omega arith)
   asks_misfit (is_missing e) is = let h = status_ap one.0 _ e in absurd (omega arith)
   asks_misfit (is_long e) is = let h = status_ap one.0 _ e in absurd (omega arith)
   asks_misfit (of_log text asked of) is = (text, asked, misfit_of text one.0 of is)
@@ -283,33 +282,15 @@ module _ (law : ReportLaw) (call : Call) (files : Files) (one : MetOne call file
   misfit_exactly =
       exactly one.0 call 24 (AsksForLog call files HasMisfit) (λ e. omega arith) met (λ is. asks_misfit (case_of call files one.0 one.1) is) misfit_is
 
-  -- a rule is broken, or what is asked for isn't built
-
-  asks_mistyped : CaseOf call files one.0 → one.0.status ≡ 22 → AsksForMistyped call files
-  asks_mistyped (asks_nothing asked e) is = let h = status_ap one.0 _ e in absurd (omega arith)
-  asks_mistyped (asks_unbuilt asked e) is = inl asked
-  asks_mistyped (is_missing e) is = let h = status_ap one.0 _ e in absurd (omega arith)
-  asks_mistyped (is_long e) is = let h = status_ap one.0 _ e in absurd (omega arith)
-  asks_mistyped (of_log text asked of) is = let b = log_bound text one.0 of in absurd (grind arith)
-  asks_mistyped (of_source aim source asked of) is = inr (aim, source, asked, mistyped_of aim source one.0 of is)
-
-  typing_is : AsksForMistyped call files → one.0.status ≡ 22
-  typing_is (inl asked) = same_status refusal.not_built (unbuilt_report call files asked)
-  typing_is (inr h) = asked_status 22 (λ aim. HasTypeFault) mistyped_status h
-
-  pub typing_exactly : IsExactly call 22 (AsksForMistyped call files)
-  typing_exactly =
-      exactly one.0 call 22 (AsksForMistyped call files) (λ e. omega arith) met (λ is. asks_mistyped (case_of call files one.0 one.1) is) typing_is
-
   -- a program that is asked to be run is run to its end
   pub ends_complete : (w : Wanted) (source : List ℕ) → IsAskedSource call files (simulates w) source → (core : Core) → ComesTo source core
-      → (arguments : List Value) → Means core w.texts arguments → (told : Told) → IsRunOf core (settings_with w arguments) told
-      → (call.status ≡ status_of told.ending.verdict) ⊎ (call.status ≡ 6)
-  ends_complete w source asked core comes arguments means told run =
-      let is : IsReportOfSource source (simulates w) (run_report core told) = program core comes (report.run arguments means (record { told = told; run = run; is = refl })) in
-      by_met (same_status (run_report core told) (asked_report call files (simulates w) source (run_report core told) asked is)) met
+      → (arguments : List Value) → Means core w.texts arguments → (course : Course) → IsRunOf core (settings_with w arguments) course
+      → (call.status ≡ status_of course.told.ending.verdict) ⊎ (call.status ≡ 6)
+  ends_complete w source asked core comes arguments means course run =
+      let is : IsReportOfSource source (simulates w) (run_report core course) = program core comes (report.run arguments means (record { course = course; run = run; is = refl })) in
+      by_met (same_status (run_report core course) (asked_report call files (simulates w) source (run_report core course) asked is)) met
     where
-      by_met : one.0.status ≡ status_of told.ending.verdict → IsReportedOrLost one.0 call
-          → (call.status ≡ status_of told.ending.verdict) ⊎ (call.status ≡ 6)
+      by_met : one.0.status ≡ status_of course.told.ending.verdict → IsReportedOrLost one.0 call
+          → (call.status ≡ status_of course.told.ending.verdict) ⊎ (call.status ≡ 6)
       by_met same (inl wanting) = inr wanting
       by_met same (inr m) = inl (m.status ∙ same)

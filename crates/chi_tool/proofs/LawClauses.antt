@@ -13,7 +13,6 @@ use Rattle.chi_grammar_laws.specs.Answers.{IsAnswer, IsProgram}
 use Rattle.chi_core.specs.declared.program.Core.{Core}
 use Rattle.chi_core.specs.Kinds.{kinds_of}
 use Rattle.chi_core.specs.Of.{at_start, AreOf}
-use Rattle.chi_core.specs.Runs.{Told}
 use Rattle.chi_core.specs.Sound.{Sound}
 use Rattle.chi_lex.specs.declared.lexer.TheConstants.{MOST_BYTES}
 use Rattle.chi_lex.specs.Reading.{Reads}
@@ -25,7 +24,7 @@ use Rattle.chi_types.specs.declared.ty.Ty.{Ty}
 use Rattle.chi_value.specs.declared.value.Value.{Value}
 use Rattle.chi_tool.specs.Refusals.{Report}
 use Rattle.chi_tool.specs.Report.{IsReportOfSource, IsReport}
-use Rattle.chi_tool.specs.Running.{IsRunOf, MayHave}
+use Rattle.chi_tool.specs.Running.{Course, IsRunOf, MayHave}
 use Rattle.chi_tool.specs.Settings.{Aim, MayBeAimed, Settings}
 use Rattle.chi_tool.specs.Sources.{ComesTo}
 
@@ -37,8 +36,8 @@ pub record AnswerLaw : Type 0 where
 
 -- the program that a source within the limit comes to has one run with settings that it may have
 pub record RunLaw : Type 0 where
-  pub some : (source : List ℕ) (core : Core) → length source ≤ MOST_BYTES → ComesTo source core → (s : Settings) → MayHave core s → (told : Told) × IsRunOf core s told
-  pub one : (core : Core) (s : Settings) (told other : Told) → IsRunOf core s told → IsRunOf core s other → told ≡ other
+  pub some : (source : List ℕ) (core : Core) → length source ≤ MOST_BYTES → ComesTo source core → (s : Settings) → MayHave core s → (course : Course) × IsRunOf core s course
+  pub one : (core : Core) (s : Settings) (course other : Course) → IsRunOf core s course → IsRunOf core s other → course ≡ other
 
 -- a program that breaks no rule comes to a core, which is sound where its source is within the limit
 pub record CheckLaw : Type 0 where

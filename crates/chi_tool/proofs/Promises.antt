@@ -4,8 +4,8 @@ use Rattle.std.specs.Prelude.{IfSome, IsSomeAnd}
 use Rattle.chi_io.specs.Counts.{Rose, Stood}
 use Rattle.chi_io.specs.Shelf.{Files}
 use Rattle.chi_tool.specs.declared.task.Task.{Task}
-use Rattle.chi_tool.specs.Words.{Wish, nothing, unbuilt, of_task, wish_of, NamesNoFile}
-use Rattle.chi_tool.specs.Refusals.{Report, usage, not_built, no_such_file, file_too_long}
+use Rattle.chi_tool.specs.Words.{Wish, nothing, of_task, wish_of, NamesNoFile}
+use Rattle.chi_tool.specs.Refusals.{Report, usage, no_such_file, file_too_long}
 use Rattle.chi_tool.specs.Report as report
 use Rattle.chi_tool.specs.Report.{IsReportOfFile, IsReportOfWish, IsReport}
 use Rattle.chi_tool.specs.Call.{Call, SinkUse, Took, TookFront, TookSome, SinkStood, ShelfRose}
@@ -169,11 +169,6 @@ usage_told call files none d =
     let at_wish : Wish → Type 0 = λ w. IsReportOfWish w files usage in
     by_report call files usage (subst at_wish (sym none) refl) (delivered d)
 
-pub unbuilt_told : (call : Call) (files : Files) → wish_of call.words ≡ unbuilt → DeliversReport not_built call.status call.out call.log → MeetsOne call files
-unbuilt_told call files asked d =
-    let at_wish : Wish → Type 0 = λ w. IsReportOfWish w files not_built in
-    by_report call files not_built (subst at_wish (sym asked) refl) (delivered d)
-
 -- memory was wanting before the words were read
 pub record IsLost (call : Call) : Type 0 where
   pub status : call.status ≡ 6
@@ -237,15 +232,6 @@ usage-headline call none d = record {
   by_words = λ same files.
       let at_wish : Wish → Type 0 = λ w. IsReportOfWish w files usage in
       (usage, subst at_wish (sym none) refl, alone usage call (λ e. omega arith) d);
-  out_stopped = delivered_stopped _ _ _ _ call.out call.log d;
-}
-
-pub unbuilt-headline : (call : Call) → wish_of call.words ≡ unbuilt → DeliversReport not_built call.status call.out call.log → Headline call
-unbuilt-headline call asked d = record {
-  report = where_told call.shelf.files (λ files told. unbuilt_told call files asked d);
-  by_words = λ same files.
-      let at_wish : Wish → Type 0 = λ w. IsReportOfWish w files not_built in
-      (not_built, subst at_wish (sym asked) refl, alone not_built call (λ e. omega arith) d);
   out_stopped = delivered_stopped _ _ _ _ call.out call.log d;
 }
 

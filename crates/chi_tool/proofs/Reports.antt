@@ -17,12 +17,12 @@ use Rattle.chi_tool.specs.declared.task.Purpose.TheVariants.{Simulate}
 use Rattle.chi_tool.specs.declared.task.Task.TheVariants.{OfFile, OfLog, OfFactory}
 use Rattle.chi_tool.specs.Arguments.{Means, Misfits}
 use Rattle.chi_tool.specs.Refusals as refusal
-use Rattle.chi_tool.specs.Refusals.{Report, usage, not_built, no_such_file, file_too_long, unfit_arguments, brought_up, accepted}
+use Rattle.chi_tool.specs.Refusals.{Report, usage, no_such_file, file_too_long, unfit_arguments, brought_up, accepted}
 use Rattle.chi_tool.specs.Report.{IsReportOfRun, unfit, run, IsReportOfProgram, IsReportOfSource, refused, program, IsReportOfLog, up, misfit, IsReportFor, IsReportOfFile, missing, long, fetched, IsReportOfWish, IsReport}
 use Rattle.chi_tool.specs.Running.{IsRunOf, run_report}
 use Rattle.chi_tool.specs.Settings.{Wanted, Aim, simulates, checks, wanted_of, aim_of, MayBeAimed, plain, settings_with}
 use Rattle.chi_tool.specs.Sources.{ComesTo}
-use Rattle.chi_tool.specs.Words.{Wish, nothing, unbuilt, of_task, wish_of}
+use Rattle.chi_tool.specs.Words.{Wish, nothing, of_task, wish_of}
 use Rattle.chi_tool.proofs.LawClauses.{AnswerLaw, RunLaw, CheckLaw, comes_sound, ValuesLaw, RangeLaw, LogLaw}
 use Rattle.chi_tool.proofs.Runs.{may_be_aimed, asked_settings}
 use Rattle.chi_tool.proofs.Sources.{Comes, source_comes, one_refusal, refused_or_comes, one_core}
@@ -73,8 +73,8 @@ module _ (answers : AnswerLaw) (runs : RunLaw) (check : CheckLaw) (fit : ValuesL
   arguments_some : (w : Wanted) → MayBeAimed (simulates w) → (source : List ℕ) (core : Core) → length source ≤ MOST_BYTES → ComesTo source core → (d : ProcDef) → slice_get core.procs core.model ≡ Some d
       → (o : Result (List Value) ArgFault) → values_of d.params w.texts ≡ o → (r : Report) × IsReportOfRun core w r
   arguments_some w bounded source core within comes d is (Ok values) read =
-      let told = runs.some source core within comes (settings_with w values) (asked_settings fit core w values d is read bounded) in
-      (run_report core told.0, run values (record { model = d; is = is; read = read }) (record { told = told.0; run = told.1; is = refl }))
+      let ran = runs.some source core within comes (settings_with w values) (asked_settings fit core w values d is read bounded) in
+      (run_report core ran.0, run values (record { model = d; is = is; read = read }) (record { course = ran.0; run = ran.1; is = refl }))
   arguments_some w bounded source core within comes d is (Err fault) read =
       (unfit_arguments (length d.params) (length w.texts) fault, unfit (length d.params) fault (record { model = d; is = is; read = read; count = refl }) refl)
 
@@ -94,7 +94,6 @@ module _ (answers : AnswerLaw) (runs : RunLaw) (check : CheckLaw) (fit : ValuesL
 
   wish_some : LogLaw → (w : Wish) → IsBoundedWish w → (files : Files) → (r : Report) × IsReportOfWish w files r
   wish_some log_law nothing bounded files = (usage, refl)
-  wish_some log_law unbuilt bounded files = (not_built, refl)
   wish_some log_law (of_task (OfFile name purpose)) bounded files =
       file_some MOST_BYTES (IsReportFor (aim_of purpose)) (source_some (aim_of purpose) (may_be_aimed purpose bounded)) (files name)
   wish_some log_law (of_task (OfLog name)) bounded files = file_some MOST_LOG_BYTES IsReportOfLog (λ text within. log_some log_law text) (files name)
@@ -127,8 +126,8 @@ module _ (answers : AnswerLaw) (runs : RunLaw) (check : CheckLaw) (fit : ValuesL
       let there : values_of q.model.params w.texts ≡ Ok values = subst (λ (d : ProcDef). values_of d.params w.texts ≡ Ok values) same p.read in
       let both : ◌≡◌ {A = Result (List Value) ArgFault} (Ok values) (Ok given) = sym there ∙ q.read in
       let lists : given ≡ values = cc in
-      let ran : IsRunOf core (settings_with w values) also.told = subst (λ (xs : List Value). IsRunOf core (settings_with w xs) also.told) lists also.run in
-      of.is ∙ ap (run_report core) (runs.one core (settings_with w values) of.told also.told of.run ran) ∙ sym also.is
+      let ran : IsRunOf core (settings_with w values) also.course = subst (λ (xs : List Value). IsRunOf core (settings_with w xs) also.course) lists also.run in
+      of.is ∙ ap (run_report core) (runs.one core (settings_with w values) of.course also.course of.run ran) ∙ sym also.is
 
   program_one : (core : Core) (aim : Aim) (r s : Report) → IsReportOfProgram core aim r → IsReportOfProgram core aim s → r ≡ s
   program_one core (simulates w) r s p q = run_one core w r s p q
@@ -143,7 +142,6 @@ module _ (answers : AnswerLaw) (runs : RunLaw) (check : CheckLaw) (fit : ValuesL
 
   wish_one : LogLaw → (w : Wish) (files : Files) (r s : Report) → IsReportOfWish w files r → IsReportOfWish w files s → r ≡ s
   wish_one log_law nothing files r s p q = p ∙ sym q
-  wish_one log_law unbuilt files r s p q = p ∙ sym q
   wish_one log_law (of_task (OfFile name purpose)) files r s p q = file_one MOST_BYTES (IsReportFor (aim_of purpose)) (λ source. source_one source (aim_of purpose)) (files name) r s p q
   wish_one log_law (of_task (OfLog name)) files r s p q = file_one MOST_LOG_BYTES IsReportOfLog (log_one log_law) (files name) r s p q
   wish_one log_law (of_task (OfFactory size)) files r s p q = source_one (factory_source size) (simulates (wanted_of plain)) r s p q

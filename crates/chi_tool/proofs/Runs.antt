@@ -1,5 +1,5 @@
 -- The program that a source comes to has one run.
-use Rattle.std.proofs.Common.{◌≡◌, ℕ, ◌<◌, ◌≤◌, true, List, length, Some, refl, sym, subst, arith}
+use Rattle.std.proofs.Common.{◌≡◌, ℕ, ◌<◌, ◌≤◌, Bool, true, false, List, [], length, Some, refl, sym, ◌∙◌, subst, arith}
 use Rattle.std.proofs.Math.Nat.{mod-lt}
 use Rattle.std.specs.Prelude.{slice_get, ℤ, ◌-◌, Option, Result, Ok, Err, IfOk}
 use Rattle.chi_base.specs.declared.no_memory.NoMemory.{NoMemory}
@@ -14,9 +14,11 @@ use Rattle.chi_core.specs.declared.program.Core.{Core}
 use Rattle.chi_core.specs.declared.program.ProcDef.{ProcDef}
 use Rattle.chi_core.specs.Beginning.{Beginning, start}
 use Rattle.chi_core.specs.Picks.{Pick, IsLawful}
-use Rattle.chi_core.specs.Runs.{Told}
+use Rattle.chi_core.specs.Runs.{Told, Derivation}
+use Rattle.chi_core.specs.Sound.{Sound}
+use Rattle.chi_events.specs.Laws.{EachHasATrace, OneTrace}
 use Rattle.chi_plain.specs.Stage.{Stage, Begun}
-use Rattle.chi_runs.specs.Picked.{PickedAlways}
+use Rattle.chi_runs.specs.Picked.{IsBeginning, PickedIsDerived, PickedOnce, PickedAlways}
 use Rattle.chi_sched.specs.Policies.{Answers}
 use Rattle.chi_tool.specs.declared.report.Reported.{Reported}
 use Rattle.chi_tool.specs.declared.task.Asked.{Asked}
@@ -26,7 +28,7 @@ use Rattle.chi_tool.specs.Arguments.{is_misfit}
 use Rattle.chi_tool.specs.Refusals.{unfit_arguments}
 use Rattle.chi_tool.specs.Report.{IsReportOfRun, unfit, run, IsReportOfProgram, IsReportOfSource, program}
 use Rattle.chi_tool.specs.Reported.{report_in}
-use Rattle.chi_tool.specs.Running.{IsRunOf, IsRunReport, MayHave}
+use Rattle.chi_tool.specs.Running.{Course, IsLogged, IsRunOf, IsRunReport, MayHave}
 use Rattle.chi_tool.specs.Settings.{Settings, Wanted, Aim, simulates, wanted_of, aim_of, IsBounded, MayBeAimed, policy_of, settings_with}
 use Rattle.chi_tool.specs.Sources.{ComesTo}
 use Rattle.chi_tool.specs.Turns.{RunsTo}
@@ -58,10 +60,23 @@ asked_settings fit core w values d is read bounded = record {
   bound = bounded.0;
 }
 
-pub run_some : PickedAlways → CheckLaw → (source : List ℕ) (core : Core) → length source ≤ MOST_BYTES → ComesTo source core → (s : Settings) → MayHave core s → (told : Told) × IsRunOf core s told
-run_some always check source core within comes s may =
-    let p = always core (comes_sound check source core within comes) (start core s.arguments s.seed s.until)
-    (record {
+-- a run that is picked has a log, and one alone
+
+some_log : EachHasATrace → (trace : Bool) (core : Core) → Sound core → (start' : Beginning) → IsBeginning core start' → (bound : ℕ) (told : Told)
+    → Derivation core start' bound told → (log : List ℕ) × IsLogged trace core start' bound told log
+some_log traces false core sound start' is bound told derived = ([], refl)
+some_log traces true core sound start' is bound told derived = traces core sound start' is bound told derived
+
+one_log : OneTrace → (trace : Bool) (core : Core) (start' : Beginning) (bound : ℕ) (told : Told) (log other : List ℕ)
+    → IsLogged trace core start' bound told log → IsLogged trace core start' bound told other → log ≡ other
+one_log one false core start' bound told log other l m = l ∙ sym m
+one_log one true core start' bound told log other l m = one core start' bound told log other l m
+
+pub run_some : PickedAlways → PickedIsDerived → EachHasATrace → CheckLaw → (source : List ℕ) (core : Core) → length source ≤ MOST_BYTES → ComesTo source core
+    → (s : Settings) → MayHave core s → (course : Course) × IsRunOf core s course
+run_some always derived traces check source core within comes s may =
+    let begun = start core s.arguments s.seed s.until in
+    let is : IsBeginning core begun = record {
       model = may.model;
       is = may.is;
       arguments = s.arguments;
@@ -69,20 +84,31 @@ run_some always check source core within comes s may =
       seed = s.seed;
       until = s.until;
       begins = refl;
-    }) s.pick may.lawful s.bound may.bound in
-    (p.0, p.1.0)
+    } in
+    let sound = comes_sound check source core within comes in
+    let p = always core sound begun is s.pick may.lawful s.bound may.bound in
+    let log = some_log traces s.trace core sound begun is s.bound p.0 (derived core begun s.pick s.bound p.0 p.1.0) in
+    (record { told = p.0; log = log.0 }, record { picked = p.1.0; logged = log.1 })
+
+pub run_one : PickedOnce → OneTrace → (core : Core) (s : Settings) (course other : Course) → IsRunOf core s course → IsRunOf core s other → course ≡ other
+run_one once one core s course other p q =
+    let begun = start core s.arguments s.seed s.until in
+    let told : course.told ≡ other.told = once core begun s.pick s.bound course.told other.told p.picked q.picked in
+    let here : IsLogged s.trace core begun s.bound other.told course.log = subst (λ (t : Told). IsLogged s.trace core begun s.bound t course.log) told p.logged in
+    let log : course.log ≡ other.log = one_log one s.trace core begun s.bound other.told course.log other.log here q.logged in
+    λ i. record { told = told i; log = log i }
 
 -- a run from its beginning is the run of the program with its settings
-pub begun_ran : (core : Core) (seed bound : ℕ) (arguments : List Value) (until : Option ℤ) (stage : Stage) (gives : ℕ → ℕ → ℕ → Type 0) (result : Result Reported NoMemory)
+pub begun_ran : (core : Core) (seed bound : ℕ) (arguments : List Value) (until : Option ℤ) (trace : Bool) (stage : Stage) (gives : ℕ → ℕ → ℕ → Type 0) (result : Result Reported NoMemory)
     → Begun (start core arguments seed until) stage
-    → IfOk result (λ r. (beginning : Beginning) → Begun beginning stage → (pick : Pick) → Answers gives pick → RunsTo core beginning pick bound (report_in r))
+    → IfOk result (λ r. (beginning : Beginning) → Begun beginning stage → (pick : Pick) → Answers gives pick → RunsTo trace core beginning pick bound (report_in r))
     → IfOk result (λ r. (pick : Pick) → Answers gives pick
-    → IsRunReport core (record { seed = seed; bound = bound; pick = pick; arguments = arguments; until = until }) (report_in r))
-begun_ran core seed bound arguments until stage gives (Ok r) begun ran =
+    → IsRunReport core (record { seed = seed; bound = bound; pick = pick; arguments = arguments; until = until; trace = trace }) (report_in r))
+begun_ran core seed bound arguments until trace stage gives (Ok r) begun ran =
     λ pick answers.
     let told = ran (start core arguments seed until) begun pick answers in
-    record { told = told.0; run = told.1; is = told.2 }
-begun_ran core seed bound arguments until stage gives (Err lost) begun ran = tt
+    record { course = told.0; run = told.1; is = told.2 }
+begun_ran core seed bound arguments until trace stage gives (Err lost) begun ran = tt
 
 -- what follows of a result, where there is one
 if_ok : {P Q : Reported → Type 0} (result : Result Reported NoMemory) → ((r : Reported) → P r → Q r) → IfOk result P → IfOk result Q
@@ -96,11 +122,11 @@ formula_given pick lawful question count asked = (lawful question count asked.nu
 -- the report of a run with the formula that words ask for as its policy
 pub formula_ran : (p : words.Pick) (core : Core) (a : Asked) (result : Result Reported NoMemory) → a.pick ≡ p
     → IfOk result (λ r. (pick : Pick) → Answers (λ question count answer. answer ≡ policy_of p question count) pick
-    → IsReportOfRun core (record { seed = a.seed; bound = a.bound; pick = pick; texts = a.texts; until = a.until }) (report_in r))
+    → IsReportOfRun core (record { seed = a.seed; bound = a.bound; pick = pick; texts = a.texts; until = a.until; trace = a.trace }) (report_in r))
     → IfOk result (λ r. IsReportOfRun core (wanted_of a) (report_in r))
 formula_ran p core a (Ok r) same is =
     let at : words.Pick → Type 0 = λ q.
-    IsReportOfRun core (record { seed = a.seed; bound = a.bound; pick = policy_of q; texts = a.texts; until = a.until }) (report_in r) in
+    IsReportOfRun core (record { seed = a.seed; bound = a.bound; pick = policy_of q; texts = a.texts; until = a.until; trace = a.trace }) (report_in r) in
     subst at (sym same) (is (policy_of p) (formula_given (policy_of p) (named_lawful p)))
 formula_ran p core a (Err lost) same is = tt
 
@@ -110,25 +136,25 @@ pub program_reported : (source : List ℕ) (core : Core) (aim : Aim) (result : R
 program_reported source core aim result comes is = if_ok result (λ r of. program core comes of) is
 
 -- the same, whatever the policy picks
-pub terms_reported : (gives : ℕ → ℕ → ℕ → Type 0) (source : List ℕ) (core : Core) (seed bound : ℕ) (texts : List (List ℕ)) (until : Option ℤ) (result : Result Reported NoMemory)
+pub terms_reported : (gives : ℕ → ℕ → ℕ → Type 0) (source : List ℕ) (core : Core) (seed bound : ℕ) (texts : List (List ℕ)) (until : Option ℤ) (trace : Bool) (result : Result Reported NoMemory)
     → ComesTo source core
     → IfOk result (λ r. (pick : Pick) → Answers gives pick
-    → IsReportOfRun core (record { seed = seed; bound = bound; pick = pick; texts = texts; until = until }) (report_in r))
+    → IsReportOfRun core (record { seed = seed; bound = bound; pick = pick; texts = texts; until = until; trace = trace }) (report_in r))
     → IfOk result (λ r. (pick : Pick) → Answers gives pick
-    → IsReportOfSource source (simulates (record { seed = seed; bound = bound; pick = pick; texts = texts; until = until })) (report_in r))
-terms_reported gives source core seed bound texts until result comes is = if_ok result (λ r of pick answers. program core comes (of pick answers)) is
+    → IsReportOfSource source (simulates (record { seed = seed; bound = bound; pick = pick; texts = texts; until = until; trace = trace })) (report_in r))
+terms_reported gives source core seed bound texts until trace result comes is = if_ok result (λ r of pick answers. program core comes (of pick answers)) is
 
 -- the report of a model's run, with the arguments that were read, or the refusal of these; whatever the policy picks
 
-module _ (gives : ℕ → ℕ → ℕ → Type 0) (core : Core) (seed bound : ℕ) (texts : List (List ℕ)) (until : Option ℤ) (d : ProcDef)
+module _ (gives : ℕ → ℕ → ℕ → Type 0) (core : Core) (seed bound : ℕ) (texts : List (List ℕ)) (until : Option ℤ) (trace : Bool) (d : ProcDef)
     (is : slice_get core.procs core.model ≡ Some d) (result : Result Reported NoMemory) where
   abbrev Ran : Type 0
   Ran = IfOk result (λ r. (pick : Pick) → Answers gives pick
-      → IsReportOfRun core (record { seed = seed; bound = bound; pick = pick; texts = texts; until = until }) (report_in r))
+      → IsReportOfRun core (record { seed = seed; bound = bound; pick = pick; texts = texts; until = until; trace = trace }) (report_in r))
 
   pub model_ran : (values : List Value) → values_of d.params texts ≡ Ok values
       → IfOk result (λ r. (pick : Pick) → Answers gives pick
-      → IsRunReport core (record { seed = seed; bound = bound; pick = pick; arguments = values; until = until }) (report_in r)) → Ran
+      → IsRunReport core (record { seed = seed; bound = bound; pick = pick; arguments = values; until = until; trace = trace }) (report_in r)) → Ran
   model_ran values read ran = if_ok result (λ r of pick answers. run values (record { model = d; is = is; read = read }) (of pick answers)) ran
 
   misfit : (fault : ArgFault) → values_of d.params texts ≡ Err fault

@@ -8,13 +8,13 @@ use Rattle.chi_tool.specs.Delivery.{Delivers, whole, out_broke, log_broke, Deliv
 use Rattle.chi_tool.specs.declared.task.Purpose.TheVariants.{Simulate}
 use Rattle.chi_tool.specs.declared.task.Task.{Task}
 use Rattle.chi_tool.specs.Headline.{Headline, IsAskedSource, held, made, IsNoContent, IsUnread, CannotBeRead, IsExactly, StoppedByFailure, Causes, IsComplete}
-use Rattle.chi_tool.specs.Refusals.{Report, usage, not_built}
+use Rattle.chi_tool.specs.Refusals.{Report, usage}
 use Rattle.chi_tool.specs.Settings.{Wanted, Aim, simulates, MayBeAimed, plain, settings_with}
-use Rattle.chi_tool.specs.Words.{Wish, nothing, unbuilt, of_task, wish_of}
+use Rattle.chi_tool.specs.Words.{Wish, nothing, of_task, wish_of}
 use Rattle.chi_tool.proofs.Causes.{done_exactly, exit_exactly, deadlock_exactly, fault_exactly, out_of_steps_exactly, stopped_exactly, lexical_exactly, syntax_exactly, typing_exactly, unfit_exactly, misfit_exactly, ends_complete}
 use Rattle.chi_tool.proofs.Contents.{IsOfContent, IsOfFile}
 use Rattle.chi_tool.proofs.LawClauses.{RunLaw, ReportLaw, ValuesLaw, RangeLaw}
-use Rattle.chi_tool.proofs.Promises.{IsLost, met_of, goes_stopped, asks_something, served-headline, usage-headline, unbuilt-headline, lost-headline}
+use Rattle.chi_tool.proofs.Promises.{IsLost, met_of, goes_stopped, asks_something, served-headline, usage-headline, lost-headline}
 use Rattle.chi_tool.proofs.Runs.{may_be_aimed, asked_settings}
 use Rattle.chi_tool.proofs.Wishes.{IsBoundedWish, bounded_wish, factory_within}
 
@@ -175,19 +175,6 @@ usage-causes law call none d =
 
 pub usage-complete : RunLaw → ValuesLaw → RangeLaw → ReportLaw → (call : Call) → wish_of call.words ≡ nothing → DeliversReport usage call.status call.out call.log → IsComplete call
 usage-complete runs fit bounds law call none d = complete law call (usage-headline call none d) runs fit bounds
-
-other_wish : (w : Wish) → w ≡ unbuilt → w ≡ nothing → ⊥
-other_wish w asked none = cc
-
-pub unbuilt-causes : ReportLaw → (call : Call) → wish_of call.words ≡ unbuilt → DeliversReport not_built call.status call.out call.log → Causes call
-unbuilt-causes law call asked d =
-    causes law call (unbuilt-headline call asked d) (delivered_breaks _ _ _ _ call.out call.log (λ e. omega arith) d)
-    (λ out log.
-    ((λ is. absurd (delivered_status _ 3 _ _ _ call.out call.log (λ h. omega arith) (λ h. omega arith) d is)), λ none. absurd (other_wish (wish_of call.words) asked none)))
-    (refusal_unread call not_built (λ e. omega arith) d)
-
-pub unbuilt-complete : RunLaw → ValuesLaw → RangeLaw → ReportLaw → (call : Call) → wish_of call.words ≡ unbuilt → DeliversReport not_built call.status call.out call.log → IsComplete call
-unbuilt-complete runs fit bounds law call asked d = complete law call (unbuilt-headline call asked d) runs fit bounds
 
 -- memory was wanting before the words were read
 

@@ -1,5 +1,5 @@
 -- The turns of a run: what each of them leaves of it.
-use Rattle.std.proofs.Common.{◌≡◌, ℕ, ◌+◌, ◌*◌, ◌-◌, ◌<◌, ◌≤◌, ◌^◌, ℤ, List, [], ◌∷◌, ◌++◌, Option, Some, None, length, sym, ◌∙◌, ap, subst, refl, arith, append-nil, length-append}
+use Rattle.std.proofs.Common.{Bool, true, false, ◌≡◌, ℕ, ◌+◌, ◌*◌, ◌-◌, ◌<◌, ◌≤◌, ◌^◌, ℤ, List, [], ◌∷◌, ◌++◌, Option, Some, None, length, sym, ◌∙◌, ap, subst, refl, arith, append-nil, length-append}
 use Rattle.std.specs.Prelude.{IfSome, option_map}
 use Rattle.std.specs.List.{slice_get}
 use Rattle.chi_sched.specs.Policies.{Answers, GivesOne, IsAsked}
@@ -13,13 +13,13 @@ use Rattle.chi_core.specs.Beginning as beginning
 use Rattle.chi_core.specs.Config.{Config}
 use Rattle.chi_core.specs.Options.{Ending, ending_at, actors, options}
 use Rattle.chi_core.specs.Options as option
-use Rattle.chi_core.specs.Picks.{Pick, MayPick, Picked}
+use Rattle.chi_core.specs.Picks.{Pick, MayPick}
 use Rattle.chi_core.specs.Runs.{Told}
 use Rattle.chi_runs.proofs.Lists.{contains-at}
 use Rattle.chi_runs.specs.Choices.{OptionIsPicked, AdvanceIsPicked, PickedMayCome, ActorsHaveOptions}
 use Rattle.chi_runs.specs.Once.{EachMayCome}
 use Rattle.chi_runs.specs.Time.{EachCosts}
-use Rattle.chi_runs.specs.Turns.{UnderWay, WayBegins, WayGoesOn, WayIsOver, WayIsCutOff, WayRests}
+use Rattle.chi_runs.specs.Turns.{UnderWay}
 use Rattle.chi_core.specs.Step as outcome
 use Rattle.chi_core.specs.Step.{step}
 use Rattle.chi_plain.specs.declared.stepped.Stepped.{Stepped}
@@ -27,8 +27,9 @@ use Rattle.chi_plain.specs.declared.stepped.Stepped.TheVariants.{Next, Over, Spe
 use Rattle.chi_plain.specs.Stage as stages
 use Rattle.chi_plain.specs.Stage.{Stage, At, Ended, Lost, Runner, Begun, actors_at, options_at, verdict_at, clock_at, MayTell, MayStep, Steps, Appends}
 use Rattle.chi_tool.specs.Refusals.{Report}
-use Rattle.chi_tool.specs.Running.{run_report}
-use Rattle.chi_tool.specs.Turns.{GoesOn, PicksAt, Leads, IsThere, Keeps, RunsTo}
+use Rattle.chi_tool.specs.Running.{Course, IsCourse, run_report}
+use Rattle.chi_tool.specs.Turns.{GoesOn, PicksAt, first_log, Logs, LoggedSoFar, Leads, IsThere, Keeps, RunsTo}
+use Rattle.chi_tool.proofs.Logged.{TurnLaw, log_begins, log_of_none, log_on, log_over, log_whole}
 
 -- what is picked at a turn, as its law gives it
 pub record ChoiceLaw : Type 0 where
@@ -96,49 +97,45 @@ may_option law (At config) p b label goes e = (law config p label (contains-at (
 may_option law (Ended end) p b label goes e = absurd goes
 may_option law Lost p b label goes e = absurd goes
 
--- the laws of runs that are picked turn by turn
-pub record TurnLaw : Type 0 where
-  pub begins : WayBegins
-  pub on : WayGoesOn
-  pub over : WayIsOver
-  pub cut_off : WayIsCutOff
-  pub at_rest : WayRests
-
 -- how many turns may come yet
 abbrev pub turns_left : ℕ → Stage → ℕ
 turns_left left (At config) = 2 * left + 1
 turns_left left (Ended end) = 2 * left
 turns_left left Lost = 0
 
-module _ (law : TurnLaw) (gives : ℕ → ℕ → ℕ → Type 0) (core : Core) (first : Stage) (bound : ℕ) where
+module _ (law : TurnLaw) (gives : ℕ → ℕ → ℕ → Type 0) (trace : Bool) (core : Core) (first : Stage) (bound : ℕ) where
   -- a run begins
-  leads_first : (beginning : Beginning) (stage : Stage) → Begun beginning stage → (pick : Pick) → Leads core beginning pick bound stage 0 bound []
+  leads_first : (beginning : Beginning) (stage : Stage) → Begun beginning stage → (pick : Pick)
+      → Leads trace core beginning pick bound stage 0 bound [] (first_log trace)
   leads_first (Begins config) stage is pick =
-      let P : Stage → Type 0 = λ s. Leads core (Begins config) pick bound s 0 bound [] in
-      subst P (sym is) ([], refl, law.begins core pick bound config)
+      let P : Stage → Type 0 = λ s. Leads trace core (Begins config) pick bound s 0 bound [] (first_log trace) in
+      subst P (sym is) ([], refl, law.begins core pick bound config, log_begins law core trace config bound)
   leads_first (Breaks end) stage is pick =
-      let P : Stage → Type 0 = λ s. Leads core (Breaks end) pick bound s 0 bound [] in
-      subst P (sym is) ([], refl)
+      let P : Stage → Type 0 = λ s. Leads trace core (Breaks end) pick bound s 0 bound [] (first_log trace) in
+      subst P (sym is) ([], record { picked = refl; logged = log_of_none law core trace end bound })
   leads_first beginning.Amiss stage is pick = absurd is
 
-  pub begins : (runner : Runner) → runner.core ≡ core → runner.stage ≡ first → IsThere runner.stage → (output : List ℕ) → output ≡ []
-      → Keeps gives core first bound runner 0 bound output
-  begins runner same is there output none = record {
+  pub begins : (runner : Runner) → runner.core ≡ core → runner.stage ≡ first → IsThere runner.stage → (output log : List ℕ) → output ≡ []
+      → log ≡ first_log trace → Keeps gives trace core first bound runner 0 bound output log
+  begins runner same is there output log none logged = record {
     same_core = same;
     there = there;
     room = omega arith;
     leads = λ beginning begun pick answers.
-        subst (λ out. Leads core beginning pick bound runner.stage 0 bound out) (sym none)
-        (leads_first beginning runner.stage (subst (λ s. Begun beginning s) (sym is) begun) pick);
+        subst (λ out. Leads trace core beginning pick bound runner.stage 0 bound out log) (sym none)
+        (subst (λ l. Leads trace core beginning pick bound runner.stage 0 bound [] l) (sym logged)
+        (leads_first beginning runner.stage (subst (λ s. Begun beginning s) (sym is) begun) pick));
   }
 
   -- how the run ends
-  abbrev pub EndsWith : Beginning → Pick → Verdict → ℤ → List ℕ → Type 0
-  EndsWith begin pick verdict clock output =
-      (labels : List Label) × Picked core begin pick bound (record { labels = labels; ending = record { verdict = verdict; clock = clock }; output = output })
+  abbrev pub EndsWith : Beginning → Pick → Verdict → ℤ → List ℕ → List ℕ → Type 0
+  EndsWith begin pick verdict clock output log =
+      (labels : List Label)
+      × IsCourse trace core begin pick bound (record { told = record { labels = labels; ending = record { verdict = verdict; clock = clock }; output = output }; log = log })
 
-  pub goes_on : (runner : Runner) (turn left : ℕ) (output : List ℕ) → Keeps gives core first bound runner turn left output → verdict_at runner.stage ≡ None → GoesOn runner.stage
-  goes_on runner turn left output k e = by_stage runner.stage k.there e
+  pub goes_on : (runner : Runner) (turn left : ℕ) (output log : List ℕ) → Keeps gives trace core first bound runner turn left output log
+      → verdict_at runner.stage ≡ None → GoesOn runner.stage
+  goes_on runner turn left output log k e = by_stage runner.stage k.there e
     where
       by_ending : (o : Option Ending) → option_map (λ end. end.verdict) o ≡ None → o ≡ None
       by_ending None e' = refl
@@ -149,32 +146,40 @@ module _ (law : TurnLaw) (gives : ℕ → ℕ → ℕ → Type 0) (core : Core) 
       by_stage (Ended end) there e' = absurd (cc)
       by_stage Lost there e' = absurd there
 
+  -- the course of a run, with its ending and output as they are known
+  course_as : (begin : Beginning) (pick : Pick) (labels : List Label) (end : Ending) (verdict : Verdict) (clock : ℤ) (output output' log : List ℕ)
+      → end.verdict ≡ verdict → clock ≡ end.clock → output' ≡ output
+      → IsCourse trace core begin pick bound (record { told = record { labels = labels; ending = end; output = output }; log = log })
+      → EndsWith begin pick verdict clock output' log
+  course_as begin pick labels end verdict clock output output' log same time same_output is = (
+    labels,
+    let P : Told → Type 0 = λ told. IsCourse trace core begin pick bound (record { told = told; log = log }) in
+        subst P (λ i. record { labels = labels; ending = record { verdict = same i; clock = sym time i }; output = sym same_output i }) is,
+  )
+
   -- the run is over
-  pub rests : (runner : Runner) (turn left : ℕ) (output : List ℕ) (verdict : Verdict) (clock : ℤ) → Keeps gives core first bound runner turn left output
+  pub rests : (runner : Runner) (turn left : ℕ) (output log : List ℕ) (verdict : Verdict) (clock : ℤ) → Keeps gives trace core first bound runner turn left output log
       → verdict_at runner.stage ≡ Some verdict → IfSome (clock_at runner.stage) (λ time. clock ≡ time)
-      → (begin : Beginning) → Begun begin first → (pick : Pick) → Answers gives pick → EndsWith begin pick verdict clock output
-  rests runner turn left output verdict clock k e time begin begun pick answers = by_stage runner.stage (k.leads begin begun pick answers) e time
+      → (begin : Beginning) → Begun begin first → (pick : Pick) → Answers gives pick → EndsWith begin pick verdict clock output log
+  rests runner turn left output log verdict clock k e time begin begun pick answers = by_stage runner.stage (k.leads begin begun pick answers) e time
     where
-      ends_at : (config : Config) → Leads core begin pick bound (At config) turn left output → (o : Option Ending) → option.ending config ≡ o
-          → option_map (λ end. end.verdict) o ≡ Some verdict → clock ≡ stages.time_of o config → EndsWith begin pick verdict clock output
+      ends_at : (config : Config) → Leads trace core begin pick bound (At config) turn left output log → (o : Option Ending) → option.ending config ≡ o
+          → option_map (λ end. end.verdict) o ≡ Some verdict → clock ≡ stages.time_of o config → EndsWith begin pick verdict clock output log
       ends_at config l None is e' t = absurd (cc)
       ends_at config l (Some end) is e' t =
-          let same : end.verdict ≡ verdict = cc in (
-            l.0,
-            let P : Told → Type 0 = Picked core begin pick bound in
-                subst P (λ i. record { labels = l.0; ending = record { verdict = same i; clock = sym t i }; output = output })
-                (law.at_rest core begin pick bound l.0 output config left l.2 end is),
-          )
+          let same : end.verdict ≡ verdict = cc in
+          course_as begin pick l.0 end verdict clock output output log same t refl
+          (record {
+            picked = law.at_rest core begin pick bound l.0 output config left l.2 end is;
+            logged = log_whole law core begin bound l.0 log config left trace l.3 end output;
+          })
 
-      by_stage : (stage : Stage) → Leads core begin pick bound stage turn left output → verdict_at stage ≡ Some verdict → IfSome (clock_at stage) (λ time'. clock ≡ time')
-          → EndsWith begin pick verdict clock output
+      by_stage : (stage : Stage) → Leads trace core begin pick bound stage turn left output log → verdict_at stage ≡ Some verdict → IfSome (clock_at stage) (λ time'. clock ≡ time')
+          → EndsWith begin pick verdict clock output log
       by_stage (At config) l e' t = ends_at config l (option.ending config) refl e' t
       by_stage (Ended end) l e' t =
-          let same : end.verdict ≡ verdict = cc in (
-            l.0,
-            let P : Told → Type 0 = Picked core begin pick bound in
-                subst P (λ i. record { labels = l.0; ending = record { verdict = same i; clock = sym t i }; output = output }) l.1,
-          )
+          let same : end.verdict ≡ verdict = cc in
+          course_as begin pick l.0 end verdict clock output output log same t refl l.1
       by_stage Lost l e' t = absurd l
 
   may_at : {turn : ℕ} (pick : Pick) (config : Config) (label : Label) (labels : List Label) → length labels ≡ turn → MayPick pick turn config label
@@ -187,36 +192,41 @@ module _ (law : TurnLaw) (gives : ℕ → ℕ → ℕ → Type 0) (core : Core) 
     pub same_core : new.core ≡ old.core
     pub steps : Appends before after' (λ text. Steps old.core old.stage new.stage label left text answer)
 
-  stepped : (old new : Runner) (turn : ℕ) (label : Label) (left : ℕ) (before after' : List ℕ) (answer : Stepped) → Keeps gives core first bound old turn left before
+  stepped : (old new : Runner) (turn : ℕ) (label : Label) (left : ℕ) (before after' log : List ℕ) (answer : Stepped) → Keeps gives trace core first bound old turn left before log
       → Took old new turn label left before after' answer → Appends before after' (λ text. Steps core old.stage new.stage label left text answer)
-  stepped old new turn label left before after' answer k t =
+  stepped old new turn label left before after' log answer k t =
       let P : Core → Type 0 = λ c. Appends before after' (λ text. Steps c old.stage new.stage label left text answer) in subst P k.same_core t.steps
 
+  -- what it logs is the line of its event
+  logged_there : (old : Runner) (turn : ℕ) (label : Label) (line : List ℕ) → old.core ≡ core → Logs trace old.core old.stage turn label line
+      → Logs trace core old.stage turn label line
+  logged_there old turn label line same logs = subst (λ (c : Core). Logs trace c old.stage turn label line) same logs
+
   -- the next label costs too much
-  pub spends : (old new : Runner) (turn : ℕ) (label : Label) (left : ℕ) (before after' : List ℕ) (clock : ℤ) → Keeps gives core first bound old turn left before
+  pub spends : (old new : Runner) (turn : ℕ) (label : Label) (left : ℕ) (before after' log : List ℕ) (clock : ℤ) → Keeps gives trace core first bound old turn left before log
       → Took old new turn label left before after' Spent → GoesOn old.stage → IfSome (clock_at new.stage) (λ time. clock ≡ time)
-      → (begin : Beginning) → Begun begin first → (pick : Pick) → Answers gives pick → EndsWith begin pick OutOfSteps clock after'
-  spends old new turn label left before after' clock k t goes time begin begun pick answers =
-      let s = stepped old new turn label left before after' Spent k t in
+      → (begin : Beginning) → Begun begin first → (pick : Pick) → Answers gives pick → EndsWith begin pick OutOfSteps clock after' log
+  spends old new turn label left before after' log clock k t goes time begin begun pick answers =
+      let s = stepped old new turn label left before after' log Spent k t in
       by_stage old.stage new.stage (k.leads begin begun pick answers) t.picked goes s.0 s.1 s.2 time
     where
-      stays : (config : Config) (stage' : Stage) → Leads core begin pick bound (At config) turn left before → PicksAt gives turn (At config) label
+      stays : (config : Config) (stage' : Stage) → Leads trace core begin pick bound (At config) turn left before log → PicksAt gives turn (At config) label
           → option.ending config ≡ None → (text : List ℕ) → after' ≡ before ++ text
           → (step core config label left ≡ outcome.Spent) × (stage' ≡ At config) × (text ≡ [])
-          → IfSome (clock_at stage') (λ time'. clock ≡ time') → EndsWith begin pick OutOfSteps clock after'
+          → IfSome (clock_at stage') (λ time'. clock ≡ time') → EndsWith begin pick OutOfSteps clock after' log
       stays config stage' l p goes' text is s time' =
           let there : IfSome (clock_at (At config)) (λ time''. clock ≡ time'') = let P : Stage → Type 0 = λ x. IfSome (clock_at x) (λ time''. clock ≡ time'') in subst P s.1 time' in
           let same_time : clock ≡ config.clock = there ∙ ap (λ o. stages.time_of o config) goes' in
-          let same_output : after' ≡ before = is ∙ ap (λ x. before ++ x) s.2 ∙ append-nil before in (
-            l.0,
-            let P : Told → Type 0 = Picked core begin pick bound in
-                subst P (λ i. record { labels = l.0; ending = record { verdict = OutOfSteps; clock = sym same_time i }; output = sym same_output i })
-                (law.cut_off core begin pick bound l.0 before config left l.2 label (may_at pick config label l.0 l.1 (p pick answers)) s.0),
-          )
+          let same_output : after' ≡ before = is ∙ ap (λ x. before ++ x) s.2 ∙ append-nil before in
+          course_as begin pick l.0 (ending_at OutOfSteps config) OutOfSteps clock before after' log refl same_time same_output
+          (record {
+            picked = law.cut_off core begin pick bound l.0 before config left l.2 label (may_at pick config label l.0 l.1 (p pick answers)) s.0;
+            logged = log_whole law core begin bound l.0 log config left trace l.3 (ending_at OutOfSteps config) before;
+          })
 
-      by_stage : (stage stage' : Stage) → Leads core begin pick bound stage turn left before → PicksAt gives turn stage label → GoesOn stage
+      by_stage : (stage stage' : Stage) → Leads trace core begin pick bound stage turn left before log → PicksAt gives turn stage label → GoesOn stage
           → (text : List ℕ) → after' ≡ before ++ text → Steps core stage stage' label left text Spent
-          → IfSome (clock_at stage') (λ time'. clock ≡ time') → EndsWith begin pick OutOfSteps clock after'
+          → IfSome (clock_at stage') (λ time'. clock ≡ time') → EndsWith begin pick OutOfSteps clock after' log
       by_stage (Ended end) stage' l p goes' text is s time' = absurd goes'
       by_stage Lost stage' l p goes' text is s time' = absurd goes'
       by_stage (At config) (At config') l p goes' text is s time' = stays config (At config') l p goes' text is s time'
@@ -224,11 +234,12 @@ module _ (law : TurnLaw) (gives : ℕ → ℕ → ℕ → Type 0) (core : Core) 
       by_stage (At config) Lost l p goes' text is s time' = stays config Lost l p goes' text is s time'
 
   -- the run goes on
-  pub goes_next : (old new : Runner) (turn : ℕ) (label : Label) (left cost : ℕ) (before after' : List ℕ) → Keeps gives core first bound old turn left before
-      → (0 < cost) × (cost ≤ left) → Took old new turn label left before after' (Next cost) → Keeps gives core first bound new (turn + 1) (left - cost) after'
-  goes_next old new turn label left cost before after' k some t =
-      let s = stepped old new turn label left before after' (Next cost) k t in
-      let n = by_stage old.stage new.stage k.leads t.picked s.0 s.1 s.2 in
+  pub goes_next : (old new : Runner) (turn : ℕ) (label : Label) (left cost : ℕ) (before after' log line : List ℕ) → Keeps gives trace core first bound old turn left before log
+      → Logs trace old.core old.stage turn label line
+      → (0 < cost) × (cost ≤ left) → Took old new turn label left before after' (Next cost) → Keeps gives trace core first bound new (turn + 1) (left - cost) after' (log ++ line)
+  goes_next old new turn label left cost before after' log line k logs some t =
+      let s = stepped old new turn label left before after' log (Next cost) k t in
+      let n = by_stage old.stage new.stage k.leads (logged_there old turn label line k.same_core logs) t.picked s.0 s.1 s.2 in
       let room = k.room in
       let positive = some.0 in
       let within = some.1 in
@@ -239,37 +250,42 @@ module _ (law : TurnLaw) (gives : ℕ → ℕ → ℕ → Type 0) (core : Core) 
         leads = n.2;
       }
     where
-      leads_on : (config new' : Config) → ((begin : Beginning) → Begun begin first → (pick : Pick) → Answers gives pick → Leads core begin pick bound (At config) turn left before) → PicksAt gives turn (At config) label
+      leads_on : (config new' : Config) → ((begin : Beginning) → Begun begin first → (pick : Pick) → Answers gives pick → Leads trace core begin pick bound (At config) turn left before log)
+          → Logs trace core (At config) turn label line → PicksAt gives turn (At config) label
           → (text : List ℕ) → after' ≡ before ++ text → (rest : ℕ) → step core config label left ≡ outcome.Next new' text rest → left - cost ≡ rest
-          → (begin : Beginning) → Begun begin first → (pick : Pick) → Answers gives pick → Leads core begin pick bound (At new') (turn + 1) (left - cost) after'
-      leads_on config new' l p text is rest e same begin begun pick answers =
+          → (begin : Beginning) → Begun begin first → (pick : Pick) → Answers gives pick → Leads trace core begin pick bound (At new') (turn + 1) (left - cost) after' (log ++ line)
+      leads_on config new' l g p text is rest e same begin begun pick answers =
           let old' = l begin begun pick answers in
           let long : length (old'.0 ++ label ∷ []) ≡ turn + 1 = length-append old'.0 (label ∷ []) ∙ ap (λ n. n + 1) old'.1 in
-          let on = law.on core begin pick bound old'.0 before config left old'.2 label (may_at pick config label old'.0 old'.1 (p pick answers)) new' text rest e in (
+          let on = law.on core begin pick bound old'.0 before config left old'.2 label (may_at pick config label old'.0 old'.1 (p pick answers)) new' text rest e in
+          let logged = log_on law core begin bound old'.0 log config left trace old'.3 turn old'.1 label line g new' text rest e in (
             old'.0 ++ label ∷ [],
             long,
             subst (λ out. UnderWay core begin pick bound (old'.0 ++ label ∷ []) out new' (left - cost)) (sym is)
                 (subst (λ n. UnderWay core begin pick bound (old'.0 ++ label ∷ []) (before ++ text) new' n) (sym same) on),
+            subst (λ n. LoggedSoFar trace core begin bound (old'.0 ++ label ∷ []) (log ++ line) new' n) (sym same) logged,
           )
 
-      by_stage : (stage stage' : Stage) → ((begin : Beginning) → Begun begin first → (pick : Pick) → Answers gives pick → Leads core begin pick bound stage turn left before) → PicksAt gives turn stage label
+      by_stage : (stage stage' : Stage) → ((begin : Beginning) → Begun begin first → (pick : Pick) → Answers gives pick → Leads trace core begin pick bound stage turn left before log)
+          → Logs trace core stage turn label line → PicksAt gives turn stage label
           → (text : List ℕ) → after' ≡ before ++ text → Steps core stage stage' label left text (Next cost)
-          → IsThere stage' × (cost ≤ left) × ((begin : Beginning) → Begun begin first → (pick : Pick) → Answers gives pick → Leads core begin pick bound stage' (turn + 1) (left - cost) after')
-      by_stage (Ended end) stage' l p text is s = absurd p
-      by_stage Lost stage' l p text is s = absurd p
-      by_stage (At config) (Ended end) l p text is s = absurd s
-      by_stage (At config) Lost l p text is s = absurd s
-      by_stage (At config) (At config') l p text is s =
+          → IsThere stage' × (cost ≤ left) × ((begin : Beginning) → Begun begin first → (pick : Pick) → Answers gives pick → Leads trace core begin pick bound stage' (turn + 1) (left - cost) after' (log ++ line))
+      by_stage (Ended end) stage' l g p text is s = absurd p
+      by_stage Lost stage' l g p text is s = absurd p
+      by_stage (At config) (Ended end) l g p text is s = absurd s
+      by_stage (At config) Lost l g p text is s = absurd s
+      by_stage (At config) (At config') l g p text is s =
           let spent = s.2 in
           let same : left - cost ≡ s.0 = omega arith in
-          (tt, omega arith, leads_on config config' l p text is s.0 s.1 same)
+          (tt, omega arith, leads_on config config' l g p text is s.0 s.1 same)
 
   -- or is over
-  pub goes_over : (old new : Runner) (turn : ℕ) (label : Label) (left : ℕ) (before after' : List ℕ) → Keeps gives core first bound old turn left before
-      → Took old new turn label left before after' Over → Keeps gives core first bound new turn left after'
-  goes_over old new turn label left before after' k t =
-      let s = stepped old new turn label left before after' Over k t in
-      let n = by_stage old.stage new.stage k.leads t.picked s.0 s.1 s.2 in
+  pub goes_over : (old new : Runner) (turn : ℕ) (label : Label) (left : ℕ) (before after' log line : List ℕ) → Keeps gives trace core first bound old turn left before log
+      → Logs trace old.core old.stage turn label line
+      → Took old new turn label left before after' Over → Keeps gives trace core first bound new turn left after' (log ++ line)
+  goes_over old new turn label left before after' log line k logs t =
+      let s = stepped old new turn label left before after' log Over k t in
+      let n = by_stage old.stage new.stage k.leads (logged_there old turn label line k.same_core logs) t.picked s.0 s.1 s.2 in
       record {
         same_core = t.same_core ∙ k.same_core;
         there = n.0;
@@ -277,30 +293,33 @@ module _ (law : TurnLaw) (gives : ℕ → ℕ → ℕ → Type 0) (core : Core) 
         leads = n.1;
       }
     where
-      leads_over : (config : Config) (end : Ending) → ((begin : Beginning) → Begun begin first → (pick : Pick) → Answers gives pick → Leads core begin pick bound (At config) turn left before) → PicksAt gives turn (At config) label
+      leads_over : (config : Config) (end : Ending) → ((begin : Beginning) → Begun begin first → (pick : Pick) → Answers gives pick → Leads trace core begin pick bound (At config) turn left before log)
+          → Logs trace core (At config) turn label line → PicksAt gives turn (At config) label
           → (text : List ℕ) → after' ≡ before ++ text → (step core config label left ≡ outcome.Over end.verdict) × (end ≡ ending_at end.verdict config) × (text ≡ [])
-          → (begin : Beginning) → Begun begin first → (pick : Pick) → Answers gives pick → Leads core begin pick bound (Ended end) turn left after'
-      leads_over config end l p text is s begin begun pick answers =
+          → (begin : Beginning) → Begun begin first → (pick : Pick) → Answers gives pick → Leads trace core begin pick bound (Ended end) turn left after' (log ++ line)
+      leads_over config end l g p text is s begin begun pick answers =
           let old' = l begin begun pick answers in
           let on = law.over core begin pick bound old'.0 before config left old'.2 label (may_at pick config label old'.0 old'.1 (p pick answers)) end.verdict s.0 in
           let same_output : before ≡ after' = sym (append-nil before) ∙ ap (λ x. before ++ x) (sym s.2) ∙ sym is in
-          let P : Told → Type 0 = Picked core begin pick bound in
-          (old'.0 ++ label ∷ [], subst P (λ i. record { labels = old'.0 ++ label ∷ []; ending = sym s.1 i; output = same_output i }) on)
+          let P : Told → Type 0 = λ told. IsCourse trace core begin pick bound (record { told = told; log = log ++ line }) in
+          let logged = log_over law core begin bound old'.0 log config left trace old'.3 turn old'.1 label line g end.verdict s.0 (ending_at end.verdict config) before in
+          (old'.0 ++ label ∷ [], subst P (λ i. record { labels = old'.0 ++ label ∷ []; ending = sym s.1 i; output = same_output i }) (record { picked = on; logged = logged }))
 
-      by_stage : (stage stage' : Stage) → ((begin : Beginning) → Begun begin first → (pick : Pick) → Answers gives pick → Leads core begin pick bound stage turn left before) → PicksAt gives turn stage label
+      by_stage : (stage stage' : Stage) → ((begin : Beginning) → Begun begin first → (pick : Pick) → Answers gives pick → Leads trace core begin pick bound stage turn left before log)
+          → Logs trace core stage turn label line → PicksAt gives turn stage label
           → (text : List ℕ) → after' ≡ before ++ text → Steps core stage stage' label left text Over
-          → IsThere stage' × ((begin : Beginning) → Begun begin first → (pick : Pick) → Answers gives pick → Leads core begin pick bound stage' turn left after')
-      by_stage (Ended end) stage' l p text is s = absurd p
-      by_stage Lost stage' l p text is s = absurd p
-      by_stage (At config) (At config') l p text is s = absurd s
-      by_stage (At config) Lost l p text is s = absurd s
-      by_stage (At config) (Ended end) l p text is s = (tt, leads_over config end l p text is s)
+          → IsThere stage' × ((begin : Beginning) → Begun begin first → (pick : Pick) → Answers gives pick → Leads trace core begin pick bound stage' turn left after' (log ++ line))
+      by_stage (Ended end) stage' l g p text is s = absurd p
+      by_stage Lost stage' l g p text is s = absurd p
+      by_stage (At config) (At config') l g p text is s = absurd s
+      by_stage (At config) Lost l g p text is s = absurd s
+      by_stage (At config) (Ended end) l g p text is s = (tt, leads_over config end l g p text is s)
 
   -- it costs something, and no more than is left
-  pub costs_next : EachCosts → (old new : Runner) (turn : ℕ) (label : Label) (left cost : ℕ) (before after' : List ℕ) → Keeps gives core first bound old turn left before
+  pub costs_next : EachCosts → (old new : Runner) (turn : ℕ) (label : Label) (left cost : ℕ) (before after' log : List ℕ) → Keeps gives trace core first bound old turn left before log
       → Took old new turn label left before after' (Next cost) → (0 < cost) × (cost ≤ left) × (turns_left (left - cost) new.stage < turns_left left old.stage)
-  costs_next law old new turn label left cost before after' k t =
-      let s = stepped old new turn label left before after' (Next cost) k t in
+  costs_next law old new turn label left cost before after' log k t =
+      let s = stepped old new turn label left before after' log (Next cost) k t in
       by_stage old.stage new.stage t.picked s.0 s.2
     where
       by_stage : (stage stage' : Stage) → PicksAt gives turn stage label → (text : List ℕ) → Steps core stage stage' label left text (Next cost)
@@ -316,10 +335,10 @@ module _ (law : TurnLaw) (gives : ℕ → ℕ → ℕ → Type 0) (core : Core) 
           let within : cost ≤ left = omega arith in
           (some, within, omega arith)
 
-  pub ends_over : (old new : Runner) (turn : ℕ) (label : Label) (left : ℕ) (before after' : List ℕ) → Keeps gives core first bound old turn left before
+  pub ends_over : (old new : Runner) (turn : ℕ) (label : Label) (left : ℕ) (before after' log : List ℕ) → Keeps gives trace core first bound old turn left before log
       → Took old new turn label left before after' Over → turns_left left new.stage < turns_left left old.stage
-  ends_over old new turn label left before after' k t =
-      let s = stepped old new turn label left before after' Over k t in
+  ends_over old new turn label left before after' log k t =
+      let s = stepped old new turn label left before after' log Over k t in
       by_stage old.stage new.stage t.picked s.0 s.2
     where
       by_stage : (stage stage' : Stage) → PicksAt gives turn stage label → (text : List ℕ) → Steps core stage stage' label left text Over
@@ -331,11 +350,11 @@ module _ (law : TurnLaw) (gives : ℕ → ℕ → ℕ → Type 0) (core : Core) 
       by_stage (At config) (Ended end) p text s = omega arith
 
   -- where nothing is left to do, the report is that of the run
-  pub reported_run : (r : Report) (verdict : Verdict) (clock : ℤ) (output : List ℕ) (begin : Beginning) (pick : Pick)
-      → r ≡ run_report core (record { labels = []; ending = record { verdict = verdict; clock = clock }; output = output })
-      → EndsWith begin pick verdict clock output → RunsTo core begin pick bound r
-  reported_run r verdict clock output begin pick is e =
-      (record { labels = e.0; ending = record { verdict = verdict; clock = clock }; output = output }, e.1, is)
+  pub reported_run : (r : Report) (verdict : Verdict) (clock : ℤ) (output log : List ℕ) (begin : Beginning) (pick : Pick)
+      → r ≡ run_report core (record { told = record { labels = []; ending = record { verdict = verdict; clock = clock }; output = output }; log = log })
+      → EndsWith begin pick verdict clock output log → RunsTo trace core begin pick bound r
+  reported_run r verdict clock output log begin pick is e =
+      (record { told = record { labels = e.0; ending = record { verdict = verdict; clock = clock }; output = output }; log = log }, e.1, is)
 
 -- what can be told of a verdict
 

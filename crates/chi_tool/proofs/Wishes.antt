@@ -1,6 +1,6 @@
 -- The bounds of what words ask for.
-use Rattle.std.proofs.Common.{◌≡◌, ℕ, ◌<◌, ◌≤◌, List, length, Some, None, refl, sym, ◌∙◌, ap, arith}
-use Rattle.std.specs.Prelude.{◌^◌, true, false, Result, Ok, Err}
+use Rattle.std.proofs.Common.{◌≡◌, ℕ, ◌<◌, ◌≤◌, List, length, refl, sym, ◌∙◌, ap, arith}
+use Rattle.std.specs.Prelude.{◌^◌, true, Result, Ok, Err}
 use Rattle.chi_cli.specs.declared.fault.CliFault.{CliFault}
 use Rattle.chi_cli.specs.declared.request.Request.{Request}
 use Rattle.chi_cli.specs.declared.request.Request.TheVariants as request
@@ -14,13 +14,12 @@ use Rattle.chi_load.proofs.Short.{source_short}
 use Rattle.chi_tool.specs.Settings.{IsBounded}
 use Rattle.chi_tool.specs.declared.task.Task.{Task}
 use Rattle.chi_tool.specs.declared.task.Task.TheVariants.{OfFile, OfLog, OfFactory}
-use Rattle.chi_tool.specs.Words.{Wish, nothing, unbuilt, of_task, task_of, is_refusal, wish_by_task, wish_by, wish_of}
+use Rattle.chi_tool.specs.Words.{Wish, nothing, of_task, task_of, is_refusal, wish_by, wish_of}
 use Rattle.chi_tool.proofs.LawClauses.{RangeLaw}
 
 -- what is asked for is within what is counted
 abbrev pub IsBoundedWish : Wish → Type 0
 IsBoundedWish nothing = Unit {0}
-IsBoundedWish unbuilt = Unit {0}
 IsBoundedWish (of_task (OfFile name purpose)) = IsBounded purpose
 IsBoundedWish (of_task (OfLog name)) = Unit {0}
 IsBoundedWish (of_task (OfFactory size)) = (1 ≤ size) × (size ≤ MOST_MACHINES)
@@ -30,8 +29,7 @@ counted bound most = omega arith
 
 by_reading : RangeLaw → (words : List (List ℕ)) (o : Result Request CliFault) → request_of words ≡ o → IsBoundedWish (wish_by o)
 by_reading law words (Err fault) is = tt
-by_reading law words (Ok (request.Sim file texts seed bound until pick false)) is = counted bound (law words _ is).1
-by_reading law words (Ok (request.Sim file texts seed bound until pick true)) is = tt
+by_reading law words (Ok (request.Sim file texts seed bound until pick trace)) is = counted bound (law words _ is).1
 by_reading law words (Ok (request.Check file)) is = tt
 by_reading law words (Ok (request.Load n)) is = law words _ is
 by_reading law words (Ok (request.TraceUp file)) is = tt
@@ -46,11 +44,8 @@ bounded_wish law words = by_reading law words (request_of words) refl
 -- what words ask for, by what reading them answers
 
 module _ (words : List (List ℕ)) where
-  pub wish_task : (asked : Request) (t : Task) → request_of words ≡ Ok asked → Some t ≡ task_of asked → wish_of words ≡ of_task t
-  wish_task asked t read is = ap wish_by read ∙ ap wish_by_task (sym is)
-
-  pub wish_unbuilt : (asked : Request) → request_of words ≡ Ok asked → None ≡ task_of asked → wish_of words ≡ unbuilt
-  wish_unbuilt asked read is = ap wish_by read ∙ ap wish_by_task (sym is)
+  pub wish_task : (asked : Request) (t : Task) → request_of words ≡ Ok asked → t ≡ task_of asked → wish_of words ≡ of_task t
+  wish_task asked t read is = ap wish_by read ∙ ap of_task (sym is)
 
   pub wish_nothing : (f : CliFault) → is_refusal f ≡ true → IsRefused (request_of words) f → wish_of words ≡ nothing
   wish_nothing fault.Usage is refused = ap wish_by refused

@@ -12,18 +12,17 @@ use Rattle.chi_core.specs.declared.program.Core.{Core}
 use Rattle.chi_core.specs.declared.fault.FaultKind.{FaultKind}
 use Rattle.chi_core.specs.declared.verdict.Verdict.{Verdict}
 use Rattle.chi_core.specs.declared.verdict.Verdict.TheVariants as verdict
-use Rattle.chi_core.specs.Runs.{Told}
 use Rattle.chi_trace.specs.declared.log.TheConstants.{MOST_LOG_BYTES}
 use Rattle.chi_trace.specs.Logs as logs
 use Rattle.chi_value.specs.declared.value.Value.{Value}
 use Rattle.chi_cli.specs.declared.args.ArgFault.{ArgFault}
 use Rattle.chi_tool.specs.declared.task.Purpose.{Purpose}
 use Rattle.chi_tool.specs.declared.task.Task.TheVariants.{OfFile, OfLog, OfFactory}
-use Rattle.chi_tool.specs.Words.{Wish, nothing, unbuilt, of_task, wish_of, NamesNoFile}
+use Rattle.chi_tool.specs.Words.{Wish, nothing, of_task, wish_of, NamesNoFile}
 use Rattle.chi_tool.specs.Arguments.{Means, Misfits}
 use Rattle.chi_tool.specs.Refusals.{Report, no_such_file, file_too_long}
 use Rattle.chi_tool.specs.Report.{IsReport}
-use Rattle.chi_tool.specs.Running.{IsRunOf}
+use Rattle.chi_tool.specs.Running.{Course, IsRunOf}
 use Rattle.chi_tool.specs.Settings.{Wanted, Aim, simulates, checks, wanted_of, aim_of, settings_with, plain}
 use Rattle.chi_tool.specs.Sources.{IsNoProgram, BreaksRule, ComesTo}
 use Rattle.chi_tool.specs.Statuses as statuses
@@ -137,9 +136,9 @@ pub record EndsAs (P : Verdict → Type 0) (w : Wanted) (source : List ℕ) : Ty
   pub program : ComesTo source core
   pub arguments : List Value
   pub fit : Means core w.texts arguments
-  pub told : Told
-  pub run : IsRunOf core (settings_with w arguments) told
-  pub ends : P told.ending.verdict
+  pub course : Course
+  pub run : IsRunOf core (settings_with w arguments) course
+  pub ends : P course.told.ending.verdict
 
 -- a run is asked for, and ends so
 abbrev pub Ends : (Verdict → Type 0) → Aim → List ℕ → Type 0
@@ -186,7 +185,6 @@ IsUnread most file shelf = ShelfRose shelf ⊎ IsSomeAnd shelf.files (λ files. 
 -- the file that the words ask for can't be read
 abbrev pub CannotBeRead : ShelfUse → Wish → Type 0
 CannotBeRead shelf nothing = ⊥
-CannotBeRead shelf unbuilt = ⊥
 CannotBeRead shelf (of_task (OfFile file purpose)) = IsUnread MOST_BYTES file shelf
 CannotBeRead shelf (of_task (OfLog file)) = IsUnread MOST_LOG_BYTES file shelf
 CannotBeRead shelf (of_task (OfFactory size)) = ⊥
@@ -208,10 +206,6 @@ IsExactlyIn call n P = (files : Files) → GoesWell call files → IsExactly cal
 abbrev pub IsExactlyOf : Call → ℕ → (Aim → List ℕ → Type 0) → Type 0
 IsExactlyOf call n P = IsExactlyIn call n (λ files. AsksFor call files P)
 
--- the source that is asked for breaks a rule, or what is asked for isn't built
-abbrev pub AsksForMistyped : Call → Files → Type 0
-AsksForMistyped call files = (wish_of call.words ≡ unbuilt) ⊎ AsksFor call files (λ aim. HasTypeFault)
-
 -- a run has completed, a program is accepted, or a log is brought up
 abbrev pub AsksForDone : Call → Files → Type 0
 AsksForDone call files = AsksFor call files IsDone ⊎ AsksForLog call files ComesUp
@@ -230,7 +224,7 @@ pub record Causes (call : Call) : Type 0 where
   pub stopped : IsExactlyOf call statuses.stopped (Ends (λ v. v ≡ verdict.Stopped))
   pub lexical : IsExactlyOf call statuses.lexical (λ aim. HasLexicalFault)
   pub syntax : IsExactlyOf call statuses.syntax (λ aim. HasSyntaxFault)
-  pub typing : IsExactlyIn call statuses.typing (AsksForMistyped call)
+  pub typing : IsExactlyOf call statuses.typing (λ aim. HasTypeFault)
   pub arguments : IsExactlyOf call statuses.arguments HasUnfitArguments
   pub misfit : IsExactlyIn call statuses.misfit (λ files. AsksForLog call files HasMisfit)
   pub no_request : call.out.stopped ≡ false → call.log.stopped ≡ false → IsExactly call statuses.no_request (wish_of call.words ≡ nothing)
@@ -246,4 +240,5 @@ abbrev pub IsComplete : Call → Type 0
 IsComplete call =
     (files : Files) → GoesWell call files → (w : Wanted) (source : List ℕ) → IsAskedSource call files (simulates w) source
     → (core : Core) → ComesTo source core → (arguments : List Value) → Means core w.texts arguments
-    → (told : Told) × IsRunOf core (settings_with w arguments) told × ((call.status ≡ status_of told.ending.verdict) ⊎ (call.status ≡ statuses.no_memory))
+    → (course : Course) × IsRunOf core (settings_with w arguments) course
+    × ((call.status ≡ status_of course.told.ending.verdict) ⊎ (call.status ≡ statuses.no_memory))

@@ -50,9 +50,6 @@ syntax source tokens fault = refused statuses.syntax (syntax_text source tokens 
 abbrev pub typing : Fault → Report
 typing fault = refused statuses.typing (placed fault.place (codes "rule " ++ decimal fault.rule))
 
-abbrev pub not_built : Report
-not_built = refused statuses.not_built (codes "form not built")
-
 -- the line of a fault of arguments, of which so many are wanted and so many are given; want of memory is none
 abbrev pub arguments_text : ℕ → ℕ → ArgFault → List ℕ
 arguments_text wanted given arg.Count = codes "arguments: wanted " ++ decimal wanted ++ codes ", given " ++ decimal given

@@ -12,11 +12,11 @@ use Rattle.chi_tool.specs.declared.task.Task.{Task}
 use Rattle.chi_tool.specs.declared.task.Task.TheVariants.{OfFile, OfLog, OfFactory}
 use Rattle.chi_tool.specs.Arguments.{Means, Misfits}
 use Rattle.chi_tool.specs.Refusals as refusal
-use Rattle.chi_tool.specs.Refusals.{Report, usage, not_built, no_such_file, file_too_long, unfit_arguments, brought_up, accepted}
+use Rattle.chi_tool.specs.Refusals.{Report, usage, no_such_file, file_too_long, unfit_arguments, brought_up, accepted}
 use Rattle.chi_tool.specs.Running.{IsRunReport}
 use Rattle.chi_tool.specs.Settings.{Wanted, Aim, simulates, checks, wanted_of, aim_of, settings_with, plain}
 use Rattle.chi_tool.specs.Sources.{IsRefused, ComesTo}
-use Rattle.chi_tool.specs.Words.{Wish, nothing, unbuilt, of_task, wish_of}
+use Rattle.chi_tool.specs.Words.{Wish, nothing, of_task, wish_of}
 
 -- a program that is to be run: its arguments are refused, or it is run with them
 pub data IsReportOfRun (core : Core) (w : Wanted) (r : Report) : Type 0 where
@@ -56,10 +56,9 @@ IsReportOfTask (OfFactory size) files r = IsReportOfSource (factory_source size)
 
 abbrev pub IsReportOfWish : Wish → Files → Report → Type 0
 IsReportOfWish nothing files r = r ≡ usage
-IsReportOfWish unbuilt files r = r ≡ not_built
 IsReportOfWish (of_task t) files r = IsReportOfTask t files r
 
 -- r is the report of these words and files: the first refusal among words, file, bytes, tokens, program and arguments,
--- or what was asked for: the output and verdict of the run, that the program is accepted, or what the log is brought up to
+-- or what was asked for: the output, trace and verdict of the run, that the program is accepted, or what the log is brought up to
 abbrev pub IsReport : List (List ℕ) → Files → Report → Type 0
 IsReport words files r = IsReportOfWish (wish_of words) files r

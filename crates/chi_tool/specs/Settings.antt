@@ -1,5 +1,5 @@
 -- What a run is asked for with, beside its program.
-use Rattle.std.specs.Prelude.{ℕ, ◌^◌, ◌<◌, ℤ, List, [], Option, None}
+use Rattle.std.specs.Prelude.{ℕ, ◌^◌, ◌<◌, ℤ, Bool, false, List, [], Option, None}
 use Rattle.chi_cli.specs.declared.request.Pick as words
 use Rattle.chi_cli.specs.declared.request.Pick.TheVariants as pick
 use Rattle.chi_cli.specs.declared.words.TheConstants.{STEPS}
@@ -11,13 +11,14 @@ use Rattle.chi_tool.specs.declared.task.Purpose.{Purpose}
 use Rattle.chi_tool.specs.declared.task.Purpose.TheVariants.{Simulate, Check}
 
 -- The seed of its draws; the bound on the costs of all its steps together; the policy that picks among what may
--- happen; the arguments of its model; and the stopping time, if there is one.
+-- happen; the arguments of its model; the stopping time, if there is one; and whether its trace is logged.
 pub record Settings : Type 0 where
   pub seed : ℕ
   pub bound : ℕ
   pub pick : Pick
   pub arguments : List Value
   pub until : Option ℤ
+  pub trace : Bool
 
 -- the same, with the texts of the arguments
 pub record Wanted : Type 0 where
@@ -26,6 +27,7 @@ pub record Wanted : Type 0 where
   pub pick : Pick
   pub texts : List (List ℕ)
   pub until : Option ℤ
+  pub trace : Bool
 
 -- what is done with a source: its program is run, or is only checked
 pub data Aim : Type 0 where
@@ -40,7 +42,7 @@ policy_of (pick.Spread salt) = spread salt
 
 -- as words ask
 abbrev pub wanted_of : Asked → Wanted
-wanted_of a = record { seed = a.seed; bound = a.bound; pick = policy_of a.pick; texts = a.texts; until = a.until }
+wanted_of a = record { seed = a.seed; bound = a.bound; pick = policy_of a.pick; texts = a.texts; until = a.until; trace = a.trace }
 
 abbrev pub aim_of : Purpose → Aim
 aim_of (Simulate a) = simulates (wanted_of a)
@@ -48,11 +50,11 @@ aim_of Check = checks
 
 -- with the arguments that the texts mean
 abbrev pub settings_with : Wanted → List Value → Settings
-settings_with w arguments = record { seed = w.seed; bound = w.bound; pick = w.pick; arguments = arguments; until = w.until }
+settings_with w arguments = record { seed = w.seed; bound = w.bound; pick = w.pick; arguments = arguments; until = w.until; trace = w.trace }
 
 -- where the words say nothing of it
 abbrev pub plain : Asked
-plain = record { seed = 0; bound = STEPS; pick = pick.First; texts = []; until = None }
+plain = record { seed = 0; bound = STEPS; pick = pick.First; texts = []; until = None; trace = false }
 
 -- within what is counted
 abbrev pub IsBounded : Purpose → Type 0

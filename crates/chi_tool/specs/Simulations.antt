@@ -1,25 +1,23 @@
 -- What the library call `simulate` is given, what it did, and what is promised of it.
-use Rattle.std.specs.Prelude.{◌≡◌, ◌≢◌, ℕ, ◌⊎◌, ◌↔◌, Bool, true, false, List, [], None}
+use Rattle.std.specs.Prelude.{◌≡◌, ◌≢◌, ℕ, ◌⊎◌, ◌↔◌, true, List, [], None}
 use Rattle.chi_core.specs.declared.program.Core.{Core}
 use Rattle.chi_core.specs.declared.verdict.Verdict.TheVariants as verdict
-use Rattle.chi_core.specs.Runs.{Told}
 use Rattle.chi_value.specs.declared.value.Value.{Value}
 use Rattle.chi_tool.specs.Arguments.{Means}
 use Rattle.chi_tool.specs.Call.{Call, SinkUse, Took, SinkStood}
 use Rattle.chi_tool.specs.Headline.{MeetsAlone, HasLexicalFault, HasSyntaxFault, HasTypeFault, EndsAs, IsUnfit, IsExit, IsFault, IsExactly, StoppedByFailure}
-use Rattle.chi_tool.specs.Refusals.{Report, not_built}
+use Rattle.chi_tool.specs.Refusals.{Report}
 use Rattle.chi_tool.specs.Report.{IsReportOfSource}
-use Rattle.chi_tool.specs.Running.{IsRunOf}
+use Rattle.chi_tool.specs.Running.{Course, IsRunOf}
 use Rattle.chi_tool.specs.Settings.{Wanted, simulates, settings_with}
 use Rattle.chi_tool.specs.Sources.{ComesTo}
 use Rattle.chi_tool.specs.Statuses as statuses
 use Rattle.chi_tool.specs.Statuses.{status_of}
 
--- a source that is to be simulated as it is wanted, with its trace or without; and what came of it
+-- a source that is to be simulated as it is wanted; and what came of it
 pub record Simulation : Type 0 where
   pub source : List ℕ
   pub wanted : Wanted
-  pub trace : Bool
   pub status : ℕ
   pub out : SinkUse
   pub log : SinkUse
@@ -34,14 +32,9 @@ as_call s = record {
   log = s.log;
 }
 
--- the report of a source that is to be simulated: a trace isn't built yet
-abbrev pub IsSimulated : List ℕ → Wanted → Bool → Report → Type 0
-IsSimulated source w false r = IsReportOfSource source (simulates w) r
-IsSimulated source w true r = r ≡ not_built
-
 pub record SimulationHeadline (s : Simulation) : Type 0 where
   -- there is a report that the simulation meets
-  pub report : (r : Report) × IsSimulated s.source s.wanted s.trace r × MeetsAlone r (as_call s)
+  pub report : (r : Report) × IsReportOfSource s.source (simulates s.wanted) r × MeetsAlone r (as_call s)
   -- once the output is stopped, nothing is logged
   pub out_stopped : s.out.stopped ≡ true → Took s.log []
 
@@ -49,9 +42,9 @@ pub record SimulationHeadline (s : Simulation) : Type 0 where
 abbrev pub IsExactlyFor : Simulation → ℕ → Type 0 → Type 0
 IsExactlyFor s n cause = SinkStood s.out → SinkStood s.log → IsExactly (as_call s) n cause
 
--- of a cause in the source, where no trace is wanted
+-- of a cause in the source
 abbrev pub ComesOf : Simulation → ℕ → (List ℕ → Type 0) → Type 0
-ComesOf s n P = IsExactlyFor s n ((s.trace ≡ false) × P s.source)
+ComesOf s n P = IsExactlyFor s n (P s.source)
 
 -- when each status comes
 pub record SimulationCauses (s : Simulation) : Type 0 where
@@ -63,7 +56,7 @@ pub record SimulationCauses (s : Simulation) : Type 0 where
   pub stopped : ComesOf s statuses.stopped (EndsAs (λ v. v ≡ verdict.Stopped) s.wanted)
   pub lexical : ComesOf s statuses.lexical HasLexicalFault
   pub syntax : ComesOf s statuses.syntax HasSyntaxFault
-  pub typing : IsExactlyFor s statuses.typing ((s.trace ≡ true) ⊎ HasTypeFault s.source)
+  pub typing : ComesOf s statuses.typing HasTypeFault
   pub arguments : ComesOf s statuses.arguments (IsUnfit s.wanted)
   -- no words and no file are to blame
   pub no_request : s.status ≢ statuses.no_request
@@ -77,7 +70,7 @@ pub record SimulationCauses (s : Simulation) : Type 0 where
 -- a program, with arguments that fit, is run to its end: the status is that of its verdict, unless memory is wanting
 abbrev pub IsSimulatedToItsEnd : Simulation → Type 0
 IsSimulatedToItsEnd s =
-    s.trace ≡ false → SinkStood s.out → SinkStood s.log
+    SinkStood s.out → SinkStood s.log
     → (core : Core) → ComesTo s.source core → (arguments : List Value) → Means core s.wanted.texts arguments
-    → (told : Told) × IsRunOf core (settings_with s.wanted arguments) told
-    × ((s.status ≡ status_of told.ending.verdict) ⊎ (s.status ≡ statuses.no_memory))
+    → (course : Course) × IsRunOf core (settings_with s.wanted arguments) course
+    × ((s.status ≡ status_of course.told.ending.verdict) ⊎ (s.status ≡ statuses.no_memory))

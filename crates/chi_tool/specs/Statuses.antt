@@ -64,11 +64,6 @@ syntax = 21
 abbrev pub typing : ℕ
 typing = 22
 
--- or what the words ask for isn't built yet
-
-abbrev pub not_built : ℕ
-not_built = 22
-
 -- the arguments don't fit the model's parameters
 
 abbrev pub arguments : ℕ

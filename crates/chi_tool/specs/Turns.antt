@@ -1,16 +1,20 @@
 -- Private to proofs: a run under a policy, turn by turn.
-use Rattle.std.specs.Prelude.{◌≡◌, ℕ, ◌+◌, ◌≤◌, List, length, None}
+use Rattle.std.specs.Prelude.{◌≡◌, ℕ, ◌+◌, ◌≤◌, Bool, true, false, List, [], length, None}
 use Rattle.chi_sched.specs.Policies.{Answers}
 use Rattle.chi_core.specs.declared.program.Core.{Core}
 use Rattle.chi_core.specs.declared.label.Label.{Label}
 use Rattle.chi_core.specs.Beginning.{Beginning}
 use Rattle.chi_core.specs.Options.{ending}
-use Rattle.chi_core.specs.Picks.{Pick, MayPick, Picked}
-use Rattle.chi_core.specs.Runs.{Told}
-use Rattle.chi_plain.specs.Stage.{Stage, At, Ended, Lost, Runner, Begun}
+use Rattle.chi_core.specs.Config.{Config}
+use Rattle.chi_core.specs.Picks.{Pick, MayPick}
+use Rattle.chi_events.specs.Traces.{lines_of}
+use Rattle.chi_events.specs.Tracing.{TracedSoFar}
+use Rattle.chi_plain.specs.Stage.{Stage, At, Ended, Lost, Runner, Begun, IsEventAt}
 use Rattle.chi_runs.specs.Turns.{UnderWay}
+use Rattle.chi_trace.specs.declared.event.Event.{Event}
+use Rattle.chi_trace.specs.Lines.{event_line}
 use Rattle.chi_tool.specs.Refusals.{Report}
-use Rattle.chi_tool.specs.Running.{run_report}
+use Rattle.chi_tool.specs.Running.{Course, IsCourse, run_report}
 
 -- something can happen
 abbrev pub GoesOn : Stage → Type 0
@@ -24,26 +28,42 @@ PicksAt gives turn (At config) label = (pick : Pick) → Answers gives pick → 
 PicksAt gives turn (Ended end) label = ⊥
 PicksAt gives turn Lost label = ⊥
 
+-- what is logged before anything happens: the first line of the trace, where that is wanted
+abbrev pub first_log : Bool → List ℕ
+first_log false = []
+first_log true = lines_of []
+
+-- what a turn adds to the log: the line of its label's event, where the trace is wanted
+abbrev pub Logs : Bool → Core → Stage → ℕ → Label → List ℕ → Type 0
+Logs false core stage turn label line = line ≡ []
+Logs true core stage turn label line = (e : Event) × IsEventAt core stage turn label e × (line ≡ event_line e)
+
+-- so much was logged along the labels that led to a configuration
+abbrev pub LoggedSoFar : Bool → Core → Beginning → ℕ → List Label → List ℕ → Config → ℕ → Type 0
+LoggedSoFar false core beginning bound labels log config left = log ≡ []
+LoggedSoFar true core beginning bound labels log config left = TracedSoFar core beginning bound labels log config left
+
 -- the run that the policy picks is under way, or has come to its end
-abbrev pub Leads : Core → Beginning → Pick → ℕ → Stage → ℕ → ℕ → List ℕ → Type 0
-Leads core beginning pick bound (At config) turn left output =
+abbrev pub Leads : Bool → Core → Beginning → Pick → ℕ → Stage → ℕ → ℕ → List ℕ → List ℕ → Type 0
+Leads trace core beginning pick bound (At config) turn left output log =
     (labels : List Label) × (length labels ≡ turn) × UnderWay core beginning pick bound labels output config left
-Leads core beginning pick bound (Ended end) turn left output =
-    (labels : List Label) × Picked core beginning pick bound (record { labels = labels; ending = end; output = output })
-Leads core beginning pick bound Lost turn left output = ⊥
+    × LoggedSoFar trace core beginning bound labels log config left
+Leads trace core beginning pick bound (Ended end) turn left output log =
+    (labels : List Label) × IsCourse trace core beginning pick bound (record { told = record { labels = labels; ending = end; output = output }; log = log })
+Leads trace core beginning pick bound Lost turn left output log = ⊥
 
 abbrev pub IsThere : Stage → Type 0
 IsThere (At config) = Unit {0}
 IsThere (Ended end) = Unit {0}
 IsThere Lost = ⊥
 
--- a runner that stood at first, at a turn of the run, with so much left of the bound, after so much was written
-pub record Keeps (gives : ℕ → ℕ → ℕ → Type 0) (core : Core) (first : Stage) (bound : ℕ) (runner : Runner) (turn left : ℕ) (output : List ℕ) : Type 0 where
+-- a runner that stood at first, at a turn of the run, with so much left of the bound, after so much was written and logged
+pub record Keeps (gives : ℕ → ℕ → ℕ → Type 0) (trace : Bool) (core : Core) (first : Stage) (bound : ℕ) (runner : Runner) (turn left : ℕ) (output log : List ℕ) : Type 0 where
   pub same_core : runner.core ≡ core
   pub there : IsThere runner.stage
   pub room : turn + left ≤ bound
-  pub leads : (beginning : Beginning) → Begun beginning first → (pick : Pick) → Answers gives pick → Leads core beginning pick bound runner.stage turn left output
+  pub leads : (beginning : Beginning) → Begun beginning first → (pick : Pick) → Answers gives pick → Leads trace core beginning pick bound runner.stage turn left output log
 
 -- the report is that of a run which the policy picks
-abbrev pub RunsTo : Core → Beginning → Pick → ℕ → Report → Type 0
-RunsTo core beginning pick bound r = (told : Told) × Picked core beginning pick bound told × (r ≡ run_report core told)
+abbrev pub RunsTo : Bool → Core → Beginning → Pick → ℕ → Report → Type 0
+RunsTo trace core beginning pick bound r = (course : Course) × IsCourse trace core beginning pick bound course × (r ≡ run_report core course)

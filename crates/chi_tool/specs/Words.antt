@@ -1,5 +1,5 @@
 -- What words ask for.
-use Rattle.std.specs.Prelude.{ℕ, Bool, true, false, List, Option, Some, None, Result, Ok, Err}
+use Rattle.std.specs.Prelude.{ℕ, Bool, true, false, List, Result, Ok, Err}
 use Rattle.chi_cli.specs.declared.fault.CliFault.{CliFault}
 use Rattle.chi_cli.specs.declared.fault.CliFault.TheVariants as fault
 use Rattle.chi_cli.specs.declared.request.Request.{Request}
@@ -9,27 +9,21 @@ use Rattle.chi_tool.specs.declared.task.Task.{Task}
 use Rattle.chi_tool.specs.declared.task.Task.TheVariants as task
 use Rattle.chi_tool.specs.declared.task.Purpose.TheVariants.{Simulate, Check}
 
--- A run without a trace, a check, a run of a factory, and a log of old that is to be brought up. A run with a trace isn't built yet.
-abbrev pub task_of : Request → Option Task
-task_of (request.Sim file texts seed bound until pick false) =
-    Some (task.OfFile file (Simulate (record { seed = seed; bound = bound; pick = pick; texts = texts; until = until })))
-task_of (request.Sim file texts seed bound until pick true) = None
-task_of (request.Check file) = Some (task.OfFile file Check)
-task_of (request.Load n) = Some (task.OfFactory n)
-task_of (request.TraceUp file) = Some (task.OfLog file)
+-- a run, a check, a run of a factory, or a log of old that is to be brought up
+abbrev pub task_of : Request → Task
+task_of (request.Sim file texts seed bound until pick trace) =
+    task.OfFile file (Simulate (record { seed = seed; bound = bound; pick = pick; texts = texts; until = until; trace = trace }))
+task_of (request.Check file) = task.OfFile file Check
+task_of (request.Load n) = task.OfFactory n
+task_of (request.TraceUp file) = task.OfLog file
 
--- nothing, since the words are no request; what isn't built yet; or a task
+-- nothing, since the words are no request; or a task
 pub data Wish : Type 0 where
   nothing : Wish
-  unbuilt : Wish
   of_task : Task → Wish
 
-abbrev pub wish_by_task : Option Task → Wish
-wish_by_task None = unbuilt
-wish_by_task (Some t) = of_task t
-
 abbrev pub wish_by : Result Request CliFault → Wish
-wish_by (Ok asked) = wish_by_task (task_of asked)
+wish_by (Ok asked) = of_task (task_of asked)
 wish_by (Err fault) = nothing
 
 abbrev pub wish_of : List (List ℕ) → Wish
@@ -38,7 +32,6 @@ wish_of words = wish_by (request_of words)
 -- it has to do with no file
 abbrev pub NamesNoFile : Wish → Type 0
 NamesNoFile nothing = Unit {0}
-NamesNoFile unbuilt = Unit {0}
 NamesNoFile (of_task (task.OfFile file purpose)) = ⊥
 NamesNoFile (of_task (task.OfLog file)) = ⊥
 NamesNoFile (of_task (task.OfFactory size)) = Unit {0}

@@ -2,7 +2,6 @@ ghost use Rattle.std.specs.Prelude.{◌≡◌, ◌≤◌, ℕ, All, List, length
 ghost use Rattle.chi_io.specs.Shelf.{Files};
 ghost use Rattle.chi_grammar_laws.specs.Answers.{IsProgram};
 ghost use Rattle.chi_core.specs.declared.program.Core.{Core};
-ghost use Rattle.chi_core.specs.Runs.{Told};
 ghost use Rattle.chi_lex.specs.declared.lexer.TheConstants.{MOST_BYTES};
 ghost use Rattle.chi_lex.specs.Reading.{Reads};
 ghost use Rattle.chi_spell.specs.Statements.{spelled};
@@ -10,12 +9,13 @@ ghost use Rattle.chi_token.specs.declared.place.Spanned.{Spanned};
 ghost use Rattle.chi_token.specs.Tokens.{IsToken};
 ghost use Rattle.chi_tool.specs.Refusals.{Report};
 ghost use Rattle.chi_tool.specs.Report.{IsReport, IsReportOfSource};
-ghost use Rattle.chi_tool.specs.Running.{IsRunOf, MayHave};
+ghost use Rattle.chi_tool.specs.Running.{Course, IsRunOf, MayHave};
 ghost use Rattle.chi_tool.specs.Settings.{Aim, MayBeAimed, Settings};
 ghost use Rattle.chi_tool.specs.Sources.{ComesTo};
 ghost use Rattle.chi_tree.specs.declared.definition.Program.{Program};
 
 use chi_cli::{numbers_are_in_range, values_are_of_parameters};
+use chi_events::trace_law;
 use chi_grammar_laws::answer_law;
 use chi_parsed_laws::parsed_programs_are_sound;
 use chi_runs::picked_law;
@@ -23,11 +23,12 @@ use chi_trace::logs_law;
 
 /// The program that a source within the limit comes to has exactly one run with settings that it may have.
 pub fn one_run_law()
-    ensures some { (source : List ℕ) (core : Core) → length source ≤ MOST_BYTES → ComesTo source core → (s : Settings) → MayHave core s → (told : Told) × IsRunOf core s told }
-    ensures one { (core : Core) (s : Settings) (told other : Told) → IsRunOf core s told → IsRunOf core s other → told ≡ other }
+    ensures some { (source : List ℕ) (core : Core) → length source ≤ MOST_BYTES → ComesTo source core → (s : Settings) → MayHave core s → (course : Course) × IsRunOf core s course }
+    ensures one { (core : Core) (s : Settings) (course other : Course) → IsRunOf core s course → IsRunOf core s other → course ≡ other }
 {
     parsed_programs_are_sound();
     picked_law();
+    trace_law();
 }
 
 /// A source within the limit has exactly one report, for each aim that may be had with it.

@@ -17,6 +17,7 @@ mod status;
 mod syntax;
 mod task;
 mod top;
+mod tracing;
 mod words;
 
 pub use laws::{one_run_law, report_law, source_law, tokens_law};

@@ -16,7 +16,7 @@ use crate::program::report_of_run;
 use crate::report::Reported;
 use crate::settings::Terms;
 use crate::source::{Source, read};
-use crate::status::{NO_MEMORY, NOT_BUILT};
+use crate::status::NO_MEMORY;
 use chi_base::NoMemory;
 use chi_cli::{MOST_STEPS, values_are_of_parameters};
 use chi_io::Sink;
@@ -36,7 +36,7 @@ fn report_of_terms<P: Chooser + Drop>(
     requires within { length source.now ≤ MOST_BYTES }
     requires bound { terms.bound < 2 ^ 63 }
     ensures { IfOk result (λ r. (pick : picks.Pick) → Answers (P.gives terms.policy) pick
-        → IsReportOfSource source.now (simulates (record { seed = terms.seed; bound = terms.bound; pick = pick; texts = args.now; until = terms.until })) (report_in r)) }
+        → IsReportOfSource source.now (simulates (record { seed = terms.seed; bound = terms.bound; pick = pick; texts = args.now; until = terms.until; trace = terms.trace })) (report_in r)) }
 {
     match read(alloc, source)? {
         Source::Refused(refusal) => Ok(refusal),
@@ -58,7 +58,7 @@ fn tell_terms<P: Chooser + Drop, O: Sink, L: Sink>(
     requires within { length source.now ≤ MOST_BYTES }
     requires bound { terms.bound < 2 ^ 63 }
     ensures { (pick : picks.Pick) → Answers (P.gives terms.policy) pick
-        → Tells (IsReportOfSource source.now (simulates (record { seed = terms.seed; bound = terms.bound; pick = pick; texts = args.now; until = terms.until }))) result
+        → Tells (IsReportOfSource source.now (simulates (record { seed = terms.seed; bound = terms.bound; pick = pick; texts = args.now; until = terms.until; trace = terms.trace }))) result
         (sink_use O.taken O.faults O.stopped out.old out.new) (sink_use L.taken L.faults L.stopped log.old log.new) }
 {
     match report_of_terms(alloc, source, args, terms) {
@@ -68,7 +68,8 @@ fn tell_terms<P: Chooser + Drop, O: Sink, L: Sink>(
 }
 
 /// Simulates a source: its first model with the arguments that texts mean, these draws, this bound on the costs of its
-/// steps and this stopping time. The policy picks among what may happen.
+/// steps and this stopping time. The policy picks among what may happen. With `trace` the log has a
+/// line for each label before that of the verdict.
 pub fn simulate<P: Chooser + Drop, O: Sink, L: Sink>(
     alloc: Global,
     source: &[u8],
@@ -89,8 +90,7 @@ pub fn simulate<P: Chooser + Drop, O: Sink, L: Sink>(
     // Whichever function tells what the policy answers: the status and every byte are those of the report.
     ensures headline { (pick : picks.Pick) → Answers (P.gives policy) pick → SimulationHeadline (record {
       source = source.now;
-      wanted = record { seed = seed; bound = bound; pick = pick; texts = args.now; until = until };
-      trace = trace;
+      wanted = record { seed = seed; bound = bound; pick = pick; texts = args.now; until = until; trace = trace };
       status = result;
       out = sink_use O.taken O.faults O.stopped out.old out.new;
       log = sink_use L.taken L.faults L.stopped log.old log.new;
@@ -98,8 +98,7 @@ pub fn simulate<P: Chooser + Drop, O: Sink, L: Sink>(
     // Each status has its cause.
     ensures causes { (pick : picks.Pick) → Answers (P.gives policy) pick → SimulationCauses (record {
       source = source.now;
-      wanted = record { seed = seed; bound = bound; pick = pick; texts = args.now; until = until };
-      trace = trace;
+      wanted = record { seed = seed; bound = bound; pick = pick; texts = args.now; until = until; trace = trace };
       status = result;
       out = sink_use O.taken O.faults O.stopped out.old out.new;
       log = sink_use L.taken L.faults L.stopped log.old log.new;
@@ -107,8 +106,7 @@ pub fn simulate<P: Chooser + Drop, O: Sink, L: Sink>(
     // A program is run to its end.
     ensures complete { (pick : picks.Pick) → Answers (P.gives policy) pick → IsSimulatedToItsEnd (record {
       source = source.now;
-      wanted = record { seed = seed; bound = bound; pick = pick; texts = args.now; until = until };
-      trace = trace;
+      wanted = record { seed = seed; bound = bound; pick = pick; texts = args.now; until = until; trace = trace };
       status = result;
       out = sink_use O.taken O.faults O.stopped out.old out.new;
       log = sink_use L.taken L.faults L.stopped log.old log.new;
@@ -117,14 +115,12 @@ pub fn simulate<P: Chooser + Drop, O: Sink, L: Sink>(
     source_law();
     one_run_law();
     values_are_of_parameters();
-    if trace {
-        return deliver(NOT_BUILT, out, b"", log, b"form not built\n");
-    }
     let terms = Terms {
         seed,
         bound,
         policy,
         until,
+        trace,
     };
     tell_terms(alloc, source, args, terms, out, log)
 }

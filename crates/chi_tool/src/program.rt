@@ -49,13 +49,14 @@ fn run_with<P: Chooser + Drop>(
         → AreOf (at_start core.now.names.kinds) arguments.items (kinds_of d.params) }
     requires bound { terms.bound < 2 ^ 63 }
     ensures { IfOk result (λ r. (pick : picks.Pick) → Answers (P.gives terms.policy) pick
-        → IsRunReport core.now (record { seed = terms.seed; bound = terms.bound; pick = pick; arguments = arguments.items; until = terms.until }) (report_in r)) }
+        → IsRunReport core.now (record { seed = terms.seed; bound = terms.bound; pick = pick; arguments = arguments.items; until = terms.until; trace = terms.trace }) (report_in r)) }
 {
     let Terms {
         seed,
         bound,
         policy,
         until,
+        trace,
     } = terms;
     let settings = Settings {
         seed,
@@ -63,6 +64,7 @@ fn run_with<P: Chooser + Drop>(
         policy,
         arguments,
         until: units_of(until),
+        trace,
     };
     run(alloc, core, settings)
 }
@@ -79,7 +81,7 @@ fn run_model<P: Chooser + Drop>(
     requires model { slice_get core.now.procs core.now.model ≡ Some model.now }
     requires bound { terms.bound < 2 ^ 63 }
     ensures { IfOk result (λ r. (pick : picks.Pick) → Answers (P.gives terms.policy) pick
-        → IsReportOfRun core.now (record { seed = terms.seed; bound = terms.bound; pick = pick; texts = texts.now; until = terms.until }) (report_in r)) }
+        → IsReportOfRun core.now (record { seed = terms.seed; bound = terms.bound; pick = pick; texts = texts.now; until = terms.until; trace = terms.trace }) (report_in r)) }
 {
     values_are_of_parameters();
     let params = model.params.as_slice();
@@ -107,7 +109,7 @@ pub fn report_of_run<P: Chooser + Drop>(
     requires sound { Sound core.now }
     requires bound { terms.bound < 2 ^ 63 }
     ensures { IfOk result (λ r. (pick : picks.Pick) → Answers (P.gives terms.policy) pick
-        → IsReportOfRun core.now (record { seed = terms.seed; bound = terms.bound; pick = pick; texts = texts.now; until = terms.until }) (report_in r)) }
+        → IsReportOfRun core.now (record { seed = terms.seed; bound = terms.bound; pick = pick; texts = texts.now; until = terms.until; trace = terms.trace }) (report_in r)) }
 {
     match core.procs.as_slice().get(core.model as usize) {
         Some(model) => run_model(alloc, core, model, texts, terms),
@@ -125,13 +127,14 @@ fn run_by<P: Chooser + Drop>(
     requires sound { Sound core.now }
     requires bound { asked.now.bound < 2 ^ 63 }
     ensures { IfOk result (λ r. (pick : picks.Pick) → Answers (P.gives policy) pick
-        → IsReportOfRun core.now (record { seed = asked.now.seed; bound = asked.now.bound; pick = pick; texts = asked.now.texts; until = asked.now.until }) (report_in r)) }
+        → IsReportOfRun core.now (record { seed = asked.now.seed; bound = asked.now.bound; pick = pick; texts = asked.now.texts; until = asked.now.until; trace = asked.now.trace }) (report_in r)) }
 {
     let terms = Terms {
         seed: asked.seed,
         bound: asked.bound,
         policy,
         until: asked.until,
+        trace: asked.trace,
     };
     report_of_run(alloc, core, asked.texts.as_slice(), terms)
 }

@@ -14,26 +14,31 @@ ghost use Rattle.chi_tool.specs.Turns.{GoesOn, PicksAt, IsThere, RunsTo};
 use crate::report::Reported;
 use crate::settings::Settings;
 use crate::status::status_of;
+use crate::tracing::{first_log, line_at};
 use chi_base::NoMemory;
 use chi_core::{Core, Label, Verdict, verdict_line};
+use chi_events::tracing_law;
 use chi_plain::{Plain, Stepped};
 use chi_runs::{choice_law, options_law, time_law, turn_law};
 use chi_sched::Chooser;
 use chi_value::TextFault;
 use std::alloc::Global;
 
+/// The report of a run with this ending, which wrote and logged so much.
 fn reported(
     alloc: Global,
     core: &Core,
     verdict: &Verdict,
     clock: i64,
     out: Vec<u8>,
+    mut log: Vec<u8>,
 ) -> Result<Reported, NoMemory>
     requires { MayTell core.now verdict.now }
-    ensures { IfOk result (λ r. report_in r
-        ≡ run_report core.now (record { labels = []; ending = record { verdict = verdict.now; clock = clock }; output = out.items })) }
+    ensures { IfOk result (λ r. report_in r ≡ run_report core.now (record {
+        told = record { labels = []; ending = record { verdict = verdict.now; clock = clock }; output = out.items };
+        log = log.entry.items;
+    })) }
 {
-    let mut log = Vec::new(alloc);
     match verdict_line(alloc, verdict, clock, &core.names, &mut log) {
         Ok(()) => Ok(Reported {
             status: status_of(verdict),
@@ -64,40 +69,45 @@ fn picked_label<P: Chooser>(plain: &Plain<'_>, policy: &P, turn: u64) -> Label
 }
 
 /// The report of a run from its beginning: a label is picked at each turn, until the run is over or
-/// the next label costs more than is left of the bound.
+/// the next label costs more than is left of the bound. A label that costs too much isn't logged.
 fn run_from<P: Chooser>(
     alloc: Global,
     core: &Core,
     begun: Plain<'_>,
     policy: &P,
     bound: u64,
+    trace: bool,
 ) -> Result<Reported, NoMemory>
     requires same_core { begun.core ≡ core.now }
     requires there { IsThere begun.stage }
     requires bound { bound < 2 ^ 63 }
     ensures { IfOk result (λ r. (beginning : Beginning) → Begun beginning begun.entry.stage → (pick : Pick) → Answers (P.gives policy.now) pick
-        → RunsTo core.now beginning pick bound (report_in r)) }
+        → RunsTo trace core.now beginning pick bound (report_in r)) }
 {
     time_law();
     turn_law();
+    tracing_law();
     let mut plain = begun;
     let mut out = Vec::new(alloc);
+    let mut log = first_log(alloc, trace)?;
     let mut left = bound;
     let mut turn = 0;
     'turn: loop {
         let label = match plain.ending() {
-            Some(verdict) => return Ok(reported(alloc, core, verdict, plain.clock(), out)?),
+            Some(verdict) => return Ok(reported(alloc, core, verdict, plain.clock(), out, log)?),
             None => picked_label(&plain, policy, turn),
         };
+        let line = line_at(alloc, &plain, trace, turn, &label)?;
         match plain.plain_step(&label, left, &mut out) {
             Stepped::Next(cost) => {
+                log.extend_from_slice(&line)?;
                 left -= cost;
                 turn += 1;
             }
-            Stepped::Over => {}
+            Stepped::Over => log.extend_from_slice(&line)?,
             Stepped::Spent => {
                 let clock = plain.clock();
-                return Ok(reported(alloc, core, &Verdict::OutOfSteps, clock, out)?);
+                return Ok(reported(alloc, core, &Verdict::OutOfSteps, clock, out, log)?);
             }
             Stepped::NoMemory => return Err(NoMemory),
         }
@@ -115,7 +125,7 @@ pub fn run<P: Chooser + Drop>(
         → AreOf (at_start core.now.names.kinds) settings.arguments.items (kinds_of d.params) }
     requires bound { settings.bound < 2 ^ 63 }
     ensures { IfOk result (λ r. (pick : Pick) → Answers (P.gives settings.policy) pick
-        → IsRunReport core.now (record { seed = settings.seed; bound = settings.bound; pick = pick; arguments = settings.arguments.items; until = settings.until }) (report_in r)) }
+        → IsRunReport core.now (record { seed = settings.seed; bound = settings.bound; pick = pick; arguments = settings.arguments.items; until = settings.until; trace = settings.trace }) (report_in r)) }
 {
     let Settings {
         seed,
@@ -123,7 +133,8 @@ pub fn run<P: Chooser + Drop>(
         policy,
         arguments,
         until,
+        trace,
     } = settings;
     let plain = Plain::new(alloc, core, arguments, seed, until)?;
-    run_from(alloc, core, plain, &policy, bound)
+    run_from(alloc, core, plain, &policy, bound, trace)
 }

@@ -14,6 +14,8 @@ pub struct Settings<P> {
     pub arguments: Vec<Value>,
     /// The stopping time, in units of a real.
     pub until: Option<i64>,
+    /// Whether the run's trace is logged.
+    pub trace: bool,
 }
 
 /// On what terms a program is run, beside its arguments.
@@ -27,4 +29,6 @@ pub struct Terms<P> {
     pub policy: P,
     /// The stopping time.
     pub until: Option<Real>,
+    /// Whether the run's trace is logged.
+    pub trace: bool,
 }

@@ -45,9 +45,6 @@ pub const SYNTAX: u8 = 21;
 /// The source is a program that breaks a rule.
 pub const TYPING: u8 = 22;
 
-/// What the words ask for isn't built yet.
-pub const NOT_BUILT: u8 = 22;
-
 /// The arguments don't fit the model's parameters.
 pub const ARGUMENTS: u8 = 23;
 

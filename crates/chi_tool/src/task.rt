@@ -20,6 +20,8 @@ pub struct Asked {
     pub texts: Items<Bytes>,
     /// The stopping time.
     pub until: Option<Real>,
+    /// Whether the run's trace is logged.
+    pub trace: bool,
 }
 
 /// What a run is asked for with where the words say nothing of it.
@@ -32,6 +34,7 @@ pub fn plain(alloc: Global) -> Result<Asked, NoMemory>
         pick: Pick::First,
         texts: Items::of(alloc, Vec::new(alloc))?,
         until: None,
+        trace: false,
     })
 }
 

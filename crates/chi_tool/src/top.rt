@@ -6,7 +6,7 @@ use crate::deliver::deliver;
 use crate::laws::{one_run_law, report_law};
 use crate::logs::serve_log;
 use crate::serve::{serve, serve_factory};
-use crate::status::{NO_MEMORY, NO_REQUEST, NOT_BUILT};
+use crate::status::{NO_MEMORY, NO_REQUEST};
 use crate::task::Task;
 use crate::words::{is_refusal, task_of};
 use chi_cli::{numbers_are_in_range, read_words, values_are_of_parameters};
@@ -56,12 +56,11 @@ pub fn chi<H: Shelf, O: Sink, L: Sink>(
     values_are_of_parameters();
     match read_words(alloc, words) {
         Ok(request) => match task_of(request) {
-            Some(Task::OfFile { file, purpose }) => {
+            Task::OfFile { file, purpose } => {
                 serve(alloc, file.as_slice(), &purpose, shelf, out, log)
             }
-            Some(Task::OfLog { file }) => serve_log(alloc, file.as_slice(), shelf, out, log),
-            Some(Task::OfFactory { size }) => serve_factory(alloc, size, out, log),
-            None => deliver(NOT_BUILT, out, b"", log, b"form not built\n"),
+            Task::OfLog { file } => serve_log(alloc, file.as_slice(), shelf, out, log),
+            Task::OfFactory { size } => serve_factory(alloc, size, out, log),
         },
         Err(fault) => {
             if !is_refusal(fault) {

@@ -4,8 +4,8 @@ ghost use Rattle.chi_tool.specs.Words.{is_refusal, task_of};
 use crate::task::{Asked, Purpose, Task};
 use chi_cli::{CliFault, Request};
 
-/// What a request wants to be done, unless that isn't built yet.
-pub fn task_of(request: Request) -> Option<Task>
+/// What a request wants to be done.
+pub fn task_of(request: Request) -> Task
     ensures { result ≡ task_of request }
 {
     match request {
@@ -16,7 +16,7 @@ pub fn task_of(request: Request) -> Option<Task>
             bound,
             until,
             pick,
-            trace: false,
+            trace,
         } => {
             let asked = Asked {
                 seed,
@@ -24,19 +24,19 @@ pub fn task_of(request: Request) -> Option<Task>
                 pick,
                 texts: args,
                 until,
+                trace,
             };
-            Some(Task::OfFile {
+            Task::OfFile {
                 file,
                 purpose: Purpose::Simulate(asked),
-            })
+            }
         }
-        Request::Check { file } => Some(Task::OfFile {
+        Request::Check { file } => Task::OfFile {
             file,
             purpose: Purpose::Check,
-        }),
-        Request::Load { n } => Some(Task::OfFactory { size: n }),
-        Request::TraceUp { file } => Some(Task::OfLog { file }),
-        Request::Sim { trace: true, .. } => None,
+        },
+        Request::Load { n } => Task::OfFactory { size: n },
+        Request::TraceUp { file } => Task::OfLog { file },
     }
 }
 

@@ -53,10 +53,10 @@ fn a_source_is_simulated_by_a_policy(rt: HostRuntime) -> Result<(), Fail> {
         out: "2\n1\n",
         ..first
     };
-    let unbuilt = Wanted {
-        out: "",
-        log: "form not built\n",
-        status: 22,
+    let traced = Wanted {
+        log: "trace 2\n0 local 0 M 1\n1 local 0 M 1\n2 local 1 S 1\n3 local 2 S 1\n4 local 3 R 1\n5 local 3 R 1\n\
+             6 pair 1 0 3 0 0 1\n7 local 3 R 1\n8 local 3 R 1\n9 pair 2 0 3 0 0 2\n10 local 3 R 1\ncompleted at time 0.0\n",
+        ..first
     };
     let spent = Wanted {
         out: "",
@@ -67,5 +67,5 @@ fn a_source_is_simulated_by_a_policy(rt: HostRuntime) -> Result<(), Fail> {
     expect_by(&rt, rt.alloc(), Last, 1_000, false, last)?;
     expect_by(&rt, rt.alloc(), Spread { salt: 0 }, 1_000, false, first)?;
     expect_by(&rt, rt.alloc(), First, 0, false, spent)?;
-    expect_by(&rt, rt.alloc(), First, 1_000, true, unbuilt)
+    expect_by(&rt, rt.alloc(), First, 1_000, true, traced)
 }

@@ -138,7 +138,12 @@ fn what_is_checked_is_refused_as_what_is_run(rt: HostRuntime) -> Result<(), Fail
     expect_words(&rt, rt.alloc(), "model M(): return 1 end", &check)?;
     let check: [Row; 2] = [
         (&["check", "m.chi"], "", "accepted\n", 0),
-        (&["sim", "--trace", "m.chi"], "", "form not built\n", 22),
+        (
+            &["sim", "--trace", "m.chi"],
+            "",
+            "trace 2\n0 local 0 M 1\nexit at time 0.0\n",
+            10,
+        ),
     ];
     expect_words(&rt, rt.alloc(), "model M(): exit end", &check)
 }

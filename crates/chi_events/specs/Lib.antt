@@ -1,0 +1,4 @@
+pub mod Traces
+pub mod There
+pub mod Laws
+pub mod Tracing
