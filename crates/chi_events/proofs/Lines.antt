@@ -1,5 +1,5 @@
 -- Texts of numbers, strings and names are in one line, and none is the part that stands for what isn't known.
-use Rattle.std.proofs.Common.{◌≡◌, ◌≢◌, ℕ, zero, suc, ◌<◌, ◌%◌, ◌/◌, ◌&&◌, Bool, true, false, cond, List, [], ◌∷◌, ◌++◌, length, bytes_eq, ℤ, pos, negsuc, Option, Some, None, refl, ap, sym, subst, ◌∙◌, arith}
+use Rattle.std.proofs.Common.{◌≡◌, ◌≢◌, ℕ, zero, suc, ◌<◌, ◌%◌, ◌/◌, ◌&&◌, Bool, true, false, cond, List, [], ◌∷◌, ◌++◌, length, bytes_eq, ℤ, pos, negsuc, Some, None, refl, ap, sym, ◌∙◌, arith}
 use Rattle.std.proofs.Math.Nat.{mod-lt}
 use Rattle.std.proofs.lemmas.Bool.{eqb-true, lt-ltb}
 use Rattle.std.proofs.lemmas.Slice.Eq.{bytes_eq-Decides}
@@ -7,11 +7,11 @@ use Rattle.std.specs.Char.{is_ascii_digit}
 use Rattle.std.specs.Fmt.{decimal, digits, digits_onto, digit_glyph, signed_decimal}
 use Rattle.std.specs.List.{list_all, flat_map}
 use Rattle.std.specs.Prelude.{◌==◌, not, nat_lt, nat_abs, int_lt, option_map}
-use Rattle.chi_num.specs.Decimal.{AreDigits, last_digits, sign_text, point_and, spelling}
+use Rattle.chi_num.specs.Decimal.{AreDigits, last_digits, point_and, spelling}
 use Rattle.chi_num.specs.RealText.{real_text_of, trimmed, without_last_zeros}
 use Rattle.chi_num.proofs.Decimal.{are_digits-last_digits}
-use Rattle.chi_token.specs.Characters.{backslash, quote, is_name_start, is_name_byte, is_digit}
-use Rattle.chi_token.specs.Texts.{letter_for, quoted, quoted_by, quoted_byte}
+use Rattle.chi_token.specs.Characters.{quote, is_name_start, is_name_byte}
+use Rattle.chi_token.specs.Texts.{quoted, quoted_by, quoted_byte}
 use Rattle.chi_core.specs.Sound.{IsName}
 use Rattle.chi_trace.specs.Ends.{OneLine}
 use Rattle.chi_trace.specs.Events.{is_value_text, unknown_part}

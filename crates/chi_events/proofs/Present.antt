@@ -1,8 +1,8 @@
 -- What the event of an enabled label tells is there: otherwise its step would be amiss.
-use Rattle.std.proofs.Common.{◌≡◌, ◌≢◌, ℕ, zero, suc, Bool, true, false, cond, List, [], ◌∷◌, Option, Some, None, refl, ap, sym, subst, ◌∙◌, ℤ}
-use Rattle.std.specs.Prelude.{slice_get, option_map, option_and_then, IsTrue, IsSomeAnd, IfSome, Contains}
-use Rattle.chi_types.specs.declared.ty.Ty.{Ty, out-Ty}
-use Rattle.chi_value.specs.declared.value.Value.{Value, out-Value}
+use Rattle.std.proofs.Common.{◌≡◌, ◌≢◌, ℕ, Bool, true, false, cond, List, [], ◌∷◌, Option, Some, None, refl, ap, sym, subst, ◌∙◌, ℤ}
+use Rattle.std.specs.Prelude.{slice_get, option_map, option_and_then, IsTrue, IfSome, Contains}
+use Rattle.chi_types.specs.declared.ty.Ty.{out-Ty}
+use Rattle.chi_value.specs.declared.value.Value.{Value}
 use Rattle.chi_value.specs.Plain.{within}
 use Rattle.chi_core.specs.declared.act.Act.{Act}
 use Rattle.chi_core.specs.declared.act.Act.TheVariants.{Send, Receive, Delay}
@@ -10,17 +10,16 @@ use Rattle.chi_core.specs.declared.communication.CComm.{CComm}
 use Rattle.chi_core.specs.declared.label.Label.{Label}
 use Rattle.chi_core.specs.declared.label.Label.TheVariants.{Local, Pair, Wake, Join, Advance}
 use Rattle.chi_core.specs.declared.program.Core.{Core}
-use Rattle.chi_core.specs.declared.program.ProcDef.{ProcDef}
 use Rattle.chi_core.specs.Answer as answer
 use Rattle.chi_core.specs.declared.view.View.{View}
 use Rattle.chi_core.specs.Config.{Config, Instance, Offer, State, Running, Waiting, Joining, Finished, offers_in, view_of}
-use Rattle.chi_core.specs.Kinded.{Kinded, KindedInstance, StateFits, ActFits, sends, sends_void, receives, receives_void, delays, waits_for_timer, OfferFits}
+use Rattle.chi_core.specs.Kinded.{Kinded, StateFits, ActFits, sends, sends_void, OfferFits}
 use Rattle.chi_core.specs.Kinds.{Kind, Every}
 use Rattle.chi_core.specs.Meeting.{offer_at, met, paired, woken, joined, next_due, advanced}
 use Rattle.chi_core.specs.Of.{World, IsOf}
 use Rattle.chi_core.specs.Options.{enabled}
 use Rattle.chi_core.specs.Scopes.{Scope, Home, process_home}
-use Rattle.chi_core.specs.Sound.{Sound, IsName, SoundEnumeration}
+use Rattle.chi_core.specs.Sound.{Sound, SoundEnumeration}
 use Rattle.chi_core.specs.Step as outcome
 use Rattle.chi_core.specs.Step.{Outcome, after_step, no_fault, first_done, local_in, local, taken, step, name_of}
 use Rattle.chi_core.specs.Terms.{Term}
@@ -28,10 +27,8 @@ use Rattle.chi_kinded.specs.Keeps.{GoesKinded, KeepsKinded}
 use Rattle.chi_trace.specs.declared.event.Detail.{Detail}
 use Rattle.chi_trace.specs.declared.event.Detail.TheVariants.{At, Of, Sent, Bare}
 use Rattle.chi_trace.specs.declared.event.Event.{Event}
-use Rattle.chi_trace.specs.Events.{is_value_text}
-use Rattle.chi_events.specs.Laws.{EachIsThere, EachHasAnEvent}
-use Rattle.chi_events.specs.There.{IsNamed, IsSent, act_at, Sends, IsDoing, IsThere}
-use Rattle.chi_events.specs.Traces.{name_in, line_in, place_told, sending_told, detail_of, time_after, event_with, event_at, sent_text}
+use Rattle.chi_events.specs.There.{IsNamed, IsSent, IsDoing, IsThere}
+use Rattle.chi_events.specs.Traces.{line_in, place_told, sending_told, detail_of, time_after, event_with, event_at, sent_text}
 use Rattle.chi_events.proofs.Shown.{void_told, sent_told}
 
 -- values are in the names of their world, as its law gives it
@@ -164,9 +161,12 @@ is_there core sound keeps values config kinded label may = by label (good label 
         (named core sound config kinded p (doing_there (slice_get config.instances p) d), d)
     by (Pair p a q b) g =
         let s = sender config p a q b (slice_get config.instances p) (slice_get config.instances q)
-            (offer_at (slice_get config.instances p) a) (offer_at (slice_get config.instances q) b) (view_of config 0) g in
-        (s.2, s.3, ap (option_map (λ (o : Offer). o.act)) s.5 ∙ ap Some s.6,
-            sends_there core sound config kinded values p a s.0 s.1 s.2 s.3 s.4 (sym (ap (λ o. offer_at o a) s.4) ∙ s.5) s.6)
+        (offer_at (slice_get config.instances p) a) (offer_at (slice_get config.instances q) b) (view_of config 0) g in (
+          s.2,
+          s.3,
+          ap (option_map (λ (o : Offer). o.act)) s.5 ∙ ap Some s.6,
+          sends_there core sound config kinded values p a s.0 s.1 s.2 s.3 s.4 (sym (ap (λ o. offer_at o a) s.4) ∙ s.5) s.6,
+        )
     by (Wake p a) g =
         named core sound config kinded p (waker config p (slice_get config.instances p) (offer_at (slice_get config.instances p) a) (view_of config 0) g)
     by (Join p) g = named core sound config kinded p (joiner config p (slice_get config.instances p) (view_of config 0) g)

@@ -1,7 +1,7 @@
 -- What a trace tells of what is sent is a text that it can tell.
-use Rattle.std.proofs.Common.{◌≡◌, ℕ, zero, suc, ◌&&◌, Bool, true, false, cond, List, [], ◌∷◌, ◌++◌, map, length, Option, Some, None, refl, ap, sym, subst, ◌∙◌, arith}
+use Rattle.std.proofs.Common.{◌≡◌, ℕ, zero, suc, Bool, true, false, cond, List, [], ◌∷◌, ◌++◌, map, length, Option, Some, None, refl, ap, sym, subst, ◌∙◌, arith}
 use Rattle.std.specs.List.{list_all}
-use Rattle.std.specs.Prelude.{codes, slice_get, unwrap_or, option_and_then, nat_le, IfSome, IsTrue}
+use Rattle.std.specs.Prelude.{codes, slice_get, unwrap_or, option_and_then, nat_le}
 use Rattle.chi_types.specs.declared.ty.Ty.{Ty, out-Ty}
 use Rattle.chi_value.specs.declared.value.Value.{Value, Value-F, out-Value, fold_out-Value, map-Value}
 use Rattle.chi_value.specs.Names.{name_at, name_of}

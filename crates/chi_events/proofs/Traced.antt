@@ -1,7 +1,7 @@
 -- Traces: each turn adds the line of its event, and a derivation of a sound program has exactly one trace.
 use Rattle.std.proofs.Common.{◌≡◌, ℕ, suc, List, [], ◌∷◌, ◌++◌, map, length, Option, Some, None, append_assoc, append-nil, sym, ◌∙◌, ap, subst, refl}
 use Rattle.std.specs.List.{flat_map}
-use Rattle.std.specs.Prelude.{Contains, unwrap_or}
+use Rattle.std.specs.Prelude.{unwrap_or}
 use Rattle.chi_core.specs.declared.label.Label.{Label}
 use Rattle.chi_core.specs.declared.program.Core.{Core}
 use Rattle.chi_core.specs.declared.verdict.Verdict.{Verdict}
@@ -9,7 +9,7 @@ use Rattle.chi_core.specs.Beginning as beginning
 use Rattle.chi_core.specs.Beginning.{Beginning, Begins, Breaks}
 use Rattle.chi_core.specs.Config.{Config}
 use Rattle.chi_core.specs.Kinded.{Kinded}
-use Rattle.chi_core.specs.Options.{Ending, enabled}
+use Rattle.chi_core.specs.Options.{Ending}
 use Rattle.chi_core.specs.Runs.{nothing, along, told_after, After, Runs, MayDerive, Told, Derivation}
 use Rattle.chi_core.specs.Sound.{Sound}
 use Rattle.chi_core.specs.Step as outcome
@@ -22,8 +22,8 @@ use Rattle.chi_runs.proofs.Turns.{along-none, along-step}
 use Rattle.chi_trace.specs.declared.event.Event.{Event}
 use Rattle.chi_trace.specs.Lines.{first_line, event_line}
 use Rattle.chi_events.specs.Laws.{EachHasAnEvent}
-use Rattle.chi_events.specs.Traces.{event_at, event_told, events_of, lines_of, IsTrace}
-use Rattle.chi_events.specs.Tracing.{ToldFrom, TracedSoFar}
+use Rattle.chi_events.specs.Traces.{event_at, event_told, lines_of, IsTrace}
+use Rattle.chi_events.specs.Tracing.{TracedSoFar}
 
 map-snoc : (events : List Event) (e : Event) → map Some (events ++ e ∷ []) ≡ map Some events ++ Some e ∷ []
 map-snoc [] e = refl
@@ -132,10 +132,11 @@ module _ (core : Core) (sound : Sound core) (keeps : KeepsKinded core) (each : E
   events_along (label ∷ labels) turn config left end kinded runs =
       let first : (e : Event) × (event_at core turn config label ≡ Some e) = each core sound config kinded label runs.0 turn in
       let rest = after (step core config label left) config labels end turn (keeps config kinded label runs.0 left) runs.1
-          (λ new left' kinded' runs'. events_along labels (suc turn) new left' end kinded' runs') in
-      (first.0 ∷ rest.0,
-          along-step (event_told core) nothing core turn config left label labels (step core config label left) refl
-          ∙ (λ k. first.1 k ∷ rest.1 k))
+      (λ new left' kinded' runs'. events_along labels (suc turn) new left' end kinded' runs') in (
+        first.0 ∷ rest.0,
+        along-step (event_told core) nothing core turn config left label labels (step core config label left) refl
+            ∙ (λ k. first.1 k ∷ rest.1 k),
+      )
 
 pub each_trace : (core : Core) → Sound core → BeginsAlways core → KeepsKinded core → EachHasAnEvent
     → (start : Beginning) → IsBeginning core start → (bound : ℕ) (told : Told) → Derivation core start bound told

@@ -7,7 +7,7 @@ use Rattle.chi_core.specs.Beginning.{Beginning, Begins, Breaks}
 use Rattle.chi_core.specs.Beginning as beginning
 use Rattle.chi_core.specs.Config.{Config}
 use Rattle.chi_core.specs.Options.{Ending}
-use Rattle.chi_core.specs.Runs.{nothing, Told}
+use Rattle.chi_core.specs.Runs.{nothing}
 use Rattle.chi_core.specs.Step.{Next, Over, step}
 use Rattle.chi_runs.specs.Tellings.{ToldSoFar}
 use Rattle.chi_trace.specs.declared.event.Event.{Event}

@@ -1,4 +1,4 @@
-ghost use Rattle.std.specs.Prelude.{◌≡◌, ◌≢◌, None, Some, IfOk, Contains, slice_get};
+ghost use Rattle.std.specs.Prelude.{◌≡◌, ◌≢◌, None, Some, IfOk, Contains, option_and_then, slice_get};
 ghost use Rattle.chi_core.specs.declared.label.Label.TheVariants as label;
 ghost use Rattle.chi_core.specs.Kinded.{Kinded};
 ghost use Rattle.chi_core.specs.Meeting.{offer_at};

@@ -10,9 +10,12 @@ pub fn is_plain(value: &Value) -> bool
     ensures { result ≡ is_plain value.now }
 {
     match value {
-        Value::Bool(_) | Value::Int(_) | Value::Real(_) | Value::Text(_) | Value::Choice(_, _) => true,
+        Value::Bool(_) | Value::Int(_) | Value::Real(_) | Value::Text(_) | Value::Choice(_, _) =>
+            true,
         Value::TupleOf(parts) => are_plain(parts.as_slice()),
-        Value::ListOf(items) | Value::SetOf(items) | Value::DictOf(items) => are_plain(items.as_slice()),
+        Value::ListOf(items) | Value::SetOf(items) | Value::DictOf(items) => are_plain(
+            items.as_slice(),
+        ),
         Value::Chan(_) | Value::Dist(_) | Value::Timer(_) | Value::Inst(_) => false,
     }
 }

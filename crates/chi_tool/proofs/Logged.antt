@@ -79,4 +79,3 @@ module _ (law : TurnLaw) (core : Core) where
         → IsLogged trace core start bound (record { labels = labels; ending = end; output = output }) log
     log_whole false l end output = l
     log_whole true l end output = law.trace_whole core start bound labels log config left l end output
-

@@ -21,7 +21,8 @@ fn labels_have_lines(rt: HostRuntime) -> Result<(), Fail> {
         ),
     ];
     expect_words(&rt, rt.alloc(), waits, &rows)?;
-    let meets = "proc S(chan! int a): a!7 end model M(): chan int a; int x; start S(a); a?x; exit end";
+    let meets =
+        "proc S(chan! int a): a!7 end model M(): chan int a; int x; start S(a); a?x; exit end";
     let rows: [Row; 1] = [(
         &["sim", "--trace", "m.chi"],
         "",
@@ -41,7 +42,8 @@ fn labels_have_lines(rt: HostRuntime) -> Result<(), Fail> {
 
 #[test]
 fn loops_have_the_line_of_their_statement(rt: HostRuntime) -> Result<(), Fail> {
-    let source = "model M():\n  int n = 1;\n  while n > 0:\n    n = n - 1\n  end;\n  for i in [4]:\n    pass\n  end\nend";
+    let source =
+        "model M():\n  int n = 1;\n  while n > 0:\n    n = n - 1\n  end;\n  for i in [4]:\n    pass\n  end\nend";
     let rows: [Row; 1] = [(
         &["sim", "--trace", "m.chi"],
         "",
