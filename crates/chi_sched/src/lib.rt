@@ -8,3 +8,6 @@ mod policy;
 pub use chooser::Chooser;
 pub use formulas::{First, Last, Spread, first_of, last_of, listed_of, spread_of};
 pub use policy::{Closure, Policy};
+
+#[cfg(test)]
+mod tests;
