@@ -1,7 +1,7 @@
-ghost use Rattle.std.specs.Prelude.{◌≡◌, ◌<◌};
+ghost use Rattle.std.specs.Prelude.{◌≡◌, ◌<◌, IfOk};
 ghost use Rattle.chi_sched.specs.Policies.{listed};
 
-use crate::{Chooser, First, Last, Policy, Spread, listed_of};
+use crate::{Chooser, First, Last, Listed, Policy, Spread, listed_of};
 use std::alloc::{AllocError, Global};
 use std::test::Fail;
 
@@ -14,31 +14,41 @@ fn formulas_are_policies(rt: HostRuntime) -> Result<(), Fail> {
     Ok(())
 }
 
-/// What a stored closure that has the list answers to the first questions, of so many choices.
-fn replayed(alloc: Global, picks: Vec<u64>, count: u64) -> Result<Vec<u64>, AllocError>
+/// What a stored closure that has the list answers to a question, as a policy.
+fn replayed(alloc: Global, picks: Vec<u64>, question: u64, count: u64) -> Result<u64, AllocError>
     requires { 0 < count }
+    ensures { IfOk result (λ answer. answer ≡ listed picks.items question count) }
 {
-    let policy = Policy::new(Box::new(
+    let pick = Box::new(
         alloc,
         move |question: u64, count: u64| -> u64
             requires { 0 < count }
             ensures { result ≡ listed picks.items question count }
         { listed_of(&picks, question, count) },
-    )?);
-    let mut answers = Vec::new(alloc);
-    for question in 0..5 {
-        answers.push(policy.choose(question, count))?;
-    }
-    Ok(answers)
+    )?;
+    let policy = Policy::new(pick);
+    Ok(policy.choose(question, count))
 }
 
 #[test]
 fn a_stored_closure_replays_a_list(rt: HostRuntime) -> Result<(), Fail> {
-    let picks = Vec::from_slice(rt.alloc(), &[2u64, 0, 5])?;
-    let answers = replayed(rt.alloc(), picks, 3)?;
-    assert_eq!(rt; answers.as_slice(), [2, 0, 0, 0, 0].as_slice());
-    let picks = Vec::from_slice(rt.alloc(), &[2u64, 0, 5])?;
-    let answers = replayed(rt.alloc(), picks, 6)?;
-    assert_eq!(rt; answers.as_slice(), [2, 0, 5, 0, 0].as_slice());
+    for (question, answer) in [2u64, 0, 0, 0].iter().enumerate() {
+        let picks = Vec::from_slice(rt.alloc(), &[2, 0, 5])?;
+        assert_eq!(rt; replayed(rt.alloc(), picks, question as u64, 3)?, *answer);
+    }
+    let picks = Vec::from_slice(rt.alloc(), &[2, 0, 5])?;
+    assert_eq!(rt; replayed(rt.alloc(), picks, 2, 6)?, 5);
+    Ok(())
+}
+
+#[test]
+fn a_list_is_a_policy(rt: HostRuntime) -> Result<(), Fail> {
+    let listed = Listed {
+        picks: Vec::from_slice(rt.alloc(), &[2, 0, 5])?,
+    };
+    assert_eq!(rt; listed.choose(0, 3), 2);
+    assert_eq!(rt; listed.choose(2, 3), 0);
+    assert_eq!(rt; listed.choose(2, 6), 5);
+    assert_eq!(rt; listed.choose(3, 6), 0);
     Ok(())
 }

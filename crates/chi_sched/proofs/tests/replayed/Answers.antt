@@ -1,30 +1,31 @@
 -- What the stored closure gives is what the list has for each question.
-use Rattle.std.proofs.Common.{◌≡◌, ◌∙◌, ◌<◌, ℕ, Option, Some, None, slice_get, arith, ap, subst, sym}
-use Rattle.std.proofs.lemmas.Bool.Decides.{nat_tests}
-use borrow.Pointer.Called.{made_asks, made_tells}
-use denote.Param.Object.{read_made}
-use Rattle.chi_sched.specs.Policies.{listed, listed_at}
-use Rattle.chi_sched.proofs.tests.replayed.OwnLists.{own-1, entry-1-1, at-1-1, same-1-1}
+use Rattle.std.proofs.Common.{◌≡◌, ◌∙◌, ℕ, ap, refl, subst, sym}
+use borrow.Pointer.Called.{made_tells}
+use Rattle.chi_sched.specs.Policies.{listed}
+use Rattle.chi_sched.proofs.Boxed.{lawful_box, listed_below}
+use Rattle.chi_sched.proofs.tests.replayed.OwnLists.{own-1, at-1-1}
 use Rattle.chi_sched.proofs.tests.replayed.Goals as goal
-
-listed_at_below : (o : Option ℕ) (count : ℕ) → 0 < count → listed_at o count < count
-listed_at_below None count some = some
-listed_at_below (Some pick) count some = grind (arith, nat_tests)
 
 read_alike : {A : Type 0} {x y : A} → x ≡ y → (read : A → ℕ) → read x ≡ read y
 read_alike same read = ap read same
 
+told_alike : {A : Type 0} {x y : A} → x ≡ y → (Told : A → Type 0) → Told x → Told y
+told_alike same Told = subst Told same
+
 pub new-policy-requires : goal.new-policy-requires
-new-policy-requires c = record {
-  lawful = record {
-    callable = λ question count asked. made_asks own-1 entry-1-1 at-1-1 same-1-1 c.into_dyn_box.ensures.1 (question, (count, tt)) asked.some;
-    pick = listed c.args.picks.items;
-    below = λ question count asked. listed_at_below (slice_get c.args.picks.items question) count asked.some;
-    answers = λ question count asked. subst (λ (P : Type 0). P) (sym (read_made own-1 entry-1-1 at-1-1 same-1-1 (Type 0)
-        (λ j v. j.1.post v (question, (count, tt)) (listed c.args.picks.items question count)) _ _ _ c.into_dyn_box.ensures.1))
-        (sym (read_alike c.in_ok-new.ensures.ok (λ b. listed b.0.items question count)));
-    only = λ question count answer asked fits gives.
-        made_tells own-1 entry-1-1 at-1-1 same-1-1 c.into_dyn_box.ensures.1 (question, (count, tt)) answer gives
-        ∙ read_alike c.in_ok-new.ensures.ok (λ b. listed b.0.items question count);
-  };
-}
+new-policy-requires c =
+    let kept = λ (question count : ℕ). read_alike c.in_ok-pick.ensures.ok (λ b. listed b.0.items question count) in
+    record {
+      lawful = lawful_box own-1 at-1-1 c.into_dyn_box.ensures.1 (listed c.args.picks.items)
+          (λ question count asked. asked.some)
+          (listed_below c.args.picks.items)
+          (λ question count asked. sym (kept question count))
+          (λ question count answer asked told. told ∙ kept question count);
+    }
+
+pub returns : goal.returns
+returns c =
+    let told = told_alike c.new-policy.ensures.same
+    (λ b. (own-1.entry b.vtable).1.post b.value (c.args.question, (c.args.count, tt)) c.choose.result) c.choose.ensures.given.1 in
+    made_tells own-1 (own-1.entry at-1-1) at-1-1 refl c.into_dyn_box.ensures.1 (c.args.question, (c.args.count, tt)) c.choose.result told
+    ∙ read_alike c.in_ok-pick.ensures.ok (λ b. listed b.0.items c.args.question c.args.count)
