@@ -1,16 +1,10 @@
 -- What the stored closure gives is what the list has for each question.
-use Rattle.std.proofs.Common.{◌≡◌, ◌∙◌, ℕ, ap, refl, subst, sym}
+use Rattle.std.proofs.Common.{◌∙◌, ℕ, refl, sym}
 use borrow.Pointer.Called.{made_tells}
 use Rattle.chi_sched.specs.Policies.{listed}
-use Rattle.chi_sched.proofs.Boxed.{lawful_box, listed_below}
+use Rattle.chi_sched.proofs.Boxed.{lawful_box, read_alike, told_alike, listed_below}
 use Rattle.chi_sched.proofs.tests.replayed.OwnLists.{own-1, at-1-1}
 use Rattle.chi_sched.proofs.tests.replayed.Goals as goal
-
-read_alike : {A : Type 0} {x y : A} → x ≡ y → (read : A → ℕ) → read x ≡ read y
-read_alike same read = ap read same
-
-told_alike : {A : Type 0} {x y : A} → x ≡ y → (Told : A → Type 0) → Told x → Told y
-told_alike same Told = subst Told same
 
 pub new-policy-requires : goal.new-policy-requires
 new-policy-requires c =
