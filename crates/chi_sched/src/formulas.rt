@@ -18,6 +18,12 @@ pub struct Spread {
     pub salt: u64,
 }
 
+/// The choices that a list has, in the order of the questions, and the first choice where it has none.
+#[derive(Debug, Drop)]
+pub struct Listed {
+    pub picks: Vec<u64>,
+}
+
 /// The first choice.
 pub fn first_of(_question: u64, count: u64) -> u64
     requires { 0 < count }
@@ -86,6 +92,16 @@ impl Chooser for Spread {
 
     fn choose(&self, question: u64, count: u64) -> u64 {
         spread_of(self.salt, question, count)
+    }
+
+    ghost one = { λ _ question count answer other asked a b. a ∙ sym b };
+}
+
+impl Chooser for Listed {
+    ghost gives = { λ listing question count answer. answer ≡ listed listing.picks.items question count };
+
+    fn choose(&self, question: u64, count: u64) -> u64 {
+        listed_of(&self.picks, question, count)
     }
 
     ghost one = { λ _ question count answer other asked a b. a ∙ sym b };

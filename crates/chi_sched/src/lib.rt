@@ -6,5 +6,8 @@ mod formulas;
 mod policy;
 
 pub use chooser::Chooser;
-pub use formulas::{First, Last, Spread, first_of, last_of, listed_of, spread_of};
+pub use formulas::{First, Last, Listed, Spread, first_of, last_of, listed_of, spread_of};
 pub use policy::{Closure, Policy};
+
+#[cfg(test)]
+mod tests;
