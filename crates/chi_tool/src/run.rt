@@ -36,7 +36,7 @@ fn reported(
     requires { MayTell core.now verdict.now }
     ensures { IfOk result (λ r. report_in r ≡ run_report core.now (record {
       told = record { labels = []; ending = record { verdict = verdict.now; clock = clock }; output = out.items };
-      log = log.entry.items;
+      log = log.items;
     })) }
 {
     match verdict_line(alloc, verdict, clock, &core.names, &mut log) {

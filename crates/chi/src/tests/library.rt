@@ -2,7 +2,7 @@
 
 use crate::tests::Wanted;
 use chi_io::MemSink;
-use chi_sched::{Chooser, First, Last, Spread};
+use chi_sched::{Chooser, First, Last, Listed, Spread};
 use chi_tool::simulate;
 use std::alloc::Global;
 use std::process::Abort;
@@ -68,4 +68,16 @@ fn a_source_is_simulated_by_a_policy(rt: HostRuntime) -> Result<(), Fail> {
     expect_by(&rt, rt.alloc(), Spread { salt: 0 }, 1_000, false, first)?;
     expect_by(&rt, rt.alloc(), First, 0, false, spent)?;
     expect_by(&rt, rt.alloc(), First, 1_000, true, traced)
+}
+
+#[test]
+fn a_list_of_picks_is_replayed(rt: HostRuntime) -> Result<(), Fail> {
+    // at turn 6 both senders may meet the receiver, and the second of them is picked
+    let picks = Vec::from_slice(rt.alloc(), &[0, 0, 0, 0, 0, 0, 0, 0, 0, 0, 0, 0, 1])?;
+    let second = Wanted {
+        out: "2\n1\n",
+        log: "completed at time 0.0\n",
+        status: 0,
+    };
+    expect_by(&rt, rt.alloc(), Listed { picks }, 1_000, false, second)
 }
