@@ -28,7 +28,7 @@ use Rattle.chi_plain.specs.Stage as stages
 use Rattle.chi_plain.specs.Stage.{Stage, At, Ended, Lost, Runner, Begun, actors_at, options_at, verdict_at, clock_at, MayTell, MayStep, Steps, Appends}
 use Rattle.chi_tool.specs.Refusals.{Report}
 use Rattle.chi_tool.specs.Running.{Course, IsCourse, run_report}
-use Rattle.chi_tool.specs.Turns.{GoesOn, PicksAt, first_log, Logs, LoggedSoFar, Leads, IsThere, Keeps, RunsTo}
+use Rattle.chi_tool.specs.Turns.{GoesOn, PicksAt, first_log, Logs, LogsBy, LoggedSoFar, Leads, IsThere, Keeps, RunsTo}
 use Rattle.chi_tool.proofs.Logged.{TurnLaw, log_begins, log_of_none, log_on, log_over, log_whole}
 
 -- what is picked at a turn, as its law gives it
@@ -203,12 +203,13 @@ module _ (law : TurnLaw) (gives : ℕ → ℕ → ℕ → Type 0) (trace : Bool)
   logged_there old turn label line same logs = subst (λ (c : Core). Logs trace c old.stage turn label line) same logs
 
   -- the next label costs too much
-  pub spends : (old new : Runner) (turn : ℕ) (label : Label) (left : ℕ) (before after' log : List ℕ) (clock : ℤ) → Keeps gives trace core first bound old turn left before log
-      → Took old new turn label left before after' Spent → GoesOn old.stage → IfSome (clock_at new.stage) (λ time. clock ≡ time)
-      → (begin : Beginning) → Begun begin first → (pick : Pick) → Answers gives pick → EndsWith begin pick OutOfSteps clock after' log
-  spends old new turn label left before after' log clock k t goes time begin begun pick answers =
+  pub spends : (old new : Runner) (turn : ℕ) (label : Label) (left : ℕ) (before after' log log' : List ℕ) (clock : ℤ) → Keeps gives trace core first bound old turn left before log
+      → log' ≡ log → Took old new turn label left before after' Spent → GoesOn old.stage → IfSome (clock_at new.stage) (λ time. clock ≡ time)
+      → (begin : Beginning) → Begun begin first → (pick : Pick) → Answers gives pick → EndsWith begin pick OutOfSteps clock after' log'
+  spends old new turn label left before after' log log' clock k same_log t goes time begin begun pick answers =
       let s = stepped old new turn label left before after' log Spent k t in
-      by_stage old.stage new.stage (k.leads begin begun pick answers) t.picked goes s.0 s.1 s.2 time
+      subst (λ (l : List ℕ). EndsWith begin pick OutOfSteps clock after' l) (sym same_log)
+      (by_stage old.stage new.stage (k.leads begin begun pick answers) t.picked goes s.0 s.1 s.2 time)
     where
       stays : (config : Config) (stage' : Stage) → Leads trace core begin pick bound (At config) turn left before log → PicksAt gives turn (At config) label
           → option.ending config ≡ None → (text : List ℕ) → after' ≡ before ++ text
@@ -234,10 +235,10 @@ module _ (law : TurnLaw) (gives : ℕ → ℕ → ℕ → Type 0) (trace : Bool)
       by_stage (At config) Lost l p goes' text is s time' = stays config Lost l p goes' text is s time'
 
   -- the run goes on
-  pub goes_next : (old new : Runner) (turn : ℕ) (label : Label) (left cost : ℕ) (before after' log line : List ℕ) → Keeps gives trace core first bound old turn left before log
+  next_on : (old new : Runner) (turn : ℕ) (label : Label) (left cost : ℕ) (before after' log line : List ℕ) → Keeps gives trace core first bound old turn left before log
       → Logs trace old.core old.stage turn label line
       → (0 < cost) × (cost ≤ left) → Took old new turn label left before after' (Next cost) → Keeps gives trace core first bound new (turn + 1) (left - cost) after' (log ++ line)
-  goes_next old new turn label left cost before after' log line k logs some t =
+  next_on old new turn label left cost before after' log line k logs some t =
       let s = stepped old new turn label left before after' log (Next cost) k t in
       let n = by_stage old.stage new.stage k.leads (logged_there old turn label line k.same_core logs) t.picked s.0 s.1 s.2 in
       let room = k.room in
@@ -280,10 +281,10 @@ module _ (law : TurnLaw) (gives : ℕ → ℕ → ℕ → Type 0) (trace : Bool)
           (tt, omega arith, leads_on config config' l g p text is s.0 s.1 same)
 
   -- or is over
-  pub goes_over : (old new : Runner) (turn : ℕ) (label : Label) (left : ℕ) (before after' log line : List ℕ) → Keeps gives trace core first bound old turn left before log
+  over_on : (old new : Runner) (turn : ℕ) (label : Label) (left : ℕ) (before after' log line : List ℕ) → Keeps gives trace core first bound old turn left before log
       → Logs trace old.core old.stage turn label line
       → Took old new turn label left before after' Over → Keeps gives trace core first bound new turn left after' (log ++ line)
-  goes_over old new turn label left before after' log line k logs t =
+  over_on old new turn label left before after' log line k logs t =
       let s = stepped old new turn label left before after' log Over k t in
       let n = by_stage old.stage new.stage k.leads (logged_there old turn label line k.same_core logs) t.picked s.0 s.1 s.2 in
       record {
@@ -314,6 +315,22 @@ module _ (law : TurnLaw) (gives : ℕ → ℕ → ℕ → Type 0) (trace : Bool)
       by_stage (At config) (At config') l g p text is s = absurd s
       by_stage (At config) Lost l g p text is s = absurd s
       by_stage (At config) (Ended end) l g p text is s = (tt, leads_over config end l g p text is s)
+
+  -- the same, with the log as it is then
+
+  pub goes_next : (old new : Runner) (turn : ℕ) (label : Label) (left cost : ℕ) (before after' log log' : List ℕ) → Keeps gives trace core first bound old turn left before log
+      → LogsBy trace old.core old.stage turn label log log' (Next cost) → (0 < cost) × (cost ≤ left) → Took old new turn label left before after' (Next cost)
+      → Keeps gives trace core first bound new (turn + 1) (left - cost) after' log'
+  goes_next old new turn label left cost before after' log log' k logs some t =
+      subst (λ (l : List ℕ). Keeps gives trace core first bound new (turn + 1) (left - cost) after' l) (sym logs.2)
+      (next_on old new turn label left cost before after' log logs.0 k logs.1 some t)
+
+  pub goes_over : (old new : Runner) (turn : ℕ) (label : Label) (left : ℕ) (before after' log log' : List ℕ) → Keeps gives trace core first bound old turn left before log
+      → LogsBy trace old.core old.stage turn label log log' Over → Took old new turn label left before after' Over
+      → Keeps gives trace core first bound new turn left after' log'
+  goes_over old new turn label left before after' log log' k logs t =
+      subst (λ (l : List ℕ). Keeps gives trace core first bound new turn left after' l) (sym logs.2)
+      (over_on old new turn label left before after' log logs.0 k logs.1 t)
 
   -- it costs something, and no more than is left
   pub costs_next : EachCosts → (old new : Runner) (turn : ℕ) (label : Label) (left cost : ℕ) (before after' log : List ℕ) → Keeps gives trace core first bound old turn left before log

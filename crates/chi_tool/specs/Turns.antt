@@ -1,5 +1,5 @@
 -- Private to proofs: a run under a policy, turn by turn.
-use Rattle.std.specs.Prelude.{◌≡◌, ℕ, ◌+◌, ◌≤◌, Bool, true, false, List, [], length, None}
+use Rattle.std.specs.Prelude.{◌≡◌, ℕ, ◌+◌, ◌≤◌, Bool, true, false, List, [], ◌++◌, length, None}
 use Rattle.chi_sched.specs.Policies.{Answers}
 use Rattle.chi_core.specs.declared.program.Core.{Core}
 use Rattle.chi_core.specs.declared.label.Label.{Label}
@@ -9,6 +9,8 @@ use Rattle.chi_core.specs.Config.{Config}
 use Rattle.chi_core.specs.Picks.{Pick, MayPick}
 use Rattle.chi_events.specs.Traces.{lines_of}
 use Rattle.chi_events.specs.Tracing.{TracedSoFar}
+use Rattle.chi_plain.specs.declared.stepped.Stepped.{Stepped}
+use Rattle.chi_plain.specs.declared.stepped.Stepped.TheVariants.{Next, Over, Spent, NoMemory}
 use Rattle.chi_plain.specs.Stage.{Stage, At, Ended, Lost, Runner, Begun, IsEventAt}
 use Rattle.chi_runs.specs.Turns.{UnderWay}
 use Rattle.chi_trace.specs.declared.event.Event.{Event}
@@ -37,6 +39,20 @@ first_log true = lines_of []
 abbrev pub Logs : Bool → Core → Stage → ℕ → Label → List ℕ → Type 0
 Logs false core stage turn label line = line ≡ []
 Logs true core stage turn label line = (e : Event) × IsEventAt core stage turn label e × (line ≡ event_line e)
+
+-- unless memory was wanting
+abbrev pub IfTold : Stepped → Type 0 → Type 0
+IfTold (Next cost) A = A
+IfTold Over A = A
+IfTold Spent A = A
+IfTold NoMemory A = Unit {0}
+
+-- a label that was taken is logged; one that costs too much isn't
+abbrev pub LogsBy : Bool → Core → Stage → ℕ → Label → List ℕ → List ℕ → Stepped → Type 0
+LogsBy trace core stage turn label before after' (Next cost) = (line : List ℕ) × Logs trace core stage turn label line × (after' ≡ before ++ line)
+LogsBy trace core stage turn label before after' Over = (line : List ℕ) × Logs trace core stage turn label line × (after' ≡ before ++ line)
+LogsBy trace core stage turn label before after' Spent = after' ≡ before
+LogsBy trace core stage turn label before after' NoMemory = Unit {0}
 
 -- so much was logged along the labels that led to a configuration
 abbrev pub LoggedSoFar : Bool → Core → Beginning → ℕ → List Label → List ℕ → Config → ℕ → Type 0

@@ -9,12 +9,12 @@ ghost use Rattle.chi_plain.specs.Stage.{Begun, MayTell, MayStep};
 ghost use Rattle.chi_sched.specs.Policies.{Answers};
 ghost use Rattle.chi_tool.specs.Reported.{report_in};
 ghost use Rattle.chi_tool.specs.Running.{IsRunReport, run_report};
-ghost use Rattle.chi_tool.specs.Turns.{GoesOn, PicksAt, IsThere, RunsTo};
+ghost use Rattle.chi_tool.specs.Turns.{GoesOn, PicksAt, IsThere, RunsTo, first_log};
 
 use crate::report::Reported;
 use crate::settings::Settings;
 use crate::status::status_of;
-use crate::tracing::{first_log, line_at};
+use crate::tracing::{Telling, first_log, take};
 use chi_base::NoMemory;
 use chi_core::{Core, Label, Verdict, verdict_line};
 use chi_events::tracing_law;
@@ -30,15 +30,15 @@ fn reported(
     core: &Core,
     verdict: &Verdict,
     clock: i64,
-    out: Vec<u8>,
-    mut log: Vec<u8>,
+    told: Telling,
 ) -> Result<Reported, NoMemory>
     requires { MayTell core.now verdict.now }
     ensures { IfOk result (λ r. report_in r ≡ run_report core.now (record {
-      told = record { labels = []; ending = record { verdict = verdict.now; clock = clock }; output = out.items };
-      log = log.items;
+      told = record { labels = []; ending = record { verdict = verdict.now; clock = clock }; output = told.out.items };
+      log = told.log.items;
     })) }
 {
+    let Telling { out, mut log } = told;
     match verdict_line(alloc, verdict, clock, &core.names, &mut log) {
         Ok(()) => Ok(Reported {
             status: status_of(verdict),
@@ -69,7 +69,7 @@ fn picked_label<P: Chooser>(plain: &Plain<'_>, policy: &P, turn: u64) -> Label
 }
 
 /// The report of a run from its beginning: a label is picked at each turn, until the run is over or
-/// the next label costs more than is left of the bound. A label that costs too much isn't logged.
+/// the next label costs more than is left of the bound. The log has what stands before any turn.
 fn run_from<P: Chooser>(
     alloc: Global,
     core: &Core,
@@ -77,10 +77,12 @@ fn run_from<P: Chooser>(
     policy: &P,
     bound: u64,
     trace: bool,
+    log: Vec<u8>,
 ) -> Result<Reported, NoMemory>
     requires same_core { begun.core ≡ core.now }
     requires there { IsThere begun.stage }
     requires bound { bound < 2 ^ 63 }
+    requires log { log.items ≡ first_log trace }
     ensures { IfOk result (λ r. (beginning : Beginning) → Begun beginning begun.entry.stage → (pick : Pick) → Answers (P.gives policy.now) pick
         → RunsTo trace core.now beginning pick bound (report_in r)) }
 {
@@ -88,26 +90,24 @@ fn run_from<P: Chooser>(
     turn_law();
     tracing_law();
     let mut plain = begun;
-    let mut out = Vec::new(alloc);
-    let mut log = first_log(alloc, trace)?;
+    let out = Vec::new(alloc);
+    let mut told = Telling { out, log };
     let mut left = bound;
     let mut turn = 0;
     'turn: loop {
         let label = match plain.ending() {
-            Some(verdict) => return Ok(reported(alloc, core, verdict, plain.clock(), out, log)?),
+            Some(verdict) => return Ok(reported(alloc, core, verdict, plain.clock(), told)?),
             None => picked_label(&plain, policy, turn),
         };
-        let line = line_at(alloc, &plain, trace, turn, &label)?;
-        match plain.plain_step(&label, left, &mut out) {
+        match take(alloc, &mut plain, trace, turn, &label, left, &mut told) {
             Stepped::Next(cost) => {
-                log.extend_from_slice(&line)?;
                 left -= cost;
                 turn += 1;
             }
-            Stepped::Over => log.extend_from_slice(&line)?,
+            Stepped::Over => {}
             Stepped::Spent => {
                 let clock = plain.clock();
-                return Ok(reported(alloc, core, &Verdict::OutOfSteps, clock, out, log)?);
+                return Ok(reported(alloc, core, &Verdict::OutOfSteps, clock, told)?);
             }
             Stepped::NoMemory => return Err(NoMemory),
         }
@@ -136,5 +136,6 @@ pub fn run<P: Chooser + Drop>(
         trace,
     } = settings;
     let plain = Plain::new(alloc, core, arguments, seed, until)?;
-    run_from(alloc, core, plain, &policy, bound, trace)
+    let log = first_log(alloc, trace)?;
+    run_from(alloc, core, plain, &policy, bound, trace, log)
 }

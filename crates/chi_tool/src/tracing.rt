@@ -1,14 +1,21 @@
-//! What is logged of a run before the line of its verdict.
+//! What is written and logged of a run, turn by turn.
 
 ghost use Rattle.std.specs.Prelude.{◌≡◌, IfOk};
-ghost use Rattle.chi_plain.specs.Stage.{MayStep};
-ghost use Rattle.chi_tool.specs.Turns.{Logs, first_log};
+ghost use Rattle.chi_plain.specs.Stage.{Appends, MayStep, Steps};
+ghost use Rattle.chi_tool.specs.Turns.{IfTold, LogsBy, Logs, first_log};
 
 use chi_base::NoMemory;
 use chi_core::Label;
-use chi_plain::Plain;
+use chi_plain::{Plain, Stepped};
 use chi_trace::{FIRST_LINE, first_lines_law, line_of};
 use std::alloc::Global;
+
+/// What a run has written, and what is logged of it before its verdict.
+#[derive(Debug, Drop)]
+pub struct Telling {
+    pub out: Vec<u8>,
+    pub log: Vec<u8>,
+}
 
 /// The log before anything happens: the first line of the trace, where that is wanted.
 pub fn first_log(alloc: Global, trace: bool) -> Result<Vec<u8>, NoMemory>
@@ -24,7 +31,7 @@ pub fn first_log(alloc: Global, trace: bool) -> Result<Vec<u8>, NoMemory>
 }
 
 /// What a turn adds to the log: the line of its label's event, where the trace is wanted.
-pub fn line_at(
+fn line_at(
     alloc: Global,
     plain: &Plain<'_>,
     trace: bool,
@@ -40,4 +47,37 @@ pub fn line_at(
         line_of(alloc, &event, &mut line)?;
     }
     Ok(line)
+}
+
+/// Takes a label at its turn. What costs too much isn't logged.
+pub fn take(
+    alloc: Global,
+    plain: &mut Plain<'_>,
+    trace: bool,
+    turn: u64,
+    label: &Label,
+    left: u64,
+    told: &mut Telling,
+) -> Stepped
+    requires may { MayStep plain.old.stage label.now }
+    ensures same_core { plain.new.core ≡ plain.old.core }
+    ensures steps { IfTold result (Appends told.old.out.items told.new.out.items
+        (λ text. Steps plain.old.core plain.old.stage plain.new.stage label.now left text result)) }
+    ensures logs { LogsBy trace plain.old.core plain.old.stage turn label.now told.old.log.items told.new.log.items result }
+{
+    let Ok(line) = line_at(alloc, plain, trace, turn, label) else {
+        return Stepped::NoMemory;
+    };
+    match plain.plain_step(label, left, &mut told.out) {
+        Stepped::Next(cost) => match told.log.extend_from_slice(&line) {
+            Ok(()) => Stepped::Next(cost),
+            Err(_) => Stepped::NoMemory,
+        },
+        Stepped::Over => match told.log.extend_from_slice(&line) {
+            Ok(()) => Stepped::Over,
+            Err(_) => Stepped::NoMemory,
+        },
+        Stepped::Spent => Stepped::Spent,
+        Stepped::NoMemory => Stepped::NoMemory,
+    }
 }
