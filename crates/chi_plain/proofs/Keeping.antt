@@ -1,5 +1,5 @@
 -- Lists that keep what they have.
-use Rattle.std.proofs.Common.{◌≡◌, ◌≢◌, ℕ, zero, suc, ◌+◌, ◌%◌, ◌<◌, ◌≤◌, List, [], ◌∷◌, ◌++◌, Bool, true, false, length, get_or, ◌⊎◌, inl, inr, sym, ◌∙◌, ap, subst, refl, arith}
+use Rattle.std.proofs.Common.{◌≡◌, ◌≢◌, ℕ, zero, suc, ◌+◌, ◌%◌, ◌<◌, ◌≤◌, List, [], ◌∷◌, ◌++◌, Bool, true, false, cond, length, get_or, ◌⊎◌, inl, inr, sym, ◌∙◌, ap, subst, refl, arith}
 use Rattle.std.specs.Prelude.{slice_set, Result, Ok, Err, MatchResult}
 use Rattle.std.specs.Ordering.{nat_cmp}
 use Rattle.std.specs.List.{Contains, insert}
@@ -60,10 +60,21 @@ module _ (xs : List ℕ) (p n : ℕ) (r : Result ℕ ℕ) (up : Ascends 0 n xs) 
       (λ i. (i ≤ length xs) × ((k : ℕ) → k < i → get_or xs k 0 < p) × ((k : ℕ) → i ≤ k → k < length xs → p < get_or xs k 0))) e matched in
       record { within = m.0; below = m.1; above = m.2 }
 
+-- where the same list was searched
+pub stands-in : (xs ys : List ℕ) (p n : ℕ) (r : Result ℕ ℕ) → ys ≡ xs → Ascends 0 n xs → IsBinarySearchResult (λ y. nat_cmp y p) ys r → (i : ℕ) → r ≡ Err i
+    → StandsAt xs p i
+stands-in xs ys p n r same up search i e =
+    subst (λ (l : List ℕ). StandsAt l p i) same (stands-at ys p n r (subst (λ (l : List ℕ). Ascends 0 n l) (sym same) up) search i e)
+
 module _ (xs ys : List ℕ) (p i : ℕ) (at : StandsAt xs p i) (is : ys ≡ insert xs i p) where
   pub ascends-inserted : (n : ℕ) → Ascends 0 n xs → p < n → Ascends 0 n ys
   ascends-inserted n up h =
       subst (λ (l : List ℕ). Ascends 0 n l) (sym is) (ascends-insert 0 n xs i p up (omega arith) h at.within at.below at.above)
+
+  -- or it doesn't, where memory is wanting
+  pub ascends-either : (n : ℕ) (zs : List ℕ) (b : Bool) → Ascends 0 n xs → p < n → zs ≡ cond b ys xs → Ascends 0 n zs
+  ascends-either n zs true up h e = subst (λ (l : List ℕ). Ascends 0 n l) (sym e) (ascends-inserted n up h)
+  ascends-either n zs false up h e = subst (λ (l : List ℕ). Ascends 0 n l) (sym e) up
 
   pub contains-inserted : Contains ys p
   contains-inserted =

@@ -20,6 +20,10 @@ read marks k mark b e is h = get_or-within marks k false mark h ∙ sym e ∙ is
 
 -- one number after another
 
+pub length-marked_below-none : (marks : List Bool) → length (marked_below marks 0) ≡ 0
+unfolding marked_below
+length-marked_below-none marks = refl
+
 pub length-marked_below-more : (marks : List Bool) (k : ℕ) (mark : Bool) → k < length marks → mark ≡ get_or marks k mark → mark ≡ true
     → length (marked_below marks (k + 1)) ≡ length (marked_below marks k) + 1
 unfolding marked_below
@@ -196,26 +200,22 @@ module _ (marks : List Bool) (n : ℕ) (counts : List ℕ) (counted : IsCounted 
   pub count-few : n ≤ MOST_INSTANCES
   count-few = let w = below-within marks (length marks) in let a = counted.all in let f = counted.few in omega (arith, w, a, f)
 
-  pub block-few : (b : ℕ) → b < BLOCKS → get_or counts b 0 ≤ BLOCKS * BLOCK
-  block-few b h = let w = below-within marks (b * BLOCK + BLOCK) in let e = counted.each b h in omega (arith, w, e, h)
+  module _ (k : ℕ) (before : Bool) (h : k < length marks) (was : before ≡ get_or marks k before) where
+    same_weight : weight (is_marked marks k) ≡ weight before
+    same_weight = ap weight (read marks k before before was refl h)
 
-  module _ (k : ℕ) (h : k < length marks) where
+    pub count-has : weight before ≤ n
+    count-has =
+        let w = below-has marks k true h 0 (length marks) (omega arith) h in
+        let a = counted.all in
+        let s = same_weight in omega (arith, w, a, s)
+
     pub block-of : k / BLOCK < BLOCKS
     block-of = let f = counted.few in omega (arith, f, h)
 
-    pub count-has : weight (is_marked marks k) ≤ n
-    count-has = let w = below-has marks k true h 0 (length marks) (omega arith) h in let a = counted.all in omega (arith, w, a)
-
-    pub block-has : (b : ℕ) → b ≡ k / BLOCK → weight (is_marked marks k) ≤ get_or counts b 0
-    block-has b e =
-        let less : b * BLOCK ≤ k = omega (arith, e) in
-        let more : k < b * BLOCK + BLOCK = omega (arith, e) in
-        let w = below-has marks k true h (b * BLOCK) (b * BLOCK + BLOCK) less more in
-        let c = counted.each b (rw e block-of) in omega (arith, w, c)
-
-    pub counted-set : (mark : Bool) (m b one : ℕ) → m + weight (is_marked marks k) ≡ n + weight mark → b ≡ k / BLOCK
+    counted-anew : (mark : Bool) (m b one : ℕ) → m + weight (is_marked marks k) ≡ n + weight mark → b ≡ k / BLOCK
         → one + weight (is_marked marks k) ≡ get_or counts b 0 + weight mark → IsCounted (slice_set marks k mark) m (slice_set counts b one)
-    counted-set mark m b one total e here = record {
+    counted-anew mark m b one total e here = record {
       few = let l = length-set marks k mark in let f = counted.few in omega (arith, l, f);
       all =
           let a = after-set marks k mark h (length marks) h in
@@ -263,6 +263,35 @@ module _ (marks : List Bool) (n : ℕ) (counts : List ℕ) (counted : IsCounted 
             let c = counted.each d l in
             let o = others d (λ z. (omega (arith, z, past))) in omega (arith, low, high, c, o)
 
+    module _ (b there : ℕ) (e : b ≡ k / BLOCK) (at : there ≡ get_or counts b there) where
+      b-within : b < BLOCKS
+      b-within = rw e block-of
+
+      there-is : get_or counts b 0 ≡ there
+      there-is = get_or-within counts b 0 there (let f = counted.blocks in let w = b-within in omega (arith, f, w)) ∙ sym at
+
+      pub block-few : there ≤ BLOCKS * BLOCK
+      block-few =
+          let w = below-within marks (b * BLOCK + BLOCK) in
+          let c = counted.each b b-within in
+          let t = there-is in
+          let l = b-within in omega (arith, w, c, t, l)
+
+      pub block-has : weight before ≤ there
+      block-has =
+          let less : b * BLOCK ≤ k = omega (arith, e) in
+          let more : k < b * BLOCK + BLOCK = omega (arith, e) in
+          let w = below-has marks k true h (b * BLOCK) (b * BLOCK + BLOCK) less more in
+          let c = counted.each b b-within in
+          let s = same_weight in
+          let t = there-is in omega (arith, w, c, s, t)
+
+      pub counted-set : (mark : Bool) (m one : ℕ) → m + weight before ≡ n + weight mark → one + weight before ≡ there + weight mark
+          → IsCounted (slice_set marks k mark) m (slice_set counts b one)
+      counted-set mark m one total here =
+          counted-anew mark m b one (let s = same_weight in omega (arith, s, total)) e
+          (let s = same_weight in let t = there-is in omega (arith, s, t, here))
+
 pub ruleset marking = (length-marked_below-more, length-marked_below-same, length-marked, marked-at)
 
-pub ruleset counting = (counted-none, counted-push, count-few, block-few, block-of, count-has, block-has, counted-set)
+pub ruleset counting = (length-marked_below-none, counted-none, counted-push, count-few, block-few, block-of, count-has, block-has, counted-set)
