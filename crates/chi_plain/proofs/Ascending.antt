@@ -46,9 +46,12 @@ ascends-insert m n xs zero x up a b h below above =
     (a, b, ascends-past (suc x) m n xs up (λ some. let s = above 0 (omega arith) some in omega (arith, s)))
 ascends-insert m n [] (suc i) x up a b h below above = absurd (omega (arith, h))
 ascends-insert m n (y ∷ ys) (suc i) x up a b h below above =
-    let first = below 0 (omega arith) in
-    (up.0, up.1, ascends-insert (suc y) n ys i x up.2 (omega (arith, first)) b (omega (arith, h)) (λ k l. below (suc k) (omega (arith, l)))
-    (λ k g l. above (suc k) (omega (arith, g)) (omega (arith, l))))
+    let first = below 0 (omega arith) in (
+      up.0,
+      up.1,
+      ascends-insert (suc y) n ys i x up.2 (omega (arith, first)) b (omega (arith, h)) (λ k l. below (suc k) (omega (arith, l)))
+          (λ k g l. above (suc k) (omega (arith, g)) (omega (arith, l))),
+    )
 
 -- who is among them isn't earlier
 contains-first : (m n : ℕ) (xs : List ℕ) (q : ℕ) → Ascends m n xs → Contains xs q → m ≤ q

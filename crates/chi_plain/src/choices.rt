@@ -151,12 +151,7 @@ fn offer_at(
 
 /// How many options instance `pid` has by these offers of its own.
 #[tactic(auto, using(crate::proofs::Pairs::offering))]
-fn offered_count(
-    config: &Configuration<'_>,
-    parties: &Parties,
-    pid: u32,
-    offers: &[Offer],
-) -> u64
+fn offered_count(config: &Configuration<'_>, parties: &Parties, pid: u32, offers: &[Offer]) -> u64
     requires parties { AllParties parties.now config.now.instances }
     requires numbered { length offers.now ≤ MOST_OFFERS }
     ensures { result ≡ length (offered_below config.now pid offers.now (length offers.now)) }
@@ -207,12 +202,7 @@ pub fn none_under_way(config: &Configuration<'_>, waited: &[u32]) -> bool
 
 /// How many options instance `pid` has, which is in this state.
 #[tactic(auto, using(crate::proofs::Options::choosing))]
-fn option_count_in(
-    config: &Configuration<'_>,
-    parties: &Parties,
-    pid: u32,
-    state: &State,
-) -> u64
+fn option_count_in(config: &Configuration<'_>, parties: &Parties, pid: u32, state: &State) -> u64
     requires parties { AllParties parties.now config.now.instances }
     requires numbered { length (offers_in (state_of state.now)) ≤ MOST_OFFERS }
     ensures { result ≡ length (options_in config.now pid (state_of state.now)) }

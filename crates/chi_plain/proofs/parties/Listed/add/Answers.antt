@@ -10,7 +10,7 @@ pub invariant_of-self-in-Err : goal.invariant_of-self-in-Err
 invariant_of-self-in-Err c =
     let xs = c.self.inside.pids.items in
     let at = stands-in xs c.as_slice.result.now c.args.pid MOST_INSTANCES c.binary_search.result c.as_slice.ensures.value c.self.invariant c.binary_search.ensures.position
-        c.in-Err.place c.in-Err.is in
+    c.in-Err.place c.in-Err.is in
     ascends-either xs (insert xs c.in-Err.place c.args.pid) c.args.pid c.in-Err.place at refl MOST_INSTANCES c.insert.new.self.items (is_ok c.insert.result)
     c.self.invariant c.requires c.insert.ensures.items
 
@@ -18,6 +18,6 @@ pub returns-in_ok-insert-in-Err-clause-keeps : goal.returns-in_ok-insert-in-Err-
 returns-in_ok-insert-in-Err-clause-keeps c =
     let xs = c.self.inside.pids.items in
     let at = stands-in xs c.as_slice.result.now c.args.pid MOST_INSTANCES c.binary_search.result c.as_slice.ensures.value c.self.invariant c.binary_search.ensures.position
-        c.in-Err.place c.in-Err.is in
+    c.in-Err.place c.in-Err.is in
     subst (λ (l : List ℕ). Keeps l c.insert.new.self.items) c.self.view_is
     (keeps-inserted xs c.insert.new.self.items c.args.pid c.in-Err.place at c.in_ok-insert-in-Err.ensures.items)
