@@ -15,6 +15,7 @@ use Rattle.chi_runs.proofs.Lists.{some_below, joined-none, number-at}
 use Rattle.chi_plain.specs.Scanning.{offered_below}
 use Rattle.chi_plain.specs.declared.parties.Parties.{Parties}
 use Rattle.chi_plain.specs.Watching.{AllParties, IsParty, IsPartyBy, Keeps, ReachesBy, acts, listed_at}
+use Rattle.chi_plain.proofs.Keeping.{get_or-within}
 use Rattle.chi_plain.proofs.Enabled.{filter-passes, none-of, lt-true, lt-false}
 
 -- lists that have something
@@ -149,15 +150,15 @@ pub none_pairs-none : (config : Config) (p channel : ℕ) (listed : List ℕ) �
 none_pairs-none config p channel listed k h = absurd (omega arith)
 
 -- one more of those that are listed may not
-pub none_pairs-more : (config : Config) (p channel k q n : ℕ) (listed : List ℕ) → NonePairs config p channel listed k → q ≡ get_or listed k q → k < length listed
+pub none_pairs-more : (config : Config) (p channel k q n : ℕ) (listed : List ℕ) → NonePairs config p channel listed k → q ≡ get_or listed k 0 → k < length listed
     → ((a : ℕ) → n ≡ length (pairs_with p a channel q (slice_get config.instances q))) → n ≤ 0 → NonePairs config p channel listed (k + 1)
-none_pairs-more config p channel k q n listed none is h e fails j less r at a = by_cases (let c : (j < k) ⊎ (j ≡ k) = grind arith in c)
+none_pairs-more config p channel k q n listed none at h e fails j less r found a = by_cases (let c : (j < k) ⊎ (j ≡ k) = grind arith in c)
   where
     by_cases : (j < k) ⊎ (j ≡ k) → pairs_with p a channel r (slice_get config.instances r) ≡ []
-    by_cases (inl l) = none j l r at a
+    by_cases (inl l) = none j l r found a
     by_cases (inr same) =
-        let here : slice_get listed k ≡ Some q = slice_get_read listed (length listed) k q refl h is in
-        let both : Some r ≡ Some q = sym at ∙ ap (slice_get listed) same ∙ here in
+        let here : slice_get listed k ≡ Some q = slice_get_read listed (length listed) k q refl h (at ∙ get_or-within listed k 0 q h) in
+        let both : Some r ≡ Some q = sym found ∙ ap (slice_get listed) same ∙ here in
         let one : r ≡ q = cc in
         let few = e a in
         ap (λ m. pairs_with p a channel m (slice_get config.instances m)) one

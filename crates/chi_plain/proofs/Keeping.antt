@@ -31,7 +31,7 @@ keeps-trans xs ys zs f g q c = g q (f q c)
 pub contains-pushed : (xs ys : List ℕ) (p : ℕ) → ys ≡ xs ++ p ∷ [] → Contains ys p
 contains-pushed xs ys p e = keeps-added xs ys (p ∷ []) e p (0, omega arith, refl)
 
-get_or-within : {A : Type 0} (xs : List A) (k : ℕ) (x y : A) → k < length xs → get_or xs k x ≡ get_or xs k y
+pub get_or-within : {A : Type 0} (xs : List A) (k : ℕ) (x y : A) → k < length xs → get_or xs k x ≡ get_or xs k y
 get_or-within [] k x y h = absurd (omega arith)
 get_or-within (z ∷ zs) zero x y h = refl
 get_or-within (z ∷ zs) (suc k) x y h = get_or-within zs k x y (omega arith)

@@ -1,5 +1,7 @@
 -- What is kept beside a configuration, from the one before a step to the one after it.
 use Rattle.std.proofs.Common.{◌≡◌, ◌≢◌, ℕ, ◌<◌, ◌≤◌, List, Option, Some, None, Bool, true, false, length, ◌⊎◌, inl, inr, sym, ◌∙◌, ap, subst, refl, arith}
+use Rattle.std.specs.Prelude.{IsTrue}
+use Rattle.std.specs.Bool.{OnFalse}
 use Rattle.std.specs.List.{slice_get, Contains}
 use Rattle.std.proofs.lemmas.Bool.{false≢true}
 use Rattle.chi_core.specs.declared.label.Label.{Label}
@@ -41,6 +43,11 @@ is_before parties label old b one first second count under other covered keeps a
 abbrev pub Same : List Instance → Before → Type 0
 Same new b = (b.count ≡ length new) × (b.first_under_way ≡ is_under_way (slice_get new b.first))
     × (b.second_under_way ≡ is_under_way (slice_get new b.second))
+
+pub may_join : (joiners some : List ℕ) (new : List Instance) (b : Before) (joining : Bool) → (IsTrue joining → Keeps joiners some) → OnFalse joining (Same new b)
+    → Keeps joiners some ⊎ Same new b
+may_join joiners some new b true joins same = inl (joins refl)
+may_join joiners some new b false joins same = inr same
 
 module _ (parties : Parties) (joiners : List ℕ) (new : List Instance) (b : Before) (one two three some : List ℕ)
     (k1 : Keeps b.covered.items one) (first : Covers parties new b.first one) (k2 : Keeps one two) (second : Covers parties new b.second two)

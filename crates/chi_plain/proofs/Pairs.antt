@@ -17,6 +17,7 @@ use Rattle.chi_plain.specs.Scanning.{pairs_among, offered_below}
 use Rattle.chi_plain.specs.Watching.{AllParties, listed_at}
 use Rattle.chi_plain.proofs.Ascending.{ascends-length, joined-listed}
 use Rattle.chi_plain.proofs.Havings.{pairs-unlisted}
+use Rattle.chi_plain.proofs.Keeping.{get_or-within}
 
 flat_map-append : {A B : Type 0} (f : A → List B) (xs ys : List A) → flat_map f (xs ++ ys) ≡ flat_map f xs ++ flat_map f ys
 flat_map-append f [] ys = refl
@@ -139,13 +140,13 @@ take-next xs k x h e = let one : k + 1 ≡ suc k = omega arith in rw one (by_pla
     by_place (y ∷ ys) zero h e = ap (λ z. z ∷ []) (sym e)
     by_place (y ∷ ys) (suc k) h e = ap (λ l. y ∷ l) (by_place ys k (omega (arith, h)) e)
 
-pub length-pairs_among-more : (config : Config) (p a channel k q n : ℕ) (listed : List ℕ) → k < length listed → q ≡ get_or listed k q
+pub length-pairs_among-more : (config : Config) (p a channel k q n : ℕ) (listed : List ℕ) → k < length listed → q ≡ get_or listed k 0
     → ((b : ℕ) → n ≡ length (pairs_with p b channel q (slice_get config.instances q)))
     → length (pairs_among config p a channel (take (k + 1) listed)) ≡ length (pairs_among config p a channel (take k listed)) + n
 unfolding pairs_among
 length-pairs_among-more config p a channel k q n listed h at e =
     let f : ℕ → List Label = λ q. pairs_with p a channel q (slice_get config.instances q) in
-    ap (λ l. length (flat_map f l)) (take-next listed k q h at)
+    ap (λ l. length (flat_map f l)) (take-next listed k q h (at ∙ get_or-within listed k 0 q h))
     ∙ ap length (flat_map-append f (take k listed) (q ∷ []) ∙ ap (λ l. flat_map f (take k listed) ++ l) (append-nil (f q)))
     ∙ length-append (flat_map f (take k listed)) (f q) ∙ ap (λ m. length (flat_map f (take k listed)) + m) (sym (e a))
 
@@ -187,7 +188,7 @@ module _ (config : Config) (parties : Parties) (p a channel : ℕ) (listed : Lis
           same_lengths (λ q. pairs_with p b channel q (slice_get config.instances q)) (λ q. pairs_with p a channel q (slice_get config.instances q)) listed
           (λ q. length-pairs_with p b a channel q (slice_get config.instances q))
 
-  pub pairs-at : (k q seen i j : ℕ) (label : Label) → k < length listed → q ≡ get_or listed k q
+  pub pairs-at : (k q seen i j : ℕ) (label : Label) → k < length listed → q ≡ get_or listed k 0
       → seen ≡ length (pairs_among config p a channel (take k listed)) → i ≡ seen + j
       → slice_get (pairs_with p a channel q (slice_get config.instances q)) j ≡ Some label → slice_get (pairs config p a channel) i ≡ Some label
   unfolding pairs_among
@@ -196,7 +197,7 @@ module _ (config : Config) (parties : Parties) (p a channel : ℕ) (listed : Lis
       ap (λ l. slice_get l i) (sym all_pairs) ∙ ap (slice_get (pairs_among config p a channel listed)) place ∙ found
     where
       found : slice_get (pairs_among config p a channel listed) (length (pairs_among config p a channel (take k listed)) + j) ≡ Some label
-      found = flat-place (λ q. pairs_with p a channel q (slice_get config.instances q)) listed k q j label h at has
+      found = flat-place (λ q. pairs_with p a channel q (slice_get config.instances q)) listed k q j label h (at ∙ get_or-within listed k 0 q h) has
 
 -- all offers
 

@@ -1,6 +1,6 @@
 //! Which instances are in view of others: those that communicate on channels, and those that wait for others.
 
-ghost use Rattle.std.specs.Prelude.{◌≡◌, ℕ, ◌≤◌, ◌<◌, length, slice_get, Contains, OnOk};
+ghost use Rattle.std.specs.Prelude.{◌≡◌, ℕ, ◌≤◌, ◌<◌, length, slice_get, Contains, IsTrue, OnOk};
 ghost use Rattle.chi_core.specs.declared.limits.TheConstants.{MOST_INSTANCES};
 ghost use Rattle.chi_plain.specs.Watching.{Covers, CoversFrom, IsJoiner, IsParty, IsPartyBy, IsPartyIn, Keeps, KeepsParties, ReachesBy, ReachesIn, is_joining};
 
@@ -146,6 +146,22 @@ pub fn cover_from(
 {
     for pid in from..config.instances().len() as u32 {
         cover(config, parties, pid, covered)?;
+    }
+    Ok(())
+}
+
+/// Adds those that wait for others, where it is so.
+#[tactic(auto, using(crate::proofs::Keeping::keeping))]
+pub fn cover_joiners(
+    joining: bool,
+    joiners: &Listed,
+    covered: &mut Vec<u32>,
+) -> Result<(), NoMemory>
+    ensures keeps { Keeps covered.old.items covered.new.items }
+    ensures joined { OnOk result (IsTrue joining → Keeps joiners.now covered.new.items) }
+{
+    if joining {
+        covered.extend_from_slice(joiners.as_slice())?;
     }
     Ok(())
 }

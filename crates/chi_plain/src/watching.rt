@@ -13,7 +13,7 @@ ghost use Rattle.chi_plain.specs.Watching.{AllParties, IsAffected, IsJoiner, IsM
 ghost use Rattle.chi_plain.specs.Led.{IsBefore, IsListed, Leads, Led, Settles};
 
 use crate::acting::has_option;
-use crate::listing::{cover, cover_from, list_joiner, list_party};
+use crate::listing::{cover, cover_from, cover_joiners, list_joiner, list_party};
 use crate::marks::Marks;
 use crate::parties::{Listed, Parties};
 use chi_base::NoMemory;
@@ -214,9 +214,7 @@ fn affected(
     cover(config, parties, first, &mut covered)?;
     cover(config, parties, second, &mut covered)?;
     cover_from(config, parties, count, &mut covered)?;
-    if joining {
-        covered.extend_from_slice(joiners.as_slice())?;
-    }
+    cover_joiners(joining, joiners, &mut covered)?;
     Ok(covered)
 }
 
@@ -258,9 +256,9 @@ fn unsettled(
         → Settles old config.now some.items) }
 {
     if is_advance(label) {
-        everyone(alloc, config.instances().len())
+        Ok(everyone(alloc, config.instances().len())?)
     } else {
-        affected(config, parties, joiners, before)
+        Ok(affected(config, parties, joiners, before)?)
     }
 }
 
