@@ -14,7 +14,7 @@ use Rattle.chi_plain.specs.Watching.{AllJoiners, AllParties, Covers, IsAffected,
 use Rattle.chi_plain.specs.Led.{IsListed, Leads, Settles}
 use Rattle.chi_plain.proofs.Havings.{acts-none}
 use Rattle.chi_plain.proofs.Frames.{settles, settles-all, eq-cases}
-use Rattle.chi_plain.proofs.Keeping.{keeps-more, contains-pushed}
+use Rattle.chi_plain.proofs.Keeping.{keeps-more, contains-pushed, get_or-within}
 use Rattle.chi_plain.proofs.Listed.{party-kept, joiner-kept}
 
 -- marks
@@ -69,10 +69,10 @@ drop_step (x ∷ xs) (suc k) q h e =
     let one : suc (k + 1) ≡ suc k + 1 = omega arith in
     drop_step xs k q (omega arith) e ∙ ap (λ n. q ∷ drop n (x ∷ xs)) one
 
-pub right-step : (config : Config) (before after : List Bool) (k q : ℕ) (some : List ℕ) → RightBut config before (drop k some) → k < length some → q ≡ get_or some k q
+pub right-step : (config : Config) (before after : List Bool) (k q : ℕ) (some : List ℕ) → RightBut config before (drop k some) → k < length some → q ≡ get_or some k 0
     → is_marked after q ≡ acts config q → ((p : ℕ) → p ≢ q → is_marked after p ≡ is_marked before p) → RightBut config after (drop (k + 1) some)
 right-step config before after k q some right h is renewed others =
-    right-more config before after q (drop k some) (drop (k + 1) some) right (drop_step some k q h is) renewed others
+    right-more config before after q (drop k some) (drop (k + 1) some) right (drop_step some k q h (is ∙ get_or-within some k 0 q h)) renewed others
 
 pub right-none : (config : Config) (marks : List Bool) (n : ℕ) (some : List ℕ) → RightBut config marks (drop n some) → length some ≤ n
     → length marks ≡ length config.instances → IsMarked config marks
@@ -106,6 +106,16 @@ all-more before new n e all p h = by_cases (let c : (p < n) ⊎ (p ≡ n) = grin
     by_cases : (p < n) ⊎ (p ≡ n) → Contains new p
     by_cases (inl l) = keeps-more before new (n ∷ []) e p (all p l)
     by_cases (inr same) = subst (λ (k : ℕ). Contains new k) (sym same) (contains-pushed before new n e)
+
+-- at first none is marked
+pub right-new : (config : Config) (old marks : List Bool) (some : List ℕ) (n : ℕ) → n ≡ length config.instances → ((p : ℕ) → p < n → Contains some p)
+    → old ≡ [] → ((p : ℕ) → is_marked marks p ≡ is_marked old p) → RightBut config marks some
+right-new config old marks some n e all none same p = by_place (let c : (p < n) ⊎ (n ≤ p) = grind arith in c)
+  where
+    by_place : (p < n) ⊎ (n ≤ p) → (is_marked marks p ≡ acts config p) ⊎ Contains some p
+    by_place (inl l) = inr (all p l)
+    by_place (inr g) =
+        inl (same p ∙ ap (λ (l : List Bool). is_marked l p) none ∙ sym (acts-none config p (slice_get_past config.instances p (omega (arith, g, e)))))
 
 -- after a step
 
@@ -173,4 +183,4 @@ module _ (label : Label) (old new : Config) (leads : Leads label old new) where
   pub settles_later : (some : List ℕ) → ((p : ℕ) → p < length new.instances → Contains some p) → Settles old new some
   settles_later some all = settles-all old new some leads.others.grown all
 
-pub ruleset renewing = (set-length, set-marked, unset-marked, set-others, right-step, right-none, marks-more, all-more)
+pub ruleset renewing = (set-length, set-marked, unset-marked, set-others, right-step, right-none, right-new, marks-more, all-more)

@@ -292,6 +292,7 @@ pub fn mended<'a>(
 }
 
 /// A configuration, with what is kept beside it.
+#[tactic(auto, using(crate::proofs::Mending::renewing))]
 pub fn watch<'a>(alloc: Global, configuration: Configuration<'a>) -> Result<Watched<'a>, NoMemory>
     ensures { IfOk result (λ w. w ≡ configuration.entry) }
 {
