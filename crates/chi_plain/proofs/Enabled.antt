@@ -15,7 +15,7 @@ use Rattle.chi_core.specs.Options.{numbers, receivers, pairs_with, options_by, o
 use Rattle.chi_plain.specs.Scanning.{is_advance}
 
 -- what a filter keeps passes its test
-filter-passes : (t : ℕ → Bool) (xs : List ℕ) (k n : ℕ) → slice_get (filter t xs) k ≡ Some n → t n ≡ true
+pub filter-passes : (t : ℕ → Bool) (xs : List ℕ) (k n : ℕ) → slice_get (filter t xs) k ≡ Some n → t n ≡ true
 filter-passes t [] k n e = absurd (cc)
 filter-passes t (x ∷ xs) k n e = by_test (filter-passes t xs) (t x) refl k e
   where
@@ -104,15 +104,15 @@ enabled-acts config (p ∷ ps) h c =
     contains-none is_advance (flat_map (options config) (p ∷ ps)) Advance refl
     (none-flat is_advance (options config) (p ∷ ps) (λ q. of-none config q (slice_get config.instances q))) c
 
-none-of : {A : Type 0} (xs : List A) → length xs ≤ 0 → xs ≡ []
+pub none-of : {A : Type 0} (xs : List A) → length xs ≤ 0 → xs ≡ []
 none-of [] h = refl
 none-of (x ∷ xs) h = absurd (omega arith)
 
-lt-true : (n : ℕ) → nat_lt 0 n ≡ true → 0 < n
+pub lt-true : (n : ℕ) → nat_lt 0 n ≡ true → 0 < n
 lt-true zero e = absurd (false≢true e)
 lt-true (suc n) e = omega arith
 
-lt-false : (n : ℕ) → nat_lt 0 n ≡ false → n ≤ 0
+pub lt-false : (n : ℕ) → nat_lt 0 n ≡ false → n ≤ 0
 lt-false n e = grind arith
 
 advance-is : (config : Config) (l : Label) → advance config ≡ Some l → l ≡ Advance

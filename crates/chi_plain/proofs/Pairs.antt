@@ -1,16 +1,23 @@
 -- The options of an instance by its offers, counted and found one offer, and one other instance, after another.
-use Rattle.std.proofs.Common.{◌≡◌, ℕ, zero, suc, ◌+◌, ◌<◌, List, [], ◌∷◌, ◌++◌, Option, Some, None, Bool, true, false, cond, length, get_or, ◌⊎◌, inl, inr, sym, ◌∙◌, ap, subst, refl, arith, length-append}
+use Rattle.std.proofs.Common.{◌≡◌, ℕ, zero, suc, ◌+◌, ◌<◌, ◌≤◌, List, [], ◌∷◌, ◌++◌, Option, Some, None, Bool, true, false, cond, length, get_or, take, ◌⊎◌, inl, inr, sym, ◌∙◌, ap, subst, refl, arith, length-append}
 use Rattle.std.specs.Prelude.{map, nat_eq}
-use Rattle.std.specs.List.{slice_get, flat_map}
+use Rattle.std.specs.List.{slice_get, flat_map, Contains}
 use Rattle.std.specs.Option.{option_map}
 use Rattle.std.proofs.lemmas.Bool.{eq-eqb}
-use Rattle.std.proofs.lemmas.List.{append-nil, append_assoc, length-map}
-use Rattle.std.proofs.lemmas.Option.{slice_get-map, slice_get_read}
+use Rattle.std.proofs.lemmas.List.{append-nil, append_assoc, length-map, take_all}
+use Rattle.std.proofs.lemmas.Option.{slice_get-map, slice_get_read, slice_get_past}
 use Rattle.chi_core.specs.declared.label.Label.{Label}
+use Rattle.chi_core.specs.declared.limits.TheConstants.{MOST_INSTANCES}
 use Rattle.chi_core.specs.declared.label.Label.TheVariants.{Pair}
 use Rattle.chi_core.specs.Config.{Config, Instance, Offer, offers_in}
 use Rattle.chi_core.specs.Options.{numbers, receivers, pairs_with, pairs, options_for}
-use Rattle.chi_plain.specs.Scanning.{pairs_below, offered_below}
+use Rattle.chi_plain.specs.declared.parties.Parties.{Parties}
+use Rattle.chi_plain.specs.Ascending.{Ascends}
+use Rattle.chi_plain.specs.Scanning.{pairs_among, offered_below}
+use Rattle.chi_plain.specs.Watching.{AllParties, listed_at}
+use Rattle.chi_plain.proofs.Ascending.{ascends-length, joined-listed}
+use Rattle.chi_plain.proofs.Havings.{pairs-unlisted}
+use Rattle.chi_plain.proofs.Keeping.{get_or-within}
 
 flat_map-append : {A B : Type 0} (f : A → List B) (xs ys : List A) → flat_map f (xs ++ ys) ≡ flat_map f xs ++ flat_map f ys
 flat_map-append f [] ys = refl
@@ -93,6 +100,20 @@ partner-at p a channel q i b j h e =
     ap (λ l. slice_get l i) (partner-others p a channel q j (partner-other p a channel q i j h))
     ∙ slice_get-map (λ b. Pair p a q b) (receivers channel (offers_in j.state)) i ∙ ap (option_map (λ b. Pair p a q b)) e
 
+-- the other instance by its number
+
+pub partner-there : (is : List Instance) (p channel q n : ℕ) (j : Instance) → slice_get is q ≡ Some j → ((a : ℕ) → n ≡ length (pairs_with p a channel q (Some j)))
+    → (a : ℕ) → n ≡ length (pairs_with p a channel q (slice_get is q))
+partner-there is p channel q n j at e a = e a ∙ sym (ap (λ o. length (pairs_with p a channel q o)) at)
+
+pub partner-nowhere : (is : List Instance) (p channel q n : ℕ) → slice_get is q ≡ None → n ≡ 0 → (a : ℕ) → n ≡ length (pairs_with p a channel q (slice_get is q))
+partner-nowhere is p channel q n at none a = none ∙ sym (ap (λ o. length (pairs_with p a channel q o)) at)
+
+-- an element of these pairs is one with an instance that there is
+pub partner-somewhere : (is : List Instance) (p a channel q i : ℕ) → i < length (pairs_with p a channel q (slice_get is q)) → slice_get is q ≡ None → ⊥
+partner-somewhere is p a channel q i h at =
+    let none : length (pairs_with p a channel q (slice_get is q)) ≡ 0 = ap (λ o. length (pairs_with p a channel q o)) at in omega (arith, h, none)
+
 length-pairs_with : (p a a' channel q : ℕ) (o : Option Instance) → length (pairs_with p a channel q o) ≡ length (pairs_with p a' channel q o)
 length-pairs_with p a a' channel q None = refl
 length-pairs_with p a a' channel q (Some j) = by_test (nat_eq q p)
@@ -102,42 +123,81 @@ length-pairs_with p a a' channel q (Some j) = by_test (nat_eq q p)
     by_test true = refl
     by_test false = length-map (receivers channel (offers_in j.state)) (λ b. Pair p a q b) ∙ sym (length-map (receivers channel (offers_in j.state)) (λ b. Pair p a' q b))
 
--- all other instances
+-- all other instances that are listed
 
-pub length-pairs_below-none : (config : Config) (p a channel : ℕ) → length (pairs_below config p a channel 0) ≡ 0
-unfolding pairs_below
-length-pairs_below-none config p a channel = refl
+pub listed-few : (listed : List ℕ) → Ascends 0 MOST_INSTANCES listed → length listed ≤ MOST_INSTANCES
+listed-few listed up = let h = ascends-length 0 MOST_INSTANCES listed up (omega arith) in omega (arith, h)
 
-pub length-pairs_below-more : (config : Config) (p a channel q n : ℕ) (is : List Instance) (j : Instance) → is ≡ config.instances → q < length is → j ≡ get_or is q j
-    → ((b : ℕ) → n ≡ length (pairs_with p b channel q (Some j)))
-    → length (pairs_below config p a channel (q + 1)) ≡ length (pairs_below config p a channel q) + n
-unfolding pairs_below
-length-pairs_below-more config p a channel q n is j all h at e =
-    let there : slice_get config.instances q ≡ Some j = ap (λ l. slice_get l q) (sym all) ∙ slice_get_read is (length is) q j refl h at in
-    let here : length (pairs_with p a channel q (slice_get config.instances q)) ≡ n
-    = ap (λ o. length (pairs_with p a channel q o)) there ∙ sym (e a) in
-    length-flat-suc (λ q. pairs_with p a channel q (slice_get config.instances q)) q
-    ∙ ap (λ k. length (pairs_below config p a channel q) + k) here
+pub length-pairs_among-none : (config : Config) (p a channel : ℕ) (listed : List ℕ) → length (pairs_among config p a channel (take 0 listed)) ≡ 0
+unfolding pairs_among
+length-pairs_among-none config p a channel listed = refl
 
-pub length-pairs : (config : Config) (p a a' channel n : ℕ) → n ≡ length config.instances
-    → length (pairs_below config p a channel n) ≡ length (pairs config p a' channel)
-unfolding pairs_below
-length-pairs config p a a' channel n all =
-    same_lengths (λ q. pairs_with p a channel q (slice_get config.instances q)) (λ q. pairs_with p a' channel q (slice_get config.instances q))
-    (numbers n) (λ q. length-pairs_with p a a' channel q (slice_get config.instances q))
-    ∙ ap (λ k. length (flat_map (λ q. pairs_with p a' channel q (slice_get config.instances q)) (numbers k))) all
+take-next : (xs : List ℕ) (k x : ℕ) → k < length xs → x ≡ get_or xs k x → take (k + 1) xs ≡ take k xs ++ x ∷ []
+take-next xs k x h e = let one : k + 1 ≡ suc k = omega arith in rw one (by_place xs k h e)
+  where
+    by_place : (xs : List ℕ) (k : ℕ) → k < length xs → x ≡ get_or xs k x → take (suc k) xs ≡ take k xs ++ x ∷ []
+    by_place [] k h e = absurd (omega (arith, h))
+    by_place (y ∷ ys) zero h e = ap (λ z. z ∷ []) (sym e)
+    by_place (y ∷ ys) (suc k) h e = ap (λ l. y ∷ l) (by_place ys k (omega (arith, h)) e)
 
-pub pairs-at : (config : Config) (p a channel q seen i k : ℕ) (is : List Instance) (j : Instance) (label : Label) → is ≡ config.instances → q < length is
-    → j ≡ get_or is q j → seen ≡ length (pairs_below config p a channel q) → i ≡ seen + k
-    → slice_get (pairs_with p a channel q (Some j)) k ≡ Some label → slice_get (pairs config p a channel) i ≡ Some label
-unfolding pairs_below
-pairs-at config p a channel q seen i k is j label all h at e same has =
-    let there : slice_get config.instances q ≡ Some j = ap (λ l. slice_get l q) (sym all) ∙ slice_get_read is (length is) q j refl h at in
-    let within : q < length config.instances = let n = ap length all in omega (arith, h, n) in
+pub length-pairs_among-more : (config : Config) (p a channel k q n : ℕ) (listed : List ℕ) → k < length listed → q ≡ get_or listed k 0
+    → ((b : ℕ) → n ≡ length (pairs_with p b channel q (slice_get config.instances q)))
+    → length (pairs_among config p a channel (take (k + 1) listed)) ≡ length (pairs_among config p a channel (take k listed)) + n
+unfolding pairs_among
+length-pairs_among-more config p a channel k q n listed h at e =
     let f : ℕ → List Label = λ q. pairs_with p a channel q (slice_get config.instances q) in
-    let place : i ≡ length (flat_map f (numbers q)) + k = same ∙ ap (λ n. n + k) e in
-    ap (slice_get (pairs config p a channel)) place
-    ∙ flat-at f (length config.instances) q k label within (ap (λ o. slice_get (pairs_with p a channel q o) k) there ∙ has)
+    ap (λ l. length (flat_map f l)) (take-next listed k q h (at ∙ get_or-within listed k 0 q h))
+    ∙ ap length (flat_map-append f (take k listed) (q ∷ []) ∙ ap (λ l. flat_map f (take k listed) ++ l) (append-nil (f q)))
+    ∙ length-append (flat_map f (take k listed)) (f q) ∙ ap (λ m. length (flat_map f (take k listed)) + m) (sym (e a))
+
+-- what an element of a list gives, among all that is joined
+flat-place : {B : Type 0} (f : ℕ → List B) (xs : List ℕ) (k x i : ℕ) (y : B) → k < length xs → x ≡ get_or xs k x → slice_get (f x) i ≡ Some y
+    → slice_get (flat_map f xs) (length (flat_map f (take k xs)) + i) ≡ Some y
+flat-place f [] k x i y h at e = absurd (omega (arith, h))
+flat-place f (z ∷ zs) zero x i y h at e =
+    let none : 0 + i ≡ i = omega arith in
+    ap (slice_get (f z ++ flat_map f zs)) none ∙ slice_get-front (f z) (flat_map f zs) i y (ap (λ (w : ℕ). slice_get (f w) i) (sym at) ∙ e)
+flat-place f (z ∷ zs) (suc k) x i y h at e =
+    let all : length (flat_map f (take (suc k) (z ∷ zs))) + i ≡ length (f z) + (length (flat_map f (take k zs)) + i)
+    = (let l = length-append (f z) (flat_map f (take k zs)) in omega (arith, l)) in
+    ap (slice_get (f z ++ flat_map f zs)) all ∙ slice_get-back (f z) (flat_map f zs) (length (flat_map f (take k zs)) + i)
+    ∙ flat-place f zs k x i y (omega (arith, h)) at e
+
+module _ (config : Config) (parties : Parties) (p a channel : ℕ) (listed : List ℕ) (parts : AllParties parties config.instances)
+    (is : listed ≡ listed_at parties.receivers channel) (up : Ascends 0 MOST_INSTANCES listed) where
+  -- those that are listed make all pairs
+  all_pairs : pairs_among config p a channel listed ≡ pairs config p a channel
+  unfolding pairs_among
+  all_pairs =
+      joined-listed (λ q. pairs_with p a channel q (slice_get config.instances q)) MOST_INSTANCES (length config.instances) listed up
+      (λ q h. by_listed q (pairs-unlisted config parties p a channel q parts))
+      (λ q h. ap (pairs_with p a channel q) (slice_get_past config.instances q h))
+    where
+      by_listed : (q : ℕ) → (pairs_with p a channel q (slice_get config.instances q) ≡ []) ⊎ Contains (listed_at parties.receivers channel) q
+          → (pairs_with p a channel q (slice_get config.instances q) ≡ []) ⊎ Contains listed q
+      by_listed q (inl e) = inl e
+      by_listed q (inr c) = inr (subst (λ (l : List ℕ). Contains l q) (sym is) c)
+
+  pub length-pairs : (b n : ℕ) → length listed ≤ n → length (pairs_among config p b channel (take n listed)) ≡ length (pairs config p a channel)
+  unfolding pairs_among
+  length-pairs b n all =
+      ap (λ l. length (pairs_among config p b channel l)) (take_all n listed all) ∙ same_pairs ∙ ap length all_pairs
+    where
+      same_pairs : length (pairs_among config p b channel listed) ≡ length (pairs_among config p a channel listed)
+      same_pairs =
+          same_lengths (λ q. pairs_with p b channel q (slice_get config.instances q)) (λ q. pairs_with p a channel q (slice_get config.instances q)) listed
+          (λ q. length-pairs_with p b a channel q (slice_get config.instances q))
+
+  pub pairs-at : (k q seen i j : ℕ) (label : Label) → k < length listed → q ≡ get_or listed k 0
+      → seen ≡ length (pairs_among config p a channel (take k listed)) → i ≡ seen + j
+      → slice_get (pairs_with p a channel q (slice_get config.instances q)) j ≡ Some label → slice_get (pairs config p a channel) i ≡ Some label
+  unfolding pairs_among
+  pairs-at k q seen i j label h at e same has =
+      let place : i ≡ length (pairs_among config p a channel (take k listed)) + j = same ∙ ap (λ n. n + j) e in
+      ap (λ l. slice_get l i) (sym all_pairs) ∙ ap (slice_get (pairs_among config p a channel listed)) place ∙ found
+    where
+      found : slice_get (pairs_among config p a channel listed) (length (pairs_among config p a channel (take k listed)) + j) ≡ Some label
+      found = flat-place (λ q. pairs_with p a channel q (slice_get config.instances q)) listed k q j label h (at ∙ get_or-within listed k 0 q h) has
 
 -- all offers
 
@@ -170,8 +230,8 @@ offered-at config p a seen i k offers o label h at e is has =
     ∙ flat-at f (length offers) a k label h
     (ap (λ x. slice_get (options_for config p a x) k) (slice_get_read offers (length offers) a o refl h at) ∙ has)
 
-pub ruleset partners = (partner-none, partner-some, partner-within, partner-at)
+pub ruleset partners = (partner-none, partner-some, partner-within, partner-at, partner-there, partner-nowhere, partner-somewhere)
 
-pub ruleset pairing = (length-pairs_below-none, length-pairs_below-more, length-pairs)
+pub ruleset pairing = (listed-few, length-pairs_among-none, length-pairs_among-more, length-pairs)
 
 pub ruleset offering = (length-offered_below-none, length-offered_below-more, length-offered_below-all)

@@ -24,13 +24,14 @@ use Rattle.chi_steps.specs.declared.beginning.Begun.{Begun}
 use Rattle.chi_steps.specs.declared.beginning.Begun.TheVariants as begun
 use Rattle.chi_plain.specs.declared.standing.Standing.{Standing}
 use Rattle.chi_plain.specs.declared.stepped.Stepped.TheVariants as stepped
-use Rattle.chi_steps.specs.declared.stepping.Went.{Went}
-use Rattle.chi_steps.specs.declared.stepping.Went.TheVariants as went
+use Rattle.chi_plain.specs.declared.taking.Taken.{Taken}
+use Rattle.chi_plain.specs.declared.taking.Taken.TheVariants as taken
 use Rattle.chi_steps.specs.Begun.{begun_of}
 use Rattle.chi_plain.specs.Stage as stage
 use Rattle.chi_plain.specs.Stage.{MayTell}
 use Rattle.chi_plain.specs.Standings.{stage_of, standing_at, Stands}
-use Rattle.chi_steps.specs.Takings.{IsRight, Takes}
+use Rattle.chi_steps.specs.Takings.{Appends, IsRight}
+use Rattle.chi_plain.specs.Taken.{TakesTo}
 use Rattle.std.proofs.lemmas.List.{append-nil}
 use Rattle.std.proofs.Common.{ℤ}
 
@@ -118,49 +119,49 @@ begun_stage b (begun.Breaks end) s e is =
     let P : Beginning → Type 0 = λ b. stage.Begun b (stage_of s) in subst P (sym e) (ap stage_of is)
 
 -- a label that was taken
-module _ (core : Core) (old new : Config) (label : Label) (left : ℕ) (before after : List ℕ) (how : Went)
-    (taken : stage.Appends before after (λ text. Takes (step core old label left) old new text how)) where
-  pub on_next : (rest : ℕ) → how ≡ went.On rest → (text : List ℕ) × (step core old label left ≡ Next new text rest)
-  on_next rest is =
-      let P : Went → Type 0 = λ w. Takes (step core old label left) old new taken.0 w in (taken.0, subst P is taken.2)
+module _ (core : Core) (old : Config) (label : Label) (left : ℕ) (before after : List ℕ) (how : Taken)
+    (took : Appends before after (λ text. TakesTo (step core old label left) old text how)) where
+  pub on_next : (new : Config) (rest : ℕ) → how ≡ taken.On new rest → (text : List ℕ) × (step core old label left ≡ Next new text rest)
+  on_next new rest is =
+      let P : Taken → Type 0 = λ w. TakesTo (step core old label left) old took.0 w in (took.0, subst P is took.2)
 
-  pub on_costs : EachCosts → (rest : ℕ) → how ≡ went.On rest → rest ≤ left
-  on_costs costs rest is =
-      let n = on_next rest is in
+  pub on_costs : EachCosts → (new : Config) (rest : ℕ) → how ≡ taken.On new rest → rest ≤ left
+  on_costs costs new rest is =
+      let n = on_next new rest is in
       let less : rest < left = costs core old label left new n.0 rest n.1 in omega arith
 
-  pub on_kinded : (rest : ℕ) → how ≡ went.On rest → GoesKinded core (step core old label left) → Kinded core new
-  on_kinded rest is good = let n = on_next rest is in kinded_next core _ new n.0 rest n.1 good
+  pub on_kinded : (new : Config) (rest : ℕ) → how ≡ taken.On new rest → GoesKinded core (step core old label left) → Kinded core new
+  on_kinded new rest is good = let n = on_next new rest is in kinded_next core _ new n.0 rest n.1 good
 
-  pub on_steps : EachCosts → (rest : ℕ) → how ≡ went.On rest → stage.Appends before after (λ text. stage.Steps core (stage.At old) (stage.At new) label left text (stepped.Next (left - rest)))
-  on_steps costs rest is =
-      let less : rest ≤ left = on_costs costs rest is in
-      let P : Went → Type 0 = λ w. Takes (step core old label left) old new taken.0 w in
-      (taken.0, taken.1, (rest, subst P is taken.2, omega arith))
+  pub on_steps : EachCosts → (new : Config) (rest : ℕ) → how ≡ taken.On new rest → Appends before after (λ text. stage.Steps core (stage.At old) (stage.At new) label left text (stepped.Next (left - rest)))
+  on_steps costs new rest is =
+      let less : rest ≤ left = on_costs costs new rest is in
+      let P : Taken → Type 0 = λ w. TakesTo (step core old label left) old took.0 w in
+      (took.0, took.1, (rest, subst P is took.2, omega arith))
 
-  pub over_told : (v : Verdict) → how ≡ went.Over v → GoesKinded core (step core old label left) → MayTell core v
+  pub over_told : (v : Verdict) → how ≡ taken.Over v → GoesKinded core (step core old label left) → MayTell core v
   over_told v is good =
-      let P : Went → Type 0 = λ w. Takes (step core old label left) old new taken.0 w in
-      let t = subst P is taken.2 in told_over core _ v t.0 good
+      let P : Taken → Type 0 = λ w. TakesTo (step core old label left) old took.0 w in
+      let t = subst P is took.2 in told_over core _ v t.0 good
 
-  pub over_steps : (v : Verdict) (clock : ℤ) → how ≡ went.Over v → clock ≡ old.clock
-      → stage.Appends before after (λ text. stage.Steps core (stage.At old) (stage.Ended (record { verdict = v; clock = clock })) label left text stepped.Over)
+  pub over_steps : (v : Verdict) (clock : ℤ) → how ≡ taken.Over v → clock ≡ old.clock
+      → Appends before after (λ text. stage.Steps core (stage.At old) (stage.Ended (record { verdict = v; clock = clock })) label left text stepped.Over)
   over_steps v clock is same =
-      let P : Went → Type 0 = λ w. Takes (step core old label left) old new taken.0 w in
-      let t = subst P is taken.2 in
-      (taken.0, taken.1, (t.0, (λ k. record { verdict = v; clock = same k }), t.1))
+      let P : Taken → Type 0 = λ w. TakesTo (step core old label left) old took.0 w in
+      let t = subst P is took.2 in
+      (took.0, took.1, (t.0, (λ k. record { verdict = v; clock = same k }), t.1))
 
-  pub spent_same : how ≡ went.Spent → new ≡ old
-  spent_same is =
-      let P : Went → Type 0 = λ w. Takes (step core old label left) old new taken.0 w in
-      let t = subst P is taken.2 in t.1
+  pub spent_same : (new : Config) → how ≡ taken.Spent new → new ≡ old
+  spent_same new is =
+      let P : Taken → Type 0 = λ w. TakesTo (step core old label left) old took.0 w in
+      let t = subst P is took.2 in t.1
 
-  pub spent_steps : how ≡ went.Spent → stage.Appends before after (λ text. stage.Steps core (stage.At old) (stage.At new) label left text stepped.Spent)
-  spent_steps is =
-      let P : Went → Type 0 = λ w. Takes (step core old label left) old new taken.0 w in
-      let t = subst P is taken.2 in
-      (taken.0, taken.1, (t.0, ap stage.At t.1, t.2))
+  pub spent_steps : (new : Config) → how ≡ taken.Spent new → Appends before after (λ text. stage.Steps core (stage.At old) (stage.At new) label left text stepped.Spent)
+  spent_steps new is =
+      let P : Taken → Type 0 = λ w. TakesTo (step core old label left) old took.0 w in
+      let t = subst P is took.2 in
+      (took.0, took.1, (t.0, ap stage.At t.1, t.2))
 
 pub lost_steps : (core : Core) (old : Config) (label : Label) (left : ℕ) (before after : List ℕ) → after ≡ before
-    → stage.Appends before after (λ text. stage.Steps core (stage.At old) stage.Lost label left text stepped.NoMemory)
+    → Appends before after (λ text. stage.Steps core (stage.At old) stage.Lost label left text stepped.NoMemory)
 lost_steps core old label left before after same = ([], same ∙ sym (append-nil before), (refl, refl))

@@ -1,55 +1,48 @@
-//! The instances that have an option: how many there are, and which.
+//! What may happen in a configuration.
 
-ghost use Rattle.std.specs.Prelude.{◌≡◌, ◌<◌, length, nat_lt, slice_get, Some};
-ghost use Rattle.chi_core.specs.Options.{actors};
+ghost use Rattle.std.specs.Prelude.{◌≡◌, ◌<◌, length, slice_get, Some};
+ghost use Rattle.chi_core.specs.Options.{actors, options};
 
-use crate::choices::option_count;
-use chi_steps::Configuration;
+use crate::choices;
+use crate::watching::Watched;
+use chi_core::Label;
 
-/// Whether some instance has an option.
-#[tactic(auto, using(crate::proofs::ActorCounts::actor_counting))]
-pub fn has_actor(config: &Configuration<'_>) -> bool
-    ensures { result ≡ nat_lt 0 (length (actors config.now)) }
-{
-    let count = config.instances().len() as u32;
-    for pid in 0..count {
-        if option_count(config, pid) > 0 {
-            return true;
-        }
+impl<'a> Watched<'a> {
+    pub fn clock(&self) -> i64
+        ensures { result ≡ self.now.clock }
+    {
+        self.configuration.clock()
     }
-    false
-}
 
-/// How many instances have an option.
-#[tactic(auto, using(crate::proofs::ActorCounts::actor_counting))]
-pub fn actor_count(config: &Configuration<'_>) -> u32
-    ensures { result ≡ length (actors config.now) }
-{
-    let mut seen = 0;
-    let count = config.instances().len() as u32;
-    for pid in 0..count {
-        if option_count(config, pid) > 0 {
-            seen += 1;
-        }
+    /// How many instances have an option.
+    #[tactic(auto, using(crate::proofs::MarkedActors::marked_is))]
+    pub fn actor_count(&self) -> u32
+        ensures { result ≡ length (actors self.now) }
+    {
+        self.marks.count()
     }
-    seen
-}
 
-/// Number `i` of the instances that have an option, ascending.
-#[tactic(auto, using(crate::proofs::ActorCounts::actor_counting))]
-pub fn actor_at(config: &Configuration<'_>, i: u32) -> u32
-    requires { i < length (actors config.now) }
-    ensures { slice_get (actors config.now) i ≡ Some result }
-{
-    let mut seen = 0;
-    let count = config.instances().len() as u32;
-    for pid in 0..count {
-        if option_count(config, pid) > 0 {
-            if seen == i {
-                return pid;
-            }
-            seen += 1;
-        }
+    /// Number `i` of the instances that have an option, ascending.
+    #[tactic(auto, using(crate::proofs::MarkedActors::marked_is))]
+    pub fn actor_at(&self, i: u32) -> u32
+        requires { i < length (actors self.now) }
+        ensures { slice_get (actors self.now) i ≡ Some result }
+    {
+        self.marks.nth(i)
     }
-    unreachable!()
+
+    /// How many options instance `pid` has.
+    pub fn option_count(&self, pid: u32) -> u64
+        ensures { result ≡ length (options self.now pid) }
+    {
+        choices::option_count(&self.configuration, &self.parties, pid)
+    }
+
+    /// Option number `i` of instance `pid`.
+    pub fn option_at(&self, pid: u32, i: u64) -> Label
+        requires { i < length (options self.now pid) }
+        ensures { slice_get (options self.now pid) i ≡ Some result }
+    {
+        choices::option_at(&self.configuration, &self.parties, pid, i)
+    }
 }

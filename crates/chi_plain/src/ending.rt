@@ -1,13 +1,13 @@
 //! How a run ends where nothing can happen.
 
-ghost use Rattle.std.specs.Prelude.{◌≡◌, ◌↔◌, is_some, IsTrue, Contains};
+ghost use Rattle.std.specs.Prelude.{◌≡◌, ◌↔◌, ◌<◌, length, is_some, nat_lt, IsTrue, Contains};
 ghost use Rattle.chi_core.specs.declared.label.Label.TheVariants as label;
 ghost use Rattle.chi_core.specs.Meeting.{may_reach, next_due};
-ghost use Rattle.chi_core.specs.Options.{advance, all_finished, at_rest, enabled, ending};
+ghost use Rattle.chi_core.specs.Options.{actors, advance, all_finished, at_rest, enabled, ending};
 
-use crate::actors::has_actor;
+use crate::watching::Watched;
 use chi_core::Verdict;
-use chi_steps::{Configuration, Ending};
+use chi_steps::Ending;
 
 /// Whether the time may go on to `time`, where the run is stopped at `until`.
 fn may_reach(until: Option<i64>, time: i64) -> bool
@@ -19,54 +19,63 @@ fn may_reach(until: Option<i64>, time: i64) -> bool
     }
 }
 
-/// Whether the time may go on, where no instance has an option.
-fn advances(config: &Configuration<'_>) -> bool
-    ensures { result ≡ is_some (advance config.now) }
-{
-    match config.least_due() {
-        Some(time) => may_reach(config.until(), time),
-        None => false,
+impl<'a> Watched<'a> {
+    /// Whether some instance has an option.
+    fn has_actor(&self) -> bool
+        ensures { result ≡ nat_lt 0 (length (actors self.now)) }
+    {
+        self.actor_count() > 0
     }
-}
 
-pub fn can_advance(config: &Configuration<'_>) -> bool
-    ensures { IsTrue result ↔ Contains (enabled config.now) label.Advance }
-{
-    !has_actor(config) && advances(config)
-}
+    /// Whether the time may go on, where no instance has an option.
+    fn advances(&self) -> bool
+        ensures { result ≡ is_some (advance self.now) }
+    {
+        match self.configuration.least_due() {
+            Some(time) => may_reach(self.configuration.until(), time),
+            None => false,
+        }
+    }
 
-fn all_finished(config: &Configuration<'_>) -> bool
-    ensures { result ≡ all_finished config.now }
-{
-    config
-        .instances()
-        .iter()
-        .all(|instance| instance.has_finished())
-}
+    pub fn can_advance(&self) -> bool
+        ensures { IsTrue result ↔ Contains (enabled self.now) label.Advance }
+    {
+        !self.has_actor() && self.advances()
+    }
 
-/// The ending where nothing is enabled.
-fn at_rest(config: &Configuration<'_>) -> Ending
-    ensures { result ≡ at_rest config.now }
-{
-    if all_finished(config) {
-        return Ending::of(Verdict::Completed, config.clock());
+    fn all_finished(&self) -> bool
+        ensures { result ≡ all_finished self.now }
+    {
+        self.configuration
+            .instances()
+            .iter()
+            .all(|instance| instance.has_finished())
     }
-    match (config.least_due(), config.until()) {
-        (Some(_), Some(until)) => Ending::of(Verdict::Stopped, until),
-        (Some(_), None) => Ending::of(Verdict::Deadlock, config.clock()),
-        (None, _) => Ending::of(Verdict::Deadlock, config.clock()),
-    }
-}
 
-/// How the run ends here, where nothing can happen.
-pub fn ending_in(config: &Configuration<'_>) -> Option<Ending>
-    ensures { result ≡ ending config.now }
-{
-    if has_actor(config) {
-        return None;
+    /// The ending where nothing is enabled.
+    fn at_rest(&self) -> Ending
+        ensures { result ≡ at_rest self.now }
+    {
+        if self.all_finished() {
+            return Ending::of(Verdict::Completed, self.clock());
+        }
+        match (self.configuration.least_due(), self.configuration.until()) {
+            (Some(_), Some(until)) => Ending::of(Verdict::Stopped, until),
+            (Some(_), None) => Ending::of(Verdict::Deadlock, self.clock()),
+            (None, _) => Ending::of(Verdict::Deadlock, self.clock()),
+        }
     }
-    if advances(config) {
-        return None;
+
+    /// How the run ends here, where nothing can happen.
+    pub fn ending(&self) -> Option<Ending>
+        ensures { result ≡ ending self.now }
+    {
+        if self.has_actor() {
+            return None;
+        }
+        if self.advances() {
+            return None;
+        }
+        Some(self.at_rest())
     }
-    Some(at_rest(config))
 }

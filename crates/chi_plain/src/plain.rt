@@ -9,9 +9,6 @@ ghost use Rattle.chi_core.specs.Sound.{Sound};
 ghost use Rattle.chi_plain.specs.Stage.{Begun, IsEventAt, actors_at, options_at, enabled_at, verdict_at, clock_at, MayTell, MayStep, Steps, Appends};
 ghost use Rattle.chi_trace.specs.Events.{Fits};
 
-use crate::actors::{actor_at, actor_count};
-use crate::choices::{option_at, option_count};
-use crate::ending::can_advance;
 use crate::standing::{Standing, standing_of, step};
 use crate::stepped::Stepped;
 use chi_base::NoMemory;
@@ -69,7 +66,7 @@ impl<'a> Plain<'a> {
         ensures start { IfOk result (λ plain. Begun (start core.now args.items seed until) plain.stage) }
     {
         kinded_law();
-        let standing = standing_of(begin(alloc, core, args, seed, until)?);
+        let standing = standing_of(alloc, begin(alloc, core, args, seed, until)?)?;
         Ok(Plain {
             alloc,
             core,
@@ -82,7 +79,7 @@ impl<'a> Plain<'a> {
         ensures count { result ≡ length (actors_at self.now.stage) }
     {
         match &self.standing {
-            Standing::At(configuration, _) => actor_count(configuration),
+            Standing::At(watched, _) => watched.actor_count(),
             Standing::Ended(_) => 0,
             Standing::Lost => 0,
         }
@@ -94,7 +91,7 @@ impl<'a> Plain<'a> {
         ensures actor { slice_get (actors_at self.now.stage) i ≡ Some result }
     {
         match &self.standing {
-            Standing::At(configuration, _) => actor_at(configuration, i),
+            Standing::At(watched, _) => watched.actor_at(i),
             Standing::Ended(_) => unreachable!(),
             Standing::Lost => unreachable!(),
         }
@@ -105,7 +102,7 @@ impl<'a> Plain<'a> {
         ensures count { result ≡ length (options_at self.now.stage pid) }
     {
         match &self.standing {
-            Standing::At(configuration, _) => option_count(configuration, pid),
+            Standing::At(watched, _) => watched.option_count(pid),
             Standing::Ended(_) => 0,
             Standing::Lost => 0,
         }
@@ -117,7 +114,7 @@ impl<'a> Plain<'a> {
         ensures option { slice_get (options_at self.now.stage pid) i ≡ Some result }
     {
         match &self.standing {
-            Standing::At(configuration, _) => option_at(configuration, pid, i),
+            Standing::At(watched, _) => watched.option_at(pid, i),
             Standing::Ended(_) => unreachable!(),
             Standing::Lost => unreachable!(),
         }
@@ -128,7 +125,7 @@ impl<'a> Plain<'a> {
         ensures advance { IsTrue result ↔ Contains (enabled_at self.now.stage) Advance }
     {
         match &self.standing {
-            Standing::At(configuration, _) => can_advance(configuration),
+            Standing::At(watched, _) => watched.can_advance(),
             Standing::Ended(_) => false,
             Standing::Lost => false,
         }
@@ -153,7 +150,7 @@ impl<'a> Plain<'a> {
     {
         match &self.standing {
             Standing::At(_, Some(ending)) => ending.clock(),
-            Standing::At(configuration, None) => configuration.clock(),
+            Standing::At(watched, None) => watched.clock(),
             Standing::Ended(ending) => ending.clock(),
             Standing::Lost => 0,
         }

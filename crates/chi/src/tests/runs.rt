@@ -1,6 +1,6 @@
 //! Sources that run.
 
-use crate::tests::{WORKS, Wanted, expect, expect_rows, expect_written, row};
+use crate::tests::{Row, WORKS, Wanted, expect, expect_rows, expect_words, expect_written, row};
 use std::alloc::{AllocError, Global};
 use std::test::Fail;
 
@@ -149,6 +149,54 @@ fn the_greatest_number_of_instances_is_kept(rt: HostRuntime) -> Result<(), Fail>
         status: 12,
     };
     expect_written(&rt, rt.alloc(), &texts, wanted)
+}
+
+/// The model and 99,999 others, 9 and then 10 by each, each of which waits on a channel of its own in the end.
+const WAITING: &str = "\
+proc A(): chan int a; start unwind i in range(10): B() end; a!1 end
+proc B(): chan int a; int x; start unwind i in range(10): C() end; a?x end
+proc C(): chan int a; start unwind i in range(10): D() end; a!1 end
+proc D(): chan int a; int x; start unwind i in range(10): E() end; a?x end
+proc E(): chan int a; a!1 end
+model M(): chan int a; start unwind i in range(9): A() end; a!1 end
+";
+
+#[test]
+fn a_hundred_thousand_instances_wait(rt: HostRuntime) -> Result<(), Fail> {
+    let rows: [Row; 2] = [
+        (&["sim", "m.chi"], "", "deadlock at time 0.0\n", 11),
+        (
+            &["sim", "--policy", "last", "m.chi"],
+            "",
+            "deadlock at time 0.0\n",
+            11,
+        ),
+    ];
+    expect_words(&rt, rt.alloc(), WAITING, &rows)
+}
+
+/// The model sends 4,000 times to one of two instances, while 90,000 others wait.
+const MEETING: &str = "\
+proc W(): chan int a; a!1 end
+proc R(chan? int b): int x; while true: b?x end end
+model M(): chan int b;
+  start unwind i in range(90000): W() end, R(b), R(b);
+  for i in range(4000): b!i end
+end
+";
+
+#[test]
+fn a_few_meet_while_many_wait(rt: HostRuntime) -> Result<(), Fail> {
+    let rows: [Row; 2] = [
+        (&["sim", "m.chi"], "", "deadlock at time 0.0\n", 11),
+        (
+            &["sim", "--policy", "last", "m.chi"],
+            "",
+            "deadlock at time 0.0\n",
+            11,
+        ),
+    ];
+    expect_words(&rt, rt.alloc(), MEETING, &rows)
 }
 
 /// A model that starts 1,000 processes with 1,000 channels each, and then does this.

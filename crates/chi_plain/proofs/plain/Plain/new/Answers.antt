@@ -14,7 +14,7 @@ invariant_of-result c =
     let m = c.requires.sound.model in
     record {
       sound = c.requires.sound;
-      stands = subst (Stands c.args.core.now) (sym c.standing_of-standing.ensures)
+      stands = subst (Stands c.args.core.now) (sym c.in_ok-standing.ensures)
           (begun_stands c.args.core.now c.args.args.items c.args.seed c.args.until c.in_ok-begin.field-0 c.in_ok-begin.ensures
           (c.kinded_law.ensures.begins c.args.core.now c.requires.sound m.0 m.1 c.args.args.items (c.requires.arguments m.0 m.1) c.args.seed c.args.until));
     }

@@ -1,0 +1,163 @@
+-- What is kept beside a configuration, from the one before a step to the one after it.
+use Rattle.std.proofs.Common.{◌≡◌, ◌≢◌, ℕ, ◌<◌, ◌≤◌, List, Option, Some, None, Bool, true, false, length, ◌⊎◌, inl, inr, sym, ◌∙◌, ap, subst, refl, arith}
+use Rattle.std.specs.Prelude.{IsTrue}
+use Rattle.std.specs.Bool.{OnFalse}
+use Rattle.std.specs.List.{slice_get, Contains}
+use Rattle.std.proofs.lemmas.Bool.{false≢true}
+use Rattle.chi_core.specs.declared.label.Label.{Label}
+use Rattle.chi_core.specs.declared.label.Label.TheVariants.{Local, Pair, Wake, Join, Advance}
+use Rattle.chi_core.specs.declared.program.Core.{Core}
+use Rattle.chi_core.specs.Config.{Config, Instance}
+use Rattle.chi_core.specs.Options.{is_under_way}
+use Rattle.chi_core.specs.Step.{Next, step}
+use Rattle.chi_runs.proofs.Time.{stands_still}
+use Rattle.chi_steps.specs.declared.stepping.Went.{Went}
+use Rattle.chi_steps.specs.declared.stepping.Went.TheVariants as wents
+use Rattle.chi_steps.specs.Takings.{Appends, Takes}
+use Rattle.chi_plain.specs.declared.watching.Before.{Before}
+use Rattle.chi_plain.specs.declared.parties.Parties.{Parties}
+use Rattle.chi_plain.specs.Marked.{is_marked}
+use Rattle.chi_plain.specs.Scanning.{is_advance}
+use Rattle.chi_plain.specs.Watching.{AllJoiners, AllParties, Covers, CoversFrom, IsAffected, IsJoiner, IsMarked, IsParty, IsWatched, Keeps, KeepsParties, acts, first_named, second_named}
+use Rattle.chi_plain.specs.Led.{IsBefore, IsListed, Leads, Led, Settles}
+use Rattle.chi_plain.proofs.Keeping.{keeps-trans}
+use Rattle.chi_plain.proofs.Listed.{covers-kept, party-kept, joiner-kept, parties-trans}
+use Rattle.chi_plain.proofs.Touched.{touches}
+use Rattle.chi_plain.proofs.Mending.{RightBut, all_parties, all_joiners, right-led, settles_still, settles_later}
+
+pub is_before : (parties : Parties) (label : Label) (old : List Instance) (b : Before) (one : List ℕ) → b.first ≡ first_named label
+    → b.second ≡ second_named label → b.count ≡ length old → b.first_under_way ≡ is_under_way (slice_get old b.first)
+    → b.second_under_way ≡ is_under_way (slice_get old b.second) → Covers parties old b.first one → Keeps one b.covered.items
+    → Covers parties old b.second b.covered.items → IsBefore parties label old b
+is_before parties label old b one first second count under other covered keeps also = record {
+  first = first;
+  second = second;
+  count = count;
+  first_under_way = under ∙ ap (λ k. is_under_way (slice_get old k)) first;
+  second_under_way = other ∙ ap (λ k. is_under_way (slice_get old k)) second;
+  first_covered = subst (λ (k : ℕ). Covers parties old k b.covered.items) first (covers-kept parties old b.first one b.covered.items covered keeps);
+  second_covered = subst (λ (k : ℕ). Covers parties old k b.covered.items) second also;
+}
+
+-- what may_join tells
+abbrev pub Same : List Instance → Before → Type 0
+Same new b = (b.count ≡ length new) × (b.first_under_way ≡ is_under_way (slice_get new b.first))
+    × (b.second_under_way ≡ is_under_way (slice_get new b.second))
+
+pub may_join : (joiners some : List ℕ) (new : List Instance) (b : Before) (joining : Bool) → (IsTrue joining → Keeps joiners some) → OnFalse joining (Same new b)
+    → Keeps joiners some ⊎ Same new b
+may_join joiners some new b true joins same = inl (joins refl)
+may_join joiners some new b false joins same = inr same
+
+module _ (parties : Parties) (joiners : List ℕ) (new : List Instance) (b : Before) (one two three some : List ℕ)
+    (k1 : Keeps b.covered.items one) (first : Covers parties new b.first one) (k2 : Keeps one two) (second : Covers parties new b.second two)
+    (k3 : Keeps two three) (added : CoversFrom parties new b.count three) (k4 : Keeps three some) where
+  pub is_affected : Keeps joiners some ⊎ Same new b → (label : Label) (old : List Instance) → IsBefore parties label old b
+      → IsAffected parties joiners (first_named label) (second_named label) old new some
+  is_affected joining label old before = record {
+    first_old = covers-kept parties old (first_named label) b.covered.items some before.first_covered all;
+    second_old = covers-kept parties old (second_named label) b.covered.items some before.second_covered all;
+    first_new = covers-kept parties new (first_named label) one some (subst (λ (k : ℕ). Covers parties new k one) before.first first) from_one;
+    second_new = covers-kept parties new (second_named label) two some (subst (λ (k : ℕ). Covers parties new k two) before.second second) from_two;
+    added = λ r h l. covers-kept parties new r three some (added r (subst (λ (k : ℕ). k ≤ r) (sym before.count) h) l) k4;
+    joining = by_joining joining;
+  }
+    where
+      from_two : Keeps two some
+      from_two = keeps-trans two three some k3 k4
+
+      from_one : Keeps one some
+      from_one = keeps-trans one two some k2 from_two
+
+      all : Keeps b.covered.items some
+      all = keeps-trans b.covered.items one some k1 from_one
+
+      by_joining : Keeps joiners some ⊎ Same new b → Keeps joiners some ⊎ ((length new ≡ length old)
+          × (is_under_way (slice_get new (first_named label)) ≡ is_under_way (slice_get old (first_named label)))
+          × (is_under_way (slice_get new (second_named label)) ≡ is_under_way (slice_get old (second_named label))))
+      by_joining (inl j) = inl j
+      by_joining (inr same) = inr (
+        sym same.0 ∙ before.count,
+        sym (ap (λ k. is_under_way (slice_get new k)) before.first) ∙ sym same.1 ∙ before.first_under_way,
+        sym (ap (λ k. is_under_way (slice_get new k)) before.second) ∙ sym same.2 ∙ before.second_under_way,
+      )
+
+other_label : (label : Label) → is_advance label ≡ false → label ≢ Advance
+other_label label e is = let wrong : true ≡ false = sym (ap is_advance is) ∙ e in false≢true (sym wrong)
+
+-- what unsettled tells
+abbrev pub AllSettled : Label → Config → Parties → List ℕ → Before → List ℕ → Type 0
+AllSettled label new parties joiners b some =
+    (old : Config) → Leads label old new → IsListed old parties joiners → IsBefore parties label old.instances b → Settles old new some
+
+pub settled_others : (label : Label) (new : Config) (parties : Parties) (joiners : List ℕ) (b : Before) (some : List ℕ) (advance : Bool)
+    → advance ≡ is_advance label → advance ≡ false
+    → ((label : Label) (old : List Instance) → IsBefore parties label old b
+    → IsAffected parties joiners (first_named label) (second_named label) old new.instances some)
+    → AllSettled label new parties joiners b some
+settled_others label new parties joiners b some advance e still affected old leads listed before =
+    settles_still label old new leads parties joiners some (other_label label (sym e ∙ still)) listed (affected label old.instances before)
+
+pub settled_all : (label : Label) (new : Config) (parties : Parties) (joiners : List ℕ) (b : Before) (some : List ℕ) (n : ℕ) → n ≡ length new.instances
+    → ((p : ℕ) → p < n → Contains some p) → AllSettled label new parties joiners b some
+settled_all label new parties joiners b some n e all old leads listed before =
+    settles_later label old new leads some (λ p h. all p (subst (λ (k : ℕ). p < k) (sym e) h))
+
+-- the label has led on
+pub leads_on : (core : Core) (old new : Config) (label : Label) (left : ℕ) (text : List ℕ) (rest : ℕ) → step core old label left ≡ Next new text rest → Leads label old new
+leads_on core old new label left text rest e = record {
+  others = touches core old label left new text rest e;
+  still = λ other. stands_still core old label new text rest left e other;
+}
+
+pub led_on : (core : Core) (old new : Config) (label : Label) (left : ℕ) (before after : List ℕ) (went : Went) (rest : ℕ) (marks : List Bool) (parties : Parties)
+    (joiners : List ℕ) (b : Before) → IsWatched old marks parties joiners → IsBefore parties label old.instances b
+    → Appends before after (λ text. Takes (step core old label left) old new text went) → went ≡ wents.On rest → Led label new marks parties joiners b
+led_on core old new label left before after went rest marks parties joiners b watched known took is = record {
+  old = old;
+  watched = watched;
+  before = known;
+  leads = let P : Went → Type 0 = λ w. Takes (step core old label left) old new took.0 w in leads_on core old new label left took.0 rest (subst P is took.2);
+}
+
+-- all is mended
+module _ (label : Label) (new : Config) (marks : List Bool) (parties : Parties) (joiners : List ℕ) (b : Before) (led : Led label new marks parties joiners b) where
+  old_listed : IsListed led.old parties joiners
+  old_listed = record { communicating = led.watched.communicating; waiting = led.watched.waiting }
+
+  pub led_settled : (some : List ℕ) → AllSettled label new parties joiners b some → Settles led.old new some
+  led_settled some settled = settled led.old led.leads old_listed led.before
+
+  pub led_longer : length marks ≤ length new.instances
+  led_longer = let g = led.leads.others.grown in let e = led.watched.marked.all in omega (arith, g, e)
+
+  pub led_right : (longer : List Bool) (some : List ℕ) → ((p : ℕ) → is_marked longer p ≡ is_marked marks p) → AllSettled label new parties joiners b some
+      → RightBut new longer some
+  led_right longer some same settled = right-led led.old new marks longer some led.watched.marked same (led_settled some settled)
+
+  module _ (first second : ℕ) (is_first : first ≡ first_named label) (is_second : second ≡ second_named label) where
+    pub led_parties : (one two three : Parties) → KeepsParties parties one → KeepsParties one two → KeepsParties two three
+        → IsParty one first (slice_get new.instances first) → IsParty two second (slice_get new.instances second)
+        → ((r : ℕ) → b.count ≤ r → IsParty three r (slice_get new.instances r)) → AllParties three new.instances
+    led_parties one two three k1 k2 k3 f s added =
+        all_parties label led.old new led.leads parties three led.watched.communicating
+        (parties-trans parties one three k1 (parties-trans one two three k2 k3))
+        (subst P is_first (party-kept one three first (slice_get new.instances first) (parties-trans one two three k2 k3) f))
+        (subst P is_second (party-kept two three second (slice_get new.instances second) k3 s))
+        (λ r h. added r (subst (λ (k : ℕ). k ≤ r) (sym led.before.count) h))
+      where
+        P : ℕ → Type 0
+        P k = IsParty three k (slice_get new.instances k)
+
+    pub led_joiners : (one two three : List ℕ) → Keeps joiners one → Keeps one two → Keeps two three
+        → IsJoiner one first (slice_get new.instances first) → IsJoiner two second (slice_get new.instances second)
+        → ((r : ℕ) → b.count ≤ r → IsJoiner three r (slice_get new.instances r)) → AllJoiners three new.instances
+    led_joiners one two three k1 k2 k3 f s added =
+        all_joiners label led.old new led.leads joiners three led.watched.waiting
+        (keeps-trans joiners one three k1 (keeps-trans one two three k2 k3))
+        (subst P is_first (joiner-kept one three first (slice_get new.instances first) (keeps-trans one two three k2 k3) f))
+        (subst P is_second (joiner-kept two three second (slice_get new.instances second) k3 s))
+        (λ r h. added r (subst (λ (k : ℕ). k ≤ r) (sym led.before.count) h))
+      where
+        P : ℕ → Type 0
+        P k = IsJoiner three k (slice_get new.instances k)

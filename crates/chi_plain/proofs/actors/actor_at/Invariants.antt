@@ -1,6 +1,0 @@
-use Rattle.std.proofs.Common.{◌≡◌, ◌≤◌, length}
-use Rattle.chi_plain.specs.Scanning.{actors_below}
-use Rattle.chi_plain.proofs.actors.actor_at.Given as goal
-
-abbrev pub invariant-loop-pid : goal.invariant-loop-pid
-invariant-loop-pid l = (l.seen ≡ length (actors_below l.fn.config l.pid)) × (l.seen ≤ l.i)

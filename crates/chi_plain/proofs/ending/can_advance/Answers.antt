@@ -1,9 +1,0 @@
-use Rattle.chi_plain.proofs.Enabled.{advance-none, advance-some}
-use Rattle.chi_plain.proofs.ending.can_advance.Goals as goal
-
-pub returns-else-not-has_actor : goal.returns-else-not-has_actor
-returns-else-not-has_actor c = advance-none c.args.config.now _ c.has_actor.ensures c.if-not-has_actor.false
-
-pub returns-then-not-has_actor : goal.returns-then-not-has_actor
-returns-then-not-has_actor c =
-    advance-some c.args.config.now _ _ c.has_actor.ensures c.if-not-has_actor.true c.advances.ensures

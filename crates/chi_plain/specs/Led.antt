@@ -1,0 +1,41 @@
+-- Private to proofs: from one configuration to the next, with what is kept beside them.
+use Rattle.std.specs.Prelude.{◌≡◌, ◌≢◌, ℕ, ◌⊎◌, List, Bool, length, slice_get, Contains}
+use Rattle.chi_core.specs.declared.label.Label.{Label}
+use Rattle.chi_core.specs.declared.label.Label.TheVariants.{Advance}
+use Rattle.chi_core.specs.Config.{Config, Instance}
+use Rattle.chi_core.specs.Options.{is_under_way}
+use Rattle.chi_plain.specs.declared.parties.Parties.{Parties}
+use Rattle.chi_plain.specs.declared.watching.Before.{Before}
+use Rattle.chi_plain.specs.Marked.{is_marked}
+use Rattle.chi_plain.specs.Watching.{AllJoiners, AllParties, Covers, IsMarked, IsWatched, Others, acts, first_named, second_named}
+
+-- what is known before the step of a label
+pub record IsBefore (parties : Parties) (label : Label) (old : List Instance) (b : Before) : Type 0 where
+  pub first : b.first ≡ first_named label
+  pub second : b.second ≡ second_named label
+  pub count : b.count ≡ length old
+  pub first_under_way : b.first_under_way ≡ is_under_way (slice_get old (first_named label))
+  pub second_under_way : b.second_under_way ≡ is_under_way (slice_get old (second_named label))
+  pub first_covered : Covers parties old (first_named label) b.covered.items
+  pub second_covered : Covers parties old (second_named label) b.covered.items
+
+-- a label leads from one configuration to another
+pub record Leads (label : Label) (old new : Config) : Type 0 where
+  pub others : Others (first_named label) (second_named label) old.instances new.instances
+  pub still : label ≢ Advance → new.clock ≡ old.clock
+
+-- the lists are those of a configuration
+pub record IsListed (config : Config) (parties : Parties) (joiners : List ℕ) : Type 0 where
+  pub communicating : AllParties parties config.instances
+  pub waiting : AllJoiners joiners config.instances
+
+-- who isn't among some has an option where it had one
+abbrev pub Settles : Config → Config → List ℕ → Type 0
+Settles old new some = (p : ℕ) → (acts new p ≡ acts old p) ⊎ Contains some p
+
+-- a label has led to a configuration, from one beside which this was kept
+pub record Led (label : Label) (new : Config) (marks : List Bool) (parties : Parties) (joiners : List ℕ) (b : Before) : Type 0 where
+  pub old : Config
+  pub watched : IsWatched old marks parties joiners
+  pub before : IsBefore parties label old.instances b
+  pub leads : Leads label old new

@@ -1,0 +1,313 @@
+//! A configuration with what is kept beside it: which instances have an option, and which may get or lose one by
+//! what another does. After a step only those are looked at.
+
+ghost use Rattle.std.specs.Prelude.{◌≡◌, ◌≢◌, ℕ, ◌≤◌, ◌<◌, ◌⊎◌, List, length, slice_get, Contains, IfOk, OnOk};
+ghost use Rattle.std.specs.Bool.{OnFalse};
+ghost use Rattle.chi_core.specs.declared.label.Label.{Label};
+ghost use Rattle.chi_core.specs.declared.limits.TheConstants.{MOST_INSTANCES};
+ghost use Rattle.chi_core.specs.Config.{Config, Instance};
+ghost use Rattle.chi_core.specs.Options.{is_under_way};
+ghost use Rattle.chi_plain.specs.Marked.{is_marked};
+ghost use Rattle.chi_plain.specs.Scanning.{is_advance};
+ghost use Rattle.chi_plain.specs.Watching.{AllParties, IsAffected, IsJoiner, IsMarked, IsParty, IsWatched, Keeps, KeepsParties, acts, first_named, second_named};
+ghost use Rattle.chi_plain.specs.Led.{IsBefore, IsListed, Leads, Led, Settles};
+
+use crate::acting::has_option;
+use crate::listing::{cover, cover_from, cover_joiners, list_joiner, list_party};
+use crate::marks::Marks;
+use crate::parties::{Listed, Parties};
+use chi_base::NoMemory;
+use chi_core::Label;
+use chi_steps::Configuration;
+use std::alloc::Global;
+use std::marker::Model;
+
+/// A configuration, and beside it: for each instance whether it has an option; for each channel which instances
+/// communicate on it, and which instances wait for others, each with some that did before.
+#[derive(Debug, Drop)]
+pub struct Watched<'a> {
+    pub(crate) configuration: Configuration<'a>,
+    pub(crate) marks: Marks,
+    pub(crate) parties: Parties,
+    pub(crate) joiners: Listed,
+}
+
+impl<'a> Model for Watched<'a> {
+    ghost use Rattle.std.specs.Coded.{codes};
+    ghost use Rattle.chi_core.specs.contracts.statement.CStat as statements;
+    ghost use Rattle.chi_core.specs.contracts.expression.CExpr as expressions;
+    ghost use Rattle.chi_core.specs.contracts.element.CElem as elements;
+    ghost use Rattle.chi_value.specs.contracts.value.Value as values;
+    ghost use Rattle.chi_core.specs.Config.{Config};
+    ghost use Rattle.chi_plain.specs.Watching.{IsWatched};
+
+    ghost Value = { Config };
+
+    ghost coded = { Prim.hlevel (codes, statements.the_row.coded, expressions.the_row.coded, elements.the_row.coded, values.the_row.coded) };
+
+    ghost view = { λ w. w.configuration };
+
+    ghost invariant = { λ w. IsWatched w.configuration w.marks w.parties w.joiners };
+}
+
+/// What is known before a step: the instances that its label names, how many instances there are, whether those
+/// two are under way, and some that may lose an option.
+#[derive(Debug, Drop)]
+pub struct Before {
+    first: u32,
+    second: u32,
+    count: u32,
+    first_under_way: bool,
+    second_under_way: bool,
+    covered: Vec<u32>,
+}
+
+/// The instances that a label names.
+fn named(label: &Label) -> (u32, u32)
+    ensures first { result.0 ≡ first_named label.now }
+    ensures second { result.1 ≡ second_named label.now }
+{
+    match label {
+        Label::Local(pid) => (*pid, *pid),
+        Label::Pair(pid, _, other, _) => (*pid, *other),
+        Label::Wake(pid, _) => (*pid, *pid),
+        Label::Join(pid) => (*pid, *pid),
+        Label::Advance => (0, 0),
+    }
+}
+
+/// Marks an instance where it has an option.
+#[tactic(auto, using(crate::proofs::Mending::renewing))]
+fn renew(config: &Configuration<'_>, parties: &Parties, marks: &mut Marks, pid: u32)
+    requires parties { AllParties parties.now config.now.instances }
+    requires all { length marks.old ≡ length config.now.instances }
+    ensures all { length marks.new ≡ length marks.old }
+    ensures renewed { is_marked marks.new pid ≡ acts config.now pid }
+    ensures others { (p : ℕ) → p ≢ pid → is_marked marks.new p ≡ is_marked marks.old p }
+{
+    if (pid as usize) < marks.len() {
+        let mark = has_option(config, parties, pid);
+        marks.set(pid as usize, mark);
+    }
+}
+
+/// Marks each instance where it has an option, where the marks are right but for some.
+#[tactic(auto, using(crate::proofs::Mending::renewing))]
+fn renew_all(config: &Configuration<'_>, parties: &Parties, marks: &mut Marks, some: &[u32])
+    requires parties { AllParties parties.now config.now.instances }
+    requires all { length marks.old ≡ length config.now.instances }
+    requires right { (p : ℕ) → (is_marked marks.old p ≡ acts config.now p) ⊎ Contains some.now p }
+    ensures { IsMarked config.now marks.new }
+{
+    for pid in some {
+        renew(config, parties, marks, *pid);
+    }
+}
+
+/// As many marks, of which the new ones are none.
+#[tactic(auto, using(crate::proofs::Mending::renewing))]
+fn lengthen(marks: &mut Marks, count: usize) -> Result<(), NoMemory>
+    requires longer { length marks.old ≤ count }
+    requires few { count ≤ MOST_INSTANCES }
+    ensures all { OnOk result (length marks.new ≡ count) }
+    ensures kept { OnOk result ((p : ℕ) → is_marked marks.new p ≡ is_marked marks.old p) }
+{
+    for _more in marks.len()..count {
+        marks.lengthen()?;
+    }
+    Ok(())
+}
+
+/// Lists an instance anew.
+#[tactic(auto, using(crate::proofs::Listed::listing))]
+fn relist(
+    config: &Configuration<'_>,
+    parties: &mut Parties,
+    joiners: &mut Listed,
+    pid: u32,
+) -> Result<(), NoMemory>
+    ensures parties { KeepsParties parties.old parties.new }
+    ensures joiners { Keeps joiners.old joiners.new }
+    ensures party { OnOk result (IsParty parties.new pid (slice_get config.now.instances pid)) }
+    ensures joiner { OnOk result (IsJoiner joiners.new pid (slice_get config.now.instances pid)) }
+{
+    list_party(config, parties, pid)?;
+    list_joiner(config, joiners, pid)
+}
+
+/// Lists each instance from this number on.
+#[tactic(auto, using(crate::proofs::Listed::listing))]
+fn relist_from(
+    config: &Configuration<'_>,
+    parties: &mut Parties,
+    joiners: &mut Listed,
+    from: u32,
+) -> Result<(), NoMemory>
+    ensures parties { KeepsParties parties.old parties.new }
+    ensures joiners { Keeps joiners.old joiners.new }
+    ensures party { OnOk result ((p : ℕ) → from ≤ p → IsParty parties.new p (slice_get config.now.instances p)) }
+    ensures joiner { OnOk result ((p : ℕ) → from ≤ p → IsJoiner joiners.new p (slice_get config.now.instances p)) }
+{
+    for pid in from..config.instances().len() as u32 {
+        relist(config, parties, joiners, pid)?;
+    }
+    Ok(())
+}
+
+/// What is known before a step.
+pub fn noted(
+    alloc: Global,
+    config: &Configuration<'_>,
+    parties: &Parties,
+    label: &Label,
+) -> Result<Before, NoMemory>
+    ensures { IfOk result (λ b. IsBefore parties.now label.now config.now.instances b) }
+{
+    let (first, second) = named(label);
+    let mut covered = Vec::new(alloc);
+    cover(config, parties, first, &mut covered)?;
+    cover(config, parties, second, &mut covered)?;
+    Ok(Before {
+        first,
+        second,
+        count: config.instances().len() as u32,
+        first_under_way: config.is_under_way(first),
+        second_under_way: config.is_under_way(second),
+        covered,
+    })
+}
+
+/// Whether one of those that were named is under way now and wasn't, or was and isn't now, or some are new.
+fn may_join(config: &Configuration<'_>, before: &Before) -> bool
+    ensures { OnFalse result ((before.now.count ≡ length config.now.instances)
+        × (before.now.first_under_way ≡ is_under_way (slice_get config.now.instances before.now.first))
+        × (before.now.second_under_way ≡ is_under_way (slice_get config.now.instances before.now.second))) }
+{
+    if before.count as usize != config.instances().len() {
+        return true;
+    }
+    if before.first_under_way != config.is_under_way(before.first) {
+        return true;
+    }
+    before.second_under_way != config.is_under_way(before.second)
+}
+
+/// All those that may have got or lost an option by a step.
+fn affected(
+    config: &Configuration<'_>,
+    parties: &Parties,
+    joiners: &Listed,
+    before: Before,
+) -> Result<Vec<u32>, NoMemory>
+    ensures { IfOk result (λ some. (label : Label) (old : List Instance) → IsBefore parties.now label old before
+        → IsAffected parties.now joiners.now (first_named label) (second_named label) old config.now.instances some.items) }
+{
+    let joining = may_join(config, &before);
+    let Before {
+        first,
+        second,
+        count,
+        first_under_way: _,
+        second_under_way: _,
+        mut covered,
+    } = before;
+    cover(config, parties, first, &mut covered)?;
+    cover(config, parties, second, &mut covered)?;
+    cover_from(config, parties, count, &mut covered)?;
+    cover_joiners(joining, joiners, &mut covered)?;
+    Ok(covered)
+}
+
+fn is_advance(label: &Label) -> bool
+    ensures { result ≡ is_advance label.now }
+{
+    match label {
+        Label::Local(_) => false,
+        Label::Pair(_, _, _, _) => false,
+        Label::Wake(_, _) => false,
+        Label::Join(_) => false,
+        Label::Advance => true,
+    }
+}
+
+/// The numbers of all instances.
+#[tactic(auto, using(crate::proofs::Mending::renewing))]
+fn everyone(alloc: Global, count: usize) -> Result<Vec<u32>, NoMemory>
+    requires { count ≤ MOST_INSTANCES }
+    ensures { IfOk result (λ all. (p : ℕ) → p < count → Contains all.items p) }
+{
+    let mut all = Vec::new(alloc);
+    for pid in 0..count as u32 {
+        all.push(pid)?;
+    }
+    Ok(all)
+}
+
+/// All those that may have got or lost an option by the step of a label.
+fn unsettled(
+    alloc: Global,
+    config: &Configuration<'_>,
+    parties: &Parties,
+    joiners: &Listed,
+    label: &Label,
+    before: Before,
+) -> Result<Vec<u32>, NoMemory>
+    ensures { IfOk result (λ some. (old : Config) → Leads label.now old config.now → IsListed old parties.now joiners.now → IsBefore parties.now label.now old.instances before
+        → Settles old config.now some.items) }
+{
+    if is_advance(label) {
+        Ok(everyone(alloc, config.instances().len())?)
+    } else {
+        Ok(affected(config, parties, joiners, before)?)
+    }
+}
+
+/// A configuration to which a label has led, with what was kept beside the one before.
+pub fn mended<'a>(
+    alloc: Global,
+    configuration: Configuration<'a>,
+    mut marks: Marks,
+    mut parties: Parties,
+    mut joiners: Listed,
+    label: &Label,
+    before: Before,
+) -> Result<Watched<'a>, NoMemory>
+    requires { Led label.now configuration marks parties joiners before }
+    ensures { IfOk result (λ w. w ≡ configuration.entry) }
+{
+    let (first, second) = named(label);
+    let count = before.count;
+    let some = unsettled(alloc, &configuration, &parties, &joiners, label, before)?;
+    relist(&configuration, &mut parties, &mut joiners, first)?;
+    relist(&configuration, &mut parties, &mut joiners, second)?;
+    relist_from(&configuration, &mut parties, &mut joiners, count)?;
+    lengthen(&mut marks, configuration.instances().len())?;
+    renew_all(&configuration, &parties, &mut marks, some.as_slice());
+    Ok(Watched {
+        configuration,
+        marks,
+        parties,
+        joiners,
+    })
+}
+
+/// A configuration, with what is kept beside it.
+#[tactic(auto, using(crate::proofs::Mending::renewing))]
+pub fn watch<'a>(alloc: Global, configuration: Configuration<'a>) -> Result<Watched<'a>, NoMemory>
+    ensures { IfOk result (λ w. w ≡ configuration.entry) }
+{
+    let mut marks = Marks::new(alloc)?;
+    let mut parties = Parties::new(alloc)?;
+    let mut joiners = Listed::new(alloc);
+    let count = configuration.instances().len();
+    relist_from(&configuration, &mut parties, &mut joiners, 0)?;
+    lengthen(&mut marks, count)?;
+    let all = everyone(alloc, count)?;
+    renew_all(&configuration, &parties, &mut marks, all.as_slice());
+    Ok(Watched {
+        configuration,
+        marks,
+        parties,
+        joiners,
+    })
+}
