@@ -163,8 +163,8 @@ impl<'a> Plain<'a> {
         ensures fits { IfOk result (λ e. Fits e.label e.detail) }
     {
         match &self.standing {
-            Standing::At(configuration, _) => {
-                event_of(self.alloc, self.core, configuration, turn, label)
+            Standing::At(watched, _) => {
+                event_of(self.alloc, self.core, watched.configuration(), turn, label)
             }
             Standing::Ended(_) => unreachable!(),
             Standing::Lost => Err(NoMemory),
