@@ -1,5 +1,6 @@
-//! Runs a core by the semantics, step by step. Which instances have an option is kept, and mended after each step
-//! for those that it may have given or taken one. The options of one instance are found by going over its offers.
+//! Runs a core by scanning: the options of an instance are found by going over all offers. Which instances have one
+//! is kept, and mended after each step for those that the step may have given or taken one.
+//! It is slow and plain, and keeps to the semantics step by step.
 #![tactic(auto)]
 
 mod acting;
