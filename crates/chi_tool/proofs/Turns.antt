@@ -1,6 +1,7 @@
 -- The turns of a run: what each of them leaves of it.
 use Rattle.std.proofs.Common.{Bool, true, false, ◌≡◌, ℕ, ◌+◌, ◌*◌, ◌-◌, ◌<◌, ◌≤◌, ◌^◌, ℤ, List, [], ◌∷◌, ◌++◌, Option, Some, None, length, sym, ◌∙◌, ap, subst, refl, arith, append-nil, length-append}
-use Rattle.std.specs.Prelude.{IfSome, option_map}
+use Rattle.std.specs.Prelude.{IfOk, IfSome, Result, Ok, Err, option_map}
+use Rattle.chi_base.specs.declared.no_memory.NoMemory.{NoMemory}
 use Rattle.std.specs.List.{slice_get}
 use Rattle.chi_sched.specs.Policies.{Answers, GivesOne, IsAsked}
 use Rattle.chi_core.specs.declared.program.Core.{Core}
@@ -26,9 +27,11 @@ use Rattle.chi_plain.specs.declared.stepped.Stepped.{Stepped}
 use Rattle.chi_plain.specs.declared.stepped.Stepped.TheVariants.{Next, Over, Spent}
 use Rattle.chi_plain.specs.Stage as stages
 use Rattle.chi_plain.specs.Stage.{Stage, At, Ended, Lost, Runner, Begun, actors_at, options_at, verdict_at, clock_at, MayTell, MayStep, Steps, Appends}
+use Rattle.chi_tool.specs.declared.report.Reported.{Reported}
+use Rattle.chi_tool.specs.Reported.{report_in}
 use Rattle.chi_tool.specs.Refusals.{Report}
 use Rattle.chi_tool.specs.Running.{Course, IsCourse, run_report}
-use Rattle.chi_tool.specs.Turns.{GoesOn, PicksAt, first_log, Logs, LogsBy, LoggedSoFar, Leads, IsThere, Keeps, RunsTo}
+use Rattle.chi_tool.specs.Turns.{GoesOn, PicksAt, EndsWith, HasRun, first_log, Logs, LogsBy, LoggedSoFar, Leads, IsThere, Keeps, RunsTo}
 use Rattle.chi_tool.proofs.Logged.{TurnLaw, log_begins, log_of_none, log_on, log_over, log_whole}
 
 -- what is picked at a turn, as its law gives it
@@ -127,12 +130,6 @@ module _ (law : TurnLaw) (gives : ℕ → ℕ → ℕ → Type 0) (trace : Bool)
         (leads_first beginning runner.stage (subst (λ s. Begun beginning s) (sym is) begun) pick));
   }
 
-  -- how the run ends
-  abbrev pub EndsWith : Beginning → Pick → Verdict → ℤ → List ℕ → List ℕ → Type 0
-  EndsWith begin pick verdict clock output log =
-      (labels : List Label)
-      × IsCourse trace core begin pick bound (record { told = record { labels = labels; ending = record { verdict = verdict; clock = clock }; output = output }; log = log })
-
   pub goes_on : (runner : Runner) (turn left : ℕ) (output log : List ℕ) → Keeps gives trace core first bound runner turn left output log
       → verdict_at runner.stage ≡ None → GoesOn runner.stage
   goes_on runner turn left output log k e = by_stage runner.stage k.there e
@@ -150,7 +147,7 @@ module _ (law : TurnLaw) (gives : ℕ → ℕ → ℕ → Type 0) (trace : Bool)
   course_as : (begin : Beginning) (pick : Pick) (labels : List Label) (end : Ending) (verdict : Verdict) (clock : ℤ) (output output' log : List ℕ)
       → end.verdict ≡ verdict → clock ≡ end.clock → output' ≡ output
       → IsCourse trace core begin pick bound (record { told = record { labels = labels; ending = end; output = output }; log = log })
-      → EndsWith begin pick verdict clock output' log
+      → EndsWith trace core begin pick bound verdict clock output' log
   course_as begin pick labels end verdict clock output output' log same time same_output is = (
     labels,
     let P : Told → Type 0 = λ told. IsCourse trace core begin pick bound (record { told = told; log = log }) in
@@ -160,11 +157,11 @@ module _ (law : TurnLaw) (gives : ℕ → ℕ → ℕ → Type 0) (trace : Bool)
   -- the run is over
   pub rests : (runner : Runner) (turn left : ℕ) (output log : List ℕ) (verdict : Verdict) (clock : ℤ) → Keeps gives trace core first bound runner turn left output log
       → verdict_at runner.stage ≡ Some verdict → IfSome (clock_at runner.stage) (λ time. clock ≡ time)
-      → (begin : Beginning) → Begun begin first → (pick : Pick) → Answers gives pick → EndsWith begin pick verdict clock output log
+      → (begin : Beginning) → Begun begin first → (pick : Pick) → Answers gives pick → EndsWith trace core begin pick bound verdict clock output log
   rests runner turn left output log verdict clock k e time begin begun pick answers = by_stage runner.stage (k.leads begin begun pick answers) e time
     where
       ends_at : (config : Config) → Leads trace core begin pick bound (At config) turn left output log → (o : Option Ending) → option.ending config ≡ o
-          → option_map (λ end. end.verdict) o ≡ Some verdict → clock ≡ stages.time_of o config → EndsWith begin pick verdict clock output log
+          → option_map (λ end. end.verdict) o ≡ Some verdict → clock ≡ stages.time_of o config → EndsWith trace core begin pick bound verdict clock output log
       ends_at config l None is e' t = absurd (cc)
       ends_at config l (Some end) is e' t =
           let same : end.verdict ≡ verdict = cc in
@@ -175,7 +172,7 @@ module _ (law : TurnLaw) (gives : ℕ → ℕ → ℕ → Type 0) (trace : Bool)
           })
 
       by_stage : (stage : Stage) → Leads trace core begin pick bound stage turn left output log → verdict_at stage ≡ Some verdict → IfSome (clock_at stage) (λ time'. clock ≡ time')
-          → EndsWith begin pick verdict clock output log
+          → EndsWith trace core begin pick bound verdict clock output log
       by_stage (At config) l e' t = ends_at config l (option.ending config) refl e' t
       by_stage (Ended end) l e' t =
           let same : end.verdict ≡ verdict = cc in
@@ -205,16 +202,16 @@ module _ (law : TurnLaw) (gives : ℕ → ℕ → ℕ → Type 0) (trace : Bool)
   -- the next label costs too much
   pub spends : (old new : Runner) (turn : ℕ) (label : Label) (left : ℕ) (before after' log log' : List ℕ) (clock : ℤ) → Keeps gives trace core first bound old turn left before log
       → log' ≡ log → Took old new turn label left before after' Spent → GoesOn old.stage → IfSome (clock_at new.stage) (λ time. clock ≡ time)
-      → (begin : Beginning) → Begun begin first → (pick : Pick) → Answers gives pick → EndsWith begin pick OutOfSteps clock after' log'
+      → (begin : Beginning) → Begun begin first → (pick : Pick) → Answers gives pick → EndsWith trace core begin pick bound OutOfSteps clock after' log'
   spends old new turn label left before after' log log' clock k same_log t goes time begin begun pick answers =
       let s = stepped old new turn label left before after' log Spent k t in
-      subst (λ (l : List ℕ). EndsWith begin pick OutOfSteps clock after' l) (sym same_log)
+      subst (λ (l : List ℕ). EndsWith trace core begin pick bound OutOfSteps clock after' l) (sym same_log)
       (by_stage old.stage new.stage (k.leads begin begun pick answers) t.picked goes s.0 s.1 s.2 time)
     where
       stays : (config : Config) (stage' : Stage) → Leads trace core begin pick bound (At config) turn left before log → PicksAt gives turn (At config) label
           → option.ending config ≡ None → (text : List ℕ) → after' ≡ before ++ text
           → (step core config label left ≡ outcome.Spent) × (stage' ≡ At config) × (text ≡ [])
-          → IfSome (clock_at stage') (λ time'. clock ≡ time') → EndsWith begin pick OutOfSteps clock after' log
+          → IfSome (clock_at stage') (λ time'. clock ≡ time') → EndsWith trace core begin pick bound OutOfSteps clock after' log
       stays config stage' l p goes' text is s time' =
           let there : IfSome (clock_at (At config)) (λ time''. clock ≡ time'') = let P : Stage → Type 0 = λ x. IfSome (clock_at x) (λ time''. clock ≡ time'') in subst P s.1 time' in
           let same_time : clock ≡ config.clock = there ∙ ap (λ o. stages.time_of o config) goes' in
@@ -227,7 +224,7 @@ module _ (law : TurnLaw) (gives : ℕ → ℕ → ℕ → Type 0) (trace : Bool)
 
       by_stage : (stage stage' : Stage) → Leads trace core begin pick bound stage turn left before log → PicksAt gives turn stage label → GoesOn stage
           → (text : List ℕ) → after' ≡ before ++ text → Steps core stage stage' label left text Spent
-          → IfSome (clock_at stage') (λ time'. clock ≡ time') → EndsWith begin pick OutOfSteps clock after' log
+          → IfSome (clock_at stage') (λ time'. clock ≡ time') → EndsWith trace core begin pick bound OutOfSteps clock after' log
       by_stage (Ended end) stage' l p goes' text is s time' = absurd goes'
       by_stage Lost stage' l p goes' text is s time' = absurd goes'
       by_stage (At config) (At config') l p goes' text is s time' = stays config (At config') l p goes' text is s time'
@@ -366,12 +363,34 @@ module _ (law : TurnLaw) (gives : ℕ → ℕ → ℕ → Type 0) (trace : Bool)
       by_stage (At config) Lost p text s = absurd s
       by_stage (At config) (Ended end) p text s = omega arith
 
-  -- where nothing is left to do, the report is that of the run
-  pub reported_run : (r : Report) (verdict : Verdict) (clock : ℤ) (output log : List ℕ) (begin : Beginning) (pick : Pick)
-      → r ≡ run_report core (record { told = record { labels = []; ending = record { verdict = verdict; clock = clock }; output = output }; log = log })
-      → EndsWith begin pick verdict clock output log → RunsTo trace core begin pick bound r
-  reported_run r verdict clock output log begin pick is e =
-      (record { told = record { labels = e.0; ending = record { verdict = verdict; clock = clock }; output = output }; log = log }, e.1, is)
+-- the report of a run that ended so
+pub run_reported : (gives : ℕ → ℕ → ℕ → Type 0) (trace : Bool) (core other : Core) (first : Stage) (bound : ℕ) (stage : Stage) (output log : List ℕ) (cut : Bool) (verdict : Verdict) (clock : ℤ)
+    (result : Result Reported NoMemory) → other ≡ core
+    → IfOk result (λ r. report_in r ≡ run_report core (record { told = record { labels = []; ending = record { verdict = verdict; clock = clock }; output = output }; log = log }))
+    → ((begin : Beginning) → Begun begin first → (pick : Pick) → Answers gives pick → HasRun trace other begin pick bound stage output log cut)
+    → ((begin : Beginning) (pick : Pick) → HasRun trace core begin pick bound stage output log cut → EndsWith trace core begin pick bound verdict clock output log)
+    → IfOk result (λ r. (begin : Beginning) → Begun begin first → (pick : Pick) → Answers gives pick → RunsTo trace core begin pick bound (report_in r))
+run_reported gives trace core other first bound stage output log cut verdict clock (Err lost) same is ran ends = tt
+run_reported gives trace core other first bound stage output log cut verdict clock (Ok r) same is ran ends =
+    λ begin begun pick answers.
+    let here : HasRun trace core begin pick bound stage output log cut =
+    subst (λ (c : Core). HasRun trace c begin pick bound stage output log cut) same (ran begin begun pick answers) in
+    let e = ends begin pick here in
+    (record { told = record { labels = e.0; ending = record { verdict = verdict; clock = clock }; output = output }; log = log }, e.1, is)
+
+-- a run that was cut
+pub cut_ends : (trace : Bool) (core : Core) (bound : ℕ) (stage : Stage) (output log : List ℕ) (cut : Bool) (clock : ℤ) → cut ≡ true
+    → IfSome (clock_at stage) (λ time. clock ≡ time) → (begin : Beginning) (pick : Pick)
+    → HasRun trace core begin pick bound stage output log cut → EndsWith trace core begin pick bound OutOfSteps clock output log
+cut_ends trace core bound stage output log true clock is time begin pick ran = ran clock time
+cut_ends trace core bound stage output log false clock is time begin pick ran = absurd (cc (is))
+
+-- and one that came to its end
+pub run_ends : (trace : Bool) (core : Core) (bound : ℕ) (stage : Stage) (output log : List ℕ) (cut : Bool) (verdict : Verdict) (clock : ℤ) → cut ≡ false
+    → Some verdict ≡ verdict_at stage → IfSome (clock_at stage) (λ time. clock ≡ time) → (begin : Beginning) (pick : Pick)
+    → HasRun trace core begin pick bound stage output log cut → EndsWith trace core begin pick bound verdict clock output log
+run_ends trace core bound stage output log true verdict clock is e time begin pick ran = absurd (cc (is))
+run_ends trace core bound stage output log false verdict clock is e time begin pick ran = ran verdict clock (sym e) time
 
 -- what can be told of a verdict
 

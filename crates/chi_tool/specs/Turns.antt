@@ -1,8 +1,10 @@
 -- Private to proofs: a run under a policy, turn by turn.
-use Rattle.std.specs.Prelude.{◌≡◌, ℕ, ◌+◌, ◌≤◌, Bool, true, false, List, [], ◌++◌, length, None}
+use Rattle.std.specs.Prelude.{◌≡◌, ℕ, ◌+◌, ◌≤◌, ℤ, Bool, true, false, List, [], ◌++◌, length, Some, None, IfSome}
 use Rattle.chi_sched.specs.Policies.{Answers}
 use Rattle.chi_core.specs.declared.program.Core.{Core}
 use Rattle.chi_core.specs.declared.label.Label.{Label}
+use Rattle.chi_core.specs.declared.verdict.Verdict.{Verdict}
+use Rattle.chi_core.specs.declared.verdict.Verdict.TheVariants.{OutOfSteps}
 use Rattle.chi_core.specs.Beginning.{Beginning}
 use Rattle.chi_core.specs.Options.{ending}
 use Rattle.chi_core.specs.Config.{Config}
@@ -11,7 +13,7 @@ use Rattle.chi_events.specs.Traces.{lines_of}
 use Rattle.chi_events.specs.Tracing.{TracedSoFar}
 use Rattle.chi_plain.specs.declared.stepped.Stepped.{Stepped}
 use Rattle.chi_plain.specs.declared.stepped.Stepped.TheVariants.{Next, Over, Spent, NoMemory}
-use Rattle.chi_plain.specs.Stage.{Stage, At, Ended, Lost, Runner, Begun, IsEventAt}
+use Rattle.chi_plain.specs.Stage.{Stage, At, Ended, Lost, Runner, Begun, IsEventAt, verdict_at, clock_at}
 use Rattle.chi_runs.specs.Turns.{UnderWay}
 use Rattle.chi_trace.specs.declared.event.Event.{Event}
 use Rattle.chi_trace.specs.Lines.{event_line}
@@ -83,3 +85,17 @@ pub record Keeps (gives : ℕ → ℕ → ℕ → Type 0) (trace : Bool) (core :
 -- the report is that of a run which the policy picks
 abbrev pub RunsTo : Bool → Core → Beginning → Pick → ℕ → Report → Type 0
 RunsTo trace core beginning pick bound r = (course : Course) × IsCourse trace core beginning pick bound course × (r ≡ run_report core course)
+
+-- the run ends so
+abbrev pub EndsWith : Bool → Core → Beginning → Pick → ℕ → Verdict → ℤ → List ℕ → List ℕ → Type 0
+EndsWith trace core begin pick bound verdict clock output log =
+    (labels : List Label)
+    × IsCourse trace core begin pick bound (record { told = record { labels = labels; ending = record { verdict = verdict; clock = clock }; output = output }; log = log })
+
+-- a run that isn't cut ends with the verdict that the runner tells, and one that is cut out of steps
+abbrev pub HasRun : Bool → Core → Beginning → Pick → ℕ → Stage → List ℕ → List ℕ → Bool → Type 0
+HasRun trace core begin pick bound stage output log false =
+    (verdict : Verdict) (clock : ℤ) → verdict_at stage ≡ Some verdict → IfSome (clock_at stage) (λ time. clock ≡ time)
+    → EndsWith trace core begin pick bound verdict clock output log
+HasRun trace core begin pick bound stage output log true =
+    (clock : ℤ) → IfSome (clock_at stage) (λ time. clock ≡ time) → EndsWith trace core begin pick bound OutOfSteps clock output log

@@ -1,15 +1,15 @@
-ghost use Rattle.std.specs.Prelude.{◌≡◌, ◌<◌, ◌^◌, [], Some, IfOk, slice_get};
+ghost use Rattle.std.specs.Prelude.{◌≡◌, ◌<◌, ◌^◌, [], false, Some, IfOk, IsSomeAnd, slice_get};
 ghost use Rattle.chi_core.specs.declared.program.ProcDef.{ProcDef};
 ghost use Rattle.chi_core.specs.Beginning.{Beginning};
 ghost use Rattle.chi_core.specs.Kinds.{kinds_of};
 ghost use Rattle.chi_core.specs.Of.{at_start, AreOf};
 ghost use Rattle.chi_core.specs.Picks.{Pick};
 ghost use Rattle.chi_core.specs.Sound.{Sound};
-ghost use Rattle.chi_plain.specs.Stage.{Begun, MayTell, MayStep};
+ghost use Rattle.chi_plain.specs.Stage.{Begun, MayTell, MayStep, verdict_at};
 ghost use Rattle.chi_sched.specs.Policies.{Answers};
 ghost use Rattle.chi_tool.specs.Reported.{report_in};
 ghost use Rattle.chi_tool.specs.Running.{IsRunReport, run_report};
-ghost use Rattle.chi_tool.specs.Turns.{GoesOn, PicksAt, IsThere, RunsTo, first_log};
+ghost use Rattle.chi_tool.specs.Turns.{GoesOn, HasRun, PicksAt, IsThere, RunsTo, first_log};
 
 use crate::report::Reported;
 use crate::settings::Settings;
@@ -68,49 +68,73 @@ fn picked_label<P: Chooser>(plain: &Plain<'_>, policy: &P, turn: u64) -> Label
     plain.option_at(actor, policy.choose(2 * turn + 1, options))
 }
 
-/// The report of a run from its beginning: a label is picked at each turn, until the run is over or
-/// the next label costs more than is left of the bound. The log has what stands before any turn.
-fn run_from<P: Chooser>(
+/// Runs from the beginning: a label is picked at each turn, until the run is over, which is no cut, or the next
+/// label costs more than is left of the bound, which is one.
+fn run_on<P: Chooser>(
     alloc: Global,
-    core: &Core,
-    begun: Plain<'_>,
+    plain: &mut Plain<'_>,
     policy: &P,
     bound: u64,
     trace: bool,
-    log: Vec<u8>,
-) -> Result<Reported, NoMemory>
-    requires same_core { begun.core ≡ core.now }
-    requires there { IsThere begun.stage }
+    told: &mut Telling,
+) -> Result<bool, NoMemory>
+    requires there { IsThere plain.old.stage }
     requires bound { bound < 2 ^ 63 }
-    requires log { log.items ≡ first_log trace }
-    ensures { IfOk result (λ r. (beginning : Beginning) → Begun beginning begun.entry.stage → (pick : Pick) → Answers (P.gives policy.now) pick
-        → RunsTo trace core.now beginning pick bound (report_in r)) }
+    requires out { told.old.out.items ≡ [] }
+    requires log { told.old.log.items ≡ first_log trace }
+    ensures same_core { plain.new.core ≡ plain.old.core }
+    ensures told { IfOk result (λ cut. cut ≡ false → IsSomeAnd (verdict_at plain.new.stage) (MayTell plain.old.core)) }
+    ensures ran { IfOk result (λ cut. (beginning : Beginning) → Begun beginning plain.old.stage → (pick : Pick) → Answers (P.gives policy.now) pick
+        → HasRun trace plain.old.core beginning pick bound plain.new.stage told.new.out.items told.new.log.items cut) }
 {
     time_law();
     turn_law();
     tracing_law();
-    let mut plain = begun;
-    let out = Vec::new(alloc);
-    let mut told = Telling { out, log };
     let mut left = bound;
     let mut turn = 0;
     'turn: loop {
         let label = match plain.ending() {
-            Some(verdict) => return Ok(reported(alloc, core, verdict, plain.clock(), told)?),
-            None => picked_label(&plain, policy, turn),
+            Some(_) => return Ok(false),
+            None => picked_label(plain, policy, turn),
         };
-        match take(alloc, &mut plain, trace, turn, &label, left, &mut told) {
+        match take(alloc, plain, trace, turn, &label, left, told) {
             Stepped::Next(cost) => {
                 left -= cost;
                 turn += 1;
             }
             Stepped::Over => {}
-            Stepped::Spent => {
-                let clock = plain.clock();
-                return Ok(reported(alloc, core, &Verdict::OutOfSteps, clock, told)?);
-            }
+            Stepped::Spent => return Ok(true),
             Stepped::NoMemory => return Err(NoMemory),
         }
+    }
+}
+
+/// The report of a run from its beginning.
+fn run_from<P: Chooser>(
+    alloc: Global,
+    core: &Core,
+    plain: &mut Plain<'_>,
+    policy: &P,
+    bound: u64,
+    trace: bool,
+) -> Result<Reported, NoMemory>
+    requires same_core { plain.old.core ≡ core.now }
+    requires there { IsThere plain.old.stage }
+    requires bound { bound < 2 ^ 63 }
+    ensures { IfOk result (λ r. (beginning : Beginning) → Begun beginning plain.old.stage → (pick : Pick) → Answers (P.gives policy.now) pick
+        → RunsTo trace core.now beginning pick bound (report_in r)) }
+{
+    let out = Vec::new(alloc);
+    let log = first_log(alloc, trace)?;
+    let mut told = Telling { out, log };
+    let cut = run_on(alloc, plain, policy, bound, trace, &mut told)?;
+    let clock = plain.clock();
+    if cut {
+        return reported(alloc, core, &Verdict::OutOfSteps, clock, told);
+    }
+    match plain.ending() {
+        Some(verdict) => reported(alloc, core, verdict, clock, told),
+        None => unreachable!(),
     }
 }
 
@@ -135,7 +159,6 @@ pub fn run<P: Chooser + Drop>(
         until,
         trace,
     } = settings;
-    let plain = Plain::new(alloc, core, arguments, seed, until)?;
-    let log = first_log(alloc, trace)?;
-    run_from(alloc, core, plain, &policy, bound, trace, log)
+    let mut plain = Plain::new(alloc, core, arguments, seed, until)?;
+    run_from(alloc, core, &mut plain, &policy, bound, trace)
 }

@@ -1,9 +1,10 @@
 use Rattle.chi_tool.specs.Turns.{Keeps}
 use Rattle.chi_tool.proofs.Turns.{turns_left}
-use Rattle.chi_tool.proofs.run.run_from.Given as goal
+use Rattle.chi_tool.proofs.run.run_on.Given as goal
 
 abbrev pub invariant-turn : goal.invariant-turn
-invariant-turn g l = Keeps (g.P.Chooser.gives l.policy) l.trace l.core l.initial.plain.stage l.bound l.plain l.turn l.left l.told.out.items l.told.log.items
+invariant-turn g l =
+    Keeps (g.P.Chooser.gives l.policy) l.trace l.initial.plain.core l.initial.plain.stage l.bound l.plain l.turn l.left l.told.out.items l.told.log.items
 
 abbrev pub decreases-turn : goal.decreases-turn
 decreases-turn g l = turns_left l.left l.plain.stage
