@@ -7,7 +7,7 @@ const USAGE: &str = "usage: chi COMMAND [OPTIONS] FILE [ARGS]\n";
 
 #[test]
 fn words_are_read(rt: HostRuntime) -> Result<(), Fail> {
-    let rows: [Row; 14] = [
+    let rows: [Row; 15] = [
         (&[], "", USAGE, 3),
         (&["sim"], "", USAGE, 3),
         (&["run", "m.chi"], "", USAGE, 3),
@@ -32,6 +32,12 @@ fn words_are_read(rt: HostRuntime) -> Result<(), Fail> {
         (&["check", "m.chi"], "", "accepted\n", 0),
         (&["load", "0"], "", USAGE, 3),
         (&["load", "3"], "100 lots\n", "exit 100 at time 102.0\n", 10),
+        (
+            &["load", "1000"],
+            "100 lots\n",
+            "exit 100 at time 1099.0\n",
+            10,
+        ),
     ];
     expect_words(&rt, rt.alloc(), WORKS, &rows)
 }
