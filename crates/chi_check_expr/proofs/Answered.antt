@@ -1,6 +1,6 @@
 -- Private to proofs. The answers for a whole tree, by what was kept of its broken rules.
-use Rattle.std.proofs.Common.{◌≡◌, Bool, List, [], ◌∷◌, Option, Some, None, refl, ap, sym, ◌∙◌}
-use Rattle.std.specs.Prelude.{Ok, Err}
+use Rattle.std.proofs.Common.{◌≡◌, Bool, List, [], ◌∷◌, Some, None, refl}
+use Rattle.std.specs.Prelude.{Ok}
 use Rattle.chi_core.specs.declared.expression.CExpr.{CExpr}
 use Rattle.chi_tree.specs.declared.expr.Expr.{Expr}
 use Rattle.chi_tree.specs.declared.type_tree.TypeTree.{TypeTree}

@@ -1,5 +1,5 @@
 -- Private to proofs. What a call comes to, and a name that stands for a function.
-use Rattle.std.proofs.Common.{ℕ, ◌≡◌, Bool, true, false, cond, List, [], ◌∷◌, ◌++◌, map, length, get_or, Option, Some, None, refl, sym, ap, ◌∙◌, arith}
+use Rattle.std.proofs.Common.{◌≡◌, Bool, true, false, cond, List, [], ◌∷◌, map, length, get_or, Option, Some, None, refl, sym, ap, ◌∙◌, arith}
 use Rattle.chi_tree.specs.declared.type_tree.Name.{Name}
 use Rattle.chi_tree.specs.declared.type_tree.TypeTree.{TypeTree}
 use Rattle.chi_tree.specs.declared.type_tree.Formal.{Formal}
@@ -9,7 +9,6 @@ use Rattle.chi_tree.specs.declared.expr.Entry.{Entry}
 use Rattle.chi_tree.specs.declared.expr.Link.{Link}
 use Rattle.chi_tree.specs.declared.expr.Expr.TheVariants as expr
 use Rattle.chi_typing.specs.declared.fault.Fault.{Fault}
-use Rattle.chi_typing.specs.declared.known.Known.{Known}
 use Rattle.chi_typing.specs.declared.meant.Made.{Made}
 use Rattle.chi_typing.specs.declared.site.Site.{Site}
 use Rattle.chi_typing.specs.Faults.{first_of}

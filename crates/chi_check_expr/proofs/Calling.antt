@@ -1,14 +1,12 @@
 -- Private to proofs. Names and calls, where no visible name lacks a type.
 use Rattle.std.proofs.Common.{ℕ, ◌≡◌, Bool, true, false, cond, nat_eq, length, List, [], ◌∷◌, ◌++◌, map, Option, Some, None, refl, sym, ap, subst, ◌∙◌}
-use Rattle.std.specs.Prelude.{is_some}
 use Rattle.chi_token.specs.declared.place.Place.{Place}
 use Rattle.chi_tree.specs.declared.type_tree.Name.{Name}
-use Rattle.chi_types.specs.declared.ty.Ty.{Ty, out-Ty}
+use Rattle.chi_types.specs.declared.ty.Ty.{out-Ty}
 use Rattle.chi_typing.specs.declared.fault.Fault.{Fault}
 use Rattle.chi_typing.specs.declared.known.Known.{Known}
 use Rattle.chi_typing.specs.declared.known.Known.TheVariants as known
 use Rattle.chi_typing.specs.declared.known.NameKind.{NameKind}
-use Rattle.chi_typing.specs.declared.known.NameKind.TheVariants as kind
 use Rattle.chi_typing.specs.declared.meant.Made.{Made}
 use Rattle.chi_typing.specs.declared.meant.Meant.{Meant}
 use Rattle.chi_typing.specs.declared.predefined.Predefined.{Predefined}
@@ -17,9 +15,9 @@ use Rattle.chi_typing.specs.declared.rules.TheConstants.{PREDEFINED, CALL_ARGUME
 use Rattle.chi_typing.specs.declared.site.Site.{Site}
 use Rattle.chi_typing.specs.Names.{Names, known_in}
 use Rattle.chi_typing.specs.Predefined.{predefined_of, is_predefined}
-use Rattle.chi_typing.specs.Typed.{Typed, unless, untyped, refused, after}
+use Rattle.chi_typing.specs.Typed.{Typed, refused, after}
 use Rattle.chi_typing.specs.TypeRules as types
-use Rattle.chi_expr_rules.specs.Nodes.{settled, of_all, barred, all_made}
+use Rattle.chi_expr_rules.specs.Nodes.{of_all, barred, all_made}
 use Rattle.chi_expr_rules.specs.Named.{visible_value, named_value}
 use Rattle.chi_expr_rules.specs.Calls.{call_of, called, function_call}
 use Rattle.chi_expr_rules.specs.Sites.{calling_rule}

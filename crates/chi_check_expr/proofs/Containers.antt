@@ -1,5 +1,5 @@
 -- Private to proofs. Literals of several parts, slices and fields, over parts of which a fact holds.
-use Rattle.std.proofs.Common.{ℕ, ◌≡◌, Bool, true, false, List, [], ◌∷◌, ◌++◌, map, Option, Some, None, refl, sym, ap, subst, ◌∙◌, append_assoc}
+use Rattle.std.proofs.Common.{ℕ, ◌≡◌, List, [], ◌∷◌, ◌++◌, map, Option, Some, None, refl, sym, ap, subst}
 use Rattle.std.specs.Prelude.{option_map, is_some}
 use Rattle.std.specs.Option.{option_and_then}
 use Rattle.chi_token.specs.declared.place.Place.{Place}
@@ -9,16 +9,14 @@ use Rattle.chi_typing.specs.declared.fault.Fault.{Fault}
 use Rattle.chi_typing.specs.declared.meant.Made.{Made}
 use Rattle.chi_typing.specs.declared.meant.Meant.{Meant}
 use Rattle.chi_typing.specs.declared.rules.TheConstants.{INDEX}
-use Rattle.chi_typing.specs.declared.site.Site.{Site}
-use Rattle.chi_typing.specs.Names.{Names}
-use Rattle.chi_typing.specs.Typed.{Typed, unless, untyped, after}
+use Rattle.chi_typing.specs.Typed.{Typed, after}
 use Rattle.chi_expr_rules.specs.Nodes.{of_two, all_made}
 use Rattle.chi_expr_rules.specs.Parts.{Bounds, given, sliced, slice_of}
 use Rattle.chi_expr_rules.specs.Containers.{tuple_of, tuple_parts, list_of, list_joined, list_parts, set_of, set_joined, set_parts, dict_of, dict_joined, dict_parts, joined_all, keys_rule}
 use Rattle.chi_check_expr.specs.Reads.{Paired, Field, made_of, all_faults, entry_faults, key_made, value_made, each_bound}
 use Rattle.chi_check_expr.specs.TypeTrees.{faults_of, each_field_faults, field_faults, field_type, parts_from}
-use Rattle.chi_check_expr.proofs.Kept.{Good, GoodTyped, Each, FieldOk, IfGiven, typed_parts, Keeps}
-use Rattle.chi_check_expr.proofs.Nodes.{Exact, ExactTyped, left_nil, right_nil, both_nil, cons_nil, unless_exact, settled_exact, settled_made, refused_exact, node_good, more_good, less_good, AllGood, all_good, all_typed, typed_all}
+use Rattle.chi_check_expr.proofs.Kept.{Good, GoodTyped, Each, FieldOk, IfGiven, typed_parts}
+use Rattle.chi_check_expr.proofs.Nodes.{ExactTyped, left_nil, right_nil, both_nil, cons_nil, unless_exact, settled_exact, settled_made, refused_exact, node_good, more_good, less_good, AllGood, all_good, all_typed, typed_all}
 
 -- ---- exactness
 

@@ -1,10 +1,8 @@
 -- Private to proofs. A tree comes to something exactly where no rule is broken: the induction at no further fact.
-use Rattle.std.proofs.Common.{ℕ, ◌≡◌, Bool, List, [], Option, Some, None, refl}
+use Rattle.std.proofs.Common.{◌≡◌, Bool, List, [], Option, Some, None, refl}
 use Rattle.chi_tree.specs.declared.expr.Expr.{Expr}
 use Rattle.chi_tree.specs.declared.type_tree.TypeTree.{TypeTree}
 use Rattle.chi_typing.specs.declared.fault.Fault.{Fault}
-use Rattle.chi_typing.specs.declared.meant.Made.{Made}
-use Rattle.chi_typing.specs.declared.meant.Meant.{Meant}
 use Rattle.chi_typing.specs.declared.site.Site.{Site}
 use Rattle.chi_typing.specs.Names.{Names}
 use Rattle.chi_typing.specs.Typed.{Typed}

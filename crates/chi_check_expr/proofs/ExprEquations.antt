@@ -1,5 +1,5 @@
 -- Private to proofs. What each construct of an expression comes to.
-use Rattle.std.proofs.Common.{ℕ, ◌≡◌, Bool, true, false, List, [], ◌∷◌, ◌++◌, map, Option, Some, None, refl, sym, ap, ◌∙◌}
+use Rattle.std.proofs.Common.{ℕ, ◌≡◌, Bool, false, List, [], ◌++◌, map, Option, sym, ap, ◌∙◌}
 use Rattle.chi_token.specs.declared.place.Place.{Place}
 use Rattle.chi_tree.specs.declared.operator.PrefixSign.{PrefixSign}
 use Rattle.chi_tree.specs.declared.operator.RelationSign.{RelationSign}
@@ -22,13 +22,13 @@ use Rattle.chi_typing.specs.Typed.{Typed, unless, after}
 use Rattle.chi_expr_rules.specs.Nodes.{settled}
 use Rattle.chi_expr_rules.specs.Literals.{int_literal, real_literal, text_literal, bool_literal}
 use Rattle.chi_expr_rules.specs.Named.{named_value, time_of}
-use Rattle.chi_expr_rules.specs.Operators.{chain_of, power_of, prefix_of}
+use Rattle.chi_expr_rules.specs.Operators.{power_of, prefix_of}
 use Rattle.chi_expr_rules.specs.Comparisons.{relation_of}
 use Rattle.chi_expr_rules.specs.Casts.{cast_of}
 use Rattle.chi_expr_rules.specs.Containers.{tuple_of, list_of, set_of, dict_of, empty_list, empty_set, empty_dict}
-use Rattle.chi_check_expr.specs.Reads.{Read, typed_of, made_of, all_faults, entry_faults, key_made, value_made}
-use Rattle.chi_check_expr.specs.Expressions.{chained, parted, expr_typed}
-use Rattle.chi_check_expr.specs.Typing.{read, taken, paired, linked, reading, typing}
+use Rattle.chi_check_expr.specs.Reads.{typed_of, made_of, all_faults, entry_faults, key_made, value_made}
+use Rattle.chi_check_expr.specs.Expressions.{chained, parted}
+use Rattle.chi_check_expr.specs.Typing.{taken, paired, linked, reading, typing}
 use Rattle.chi_check_expr.proofs.Opened.{read_is, map_typed, noted_one, noted_two}
 
 module _ (site : Site) (names : Names) where

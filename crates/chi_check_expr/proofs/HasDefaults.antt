@@ -1,30 +1,27 @@
 -- Private to proofs. Each type that a tree means has a default, where each visible type has: the induction at that fact.
-use Rattle.std.proofs.Common.{ℕ, zero, suc, ◌≡◌, Bool, true, false, not, List, [], ◌∷◌, ◌++◌, map, length, Option, Some, None, refl, sym, ap, subst, ◌∙◌}
+use Rattle.std.proofs.Common.{ℕ, suc, ◌≡◌, Bool, true, false, not, List, [], ◌∷◌, ◌++◌, map, length, Option, Some, None, refl, sym, ap, subst, ◌∙◌}
 use Rattle.std.specs.Prelude.{option_map}
 use Rattle.std.specs.Option.{option_and_then}
 use Rattle.chi_token.specs.declared.place.Place.{Place}
-use Rattle.chi_tree.specs.declared.type_tree.Name.{Name}
 use Rattle.chi_tree.specs.declared.type_tree.TypeTree.{TypeTree}
 use Rattle.chi_tree.specs.declared.type_tree.TypeWord.{TypeWord}
 use Rattle.chi_tree.specs.declared.type_tree.TypeWord.TheVariants as word
 use Rattle.chi_types.specs.declared.ty.Ty.{Ty, Ty-F, out-Ty, map-Ty, fold_out-Ty}
 use Rattle.chi_types.specs.declared.ty.Ty.TheVariants as ty
 use Rattle.chi_types.specs.Same.{beside}
-use Rattle.chi_value.specs.declared.shape.Shape.{Shape, Shape-F, out-Shape}
+use Rattle.chi_value.specs.declared.shape.Shape.{Shape}
 use Rattle.chi_value.specs.declared.shape.Shape.TheVariants as shape
 use Rattle.chi_core.specs.declared.expression.CExpr.{CExpr}
 use Rattle.chi_core.specs.declared.expression.CExpr.TheVariants as expression
 use Rattle.chi_typing.specs.declared.fault.Fault.{Fault}
 use Rattle.chi_typing.specs.declared.known.Known.{Known}
 use Rattle.chi_typing.specs.declared.known.Known.TheVariants as known
-use Rattle.chi_typing.specs.declared.known.NameKind.{NameKind}
 use Rattle.chi_typing.specs.declared.known.NameKind.TheVariants as kind
-use Rattle.chi_typing.specs.declared.meant.Made.{Made}
 use Rattle.chi_typing.specs.declared.meant.Meant.{Meant}
 use Rattle.chi_typing.specs.declared.site.Site.{Site}
 use Rattle.chi_typing.specs.Defaults.{shape_of, shape_step, part_shapes, tuple_shape, dist_shape, drawn_shape, element_type, within, repeated, default_of}
-use Rattle.chi_typing.specs.Names.{Names, known_in}
-use Rattle.chi_typing.specs.Typed.{Typed, unless, broken_if}
+use Rattle.chi_typing.specs.Names.{Names}
+use Rattle.chi_typing.specs.Typed.{unless, broken_if}
 use Rattle.chi_typing.specs.TypeRules as types
 use Rattle.chi_typing.specs.TypeRules.{meaning, with_size, is_drawn}
 use Rattle.chi_typing.proofs.Shapes.{shape_of_tuple}

@@ -1,6 +1,5 @@
 -- Private to proofs. What each node keeps, each tree has: the induction over trees, once for every fact.
-use Rattle.std.proofs.Common.{ℕ, ◌≡◌, Bool, true, false, List, [], ◌∷◌, ◌++◌, map, Option, Some, None, refl, sym, ap, subst, ◌∙◌, append_assoc}
-use Rattle.std.specs.Prelude.{option_map}
+use Rattle.std.proofs.Common.{◌≡◌, Bool, false, List, [], ◌∷◌, ◌++◌, map, Option, Some, None, refl, sym, ap, subst, ◌∙◌, append_assoc}
 use Rattle.chi_token.specs.declared.place.Place.{Place}
 use Rattle.chi_tree.specs.declared.type_tree.Name.{Name}
 use Rattle.chi_tree.specs.declared.type_tree.TypeTree.{TypeTree, TypeTree-F, roll-TypeTree, map-TypeTree, fold-roll-TypeTree, ind-TypeTree}
@@ -17,7 +16,7 @@ use Rattle.chi_typing.specs.declared.site.Site.{Site}
 use Rattle.chi_typing.specs.Names.{Names}
 use Rattle.chi_typing.specs.Typed.{Typed, after}
 use Rattle.chi_typing.specs.TypeRules as types
-use Rattle.chi_expr_rules.specs.Nodes.{settled, all_made}
+use Rattle.chi_expr_rules.specs.Nodes.{all_made}
 use Rattle.chi_expr_rules.specs.Literals.{int_literal, real_literal}
 use Rattle.chi_expr_rules.specs.Named.{time_of}
 use Rattle.chi_expr_rules.specs.Operators.{binary, power, prefixed, prefix_rule, prefix_made, chain_of, power_of, prefix_of}
@@ -32,7 +31,7 @@ use Rattle.chi_check_expr.specs.Reads.{Read, Taken, index, slice, field, Reading
 use Rattle.chi_check_expr.specs.TypeTrees.{type_step, formal_step, field_faults, parts_from}
 use Rattle.chi_check_expr.specs.Typing.{read, taken, paired, linked, formal, reading, typing}
 use Rattle.chi_check_expr.proofs.Kept.{Good, GoodTyped, Each, FieldOk, IfGiven, typed_parts, Keeps}
-use Rattle.chi_check_expr.proofs.Nodes.{both_nil, left_nil, unless_exact, settled_exact, settled_made, barred_exact, barred_none, node_good, more_good, less_good, one_good, two_good, AllGood, all_good, list_good}
+use Rattle.chi_check_expr.proofs.Nodes.{both_nil, left_nil, unless_exact, settled_exact, settled_made, barred_exact, barred_none, node_good, one_good, two_good, AllGood, all_good, list_good}
 use Rattle.chi_check_expr.proofs.Containers.{tuple_whole, tuple_none, list_whole, list_none, set_whole, set_none, Paireds, dict_good, GoodBounds, slice_good, Fields, fields_good}
 use Rattle.chi_check_expr.proofs.Calling.{named_good, named_type_good, call_good}
 

@@ -1,8 +1,5 @@
 -- Private to proofs. Parts that were done before the rest.
-use Rattle.std.proofs.Common.{ℕ, ◌≡◌, List, [], ◌∷◌, ◌++◌, Option, Some, None, refl, ap, sym, append_assoc}
-use Rattle.std.specs.Prelude.{option_map}
-use Rattle.std.specs.Option.{option_and_then}
-use Rattle.chi_types.specs.declared.ty.Ty.{Ty}
+use Rattle.std.proofs.Common.{List, ◌++◌, Option, Some, None}
 
 abbrev pub before : {A : Type 0} → List A → Option (List A) → Option (List A)
 before done None = None

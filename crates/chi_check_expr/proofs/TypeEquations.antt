@@ -1,5 +1,5 @@
 -- Private to proofs. What each construct of a type means.
-use Rattle.std.proofs.Common.{ℕ, ◌≡◌, Bool, true, false, List, [], ◌∷◌, ◌++◌, map, Option, Some, None, refl, sym, ap, ◌∙◌}
+use Rattle.std.proofs.Common.{◌≡◌, Bool, false, List, [], ◌∷◌, ◌++◌, map, Option, Some, None, refl, ap, ◌∙◌}
 use Rattle.chi_token.specs.declared.place.Place.{Place}
 use Rattle.chi_tree.specs.declared.type_tree.Name.{Name}
 use Rattle.chi_tree.specs.declared.type_tree.TypeWord.{TypeWord}
@@ -18,7 +18,7 @@ use Rattle.chi_typing.specs.TypeRules as list
 use Rattle.chi_typing.specs.TypeRules.{word_of, named_type, sized_list_of, dist_of, chan_of, void_chan_of}
 use Rattle.chi_check_expr.specs.Reads.{Reading, Field, made_of}
 use Rattle.chi_check_expr.specs.TypeTrees.{field_faults, parts_from}
-use Rattle.chi_check_expr.specs.Typing.{read, formal, reading, typing}
+use Rattle.chi_check_expr.specs.Typing.{formal, reading, typing}
 use Rattle.chi_check_expr.proofs.Opened.{reading_is, named_formal, noted_one, noted_two}
 
 module _ (site : Site) (names : Names) where

@@ -19,7 +19,7 @@ use Rattle.chi_trace.specs.Logs.{is_one_line}
 use Rattle.chi_trace.specs.Told.{is_name}
 use Rattle.chi_trace.proofs.Cuts.{and_both, both_and}
 use Rattle.chi_trace.proofs.Names.{name_told, name_is_known}
-use Rattle.chi_trace.proofs.OneLine.{one-append}
+use Rattle.chi_trace.proofs.OneLine.{head_of, tail_of, other_byte, one_line_of, one_digits, point_one, one-append}
 
 -- a text that a trace can tell: some bytes in one line, which don't say that it isn't known
 pub record CanBeTold (text : List ℕ) : Type 0 where
@@ -42,42 +42,18 @@ pub starts : (c : ℕ) (cs : List ℕ) → c ≢ 45 → OneLine (c ∷ cs) → C
 starts c cs other one = record {
   one = one;
   some = λ e. absurd (cc);
-  known = λ e. other (ap head e);
+  known = λ e. other (ap head_of e);
 }
-  where
-    head : List ℕ → ℕ
-    head [] = 0
-    head (d ∷ ds) = d
 
 -- a minus before something
 pub minus_before : (text : List ℕ) → text ≢ [] → OneLine text → CanBeTold (45 ∷ text)
 minus_before text some one = record {
   one = one;
   some = λ e. absurd (cc);
-  known = λ e. some (ap tail e);
+  known = λ e. some (ap tail_of e);
 }
-  where
-    tail : List ℕ → List ℕ
-    tail [] = []
-    tail (d ∷ ds) = ds
 
 -- digits
-
-other_byte : (test : ℕ → Bool) → test 10 ≡ false → (c : ℕ) → test c ≡ true → not (c == 10) ≡ true
-other_byte test fails c passes = by (c == 10) refl
-  where
-    by : (b : Bool) → (c == 10) ≡ b → not (c == 10) ≡ true
-    by false q = rw q refl
-    by true q = let same : c ≡ 10 = eqb-true c 10 q in let no : true ≡ false = sym passes ∙ ap test same ∙ fails in absurd (cc)
-
-pub one_of : (test : ℕ → Bool) → test 10 ≡ false → (xs : List ℕ) → list_all test xs ≡ true → OneLine xs
-one_of test fails [] e = refl
-one_of test fails (c ∷ cs) e =
-    let both = and_both (test c) (list_all test cs) e in
-    both_and (not (c == 10)) (is_one_line cs) (other_byte test fails c both.0) (one_of test fails cs both.1)
-
-one_digits : (ds : List ℕ) → AreDigits ds → OneLine ds
-one_digits ds are = one_of is_ascii_digit refl ds are
 
 no_minus : (c : ℕ) → is_ascii_digit c ≡ true → c ≢ 45
 no_minus c is e = let no : true ≡ false = sym is ∙ ap is_ascii_digit e in absurd (cc)
@@ -148,17 +124,13 @@ trimmed_digits (c ∷ cs) are =
     let both = and_both (is_ascii_digit c) (list_all is_ascii_digit cs) are in
     both_and (is_ascii_digit c) (list_all is_ascii_digit (without_last_zeros cs)) both.0 (fewer_digits cs both.1)
 
-one_point : (fraction : List ℕ) → AreDigits fraction → OneLine (point_and fraction)
-one_point [] are = refl
-one_point (c ∷ cs) are = one_digits (c ∷ cs) are
-
 told_spelling : (minus : Bool) (whole fraction : List ℕ) → AreDigits whole → whole ≢ [] → AreDigits fraction → CanBeTold (spelling minus whole fraction)
 told_spelling minus [] fraction are some decimals = absurd (some refl)
 told_spelling true (c ∷ cs) fraction are some decimals =
-    minus_before ((c ∷ cs) ++ point_and fraction) (λ e. absurd (cc)) (one-append (c ∷ cs) (point_and fraction) (one_digits (c ∷ cs) are) (one_point fraction decimals))
+    minus_before ((c ∷ cs) ++ point_and fraction) (λ e. absurd (cc)) (one-append (c ∷ cs) (point_and fraction) (one_digits (c ∷ cs) are) (point_one fraction decimals))
 told_spelling false (c ∷ cs) fraction are some decimals =
     starts c (cs ++ point_and fraction) (no_minus c (and_both (is_ascii_digit c) (list_all is_ascii_digit cs) are).0)
-    (one-append (c ∷ cs) (point_and fraction) (one_digits (c ∷ cs) are) (one_point fraction decimals))
+    (one-append (c ∷ cs) (point_and fraction) (one_digits (c ∷ cs) are) (point_one fraction decimals))
 
 pub told_real : (units : ℤ) → CanBeTold (real_text_of units)
 told_real units =
@@ -205,7 +177,7 @@ name_bytes [] e = refl
 name_bytes (c ∷ cs) e =
     let front = (and_both (is_name_start c && list_all is_name_byte cs) _ e).0 in
     let both = and_both (is_name_start c) (list_all is_name_byte cs) front in
-    both_and (not (c == 10)) (is_one_line cs) (other_byte is_name_start refl c both.0) (one_of is_name_byte refl cs both.1)
+    both_and (not (c == 10)) (is_one_line cs) (other_byte is_name_start refl c both.0) (one_line_of is_name_byte refl cs both.1)
 
 name_some : (name : List ℕ) → is_name name ≡ true → name ≢ []
 unfolding is_name

@@ -12,13 +12,11 @@ use Rattle.chi_core.specs.Sound.{Sound}
 use Rattle.chi_streams.specs.Streams.{with_streams}
 use Rattle.chi_check.specs.Programs.{checked, Answers}
 use Rattle.chi_program_laws.specs.Laws.{IsWhole}
-use Rattle.chi_program_laws.specs.Bodies.{BodiesPass, TextsAreShort}
+use Rattle.chi_program_laws.specs.Bodies.{BodiesAreWhole, TextsAreShort}
 use Rattle.chi_program_laws.specs.Formals.{formals_are_typed}
 use Rattle.chi_program_laws.specs.Spelled.{NamesAreNames}
-use Rattle.chi_check_laws.specs.Texts.{body_texts}
-use Rattle.chi_check_laws.specs.Whole.{steps_are_whole}
 use Rattle.chi_parsed_laws.proofs.Tokens.{AllFit, tokens_fit}
-use Rattle.chi_parsed_laws.proofs.Premises.{headers_typed, bodies_pass, each_spelled}
+use Rattle.chi_parsed_laws.proofs.Premises.{headers_typed, bodies_whole, each_spelled}
 use Rattle.chi_parsed_laws.proofs.Programs.{texts_short}
 
 -- the laws of programs, as their functions' contracts give them
@@ -27,8 +25,8 @@ abbrev pub WholeLaw : Type 0
 WholeLaw = (tree : Program) → IsTrue (formals_are_typed tree) → IsWhole (checked tree)
 
 abbrev pub SoundLaw : Type 0
-SoundLaw = (tree : Program) (core : Core) → NamesAreNames tree → BodiesPass steps_are_whole tree → (checked tree).faults ≡ [] → (checked tree).made ≡ Some core
-    → TextsAreShort body_texts core → Sound (with_streams core)
+SoundLaw = (tree : Program) (core : Core) → NamesAreNames tree → BodiesAreWhole tree → (checked tree).faults ≡ [] → (checked tree).made ≡ Some core
+    → TextsAreShort core → Sound (with_streams core)
 
 -- those of parsed programs
 
@@ -49,5 +47,5 @@ parsed_sound law source tokens tree core low reads is answers = by (checked tree
     by None made e = absurd (cc)
     by (Some c) made e =
         let same : with_streams c ≡ core = cc in
-        subst Sound same (law tree c (each_spelled _ _ tree.items is.formed fit) (bodies_pass _ _ tree.items is.formed) answers.0 made
+        subst Sound same (law tree c (each_spelled _ _ tree.items is.formed fit) (bodies_whole _ _ tree.items is.formed) answers.0 made
         (texts_short _ _ tree c is.formed fit made))

@@ -15,8 +15,7 @@ use Rattle.chi_grammar_laws.specs.Definitions as formed
 use Rattle.chi_grammar_laws.specs.Definitions.{FormedParameters, FormedDefinition, FormedItems, FormedProgram}
 use Rattle.chi_grammar_laws.specs.Expressions as expressions
 use Rattle.chi_grammar_laws.specs.Expressions.{FormedFormals}
-use Rattle.chi_check_laws.specs.Whole.{steps_are_whole}
-use Rattle.chi_program_laws.specs.Bodies.{BodyPasses, EachBodyPasses}
+use Rattle.chi_program_laws.specs.Bodies.{BodyIsWhole, EachIsWhole}
 use Rattle.chi_program_laws.specs.Formals.{begin_typed, header_is_typed, headers_are_typed}
 use Rattle.chi_program_laws.specs.Spelled.{AreNames, Spelled, EachSpelled}
 use Rattle.chi_parsed_laws.proofs.Formed.{inner_whole}
@@ -49,18 +48,18 @@ headers_typed _ _ _ (formed.items {b = b} {d = d} {definition = x} {more = more}
 
 -- ---- bodies
 
-body_passes : (b d : ℕ) (x : Definition) → FormedDefinition b d x → BodyPasses steps_are_whole x
-body_passes _ _ _ formed.enumeration = tt
-body_passes _ _ _ (formed.constant t e) = tt
-body_passes _ _ _ (formed.type_name t) = tt
-body_passes _ _ _ (formed.function {b = b} {d = d} {block = block} t f k) = inner_whole b d block k
-body_passes _ _ _ (formed.process {b = b} {d = d} {block = block} t f k) = inner_whole b d block k
-body_passes _ _ _ (formed.model {b = b} {d = d} {block = block} t f k) = inner_whole b d block k
-body_passes _ _ _ (formed.experiment k) = tt
+body_whole : (b d : ℕ) (x : Definition) → FormedDefinition b d x → BodyIsWhole x
+body_whole _ _ _ formed.enumeration = tt
+body_whole _ _ _ (formed.constant t e) = tt
+body_whole _ _ _ (formed.type_name t) = tt
+body_whole _ _ _ (formed.function {b = b} {d = d} {block = block} t f k) = inner_whole b d block k
+body_whole _ _ _ (formed.process {b = b} {d = d} {block = block} t f k) = inner_whole b d block k
+body_whole _ _ _ (formed.model {b = b} {d = d} {block = block} t f k) = inner_whole b d block k
+body_whole _ _ _ (formed.experiment k) = tt
 
-pub bodies_pass : (b d : ℕ) (items : List Item) → FormedItems b d items → EachBodyPasses steps_are_whole (definitions items)
-bodies_pass _ _ _ (formed.one_item {b = b} {d = d} {definition = x} f) = (body_passes b d x f, tt)
-bodies_pass _ _ _ (formed.items {b = b} {d = d} {definition = x} {more = more} f fs) = (body_passes b d x f, bodies_pass b d more fs)
+pub bodies_whole : (b d : ℕ) (items : List Item) → FormedItems b d items → EachIsWhole (definitions items)
+bodies_whole _ _ _ (formed.one_item {b = b} {d = d} {definition = x} f) = (body_whole b d x f, tt)
+bodies_whole _ _ _ (formed.items {b = b} {d = d} {definition = x} {more = more} f fs) = (body_whole b d x f, bodies_whole b d more fs)
 
 -- ---- names
 

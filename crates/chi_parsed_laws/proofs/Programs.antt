@@ -178,7 +178,7 @@ checked_on : (b d : ℕ) (tree : Program) → FormedItems b d tree.items → All
 unfolding checked
 checked_on b d tree f fit = definitions_on (definitions tree.items) tree.last (definitions_short b d tree.items f fit)
 
-pub texts_short : (b d : ℕ) (tree : Program) (core : Core) → FormedItems b d tree.items → AllFit (spelled tree) → (checked tree).made ≡ Some core → TextsAreShort body_texts core
+pub texts_short : (b d : ℕ) (tree : Program) (core : Core) → FormedItems b d tree.items → AllFit (spelled tree) → (checked tree).made ≡ Some core → TextsAreShort core
 texts_short b d tree core f fit e =
     let short : CoreShort core = subst (IfGiven CoreShort) e (checked_on b d tree f fit) in
     record {

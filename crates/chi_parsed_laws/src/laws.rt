@@ -11,8 +11,7 @@ ghost use Rattle.chi_core.specs.Sound.{Sound};
 ghost use Rattle.chi_check.specs.Programs.{checked, Answers};
 ghost use Rattle.chi_program_laws.specs.Laws.{IsWhole};
 
-use chi_program_laws::unbroken_programs_come_to_cores;
-use chi_sound_laws::programs_are_sound;
+use chi_program_laws::{programs_are_sound, unbroken_programs_come_to_cores};
 
 /// A parsed program in which no rule is broken comes to a core. What the checker answers is sound, where the program
 /// is that of a source that is short enough to be read.

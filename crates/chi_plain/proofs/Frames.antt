@@ -1,20 +1,18 @@
 -- Who isn't affected by a step has an option where it had one.
-use Rattle.std.proofs.Common.{◌≡◌, ◌≢◌, ℕ, zero, suc, ◌+◌, ◌<◌, ◌≤◌, ℤ, List, [], ◌∷◌, ◌++◌, Option, Some, None, Bool, true, false, cond, length, ◌⊎◌, inl, inr, sym, ◌∙◌, ap, subst, refl, arith}
+use Rattle.std.proofs.Common.{◌≡◌, ◌≢◌, ℕ, zero, suc, ◌<◌, ◌≤◌, List, [], ◌∷◌, ◌++◌, Option, Some, None, Bool, true, false, cond, length, ◌⊎◌, inl, inr, sym, ◌∙◌, ap, subst, refl, arith}
 use Rattle.std.specs.Prelude.{nat_eq, nat_lt, int_lt, not, ◌&&◌}
 use Rattle.std.specs.List.{slice_get, Contains, flat_map, list_all}
 use Rattle.std.proofs.lemmas.Bool.{eq-eqb, false≢true}
-use Rattle.std.proofs.lemmas.List.{append-nil}
-use Rattle.std.proofs.lemmas.Option.{slice_get_within, slice_get_past}
+use Rattle.std.proofs.lemmas.Option.{slice_get_past}
 use Rattle.chi_core.specs.declared.act.Act.{Act}
 use Rattle.chi_core.specs.declared.act.Act.TheVariants.{Send, Receive, Delay}
-use Rattle.chi_core.specs.declared.label.Label.{Label}
-use Rattle.chi_core.specs.declared.label.Label.TheVariants.{Wake, Join, Advance}
+use Rattle.chi_core.specs.declared.label.Label.TheVariants.{Wake, Join}
 use Rattle.chi_core.specs.Config.{Config, Instance, Offer, State, Running, Waiting, Joining, Finished, offers_in}
-use Rattle.chi_core.specs.Options.{numbers, receives_on, receivers, pairs_with, pairs, options_by, options_for, options_in, options_of, options, is_under_way, none_under_way}
+use Rattle.chi_core.specs.Options.{numbers, receivers, pairs_with, pairs, options_by, options_for, options_in, options_of, options, is_under_way, none_under_way}
 use Rattle.chi_plain.specs.declared.parties.Parties.{Parties}
 use Rattle.chi_plain.specs.Watching.{AllJoiners, AllParties, Covers, IsAffected, IsJoiner, IsParty, IsPartyBy, Keeps, Others, Reaches, is_joining, listed_at, acts}
 use Rattle.chi_plain.specs.Led.{Settles}
-use Rattle.chi_plain.proofs.Havings.{Receiver, no-receivers, receives-reaches, pairs_with-none, acts-none}
+use Rattle.chi_plain.proofs.Havings.{no-receivers, receives-reaches, pairs_with-none, acts-none}
 
 -- lists of numbers
 

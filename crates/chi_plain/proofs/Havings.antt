@@ -1,13 +1,11 @@
 -- Whether there is an option, with only those in view that communicate on the same channels.
-use Rattle.std.proofs.Common.{◌≡◌, ◌≢◌, ℕ, zero, suc, ◌+◌, ◌<◌, ◌≤◌, List, [], ◌∷◌, ◌++◌, Option, Some, None, Bool, true, false, cond, length, get_or, ◌⊎◌, inl, inr, sym, ◌∙◌, ap, subst, refl, arith}
-use Rattle.std.specs.Prelude.{map, filter, nat_eq, nat_lt}
+use Rattle.std.proofs.Common.{◌≡◌, ℕ, ◌+◌, ◌<◌, ◌≤◌, List, [], ◌∷◌, ◌++◌, Option, Some, None, Bool, true, false, cond, length, get_or, ◌⊎◌, inl, inr, sym, ◌∙◌, ap, subst, refl, arith}
+use Rattle.std.specs.Prelude.{map, nat_eq, nat_lt}
 use Rattle.std.specs.List.{slice_get, Contains, flat_map}
-use Rattle.std.proofs.lemmas.Bool.{eq-eqb, false≢true}
-use Rattle.std.proofs.lemmas.List.{append-nil}
+use Rattle.std.proofs.lemmas.Bool.{false≢true}
 use Rattle.std.proofs.lemmas.Option.{slice_get_within, slice_get_read}
 use Rattle.chi_core.specs.declared.act.Act.{Act}
 use Rattle.chi_core.specs.declared.act.Act.TheVariants.{Send, Receive, Delay}
-use Rattle.chi_core.specs.declared.label.Label.{Label}
 use Rattle.chi_core.specs.declared.label.Label.TheVariants.{Pair, Join}
 use Rattle.chi_core.specs.Config.{Config, Instance, Offer, Waiting, Joining, offers_in}
 use Rattle.chi_core.specs.Options.{numbers, receives_on, is_receiver, receivers, pairs_with, pairs, options_for, options_in, options_of, none_under_way}

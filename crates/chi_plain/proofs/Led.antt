@@ -1,11 +1,11 @@
 -- What is kept beside a configuration, from the one before a step to the one after it.
-use Rattle.std.proofs.Common.{◌≡◌, ◌≢◌, ℕ, ◌<◌, ◌≤◌, List, Option, Some, None, Bool, true, false, length, ◌⊎◌, inl, inr, sym, ◌∙◌, ap, subst, refl, arith}
+use Rattle.std.proofs.Common.{◌≡◌, ◌≢◌, ℕ, ◌<◌, ◌≤◌, List, Bool, true, false, length, ◌⊎◌, inl, inr, sym, ◌∙◌, ap, subst, refl, arith}
 use Rattle.std.specs.Prelude.{IsTrue}
 use Rattle.std.specs.Bool.{OnFalse}
 use Rattle.std.specs.List.{slice_get, Contains}
 use Rattle.std.proofs.lemmas.Bool.{false≢true}
 use Rattle.chi_core.specs.declared.label.Label.{Label}
-use Rattle.chi_core.specs.declared.label.Label.TheVariants.{Local, Pair, Wake, Join, Advance}
+use Rattle.chi_core.specs.declared.label.Label.TheVariants.{Advance}
 use Rattle.chi_core.specs.declared.program.Core.{Core}
 use Rattle.chi_core.specs.Config.{Config, Instance}
 use Rattle.chi_core.specs.Options.{is_under_way}
@@ -18,7 +18,7 @@ use Rattle.chi_plain.specs.declared.watching.Before.{Before}
 use Rattle.chi_plain.specs.declared.parties.Parties.{Parties}
 use Rattle.chi_plain.specs.Marked.{is_marked}
 use Rattle.chi_plain.specs.Scanning.{is_advance}
-use Rattle.chi_plain.specs.Watching.{AllJoiners, AllParties, Covers, CoversFrom, IsAffected, IsJoiner, IsMarked, IsParty, IsWatched, Keeps, KeepsParties, acts, first_named, second_named}
+use Rattle.chi_plain.specs.Watching.{AllJoiners, AllParties, Covers, CoversFrom, IsAffected, IsJoiner, IsParty, IsWatched, Keeps, KeepsParties, first_named, second_named}
 use Rattle.chi_plain.specs.Led.{IsBefore, IsListed, Leads, Led, Settles}
 use Rattle.chi_plain.proofs.Keeping.{keeps-trans}
 use Rattle.chi_plain.proofs.Listed.{covers-kept, party-kept, joiner-kept, parties-trans}

@@ -1,7 +1,6 @@
 -- The instances that have an option are those that are marked.
-use Rattle.std.proofs.Common.{◌≡◌, ℕ, ◌<◌, List, [], ◌∷◌, Some, Bool, true, false, cond, length, sym, ◌∙◌, ap, subst, refl}
+use Rattle.std.proofs.Common.{◌≡◌, ℕ, List, [], ◌∷◌, Bool, cond, length, ◌∙◌, ap, refl}
 use Rattle.std.specs.Prelude.{filter}
-use Rattle.std.specs.List.{slice_get}
 use Rattle.chi_core.specs.Config.{Config}
 use Rattle.chi_core.specs.Options.{numbers, actors}
 use Rattle.chi_plain.specs.Marked.{is_marked, marked_below, marked}

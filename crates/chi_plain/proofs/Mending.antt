@@ -1,5 +1,5 @@
 -- What is kept beside a configuration, mended after a step.
-use Rattle.std.proofs.Common.{◌≡◌, ◌≢◌, ℕ, zero, suc, ◌+◌, ◌<◌, ◌≤◌, List, [], ◌∷◌, ◌++◌, Option, Some, None, Bool, true, false, length, get_or, drop, length-drop, ◌⊎◌, inl, inr, sym, ◌∙◌, ap, subst, refl, arith}
+use Rattle.std.proofs.Common.{◌≡◌, ◌≢◌, ℕ, zero, suc, ◌+◌, ◌<◌, ◌≤◌, List, [], ◌∷◌, ◌++◌, Option, Bool, false, length, get_or, drop, length-drop, ◌⊎◌, inl, inr, sym, ◌∙◌, ap, subst, refl, arith}
 use Rattle.std.specs.Prelude.{slice_set}
 use Rattle.std.specs.List.{slice_get, Contains}
 use Rattle.std.proofs.Math.ListN.{length-set}
@@ -10,7 +10,7 @@ use Rattle.chi_core.specs.declared.label.Label.TheVariants.{Advance}
 use Rattle.chi_core.specs.Config.{Config, Instance}
 use Rattle.chi_plain.specs.declared.parties.Parties.{Parties}
 use Rattle.chi_plain.specs.Marked.{is_marked}
-use Rattle.chi_plain.specs.Watching.{AllJoiners, AllParties, Covers, IsAffected, IsJoiner, IsMarked, IsParty, IsWatched, Keeps, KeepsParties, Others, acts, first_named, second_named}
+use Rattle.chi_plain.specs.Watching.{AllJoiners, AllParties, IsAffected, IsJoiner, IsMarked, IsParty, Keeps, KeepsParties, acts, first_named, second_named}
 use Rattle.chi_plain.specs.Led.{IsListed, Leads, Settles}
 use Rattle.chi_plain.proofs.Havings.{acts-none}
 use Rattle.chi_plain.proofs.Frames.{settles, settles-all, eq-cases}

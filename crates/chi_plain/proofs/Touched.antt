@@ -1,6 +1,6 @@
 -- A step changes no other instances than those that its label names, and new ones come last.
-use Rattle.std.proofs.Common.{◌≡◌, ◌≢◌, ℕ, zero, suc, ◌<◌, ◌≤◌, le_refl, ℤ, List, [], ◌∷◌, ◌++◌, Option, Some, None, Bool, true, false, cond, map, length, sym, ◌∙◌, ap, subst, refl, arith, length-append}
-use Rattle.std.specs.Prelude.{nat_eq, nat_le, nat_lt, int_lt, slice_set}
+use Rattle.std.proofs.Common.{◌≡◌, ℕ, zero, suc, ◌<◌, le_refl, ℤ, List, [], ◌∷◌, ◌++◌, Option, Some, None, Bool, true, false, cond, map, length, sym, ◌∙◌, subst, refl, arith, length-append}
+use Rattle.std.specs.Prelude.{nat_eq, int_lt, slice_set}
 use Rattle.std.specs.List.{slice_get}
 use Rattle.std.proofs.Math.ListN.{length-set}
 use Rattle.chi_core.specs.declared.act.Act.{Act}
@@ -16,9 +16,9 @@ use Rattle.chi_core.specs.declared.statement.CStat.{CStat, CStat-F, out-CStat}
 use Rattle.chi_core.specs.declared.view.View.{View}
 use Rattle.chi_core.specs.Answer as answer
 use Rattle.chi_core.specs.Answer.{Answer, Gives, Fails, Does, then_do, wanted, giving, in_turn}
-use Rattle.chi_core.specs.Config.{Config, Instance, Offer, State, Running, Waiting, Joining, Finished, value_in, view_of, with_view, with_instance, settled}
+use Rattle.chi_core.specs.Config.{Config, Instance, Offer, State, Running, Waiting, Joining, Finished, value_in, view_of, with_instance, settled}
 use Rattle.chi_core.specs.Evaluation.{Evaluates}
-use Rattle.chi_core.specs.Meeting.{resumed, offer_at, met, paired, woken_by, woken, are_over, joined_in, joined, next_due, may_reach, advanced}
+use Rattle.chi_core.specs.Meeting.{resumed, met, paired, woken_by, woken, are_over, joined_in, joined, next_due, may_reach, advanced}
 use Rattle.chi_core.specs.Opening.{opened}
 use Rattle.chi_core.specs.Performing.{Change, Goes, Exits, quietly, within_text, written, exits_with, exited, all_named, came_to, waits, with_started, joins_started, joins, performed_stat, performed}
 use Rattle.chi_core.specs.Reading.{quoted_in}

@@ -6,8 +6,7 @@ use Rattle.chi_core.specs.Config.{Config, Instance}
 use Rattle.chi_core.specs.Options.{is_under_way}
 use Rattle.chi_plain.specs.declared.parties.Parties.{Parties}
 use Rattle.chi_plain.specs.declared.watching.Before.{Before}
-use Rattle.chi_plain.specs.Marked.{is_marked}
-use Rattle.chi_plain.specs.Watching.{AllJoiners, AllParties, Covers, IsMarked, IsWatched, Others, acts, first_named, second_named}
+use Rattle.chi_plain.specs.Watching.{AllJoiners, AllParties, Covers, IsWatched, Others, acts, first_named, second_named}
 
 -- what is known before the step of a label
 pub record IsBefore (parties : Parties) (label : Label) (old : List Instance) (b : Before) : Type 0 where

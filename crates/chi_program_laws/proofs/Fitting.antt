@@ -1,6 +1,6 @@
 -- Private to proofs. Functions and processes are made in the order of their headers, with the types of these.
-use Rattle.std.proofs.Common.{ℕ, ◌≡◌, false, List, [], ◌∷◌, ◌++◌, length, Option, Some, None, refl, sym, ap, subst, ◌∙◌, arith, append_assoc, append-nil}
-use Rattle.std.specs.Prelude.{option_map}
+use Rattle.std.proofs.Common.{◌≡◌, false, List, [], ◌∷◌, ◌++◌, length, Option, Some, None, refl, sym, ap, subst, ◌∙◌, arith, append_assoc, append-nil}
+use Rattle.std.specs.Prelude.{option_map, IsTrue}
 use Rattle.std.specs.Option.{option_and_then}
 use Rattle.chi_tree.specs.declared.definition.Definition.{Definition}
 use Rattle.chi_tree.specs.declared.definition.Definition.TheVariants as definition
@@ -12,56 +12,19 @@ use Rattle.chi_core.specs.declared.program.FuncDef.{FuncDef}
 use Rattle.chi_core.specs.declared.program.ProcDef.{ProcDef}
 use Rattle.chi_core.specs.declared.statement.CStat.{CStat}
 use Rattle.chi_typing.specs.Names.{Names}
-use Rattle.chi_check_expr.proofs.Nodes.{left_nil, right_nil}
 use Rattle.chi_check.specs.declared.header.Header.{Header}
 use Rattle.chi_check.specs.declared.state.Binder.TheVariants as binder
 use Rattle.chi_check.specs.declared.state.State.{State}
-use Rattle.chi_check.specs.Stated.{Stated, in_turn}
+use Rattle.chi_check.specs.Stated.{in_turn}
 use Rattle.chi_check.specs.States.{with_variable}
 use Rattle.chi_check.specs.Headers.{all_types}
 use Rattle.chi_check.specs.Definitions.{formals_bound, body_in, function, process, result_of, exit_of, function_made, process_made, function_of, process_of, functions_of, processes_of}
 use Rattle.chi_check.specs.Statements.{stating_all}
-use Rattle.chi_program_laws.proofs.Grown.{More, Grown, EachGrows, turns_grow, grown_on, variable_grown, stating_grows}
-use Rattle.chi_program_laws.proofs.Lookups.{first_again}
+use Rattle.chi_check_laws.specs.Whole.{steps_are_whole}
+use Rattle.chi_check_laws.proofs.Homes.{body_names}
+use Rattle.chi_check_laws.proofs.WholeFills.{statements_grow}
+use Rattle.chi_program_laws.specs.Bodies.{BodyIsWhole, EachIsWhole}
 use Rattle.chi_program_laws.proofs.Positions.{joined_parts, both_parts, map_parts, some_same}
-
--- ---- one body
-
--- the state after the formals, at its start
-abbrev pub begun : Header → List Formal → Names → Stated State (List ℕ)
-begun h formals names = in_turn (formals_bound formals h.formals) (record { names = names; slots = [] })
-
-abbrev pub stated : Header → List Formal → List Step → Names → Stated State (List CStat)
-stated h formals steps names = stating_all h.home false steps (begun h formals names).next
-
--- what a body comes to, with no rule broken in it
-pub record BodyMade (h : Header) (formals : List Formal) (steps : List Step) (names : Names) (body : List CStat) (slots : List Ty) : Type 0 where
-  pub unbroken : (stated h formals steps names).faults ≡ []
-  pub made : (stated h formals steps names).made ≡ Some body
-  pub left : (stated h formals steps names).next.slots ≡ slots
-
-bound_grow : (fs : List Formal) (types : List (Option Ty)) → EachGrows (formals_bound fs types)
-bound_grow [] types = tt
-bound_grow (f ∷ fs) [] = tt
-bound_grow (f ∷ fs) (t ∷ types) = (variable_grown binder.Variable f.name t, bound_grow fs types)
-
-pub begun_grown : (h : Header) (formals : List Formal) (names : Names) → Grown (record { names = names; slots = [] }) (begun h formals names).next
-begun_grown h formals names = turns_grow (formals_bound formals h.formals) (bound_grow formals h.formals) (record { names = names; slots = [] })
-
--- none of the names of a body is visible after it
-pub body_leaves_names : (h : Header) (formals : List Formal) (steps : List Step) (names : Names) → (body_in h formals steps names).next ≡ names
-body_leaves_names h formals steps names =
-    let start : State = record { names = names; slots = [] } in
-    let first = (begun h formals names).next in
-    let last = (stated h formals steps names).next in
-    first_again names last.names (grown_on start first last (begun_grown h formals names) (stating_grows h.home false steps first)).names
-
-body_there : (h : Header) (formals : List Formal) (steps : List Step) (names : Names) (made : List CStat × List Ty) → (body_in h formals steps names).faults ≡ [] → (body_in h formals steps names).made ≡ Some made → BodyMade h formals steps names made.0 made.1
-body_there h formals steps names made e m =
-    let fs = begun h formals names in
-    let body = stated h formals steps names in
-    let parts = both_parts (λ formals b. (b, body.next.slots)) fs.made body.made made m in
-    record { unbroken = right_nil fs.faults body.faults e; made = parts.3 ∙ ap (λ (made : List CStat × List Ty). Some made.0) parts.4; left = ap (λ (made : List CStat × List Ty). made.1) parts.4 }
 
 -- ---- its parameters are its first slots
 
@@ -74,12 +37,21 @@ begun_slots (f ∷ formals) (Some t ∷ types) params s l e =
     let parts = map_parts (λ more. t ∷ more) (all_types types) params e in
     begun_slots formals types parts.0 (with_variable binder.Variable f.name (Some t) s) (omega (arith, l)) parts.1 ∙ append_assoc s.slots (t ∷ []) parts.0 ∙ ap (λ params. s.slots ++ params) parts.2
 
-pub slots_begin : (h : Header) (formals : List Formal) (steps : List Step) (names : Names) (body : List CStat) (slots params : List Ty) → BodyMade h formals steps names body slots → length h.formals ≡ length formals → all_types h.formals ≡ Some params → More params slots
-slots_begin h formals steps names body slots params made l e =
-    let first = (begun h formals names).next in
-    let start : first.slots ≡ params = begun_slots formals h.formals params (record { names = names; slots = [] }) l e in
-    let grown : Grown first (stated h formals steps names).next = stating_grows h.home false steps first in
-    subst (λ params. More params slots) start (subst (More first.slots) made.left grown.slots)
+-- more slots than these
+abbrev pub More : List Ty → List Ty → Type 0
+More slots longer = (others : List Ty) × (longer ≡ slots ++ others)
+
+pub slots_begin : (h : Header) (formals : List Formal) (steps : List Step) (names : Names) (body : List CStat) (slots params : List Ty) → IsTrue (steps_are_whole steps) → (body_in h formals steps names).made ≡ Some (body, slots)
+    → length h.formals ≡ length formals → all_types h.formals ≡ Some params → More params slots
+slots_begin h formals steps names body slots params whole made l e =
+    let start : State = record { names = names; slots = [] } in
+    let bound = in_turn (formals_bound formals h.formals) start in
+    let stated = stating_all h.home false steps bound.next in
+    let parts = both_parts {C = List CStat × List Ty} (λ formals b. (b, stated.next.slots)) bound.made stated.made (body, slots) made in
+    let left : stated.next.slots ≡ slots = ap (λ (made : List CStat × List Ty). made.1) parts.4 in
+    let begins : bound.next.slots ≡ params = begun_slots formals h.formals params start l e in
+    let grown = statements_grow h.home false steps bound.next whole in
+    (grown.slots.0, sym left ∙ grown.slots.1 ∙ ap (λ slots. slots ++ grown.slots.0) begins)
 
 -- ---- functions and processes
 
@@ -89,13 +61,15 @@ pub record FunctionFits (name : Name) (formals : List Formal) (steps : List Step
   pub result : result_of h.home ≡ Some f.result
   pub called : f.name ≡ name.text
   pub arity : f.arity ≡ length params
-  pub body : BodyMade h formals steps names f.body f.slots
+  pub whole : IsTrue (steps_are_whole steps)
+  pub body : (body_in h formals steps names).made ≡ Some (f.body, f.slots)
 
 pub record ProcessFits (name : Name) (formals : List Formal) (steps : List Step) (h : Header) (names : Names) (d : ProcDef) : Type 0 where
   pub types : all_types h.formals ≡ Some d.params
   pub own : exit_of h.home ≡ Some d.exit
   pub called : d.name ≡ name.text
-  pub body : BodyMade h formals steps names d.body d.slots
+  pub whole : IsTrue (steps_are_whole steps)
+  pub body : (body_in h formals steps names).made ≡ Some (d.body, d.slots)
 
 three_parts : {A B C D : Type 0} (f : A → B → C → D) (a : Option A) (b : Option B) (c : Option C) (z : D) → option_and_then (λ x. option_and_then (λ y. option_map (f x y) c) b) a ≡ Some z
     → (x : A) × (y : B) × (w : C) × (a ≡ Some x) × (b ≡ Some y) × (c ≡ Some w) × (f x y w ≡ z)
@@ -114,48 +88,48 @@ abbrev pub Fits : Names → List Definition → List (Option Header) → List Fu
 Fits names (d ∷ ds) (h ∷ hs) fs = (x : List FuncDef) × (more : List FuncDef) × FitsOne names d h x × Fits names ds hs more × (x ++ more ≡ fs)
 Fits names _ _ fs = [] ≡ fs
 
-function_fits : (name : Name) (formals : List Formal) (steps : List Step) (h : Header) (names : Names) (x : List FuncDef) → (body_in h formals steps names).faults ≡ []
+function_fits : (name : Name) (formals : List Formal) (steps : List Step) (h : Header) (names : Names) (x : List FuncDef) → IsTrue (steps_are_whole steps)
     → function_made name.text h (body_in h formals steps names).made ≡ Some x → (f : FuncDef) × (f ∷ [] ≡ x) × FunctionFits name formals steps h names f
-function_fits name formals steps h names x e m =
+function_fits name formals steps h names x w m =
     let parts = three_parts (function name.text) (all_types h.formals) (result_of h.home) (body_in h formals steps names).made x m in (
       record { name = name.text; arity = length parts.0; result = parts.1; slots = parts.2.1; body = parts.2.0 },
       parts.6,
-      record { params = parts.0; types = parts.3; result = parts.4; called = refl; arity = refl; body = body_there h formals steps names parts.2 e parts.5 },
+      record { params = parts.0; types = parts.3; result = parts.4; called = refl; arity = refl; whole = w; body = parts.5 },
     )
 
-one_fits : (d : Definition) (h : Option Header) (names : Names) (x : List FuncDef) → (function_of d h names).faults ≡ [] → (function_of d h names).made ≡ Some x → FitsOne names d h x
-one_fits (definition.Func place tree name formals steps) None names x e m = some_same [] x m
-one_fits (definition.Func place tree name formals steps) (Some h) names x e m = function_fits name formals steps h names x e m
-one_fits (definition.Proc place tree name formals steps) h names x e m = some_same [] x m
-one_fits (definition.Model place tree name formals steps) h names x e m = some_same [] x m
-one_fits (definition.Enum place name values) h names x e m = some_same [] x m
-one_fits (definition.Const place tree name equals value) h names x e m = some_same [] x m
-one_fits (definition.Type place name tree) h names x e m = some_same [] x m
-one_fits (definition.Xper place name steps) h names x e m = some_same [] x m
+one_fits : (d : Definition) (h : Option Header) (names : Names) (x : List FuncDef) → BodyIsWhole d → (function_of d h names).made ≡ Some x → FitsOne names d h x
+one_fits (definition.Func place tree name formals steps) None names x w m = some_same [] x m
+one_fits (definition.Func place tree name formals steps) (Some h) names x w m = function_fits name formals steps h names x w m
+one_fits (definition.Proc place tree name formals steps) h names x w m = some_same [] x m
+one_fits (definition.Model place tree name formals steps) h names x w m = some_same [] x m
+one_fits (definition.Enum place name values) h names x w m = some_same [] x m
+one_fits (definition.Const place tree name equals value) h names x w m = some_same [] x m
+one_fits (definition.Type place name tree) h names x w m = some_same [] x m
+one_fits (definition.Xper place name steps) h names x w m = some_same [] x m
 
-one_stays : (d : Definition) (h : Option Header) (names : Names) → (function_of d h names).next ≡ names
-one_stays (definition.Func place tree name formals steps) None names = refl
-one_stays (definition.Func place tree name formals steps) (Some h) names = body_leaves_names h formals steps names
-one_stays (definition.Proc place tree name formals steps) h names = refl
-one_stays (definition.Model place tree name formals steps) h names = refl
-one_stays (definition.Enum place name values) h names = refl
-one_stays (definition.Const place tree name equals value) h names = refl
-one_stays (definition.Type place name tree) h names = refl
-one_stays (definition.Xper place name steps) h names = refl
+one_stays : (d : Definition) (h : Option Header) (names : Names) → BodyIsWhole d → (function_of d h names).next ≡ names
+one_stays (definition.Func place tree name formals steps) None names w = refl
+one_stays (definition.Func place tree name formals steps) (Some h) names w = body_names h formals steps names w
+one_stays (definition.Proc place tree name formals steps) h names w = refl
+one_stays (definition.Model place tree name formals steps) h names w = refl
+one_stays (definition.Enum place name values) h names w = refl
+one_stays (definition.Const place tree name equals value) h names w = refl
+one_stays (definition.Type place name tree) h names w = refl
+one_stays (definition.Xper place name steps) h names w = refl
 
-pub functions_stay : (ds : List Definition) (hs : List (Option Header)) (names : Names) → (in_turn (functions_of ds hs) names).next ≡ names
-functions_stay [] hs names = refl
-functions_stay (d ∷ ds) [] names = refl
-functions_stay (d ∷ ds) (h ∷ hs) names = functions_stay ds hs (function_of d h names).next ∙ one_stays d h names
+pub functions_stay : (ds : List Definition) (hs : List (Option Header)) (names : Names) → EachIsWhole ds → (in_turn (functions_of ds hs) names).next ≡ names
+functions_stay [] hs names w = refl
+functions_stay (d ∷ ds) [] names w = refl
+functions_stay (d ∷ ds) (h ∷ hs) names w = functions_stay ds hs (function_of d h names).next w.1 ∙ one_stays d h names w.0
 
-pub functions_fit : (ds : List Definition) (hs : List (Option Header)) (names : Names) (fs : List FuncDef) → (in_turn (functions_of ds hs) names).faults ≡ [] → (in_turn (functions_of ds hs) names).made ≡ Some fs → Fits names ds hs fs
-functions_fit [] hs names fs e m = some_same [] fs m
-functions_fit (d ∷ ds) [] names fs e m = some_same [] fs m
-functions_fit (d ∷ ds) (h ∷ hs) names fs e m =
+pub functions_fit : (ds : List Definition) (hs : List (Option Header)) (names : Names) (fs : List FuncDef) → EachIsWhole ds → (in_turn (functions_of ds hs) names).made ≡ Some fs → Fits names ds hs fs
+functions_fit [] hs names fs w m = some_same [] fs m
+functions_fit (d ∷ ds) [] names fs w m = some_same [] fs m
+functions_fit (d ∷ ds) (h ∷ hs) names fs w m =
     let first = function_of d h names in
     let parts = joined_parts first.made (in_turn (functions_of ds hs) first.next).made fs m in
-    let rest = functions_fit ds hs first.next parts.1 (right_nil first.faults _ e) parts.3 in
-    (parts.0, parts.1, one_fits d h names parts.0 (left_nil first.faults _ e) parts.2, subst (λ names. Fits names ds hs parts.1) (one_stays d h names) rest, parts.4)
+    let rest = functions_fit ds hs first.next parts.1 w.1 parts.3 in
+    (parts.0, parts.1, one_fits d h names parts.0 w.0 parts.2, subst (λ names. Fits names ds hs parts.1) (one_stays d h names w.0) rest, parts.4)
 
 -- ---- the same of processes and models
 
@@ -168,42 +142,42 @@ abbrev pub Runs : Names → List Definition → List (Option Header) → List Pr
 Runs names (d ∷ ds) (h ∷ hs) ps = (x : List ProcDef) × (more : List ProcDef) × RunsOne names d h x × Runs names ds hs more × (x ++ more ≡ ps)
 Runs names _ _ ps = [] ≡ ps
 
-process_fits : (name : Name) (formals : List Formal) (steps : List Step) (h : Header) (names : Names) (x : List ProcDef) → (body_in h formals steps names).faults ≡ []
+process_fits : (name : Name) (formals : List Formal) (steps : List Step) (h : Header) (names : Names) (x : List ProcDef) → IsTrue (steps_are_whole steps)
     → process_made name.text h (body_in h formals steps names).made ≡ Some x → (d : ProcDef) × (d ∷ [] ≡ x) × ProcessFits name formals steps h names d
-process_fits name formals steps h names x e m =
+process_fits name formals steps h names x w m =
     let parts = three_parts (process name.text) (all_types h.formals) (exit_of h.home) (body_in h formals steps names).made x m in (
       record { name = name.text; params = parts.0; exit = parts.1; slots = parts.2.1; body = parts.2.0 },
       parts.6,
-      record { types = parts.3; own = parts.4; called = refl; body = body_there h formals steps names parts.2 e parts.5 },
+      record { types = parts.3; own = parts.4; called = refl; whole = w; body = parts.5 },
     )
 
-one_runs : (d : Definition) (h : Option Header) (names : Names) (x : List ProcDef) → (process_of d h names).faults ≡ [] → (process_of d h names).made ≡ Some x → RunsOne names d h x
-one_runs (definition.Proc place tree name formals steps) None names x e m = some_same [] x m
-one_runs (definition.Proc place tree name formals steps) (Some h) names x e m = process_fits name formals steps h names x e m
-one_runs (definition.Model place tree name formals steps) None names x e m = some_same [] x m
-one_runs (definition.Model place tree name formals steps) (Some h) names x e m = process_fits name formals steps h names x e m
-one_runs (definition.Func place tree name formals steps) h names x e m = some_same [] x m
-one_runs (definition.Enum place name values) h names x e m = some_same [] x m
-one_runs (definition.Const place tree name equals value) h names x e m = some_same [] x m
-one_runs (definition.Type place name tree) h names x e m = some_same [] x m
-one_runs (definition.Xper place name steps) h names x e m = some_same [] x m
+one_runs : (d : Definition) (h : Option Header) (names : Names) (x : List ProcDef) → BodyIsWhole d → (process_of d h names).made ≡ Some x → RunsOne names d h x
+one_runs (definition.Proc place tree name formals steps) None names x w m = some_same [] x m
+one_runs (definition.Proc place tree name formals steps) (Some h) names x w m = process_fits name formals steps h names x w m
+one_runs (definition.Model place tree name formals steps) None names x w m = some_same [] x m
+one_runs (definition.Model place tree name formals steps) (Some h) names x w m = process_fits name formals steps h names x w m
+one_runs (definition.Func place tree name formals steps) h names x w m = some_same [] x m
+one_runs (definition.Enum place name values) h names x w m = some_same [] x m
+one_runs (definition.Const place tree name equals value) h names x w m = some_same [] x m
+one_runs (definition.Type place name tree) h names x w m = some_same [] x m
+one_runs (definition.Xper place name steps) h names x w m = some_same [] x m
 
-one_remains : (d : Definition) (h : Option Header) (names : Names) → (process_of d h names).next ≡ names
-one_remains (definition.Proc place tree name formals steps) None names = refl
-one_remains (definition.Proc place tree name formals steps) (Some h) names = body_leaves_names h formals steps names
-one_remains (definition.Model place tree name formals steps) None names = refl
-one_remains (definition.Model place tree name formals steps) (Some h) names = body_leaves_names h formals steps names
-one_remains (definition.Func place tree name formals steps) h names = refl
-one_remains (definition.Enum place name values) h names = refl
-one_remains (definition.Const place tree name equals value) h names = refl
-one_remains (definition.Type place name tree) h names = refl
-one_remains (definition.Xper place name steps) h names = refl
+one_remains : (d : Definition) (h : Option Header) (names : Names) → BodyIsWhole d → (process_of d h names).next ≡ names
+one_remains (definition.Proc place tree name formals steps) None names w = refl
+one_remains (definition.Proc place tree name formals steps) (Some h) names w = body_names h formals steps names w
+one_remains (definition.Model place tree name formals steps) None names w = refl
+one_remains (definition.Model place tree name formals steps) (Some h) names w = body_names h formals steps names w
+one_remains (definition.Func place tree name formals steps) h names w = refl
+one_remains (definition.Enum place name values) h names w = refl
+one_remains (definition.Const place tree name equals value) h names w = refl
+one_remains (definition.Type place name tree) h names w = refl
+one_remains (definition.Xper place name steps) h names w = refl
 
-pub processes_run : (ds : List Definition) (hs : List (Option Header)) (names : Names) (ps : List ProcDef) → (in_turn (processes_of ds hs) names).faults ≡ [] → (in_turn (processes_of ds hs) names).made ≡ Some ps → Runs names ds hs ps
-processes_run [] hs names ps e m = some_same [] ps m
-processes_run (d ∷ ds) [] names ps e m = some_same [] ps m
-processes_run (d ∷ ds) (h ∷ hs) names ps e m =
+pub processes_run : (ds : List Definition) (hs : List (Option Header)) (names : Names) (ps : List ProcDef) → EachIsWhole ds → (in_turn (processes_of ds hs) names).made ≡ Some ps → Runs names ds hs ps
+processes_run [] hs names ps w m = some_same [] ps m
+processes_run (d ∷ ds) [] names ps w m = some_same [] ps m
+processes_run (d ∷ ds) (h ∷ hs) names ps w m =
     let first = process_of d h names in
     let parts = joined_parts first.made (in_turn (processes_of ds hs) first.next).made ps m in
-    let rest = processes_run ds hs first.next parts.1 (right_nil first.faults _ e) parts.3 in
-    (parts.0, parts.1, one_runs d h names parts.0 (left_nil first.faults _ e) parts.2, subst (λ names. Runs names ds hs parts.1) (one_remains d h names) rest, parts.4)
+    let rest = processes_run ds hs first.next parts.1 w.1 parts.3 in
+    (parts.0, parts.1, one_runs d h names parts.0 w.0 parts.2, subst (λ names. Runs names ds hs parts.1) (one_remains d h names w.0) rest, parts.4)

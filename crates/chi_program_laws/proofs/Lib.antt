@@ -7,7 +7,6 @@ pub mod Elements
 pub mod Entries
 pub mod Enumerated
 pub mod Fitting
-pub mod Grown
 pub mod Headers
 pub mod Lines
 pub mod Lookups
@@ -18,7 +17,6 @@ pub mod Shaped
 pub mod Signatures
 pub mod Sketches
 pub mod Soundness
-pub mod Slots
 pub mod Sounds
 pub mod Statements
 pub mod Turns

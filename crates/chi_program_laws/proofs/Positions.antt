@@ -15,13 +15,6 @@ pub get_seam : {A : Type 0} (xs ys : List A) (y : A) → slice_get (xs ++ y ∷ 
 get_seam [] ys y = refl
 get_seam (x ∷ xs) ys y = get_seam xs ys y
 
-pub get_mapped : {A B : Type 0} (f : A → B) (xs : List A) (k : ℕ) (x : A) → slice_get xs k ≡ Some x → slice_get (map f xs) k ≡ Some (f x)
-get_mapped f [] k x e = absurd (cc)
-get_mapped f (y ∷ xs) zero x e =
-    let same : y ≡ x = cc in
-    ap (λ z. Some (f z)) same
-get_mapped f (y ∷ xs) (suc k) x e = get_mapped f xs k x e
-
 -- ---- each of a list
 
 module _ {A : Type 0} (P : A → Type 0) where

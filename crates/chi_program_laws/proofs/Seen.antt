@@ -33,8 +33,7 @@ use Rattle.chi_check.specs.Definitions.{means, with_definition, result_of, exit_
 use Rattle.chi_program_laws.proofs.Constants.{ConstantIs}
 use Rattle.chi_program_laws.proofs.Definitions.{meant_as}
 use Rattle.chi_program_laws.proofs.Entries.{Entries, entries_with}
-use Rattle.chi_program_laws.proofs.Fitting.{slots_begin, ProcessFits, FitsOne, Fits, RunsOne, Runs}
-use Rattle.chi_program_laws.proofs.Grown.{More}
+use Rattle.chi_program_laws.proofs.Fitting.{More, slots_begin, ProcessFits, FitsOne, Fits, RunsOne, Runs}
 use Rattle.chi_program_laws.proofs.Positions.{length_join, get_seam, get_counted}
 use Rattle.chi_program_laws.proofs.Shaped.{Fine, HasShape}
 use Rattle.chi_program_laws.proofs.Signatures.{SoundTypes, HeaderSound, HeadersSound}
@@ -81,20 +80,6 @@ module _ (scope : Scope) (set : Set) (reads : (number : ℕ) → IsTrue (may_rea
   seen_stands (known.Var slot t) h = absurd h
   seen_stands (known.Fixed slot t) h = absurd h
   seen_stands (known.Untyped k) h = absurd h
-
-pub seen_fine : (core : Core) (k : Known) → Seen core k → Fine k
-seen_fine core (known.Kind t) h = h.1
-seen_fine core (known.Value enumeration position) h = tt
-seen_fine core (known.Const number t) h = tt
-seen_fine core (known.Func number params result) h = tt
-seen_fine core (known.Proc number params exit) h = tt
-seen_fine core (known.Model number) h = tt
-seen_fine core (known.Xper number) h = tt
-seen_fine core (known.Var slot t) h = absurd h
-seen_fine core (known.Fixed slot t) h = absurd h
-seen_fine core (known.Untyped k) h = absurd h
-
--- ---- the parameters of a body are its first slots
 
 pub kinds_first : (params others : List Ty) → take (length params) (kinds_of (params ++ others)) ≡ kinds_of params
 kinds_first [] others = refl
@@ -191,7 +176,7 @@ module _ (core : Core) (funcs : List FuncDef) (procs : List ProcDef) (calls runs
   headed_before all names (definition.Func place tree name formals steps) None s fs x more ps y rest fits runs sound n e f b = absurd sound
   headed_before all names (definition.Func place tree name formals steps) (Some h) s fs x more ps y rest fits runs sound n e f b =
       let made = fits.2 in
-      let begin = slots_begin h formals steps names fits.0.body fits.0.slots made.params made.body sound.counted made.types in
+      let begin = slots_begin h formals steps names fits.0.body fits.0.slots made.params made.whole made.body sound.counted made.types in
       let there = function_there fs more fits.0 made.params (subst (λ x. funcs ≡ fs ++ (x ++ more)) (sym fits.1) e) made.arity begin (sound_result h.home fits.0.result made.result sound.home) in (
         one_after s.functions fs x fits.0 b.0 fits.1,
         b.1 ∙ none_after ps y runs,

@@ -1,16 +1,14 @@
--- Private to proofs. What the checker makes of a program is sound, where bodies are.
-use Rattle.std.proofs.Common.{ℕ, zero, suc, ◌≡◌, ◌+◌, Bool, List, [], ◌∷◌, ◌++◌, map, length, take, Option, Some, None, refl, sym, ap, subst, ◌∙◌, arith, append_assoc}
+-- Private to proofs. What the checker makes of a program is sound.
+use Rattle.std.proofs.Common.{ℕ, zero, suc, ◌≡◌, ◌+◌, List, [], ◌∷◌, ◌++◌, map, length, take, Option, Some, None, refl, sym, ap, subst, ◌∙◌, arith, append_assoc}
 use Rattle.std.specs.Prelude.{slice_get, IsTrue}
 use Rattle.chi_token.specs.declared.place.Place.{Place}
 use Rattle.chi_tree.specs.declared.definition.Definition.{Definition}
 use Rattle.chi_tree.specs.declared.definition.Definition.TheVariants as definition
 use Rattle.chi_tree.specs.declared.definition.Program.{Program}
-use Rattle.chi_tree.specs.declared.statement.Step.{Step}
 use Rattle.chi_core.specs.declared.program.ConstDef.{ConstDef}
 use Rattle.chi_core.specs.declared.program.Core.{Core}
 use Rattle.chi_core.specs.declared.program.FuncDef.{FuncDef}
 use Rattle.chi_core.specs.declared.program.ProcDef.{ProcDef}
-use Rattle.chi_core.specs.declared.statement.CStat.{CStat}
 use Rattle.chi_core.specs.Kinds.{Every}
 use Rattle.chi_core.specs.Sound.{Sound, SoundConstant, SoundFunction, SoundProcess, SoundEnumeration}
 use Rattle.chi_core.specs.SoundTypes.{SoundType, choice}
@@ -27,7 +25,8 @@ use Rattle.chi_check.specs.Stated.{Stated, in_turn}
 use Rattle.chi_check.specs.Headers.{header_in}
 use Rattle.chi_check.specs.Definitions.{sketching, early_defined, with_all_late, with_all_headed, functions_of, processes_of}
 use Rattle.chi_check.specs.Programs.{no_names, first_early, first_named, header_faults, first_model, model_rule, core, core_of, definitions_checked, checked}
-use Rattle.chi_program_laws.specs.Bodies.{BodiesAreSound, EachBodyPasses, BodiesPass, TextsAreShort}
+use Rattle.chi_check_laws.specs.Texts.{body_texts}
+use Rattle.chi_program_laws.specs.Bodies.{EachIsWhole, BodiesAreWhole, TextsAreShort}
 use Rattle.chi_program_laws.specs.Spelled.{EachSpelled, NamesAreNames}
 use Rattle.chi_program_laws.proofs.Constants.{EarlyStands, ConstantAt, ConstantsFrom, Next, constants_next}
 use Rattle.chi_program_laws.proofs.Definitions.{all_early_keep, all_late_continue, all_late_entries}
@@ -192,8 +191,6 @@ processes_at ds = in_turn (processes_of ds (given_of ds)) (functions_at ds).next
 record Unbroken (ds : List Definition) : Type 0 where
   pub sketch : (sketch_of ds).faults ≡ []
   pub early : (early_of ds).faults ≡ []
-  pub functions : (functions_at ds).faults ≡ []
-  pub processes : (processes_at ds).faults ≡ []
 
 unbroken : (ds : List Definition) (last : Place) → (definitions_checked ds last).faults ≡ [] → Unbroken ds
 unbroken ds last e =
@@ -209,13 +206,11 @@ unbroken ds last e =
     record {
       sketch = left_nil (sketch_of ds).faults (early_of ds).faults e1;
       early = right_nil (sketch_of ds).faults (early_of ds).faults e1;
-      functions = right_nil f2 (functions_at ds).faults e3;
-      processes = right_nil f3 (processes_at ds).faults e4;
     }
 
 -- ---- programs
 
-module _ (test : List Step → Bool) (short : List CStat → Bool) (bodies : BodiesAreSound test short) (ds : List Definition) (spelled : EachSpelled ds) (passes : EachBodyPasses test ds) (u : Unbroken ds)
+module _ (ds : List Definition) (spelled : EachSpelled ds) (wholes : EachIsWhole ds) (u : Unbroken ds)
     (kinds : Kinds) (cs : List ConstDef) (fs : List FuncDef) (ps : List ProcDef) (m : ℕ) (named_kinds : (sketch_of ds).made ≡ Some kinds) (made_consts : (early_of ds).made ≡ Some cs)
     (made_functions : (functions_at ds).made ≡ Some fs) (made_processes : (processes_at ds).made ≡ Some ps) (found_model : first_model 0 ds ≡ Some m)
     (whole : Core) (s : Streamed (core kinds cs fs ps m) whole) where
@@ -242,10 +237,10 @@ module _ (test : List Step → Bool) (short : List CStat → Bool) (bodies : Bod
       (entries_so (EarlyStands whole (length cs)) (StandsForSound n) (early_types whole (length cs)) (early_of ds).next.names next.visible)) ds
 
   fits : Fits (named_of ds) ds (given_of ds) fs
-  fits = functions_fit ds (given_of ds) (named_of ds) fs u.functions made_functions
+  fits = functions_fit ds (given_of ds) (named_of ds) fs wholes made_functions
 
   runs : Runs (named_of ds) ds (given_of ds) ps
-  runs = subst (λ names. Runs names ds (given_of ds) ps) (functions_stay ds (given_of ds) (named_of ds)) (processes_run ds (given_of ds) (functions_at ds).next ps u.processes made_processes)
+  runs = subst (λ names. Runs names ds (given_of ds) ps) (functions_stay ds (given_of ds) (named_of ds) wholes) (processes_run ds (given_of ds) (functions_at ds).next ps wholes made_processes)
 
   before : Entries (Seen whole) (take (length (early_of ds).next.names) (late_of ds))
   before = subst (Entries (Seen whole)) (sym (first_again (early_of ds).next.names (late_of ds) (all_late_continue (sketch_of ds).next.all (early_of ds).next.names ds)))
@@ -260,26 +255,26 @@ module _ (test : List Step → Bool) (short : List CStat → Bool) (bodies : Bod
       let found = get_counted of_process ps s.runs m model.0 model.1 in
       ((of_process model.0 found.0).part, ap (λ ps. slice_get ps whole.model) s.procs ∙ ap (slice_get (each (map of_process ps) s.runs).part) s.model ∙ found.1)
 
-  sound_by_parts : TextsAreShort short (core kinds cs fs ps m) → Sound whole
+  sound_by_parts : TextsAreShort (core kinds cs fs ps m) → Sound whole
   sound_by_parts texts =
-      let short_functions = every_each (λ f. IsTrue (short f.body)) fs texts.functions in
-      let short_processes = every_each (λ d. IsTrue (short d.body)) ps texts.processes in
+      let short_functions = every_each (λ f. IsTrue (body_texts f.body)) fs texts.functions in
+      let short_processes = every_each (λ d. IsTrue (body_texts d.body)) ps texts.processes in
       record {
         enumerations = subst (Every SoundEnumeration) (sym s.kinds) (each_every SoundEnumeration kinds (enumerations_sound ds kinds no_names spelled named_kinds));
         constants = constant_sound whole cs next.sound texts.constants s.consts;
-        functions = functions_stand whole fs s.calls s.funcs (each_every (λ f. (count : ℕ) → SoundFunction whole (of_function f count).part) fs (functions_sound test short bodies whole (named_of ds) seen ds (given_of ds) fs spelled passes heads fits short_functions));
-        processes = processes_stand whole ps s.runs s.procs (each_every (λ d. (count : ℕ) → SoundProcess whole (of_process d count).part) ps (processes_sound test short bodies whole (named_of ds) seen ds (given_of ds) ps spelled passes heads runs short_processes));
+        functions = functions_stand whole fs s.calls s.funcs (each_every (λ f. (count : ℕ) → SoundFunction whole (of_function f count).part) fs (functions_sound whole (named_of ds) seen ds (given_of ds) fs spelled heads fits short_functions));
+        processes = processes_stand whole ps s.runs s.procs (each_every (λ d. (count : ℕ) → SoundProcess whole (of_process d count).part) ps (processes_sound whole (named_of ds) seen ds (given_of ds) ps spelled heads runs short_processes));
         model = model_is;
       }
 
-pub definitions_sound : (test : List Step → Bool) (short : List CStat → Bool) (ds : List Definition) (last : Place) (c : Core) → BodiesAreSound test short → EachSpelled ds → EachBodyPasses test ds → (definitions_checked ds last).faults ≡ []
-    → (definitions_checked ds last).made ≡ Some c → TextsAreShort short c → Sound (with_streams c)
-definitions_sound test short ds last c bodies spelled passes e made texts =
+pub definitions_sound : (ds : List Definition) (last : Place) (c : Core) → EachSpelled ds → EachIsWhole ds → (definitions_checked ds last).faults ≡ []
+    → (definitions_checked ds last).made ≡ Some c → TextsAreShort c → Sound (with_streams c)
+definitions_sound ds last c spelled wholes e made texts =
     let p = core_parts (sketch_of ds).made (early_of ds).made (functions_at ds).made (processes_at ds).made (first_model 0 ds) c made in
     subst (λ c. Sound (with_streams c)) p.10
-    (sound_by_parts test short bodies ds spelled passes (unbroken ds last e) p.0 p.1 p.2 p.3 p.4 p.5 p.6 p.7 p.8 p.9 (with_streams (core p.0 p.1 p.2 p.3 p.4)) (streamed (core p.0 p.1 p.2 p.3 p.4)) (subst (TextsAreShort short) (sym p.10) texts))
+    (sound_by_parts ds spelled wholes (unbroken ds last e) p.0 p.1 p.2 p.3 p.4 p.5 p.6 p.7 p.8 p.9 (with_streams (core p.0 p.1 p.2 p.3 p.4)) (streamed (core p.0 p.1 p.2 p.3 p.4)) (subst TextsAreShort (sym p.10) texts))
 
-pub program_sound : (test : List Step → Bool) (short : List CStat → Bool) (tree : Program) (c : Core) → BodiesAreSound test short → NamesAreNames tree → BodiesPass test tree → (checked tree).faults ≡ [] → (checked tree).made ≡ Some c
-    → TextsAreShort short c → Sound (with_streams c)
+pub program_sound : (tree : Program) (c : Core) → NamesAreNames tree → BodiesAreWhole tree → (checked tree).faults ≡ [] → (checked tree).made ≡ Some c
+    → TextsAreShort c → Sound (with_streams c)
 unfolding checked
-program_sound test short tree c bodies spelled passes e made texts = definitions_sound test short (map (λ item. item.definition) tree.items) tree.last c bodies spelled passes e made texts
+program_sound tree c spelled wholes e made texts = definitions_sound (map (λ item. item.definition) tree.items) tree.last c spelled wholes e made texts

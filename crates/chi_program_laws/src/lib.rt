@@ -3,4 +3,4 @@
 
 mod laws;
 
-pub use laws::{unbroken_programs_are_sound, unbroken_programs_come_to_cores};
+pub use laws::{programs_are_sound, unbroken_programs_come_to_cores};

@@ -21,14 +21,14 @@ use Rattle.chi_trace.proofs.Cuts.{and_both, both_and}
 use Rattle.chi_trace.proofs.Numbers.{digits-decimal}
 
 -- bytes that pass a test which a line feed fails
-other_byte : (test : ℕ → Bool) → test 10 ≡ false → (c : ℕ) → test c ≡ true → not (c == 10) ≡ true
+pub other_byte : (test : ℕ → Bool) → test 10 ≡ false → (c : ℕ) → test c ≡ true → not (c == 10) ≡ true
 other_byte test fails c passes = by (c == 10) refl
   where
     by : (b : Bool) → (c == 10) ≡ b → not (c == 10) ≡ true
     by false q = rw q refl
     by true q = let same : c ≡ 10 = eqb-true c 10 q in let no : true ≡ false = sym passes ∙ ap test same ∙ fails in absurd (cc)
 
-one_line_of : (test : ℕ → Bool) → test 10 ≡ false → (xs : List ℕ) → list_all test xs ≡ true → OneLine xs
+pub one_line_of : (test : ℕ → Bool) → test 10 ≡ false → (xs : List ℕ) → list_all test xs ≡ true → OneLine xs
 one_line_of test fails [] e = refl
 one_line_of test fails (c ∷ cs) e =
     let both = and_both (test c) (list_all test cs) e in
@@ -40,7 +40,7 @@ one-append (c ∷ cs) ys x y =
     let both = and_both (not (c == 10)) (is_one_line cs) x in
     both_and (not (c == 10)) (is_one_line (cs ++ ys)) both.0 (one-append cs ys both.1 y)
 
-one_digits : (ds : List ℕ) → AreDigits ds → OneLine ds
+pub one_digits : (ds : List ℕ) → AreDigits ds → OneLine ds
 one_digits ds are = one_line_of is_ascii_digit refl ds are
 
 one_decimal : (n : ℕ) → n < 2 ^ 64 → OneLine (decimal n)
@@ -53,7 +53,7 @@ sign_one : (minus : Bool) → OneLine (sign_text minus)
 sign_one true = refl
 sign_one false = refl
 
-point_one : (fraction : List ℕ) → AreDigits fraction → OneLine (point_and fraction)
+pub point_one : (fraction : List ℕ) → AreDigits fraction → OneLine (point_and fraction)
 point_one [] are = refl
 point_one (c ∷ cs) are = one_digits (c ∷ cs) are
 

@@ -1,4 +1,4 @@
-use Rattle.std.proofs.Common.{◌≡◌, sym, ◌∙◌}
+use Rattle.std.proofs.Common.{sym, ◌∙◌}
 use Rattle.chi_check_expr.proofs.CallEquations.{predefined_unknown, name_known, unnamed}
 use Rattle.chi_check_expr.proofs.calls.function_known.Goals as goal
 

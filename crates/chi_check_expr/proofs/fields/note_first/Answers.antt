@@ -1,4 +1,4 @@
-use Rattle.std.proofs.Common.{◌≡◌, [], map, refl, sym, ap, ◌∙◌}
+use Rattle.std.proofs.Common.{[], map, refl, sym, ap, ◌∙◌}
 use Rattle.std.proofs.lemmas.List.{nil_from_length}
 use Rattle.chi_typing.specs.Faults.{first_of}
 use Rattle.chi_typing.proofs.Firsts.{first_of_none}

@@ -1,4 +1,4 @@
-use Rattle.std.proofs.Common.{◌≡◌, ℕ, [], Some, refl, sym, ◌∙◌, ap, arith}
+use Rattle.std.proofs.Common.{[], Some, refl, sym, ◌∙◌, ap, arith}
 use Rattle.std.proofs.lemmas.Result.{IfOk-weaker, on_ok_weaker}
 use Rattle.chi_tree.specs.declared.type_tree.TypeTree.TheVariants as type
 use Rattle.chi_typing.specs.Faults.{first_of}

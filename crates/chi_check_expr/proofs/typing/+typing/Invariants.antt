@@ -1,5 +1,4 @@
-use Rattle.std.proofs.Common.{◌≡◌, drop, map, ◌++◌, Option, None}
-use Rattle.std.specs.Prelude.{option_map}
+use Rattle.std.proofs.Common.{◌≡◌, drop, map, ◌++◌, None}
 use Rattle.chi_typing.specs.Faults.{first_of}
 use Rattle.chi_check_expr.specs.Expressions.{chained, parted}
 use Rattle.chi_check_expr.specs.Reads.{made_of, all_faults, key_made, value_made, entry_faults}

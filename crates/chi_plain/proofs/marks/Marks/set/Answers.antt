@@ -1,4 +1,4 @@
-use Rattle.std.proofs.Common.{◌≡◌, ◌/◌, ◌<◌, length, ap, refl, arith}
+use Rattle.std.proofs.Common.{◌/◌, ◌<◌, length, ap, refl, arith}
 use Rattle.chi_plain.specs.declared.block.TheConstants.{BLOCK}
 use Rattle.chi_plain.proofs.Marking.{block-few, block-has, count-has, counted-set}
 use Rattle.chi_plain.proofs.marks.Marks.set.Goals as goal
