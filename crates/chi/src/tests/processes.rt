@@ -84,13 +84,19 @@ fn policies_pick_among_alternatives(rt: HostRuntime) -> Result<(), Fail> {
     let source =
         "proc R(chan? int a): int x; select a?x: writeln(\"got\") alt delay 2.0: writeln(\"late\") end end \
          proc S(chan! int a): delay 2.0; a!1 end model M(): chan int a; run R(a), S(a) end";
-    let rows: [Row; 2] = [
+    let rows: [Row; 3] = [
         (&["sim", "m.chi"], "late\n", "deadlock at time 2.0\n", 11),
         (
             &["sim", "--policy", "last", "m.chi"],
             "got\n",
             "completed at time 2.0\n",
             0,
+        ),
+        (
+            &["sim", "--policy", "spread", "m.chi"],
+            "late\n",
+            "deadlock at time 2.0\n",
+            11,
         ),
     ];
     expect_words(&rt, rt.alloc(), source, &rows)

@@ -1,6 +1,6 @@
 //! What words ask for: commands, options and arguments.
 
-use crate::tests::{DONE, Row, WORKS, expect_words};
+use crate::tests::{DONE, Row, WORKS, Wanted, expect, expect_words, written};
 use std::test::Fail;
 
 const USAGE: &str = "usage: chi COMMAND [OPTIONS] FILE [ARGS]\n";
@@ -72,7 +72,7 @@ fn a_run_stops_at_its_bound(rt: HostRuntime) -> Result<(), Fail> {
 fn a_policy_picks(rt: HostRuntime) -> Result<(), Fail> {
     let source = "proc S(chan! int a; int n): a!n end \
          proc R(chan? int a): int x; a?x; writeln(\"%d\", x); a?x; writeln(\"%d\", x) end \
-         model M(): chan int a; start S(a, 1), S(a, 2), R(a) end";
+         model M(): chan int a; run S(a, 1), S(a, 2), R(a) end";
     let rows: [Row; 5] = [
         (&["sim", "m.chi"], "1\n2\n", DONE, 0),
         (&["sim", "--policy", "first", "m.chi"], "1\n2\n", DONE, 0),
@@ -190,4 +190,88 @@ fn a_log_has_a_line_that_does_not_fit(rt: HostRuntime) -> Result<(), Fail> {
         expect_words(&rt, rt.alloc(), text, &rows)?;
     }
     Ok(())
+}
+
+#[test]
+fn a_loop_without_time_is_out_of_steps(rt: HostRuntime) -> Result<(), Fail> {
+    let rows: [Row; 1] = [(
+        &["sim", "--steps", "50", "m.chi"],
+        "",
+        "out of steps at time 0.0\n",
+        13,
+    )];
+    let source = "model M(): while true: delay 0.0 end end";
+    expect_words(&rt, rt.alloc(), source, &rows)
+}
+
+#[test]
+fn what_comes_first_ends_the_run(rt: HostRuntime) -> Result<(), Fail> {
+    let out = "0.0\n2.0\n4.0\n";
+    let rows: [Row; 4] = [
+        (
+            &["sim", "--until", "5.0", "m.chi"],
+            out,
+            "stopped at time 5.0\n",
+            14,
+        ),
+        (
+            &["sim", "--until", "4.0", "m.chi"],
+            out,
+            "stopped at time 4.0\n",
+            14,
+        ),
+        (
+            &["sim", "--until", "5.0", "--steps", "13", "m.chi"],
+            out,
+            "stopped at time 5.0\n",
+            14,
+        ),
+        (
+            &["sim", "--until", "5.0", "--steps", "12", "m.chi"],
+            out,
+            "out of steps at time 4.0\n",
+            13,
+        ),
+    ];
+    let source = "model M(): while true: writeln(\"%s\", time); delay 2.0 end end";
+    expect_words(&rt, rt.alloc(), source, &rows)?;
+    let rows: [Row; 1] = [(
+        &["sim", "--until", "5.0", "m.chi"],
+        "",
+        "deadlock at time 0.0\n",
+        11,
+    )];
+    let source = "proc S(chan! int a): a!1 end model M(): chan int a; run S(a) end";
+    expect_words(&rt, rt.alloc(), source, &rows)
+}
+
+#[test]
+fn a_check_asks_for_no_arguments_and_evaluates_nothing(rt: HostRuntime) -> Result<(), Fail> {
+    let rows: [Row; 1] = [(&["check", "m.chi"], "", "accepted\n", 0)];
+    expect_words(&rt, rt.alloc(), "model M(list int xs): pass end", &rows)?;
+    let source = "const int n = 1 div 0; model M(): pass end";
+    expect_words(&rt, rt.alloc(), source, &rows)
+}
+
+#[test]
+fn arguments_may_be_truths_and_strings(rt: HostRuntime) -> Result<(), Fail> {
+    let rows: [Row; 3] = [
+        (&["sim", "m.chi", "true", "a b"], "false [a b]\n", DONE, 0),
+        (&["sim", "m.chi", "false", ""], "true []\n", DONE, 0),
+        (&["sim", "m.chi", "yes", "a"], "", "argument 1: text\n", 23),
+    ];
+    let source = "model M(bool b; string s): writeln(\"%s [%s]\", not b, s) end";
+    expect_words(&rt, rt.alloc(), source, &rows)
+}
+
+#[test]
+fn a_log_may_be_longer_than_a_source(rt: HostRuntime) -> Result<(), Fail> {
+    let text = written(rt.alloc(), &[(" ", 1_048_577)])?;
+    let wanted = Wanted {
+        out: "",
+        log: "line 1: trace form\n",
+        status: 24,
+    };
+    let words = ["trace-up", "m.chi"];
+    expect(&rt, rt.alloc(), &words, &text, "a long log", wanted)
 }
