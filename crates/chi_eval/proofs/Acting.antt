@@ -16,9 +16,10 @@ use Rattle.chi_core.specs.Reading.{truth_of, elements_of}
 use Rattle.chi_core.specs.Variables.{Variables, with_slot, bound}
 use Rattle.chi_core.specs.Evaluation.{Evaluates, on_truth}
 use Rattle.chi_core.specs.Terms.{Term, Did, On, Do, Loop, Walk, act_stat, tested, chosen, assigned, on_with, after_loop, from_loop, first_the}
-use Rattle.chi_eval.specs.Heads.{IsWalk, walk_done}
-use Rattle.chi_eval.specs.Terms.{act_first, first_of}
-use Rattle.chi_eval.proofs.Stopping.{then_there, next_there}
+use Rattle.chi_frame.specs.Heads.{IsWalk, walk_done}
+use Rattle.chi_frame.specs.Terms.{first_of}
+use Rattle.chi_eval.specs.Terms.{act_first}
+use Rattle.chi_frame.proofs.Stopping.{then_there, next_there}
 
 giving_there : {A B : Type 0} (f : A → B) (it : Answer A) → giving f it ≢ Amiss → it ≢ Amiss
 giving_there f it h e = h (ap (giving f) e)

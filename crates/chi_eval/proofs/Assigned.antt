@@ -9,10 +9,10 @@ use Rattle.chi_core.specs.Evaluation.{Evaluates}
 use Rattle.chi_core.specs.Spots.{Spot, spot_of, store}
 use Rattle.chi_core.specs.Terms.{Term, Did, On, assigned, on_with, stores_of}
 use Rattle.chi_core.specs.Variables.{Variables}
-use Rattle.chi_eval.specs.declared.stop.Stop.{Stop}
-use Rattle.chi_eval.specs.Assignments.{all_stored}
-use Rattle.chi_eval.specs.Stops.{Stops}
-use Rattle.chi_eval.proofs.Stopping.{then_stops, then_there, giving_stops}
+use Rattle.chi_frame.specs.declared.stop.Stop.{Stop}
+use Rattle.chi_frame.specs.Assignments.{all_stored}
+use Rattle.chi_frame.specs.Stops.{Stops}
+use Rattle.chi_frame.proofs.Stopping.{then_stops, then_there, giving_stops}
 
 module _ (m : Evaluates) (variables : Variables) (targets : List CTarget) (es : List CExpr) (rest : Term) (view : View) where
   last : List Value → List Spot → Does Did

@@ -10,9 +10,9 @@ use Rattle.chi_core.specs.Reading.{truth_of}
 use Rattle.chi_core.specs.Variables.{Variables}
 use Rattle.chi_core.specs.Evaluation.{Evaluates, on_truth}
 use Rattle.chi_core.specs.Terms.{Term, Did, On, chosen, first_the}
-use Rattle.chi_eval.specs.declared.stop.Stop.{Stop}
-use Rattle.chi_eval.specs.Stops.{Stops}
-use Rattle.chi_eval.proofs.Stopping.{then_stops, then_there}
+use Rattle.chi_frame.specs.declared.stop.Stop.{Stop}
+use Rattle.chi_frame.specs.Stops.{Stops}
+use Rattle.chi_frame.proofs.Stopping.{then_stops, then_there}
 
 module _ (m : Evaluates) (variables : Variables) (all : List Branch) (otherwise : List CStat) (rest : Term) (view : View) (i : ℕ) where
   at_end : length all ≤ i → chosen m variables (drop i all) otherwise rest view ≡ Gives (On variables (first_the otherwise rest)) view

@@ -13,10 +13,10 @@ use Rattle.chi_core.specs.Evaluation.{Run, eval, inserted, on_truth, place_befor
 use Rattle.chi_core.specs.Reading.{truth_of, elements_in, elements_of}
 use Rattle.chi_core.specs.Variables.{Variables}
 use Rattle.chi_core.proofs.Equations.{eval_insert}
-use Rattle.chi_eval.specs.declared.stop.Stop.{Stop}
+use Rattle.chi_frame.specs.declared.stop.Stop.{Stop}
 use Rattle.chi_eval.specs.Calls.{before_by}
-use Rattle.chi_eval.specs.Stops.{Stops}
-use Rattle.chi_eval.proofs.Stopping.{then_stops, then_there, giving_stops}
+use Rattle.chi_frame.specs.Stops.{Stops}
+use Rattle.chi_frame.proofs.Stopping.{then_stops, then_there, giving_stops}
 
 -- the list, and where the element goes
 module _ (run : Run) (k : ℕ) (xs x : Value) (view : View) where

@@ -1,17 +1,11 @@
 pub mod Acting
 pub mod Assigned
-pub mod Binding
 pub mod Choosing
 pub mod Insertions
 pub mod Operating
 pub mod Repeating
-pub mod Slots
 pub mod Spans
 pub mod Spotting
-pub mod Spreading
 pub mod Standing
 pub mod Stepped
-pub mod Stopping
-pub mod Storing
-pub mod Tasks
 pub mod Turns

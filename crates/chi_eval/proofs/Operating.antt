@@ -5,9 +5,9 @@ use Rattle.chi_core.specs.declared.expression.CExpr.{CExpr}
 use Rattle.chi_core.specs.declared.view.View.{View}
 use Rattle.chi_core.specs.Answer.{Answer, Does, Gives, Fails, Spent, Amiss, then_do, in_turn}
 use Rattle.chi_core.specs.Evaluation.{Evaluates}
-use Rattle.chi_eval.specs.declared.stop.Stop.{Stop}
-use Rattle.chi_eval.specs.Stops.{Stops}
-use Rattle.chi_eval.proofs.Stopping.{then_stops, then_there, next_there}
+use Rattle.chi_frame.specs.declared.stop.Stop.{Stop}
+use Rattle.chi_frame.specs.Stops.{Stops}
+use Rattle.chi_frame.proofs.Stopping.{then_stops, then_there, next_there}
 
 only_one : (parts : List CExpr) (a : CExpr) → length parts ≡ 1 → a ≡ get_or parts 0 a → parts ≡ a ∷ []
 only_one [] a n at = absurd (omega arith)

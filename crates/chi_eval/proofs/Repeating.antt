@@ -14,9 +14,9 @@ use Rattle.chi_core.specs.Evaluation.{Run, eval, repeated}
 use Rattle.chi_core.specs.Reading.{int_of, int_in}
 use Rattle.chi_core.specs.Variables.{Variables}
 use Rattle.chi_core.proofs.Equations.{eval_repeat}
-use Rattle.chi_eval.specs.declared.stop.Stop.{Stop}
-use Rattle.chi_eval.specs.Stops.{Stops}
-use Rattle.chi_eval.proofs.Stopping.{then_stops, then_there, giving_stops}
+use Rattle.chi_frame.specs.declared.stop.Stop.{Stop}
+use Rattle.chi_frame.specs.Stops.{Stops}
+use Rattle.chi_frame.proofs.Stopping.{then_stops, then_there, giving_stops}
 
 -- one more
 module _ (each : Does Value) (values : List Value) (n k : ℕ) (view : View) (h : k < n) where

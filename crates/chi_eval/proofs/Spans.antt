@@ -19,7 +19,8 @@ use Rattle.chi_core.specs.Spots.{spot_of, store}
 use Rattle.chi_core.specs.Variables.{Variables, with_slot, bound}
 use Rattle.chi_core.specs.Evaluation.{Evaluates, on_truth}
 use Rattle.chi_core.specs.Terms.{Item, Term, Do, Loop, Walk, Did, On, Returns, act_stat, tested, chosen, walked, on_with, goes_on, first_the, after_loop, from_loop, stores_of}
-use Rattle.chi_eval.specs.Terms.{act_first, first_of}
+use Rattle.chi_frame.specs.Terms.{first_of}
+use Rattle.chi_eval.specs.Terms.{act_first}
 use Rattle.chi_eval.specs.Spans.{itself, span, branch_span, span_step, alt_span_step, branch_span_step, target_span, item_span, body_span, reach}
 
 most_map : {A : Type 0} (f : A → ℕ) (xs : List A) → most itself (map f xs) ≡ most f xs

@@ -13,11 +13,11 @@ use Rattle.chi_core.specs.declared.view.View.{View}
 use Rattle.chi_core.specs.Answer.{Answer, Does, Gives, Amiss, then_do, giving, in_turn, gathered}
 use Rattle.chi_core.specs.Evaluation.{Evaluates}
 use Rattle.chi_core.specs.Spots.{step_at, spot_of}
-use Rattle.chi_eval.specs.declared.spots.Spot.{Spot}
-use Rattle.chi_eval.specs.declared.stop.Stop.{Stop}
-use Rattle.chi_eval.specs.Spots.{spot_in}
-use Rattle.chi_eval.specs.Stops.{Stops}
-use Rattle.chi_eval.proofs.Stopping.{then_stops, then_there, giving_stops}
+use Rattle.chi_frame.specs.declared.spots.Spot.{Spot}
+use Rattle.chi_frame.specs.declared.stop.Stop.{Stop}
+use Rattle.chi_frame.specs.Spots.{spot_in}
+use Rattle.chi_frame.specs.Stops.{Stops}
+use Rattle.chi_frame.proofs.Stopping.{then_stops, then_there, giving_stops}
 
 module _ (m : Evaluates) (x : CStep) (view : View) where
   pub index_there : (e : CExpr) → x ≡ step.Index e → step_at m x view ≢ Amiss → m e view ≢ Amiss

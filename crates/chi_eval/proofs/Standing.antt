@@ -20,7 +20,7 @@ use Rattle.chi_core.specs.Operators.{applied}
 use Rattle.chi_core.specs.Evaluation.{Run, eval, on_truth}
 use Rattle.chi_core.proofs.Equations.{eval_var, eval_const, eval_op, eval_and, eval_or, eval_build, eval_part}
 use Rattle.chi_operate.proofs.Parts.{at_place}
-use Rattle.chi_eval.proofs.Stopping.{then_there, next_there}
+use Rattle.chi_frame.proofs.Stopping.{then_there, next_there}
 
 pub wanted_there : {A : Type 0} (o : Option A) (view : View) → wanted o view ≢ Amiss → o ≢ None
 wanted_there o view h e = h (ap (λ o. wanted o view) e)

@@ -17,9 +17,9 @@ use Rattle.chi_core.specs.Evaluation.{Evaluates}
 use Rattle.chi_core.specs.Reading.{part_of}
 use Rattle.chi_core.specs.Spots.{element_by, read_step, read_at}
 use Rattle.chi_core.specs.Variables.{Variables, value_at}
-use Rattle.chi_eval.specs.declared.stop.Stop.{Stop}
-use Rattle.chi_eval.specs.Stops.{Stops}
-use Rattle.chi_eval.proofs.Stopping.{then_stops, then_there, next_there}
+use Rattle.chi_frame.specs.declared.stop.Stop.{Stop}
+use Rattle.chi_frame.specs.Stops.{Stops}
+use Rattle.chi_frame.proofs.Stopping.{then_stops, then_there, next_there}
 
 dictionary_in : Value-F Value → Bool
 dictionary_in (Value-F.DictOf items) = true

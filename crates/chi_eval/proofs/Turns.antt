@@ -14,13 +14,14 @@ use Rattle.chi_core.specs.Functions.{exec, run_at, callee, did_then}
 use Rattle.chi_core.proofs.Bodies.{run_none, run_lost, run_found, exec_none, exec_over, exec_spent, exec_turn}
 use Rattle.chi_eval.specs.declared.calls.Calls.{Calls}
 use Rattle.chi_eval.specs.declared.calls.Calls.TheVariants.{Never, Within}
-use Rattle.chi_eval.specs.declared.stop.Stop.{Stop}
+use Rattle.chi_frame.specs.declared.stop.Stop.{Stop}
 use Rattle.chi_eval.specs.declared.surroundings.Surroundings.{Surroundings}
 use Rattle.chi_eval.specs.Calls.{run_by}
-use Rattle.chi_eval.specs.Stops.{Stops}
+use Rattle.chi_frame.specs.Stops.{Stops}
 use Rattle.chi_eval.specs.Surroundings.{scene_in}
-use Rattle.chi_eval.specs.Terms.{act_first, first_of, came_to}
-use Rattle.chi_eval.proofs.Stopping.{then_stops, then_there}
+use Rattle.chi_frame.specs.Terms.{first_of}
+use Rattle.chi_eval.specs.Terms.{act_first, came_to}
+use Rattle.chi_frame.proofs.Stopping.{then_stops, then_there}
 
 module _ (calls : Calls) (s : Surroundings) (k : ℕ) (arguments : List Value) (view : View) where
   pub never_called : calls ≡ Never → run_by calls s k arguments view ≢ Amiss → ⊥

@@ -1,9 +1,4 @@
-pub mod Assignments
-pub mod Bindings
 pub mod Calls
-pub mod Heads
 pub mod Spans
-pub mod Spots
-pub mod Stops
 pub mod Surroundings
 pub mod Terms

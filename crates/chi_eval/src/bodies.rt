@@ -5,22 +5,20 @@ ghost use Rattle.chi_core.specs.Answer.{Gives, Amiss};
 ghost use Rattle.chi_core.specs.Functions.{exec};
 ghost use Rattle.chi_core.specs.Terms.{Do};
 ghost use Rattle.chi_eval.specs.Calls.{run_by};
-ghost use Rattle.chi_eval.specs.Stops.{Stops};
+ghost use Rattle.chi_frame.specs.Stops.{Stops};
 ghost use Rattle.chi_eval.specs.Surroundings.{scene_in};
 
 use crate::calls::Calls;
 use crate::items::act;
-use crate::stop::Stop;
 use crate::surroundings::{Surroundings, function};
-use crate::term::Term;
-use crate::variables::Variables;
 use chi_core::{CStat, FaultKind, View};
+use chi_frame::{Stop, Term, Variables};
 use chi_value::Value;
 use std::alloc::Global;
 
 /// A call of a function.
 #[cycle(eval)]
-#[tactic(auto, using(crate::proofs::Stopping::stopping, crate::proofs::Turns::calling))]
+#[tactic(auto, using(chi_frame::proofs::Stopping::stopping, crate::proofs::Turns::calling))]
 pub fn call(
     number: u32,
     arguments: Vec<Value>,
@@ -55,7 +53,7 @@ pub fn call(
 
 /// A function's body, item by item.
 #[cycle(eval)]
-#[tactic(auto, using(crate::proofs::Stopping::stopping, crate::proofs::Turns::turns))]
+#[tactic(auto, using(chi_frame::proofs::Stopping::stopping, crate::proofs::Turns::turns))]
 fn run_body(
     body: &[CStat],
     alloc: Global,

@@ -4,8 +4,8 @@
 ghost use Rattle.std.specs.Prelude.{◌≡◌, ◌≢◌, map, Err, IfOk, IfErr};
 ghost use Rattle.chi_core.specs.Answer.{Gives, Amiss, in_turn};
 ghost use Rattle.chi_core.specs.Spots.{spot_of};
-ghost use Rattle.chi_eval.specs.Spots.{spot_in};
-ghost use Rattle.chi_eval.specs.Stops.{Stops};
+ghost use Rattle.chi_frame.specs.Spots.{spot_in};
+ghost use Rattle.chi_frame.specs.Stops.{Stops};
 ghost use Rattle.chi_eval.specs.Surroundings.{value_in, constant_in};
 ghost use Rattle.chi_eval.specs.Terms.{act_first, came_to};
 
@@ -13,12 +13,9 @@ use crate::calls::{CALLS, Calls};
 use crate::expressions::{eval, eval_all};
 use crate::items;
 use crate::places::path_of;
-use crate::spots::Spot;
-use crate::stop::Stop;
 use crate::surroundings::Surroundings;
-use crate::term::Term;
-use crate::variables::Variables;
 use chi_core::{CExpr, CTarget, View};
+use chi_frame::{Spot, Stop, Term, Variables};
 use chi_value::Value;
 use std::alloc::Global;
 
@@ -71,7 +68,7 @@ pub fn constant_value(
 }
 
 /// The spot of a target: its indexes are evaluated from left to right.
-#[tactic(auto, using(crate::proofs::Spotting::places, crate::proofs::Stopping::stopping), unfolding(crate::specs::Calls::run_by))]
+#[tactic(auto, using(crate::proofs::Spotting::places, chi_frame::proofs::Stopping::stopping), unfolding(crate::specs::Calls::run_by))]
 pub fn spot_of(
     alloc: Global,
     surroundings: &Surroundings<'_>,

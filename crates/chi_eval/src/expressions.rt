@@ -4,24 +4,22 @@ ghost use Rattle.std.specs.Prelude.{◌≡◌, ◌≢◌, IfOk, IfErr, map};
 ghost use Rattle.chi_core.specs.Answer.{Gives, Amiss, in_turn, then_do, times};
 ghost use Rattle.chi_core.specs.Operators.{applied};
 ghost use Rattle.chi_eval.specs.Calls.{meaning};
-ghost use Rattle.chi_eval.specs.Stops.{Stops};
+ghost use Rattle.chi_frame.specs.Stops.{Stops};
 ghost use Rattle.chi_eval.specs.Surroundings.{scene_in};
 
 use crate::bodies::call;
 use crate::calls::Calls;
 use crate::inserting::insert_by;
-use crate::scalars::copied;
-use crate::stop::Stop;
 use crate::surroundings::{Surroundings, constant, scenery};
-use crate::variables::Variables;
 use chi_core::{CExpr, FaultKind, OpName, View};
+use chi_frame::{Stop, Variables, copied};
 use chi_operate::{apply, fresh, made_of, of_one, of_two, part_in, times_in, truth_in};
 use chi_value::{Items, Value};
 use std::alloc::Global;
 
 /// The value of an expression.
 #[cycle(eval)]
-#[tactic(auto, using(crate::proofs::Stopping::stopping, crate::proofs::Standing::standing, crate::proofs::Repeating::repeats, crate::proofs::Insertions::inserts), unfolding(chi_core::specs::Evaluation::eval))]
+#[tactic(auto, using(chi_frame::proofs::Stopping::stopping, crate::proofs::Standing::standing, crate::proofs::Repeating::repeats, crate::proofs::Insertions::inserts), unfolding(chi_core::specs::Evaluation::eval))]
 pub fn eval(
     e: &CExpr,
     alloc: Global,
@@ -91,7 +89,7 @@ pub fn eval(
 
 /// The values of expressions, from left to right.
 #[cycle(eval)]
-#[tactic(auto, using(crate::proofs::Stopping::stopping))]
+#[tactic(auto, using(chi_frame::proofs::Stopping::stopping))]
 pub fn eval_all(
     parts: &[CExpr],
     alloc: Global,
@@ -114,7 +112,7 @@ pub fn eval_all(
 
 /// What an operator makes of the values of its operands, which are evaluated from left to right.
 #[cycle(eval)]
-#[tactic(auto, using(crate::proofs::Stopping::stopping, crate::proofs::Operating::operating))]
+#[tactic(auto, using(chi_frame::proofs::Stopping::stopping, crate::proofs::Operating::operating))]
 fn operate(
     parts: &[CExpr],
     alloc: Global,
@@ -148,7 +146,7 @@ fn operate(
 
 /// So many values, each evaluated anew.
 #[cycle(eval)]
-#[tactic(auto, using(crate::proofs::Stopping::stopping, crate::proofs::Repeating::repeating))]
+#[tactic(auto, using(chi_frame::proofs::Stopping::stopping, crate::proofs::Repeating::repeating))]
 fn repeat(
     each: &CExpr,
     alloc: Global,

@@ -5,22 +5,21 @@ ghost use Rattle.chi_value.specs.declared.value.Value.{out-Value};
 ghost use Rattle.chi_core.specs.Answer.{Gives, Amiss};
 ghost use Rattle.chi_core.specs.Evaluation.{inserted, place_before};
 ghost use Rattle.chi_eval.specs.Calls.{before_by, run_by};
-ghost use Rattle.chi_eval.specs.Stops.{Stops};
+ghost use Rattle.chi_frame.specs.Stops.{Stops};
 
 use crate::bodies::call;
 use crate::calls::Calls;
-use crate::scalars::copied;
-use crate::stop::Stop;
 use crate::surroundings::Surroundings;
 use chi_base::NoMemory;
 use chi_core::View;
+use chi_frame::{Stop, copied};
 use chi_operate::{inserted_at, items_in, truth_in};
 use chi_value::Value;
 use std::alloc::Global;
 
 /// A list with an element before the first of which a function says that it stands before it.
 #[cycle(eval)]
-#[tactic(auto, using(crate::proofs::Stopping::stopping, crate::proofs::Insertions::inserting))]
+#[tactic(auto, using(chi_frame::proofs::Stopping::stopping, crate::proofs::Insertions::inserting))]
 pub fn insert_by(
     xs: &Value,
     alloc: Global,
@@ -40,7 +39,7 @@ pub fn insert_by(
 
 /// How many elements come before the first of which a function says that x stands before it.
 #[cycle(eval)]
-#[tactic(auto, using(crate::proofs::Stopping::stopping, crate::proofs::Insertions::placing))]
+#[tactic(auto, using(chi_frame::proofs::Stopping::stopping, crate::proofs::Insertions::placing))]
 fn place_before(
     items: &[Value],
     alloc: Global,

@@ -5,25 +5,22 @@ ghost use Rattle.chi_core.specs.Answer.{Gives, Amiss};
 ghost use Rattle.chi_core.specs.Terms.{On, act_stat, assigned, chosen, tested};
 ghost use Rattle.chi_core.specs.declared.statement.CStat.{out-CStat};
 ghost use Rattle.chi_eval.specs.Calls.{meaning};
-ghost use Rattle.chi_eval.specs.Stops.{Stops};
+ghost use Rattle.chi_frame.specs.Stops.{Stops};
 ghost use Rattle.chi_eval.specs.Terms.{act_first, came_to};
 
-use crate::assigning::store_all;
 use crate::calls::Calls;
 use crate::expressions::{eval, eval_all};
 use crate::places::spots_of;
-use crate::stop::Stop;
 use crate::surroundings::Surroundings;
-use crate::term::{Head, Term};
-use crate::variables::Variables;
 use chi_core::{Branch, CExpr, CStat, CTarget, View};
+use chi_frame::{Head, Stop, Term, Variables, store_all};
 use chi_operate::{elements_in, truth_in};
 use chi_value::Value;
 use std::alloc::Global;
 
 /// The first item of a term.
 #[cycle(eval)]
-#[tactic(auto, using(crate::proofs::Stopping::stopping, crate::proofs::Turns::acts, crate::proofs::Acting::walking))]
+#[tactic(auto, using(chi_frame::proofs::Stopping::stopping, crate::proofs::Turns::acts, crate::proofs::Acting::walking))]
 pub fn act<'a>(
     term: &mut Term<'a>,
     alloc: Global,
@@ -53,7 +50,7 @@ pub fn act<'a>(
 
 /// A statement, which stands first.
 #[cycle(eval)]
-#[tactic(auto, using(crate::proofs::Stopping::stopping, crate::proofs::Acting::acting))]
+#[tactic(auto, using(chi_frame::proofs::Stopping::stopping, crate::proofs::Acting::acting))]
 fn act_on<'a>(
     statement: &'a CStat,
     alloc: Global,
@@ -125,7 +122,7 @@ fn act_on<'a>(
 
 /// The test of a loop, whose statement or turn stands first.
 #[cycle(eval)]
-#[tactic(auto, using(crate::proofs::Stopping::stopping, crate::proofs::Acting::testing))]
+#[tactic(auto, using(chi_frame::proofs::Stopping::stopping, crate::proofs::Acting::testing))]
 fn test_loop<'a>(
     test: &'a CExpr,
     alloc: Global,
@@ -155,7 +152,7 @@ fn test_loop<'a>(
 
 /// The branches of an `if`, whose statement stands first.
 #[cycle(eval)]
-#[tactic(auto, using(crate::proofs::Stopping::stopping, crate::proofs::Choosing::choosing))]
+#[tactic(auto, using(chi_frame::proofs::Stopping::stopping, crate::proofs::Choosing::choosing))]
 fn choose<'a>(
     branches: &'a [Branch],
     alloc: Global,
@@ -186,7 +183,7 @@ fn choose<'a>(
 
 /// An assignment, which stands first: the values, then the targets' indexes, then the stores.
 #[cycle(eval)]
-#[tactic(auto, using(crate::proofs::Stopping::stopping, crate::proofs::Assigned::assigning))]
+#[tactic(auto, using(chi_frame::proofs::Stopping::stopping, crate::proofs::Assigned::assigning))]
 fn assign(
     values: &[CExpr],
     alloc: Global,

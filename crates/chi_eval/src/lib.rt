@@ -2,7 +2,6 @@
 //! items of terms that functions and processes share.
 #![tactic(auto)]
 
-mod assigning;
 mod bodies;
 mod calls;
 mod evaluating;
@@ -10,21 +9,12 @@ mod expressions;
 mod inserting;
 mod items;
 mod places;
-mod scalars;
-mod spots;
-mod stop;
 mod surroundings;
 mod targets;
-mod term;
-mod variables;
 
 pub use chi_operate::{
     channel_in, due_in, elements_in, instance_in, int_in, part_in, parts_in, real_in, truth_in,
 };
 pub use evaluating::{act, constant_value, spot_of, value_of, values_of};
-pub use spots::{Spot, store};
-pub use stop::Stop;
 pub use surroundings::Surroundings;
 pub use targets::read_at;
-pub use term::{Task, Term};
-pub use variables::Variables;

@@ -5,16 +5,14 @@ ghost use Rattle.chi_core.specs.Answer.{Gives, Amiss, in_turn};
 ghost use Rattle.chi_core.specs.Spots.{spot_of, step_at};
 ghost use Rattle.chi_ops.specs.Paths.{step_of, steps_of};
 ghost use Rattle.chi_eval.specs.Calls.{meaning};
-ghost use Rattle.chi_eval.specs.Spots.{spot_in};
-ghost use Rattle.chi_eval.specs.Stops.{Stops};
+ghost use Rattle.chi_frame.specs.Spots.{spot_in};
+ghost use Rattle.chi_frame.specs.Stops.{Stops};
 
 use crate::calls::Calls;
 use crate::expressions::eval;
-use crate::spots::Spot;
-use crate::stop::Stop;
 use crate::surroundings::Surroundings;
-use crate::variables::Variables;
 use chi_core::{CStep, CTarget, View};
+use chi_frame::{Spot, Stop, Variables};
 use chi_ops::Path;
 use chi_value::Value;
 use std::alloc::Global;
@@ -22,7 +20,7 @@ use std::alloc::Global;
 /// The way into a variable that the steps of a target name: their indexes are evaluated from left to
 /// right.
 #[cycle(eval)]
-#[tactic(auto, using(crate::proofs::Stopping::stopping, crate::proofs::Spotting::paths))]
+#[tactic(auto, using(chi_frame::proofs::Stopping::stopping, crate::proofs::Spotting::paths))]
 pub fn path_of(
     steps: &[CStep],
     alloc: Global,
@@ -45,7 +43,7 @@ pub fn path_of(
 
 /// A step of a target.
 #[cycle(eval)]
-#[tactic(auto, using(crate::proofs::Stopping::stopping, crate::proofs::Spotting::steps))]
+#[tactic(auto, using(chi_frame::proofs::Stopping::stopping, crate::proofs::Spotting::steps))]
 fn step_on(
     step: &CStep,
     alloc: Global,
@@ -66,7 +64,7 @@ fn step_on(
 
 /// The spots of targets, from left to right.
 #[cycle(eval)]
-#[tactic(auto, using(crate::proofs::Stopping::stopping, crate::proofs::Spotting::places))]
+#[tactic(auto, using(chi_frame::proofs::Stopping::stopping, crate::proofs::Spotting::places))]
 pub fn spots_of(
     targets: &[CTarget],
     alloc: Global,

@@ -5,14 +5,13 @@ ghost use Rattle.chi_value.specs.declared.value.Value.{out-Value};
 ghost use Rattle.chi_ops.specs.Kinds.{is_dictionary};
 ghost use Rattle.chi_core.specs.Answer.{Gives, Amiss, through};
 ghost use Rattle.chi_core.specs.Spots.{element_by, read_step, read_at};
-ghost use Rattle.chi_eval.specs.Stops.{Stops};
+ghost use Rattle.chi_frame.specs.Stops.{Stops};
 ghost use Rattle.chi_eval.specs.Surroundings.{value_in};
 
 use crate::evaluating::value_of;
-use crate::stop::Stop;
 use crate::surroundings::Surroundings;
-use crate::variables::Variables;
 use chi_core::{CStep, CTarget, View};
+use chi_frame::{Stop, Variables};
 use chi_operate::{element_at, looked_up, part_in};
 use chi_value::Value;
 use std::alloc::Global;
@@ -38,7 +37,7 @@ fn is_dictionary(value: &Value) -> bool
 }
 
 /// What a step by a key or an index leads to, as the container decides.
-#[tactic(auto, using(crate::proofs::Stepped::elements, crate::proofs::Stopping::stopping))]
+#[tactic(auto, using(crate::proofs::Stepped::elements, chi_frame::proofs::Stopping::stopping))]
 fn element_by(alloc: Global, value: &Value, key: &Value, view: &View) -> Result<Value, Stop>
     requires { element_by value.now (out-Value value.now) key.now (out-Value key.now) view.now ≢ Amiss }
     ensures value { IfOk result (λ v. element_by value.now (out-Value value.now) key.now (out-Value key.now) view.now ≡ Gives v view.now) }

@@ -3,9 +3,9 @@ use Rattle.std.proofs.Common.{◌≡◌, ◌≢◌, Option, Some, None, sym, ◌
 use Rattle.std.specs.Prelude.{Result, Ok, Err, OnOk, IfOk, IfErr, IfSome}
 use Rattle.chi_core.specs.declared.view.View.{View}
 use Rattle.chi_core.specs.Answer.{Answer, Gives, Amiss, Does, then_do, giving, wanted}
-use Rattle.chi_eval.specs.declared.stop.Stop.{Stop}
-use Rattle.chi_eval.specs.declared.stop.Stop.TheVariants.{Fault, Spent, NoMemory}
-use Rattle.chi_eval.specs.Stops.{Stops}
+use Rattle.chi_frame.specs.declared.stop.Stop.{Stop}
+use Rattle.chi_frame.specs.declared.stop.Stop.TheVariants.{Fault, Spent, NoMemory}
+use Rattle.chi_frame.specs.Stops.{Stops}
 
 -- where two things in turn aren't amiss, neither is
 

@@ -4,8 +4,8 @@ use Rattle.std.specs.Prelude.{map}
 use Rattle.std.proofs.lemmas.List.{drop_more, drop_all}
 use Rattle.chi_core.specs.declared.view.View.{View}
 use Rattle.chi_core.specs.Answer.{Answer, Gives, Amiss, Does, then_do, through}
-use Rattle.chi_eval.specs.declared.stop.Stop.{Stop}
-use Rattle.chi_eval.specs.Stops.{Stops}
+use Rattle.chi_frame.specs.declared.stop.Stop.{Stop}
+use Rattle.chi_frame.specs.Stops.{Stops}
 use Rattle.chi_open.proofs.Going.{then_stops}
 use Rattle.std.proofs.Common.{subst}
 

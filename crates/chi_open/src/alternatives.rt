@@ -5,16 +5,16 @@ ghost use denote.Param.Weighed.{most};
 ghost use Rattle.chi_core.specs.declared.statement.CAlt.{size-CAlt};
 ghost use Rattle.chi_core.specs.Answer.{Amiss, Gives, through};
 ghost use Rattle.chi_core.specs.Opening.{act_of, delayed_by, each_opens, guarded, offered, opened, opens, unwinds, unwound};
-ghost use Rattle.chi_eval.specs.Stops.{Stops};
+ghost use Rattle.chi_frame.specs.Stops.{Stops};
 ghost use Rattle.chi_eval.specs.Surroundings.{value_in};
 ghost use Rattle.chi_open.specs.Drafts.{opening_of};
 
 use crate::opening::Opening;
 use chi_core::{Act, CAlt, CComm, CExpr, CStat, FaultKind, View};
 use chi_eval::{
-    Stop, Surroundings, Variables, channel_in, due_in, elements_in, read_at, real_in, truth_in,
-    value_of,
+    Surroundings, channel_in, due_in, elements_in, read_at, real_in, truth_in, value_of,
 };
+use chi_frame::{Stop, Variables};
 use chi_num::Real;
 use chi_value::Value;
 use std::alloc::Global;

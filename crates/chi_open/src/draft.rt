@@ -2,12 +2,12 @@ ghost use Rattle.std.specs.Prelude.{◌≡◌, ◌≢◌, None, Some, IfErr, IfO
 ghost use Rattle.chi_core.specs.Answer.{Amiss, Gives};
 ghost use Rattle.chi_core.specs.Spots.{store};
 ghost use Rattle.chi_core.specs.Variables.{bound};
-ghost use Rattle.chi_eval.specs.Spots.{spot_in};
-ghost use Rattle.chi_eval.specs.Stops.{Stops};
+ghost use Rattle.chi_frame.specs.Spots.{spot_in};
+ghost use Rattle.chi_frame.specs.Stops.{Stops};
 
 use chi_base::NoMemory;
 use chi_core::View;
-use chi_eval::{Spot, Stop, Variables, store};
+use chi_frame::{Spot, Stop, Variables, store};
 use chi_value::Value;
 use std::alloc::Global;
 use std::marker::Model;

@@ -5,14 +5,15 @@ ghost use denote.Param.Weighed.{most};
 ghost use Rattle.chi_core.specs.declared.element.CElem.{size-CElem};
 ghost use Rattle.chi_core.specs.Answer.{Amiss, Gives, through};
 ghost use Rattle.chi_core.specs.Starting.{all_started, makes, started_by, starts, unwound};
-ghost use Rattle.chi_eval.specs.Spots.{spot_in};
-ghost use Rattle.chi_eval.specs.Stops.{Stops};
+ghost use Rattle.chi_frame.specs.Spots.{spot_in};
+ghost use Rattle.chi_frame.specs.Stops.{Stops};
 ghost use Rattle.chi_eval.specs.Surroundings.{value_in};
 ghost use Rattle.chi_open.specs.Drafts.{spot_told, started_of, starts_each, starts_unwound};
 
 use crate::starting::Starting;
 use chi_core::{CElem, CExpr, CTarget, ProcDef, View};
-use chi_eval::{Spot, Stop, Surroundings, Variables, elements_in, spot_of, value_of, values_of};
+use chi_eval::{Surroundings, elements_in, spot_of, value_of, values_of};
+use chi_frame::{Spot, Stop, Variables};
 use chi_value::Value;
 use std::alloc::Global;
 

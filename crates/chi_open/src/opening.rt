@@ -3,14 +3,14 @@ ghost use Rattle.chi_core.specs.declared.limits.TheConstants.{MOST_OFFERS};
 ghost use Rattle.chi_core.specs.Answer.{Amiss, Gives};
 ghost use Rattle.chi_core.specs.Opening.{kept};
 ghost use Rattle.chi_core.specs.Variables.{bindings_at, bound};
-ghost use Rattle.chi_eval.specs.Stops.{Stops};
+ghost use Rattle.chi_frame.specs.Stops.{Stops};
 ghost use Rattle.chi_open.specs.Drafts.{opening_of};
 
 use crate::draft::Draft;
 use crate::offer::Offer;
 use chi_base::{Items, NoMemory};
 use chi_core::{Act, CStat, FaultKind, MOST_OFFERS, View};
-use chi_eval::{Stop, Variables};
+use chi_frame::{Stop, Variables};
 use chi_value::Value;
 use std::alloc::Global;
 use std::marker::Model;

@@ -2,15 +2,15 @@ ghost use Rattle.std.specs.Prelude.{◌≡◌, ◌≢◌, [], None, Some, IfErr,
 ghost use Rattle.chi_core.specs.Answer.{Amiss, Gives};
 ghost use Rattle.chi_core.specs.Starting.{made_by};
 ghost use Rattle.chi_core.specs.Variables.{bound};
-ghost use Rattle.chi_eval.specs.Spots.{spot_in};
-ghost use Rattle.chi_eval.specs.Stops.{Stops};
+ghost use Rattle.chi_frame.specs.Spots.{spot_in};
+ghost use Rattle.chi_frame.specs.Stops.{Stops};
 ghost use Rattle.chi_open.specs.Drafts.{started_of};
 
 use crate::draft::Draft;
 use crate::instance::Instance;
 use chi_base::NoMemory;
 use chi_core::{FaultKind, MOST_INSTANCES, ProcDef, View};
-use chi_eval::{Spot, Stop, Variables};
+use chi_frame::{Spot, Stop, Variables};
 use chi_value::Value;
 use std::alloc::Global;
 use std::marker::Model;

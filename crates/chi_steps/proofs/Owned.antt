@@ -4,7 +4,7 @@ use Rattle.chi_value.specs.declared.value.Value.{Value}
 use Rattle.chi_core.specs.declared.expression.CExpr.{CExpr}
 use Rattle.chi_core.specs.declared.statement.CStat.{CStat, out-CStat}
 use Rattle.chi_core.specs.Terms.{Item, Do, Loop, Walk, Term}
-use Rattle.chi_eval.specs.Terms.{first_of}
+use Rattle.chi_frame.specs.Terms.{first_of}
 use Rattle.chi_steps.specs.Plans.{is_own, own_in, own_of}
 
 -- what of an item is the statement of its own

@@ -27,7 +27,8 @@ use Rattle.chi_core.specs.Variables.{Variables}
 use Rattle.chi_eval.specs.declared.surroundings.Surroundings.{Surroundings}
 use Rattle.chi_eval.specs.Surroundings as surroundings
 use Rattle.chi_eval.specs.Surroundings.{scene_in}
-use Rattle.chi_eval.specs.Terms.{first_of, act_first}
+use Rattle.chi_frame.specs.Terms.{first_of}
+use Rattle.chi_eval.specs.Terms.{act_first}
 use Rattle.chi_open.specs.Instances.{rest_of}
 use Rattle.chi_steps.specs.Plans.{Plan, Writes, Leaves, Waits, Runs, Starts, Joins, leaves_with, left_with, is_own, planned, change_of, performed_at, own_in, own_of}
 use Rattle.chi_open.specs.Acted.{acted, went_on}

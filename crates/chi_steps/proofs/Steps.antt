@@ -15,12 +15,12 @@ use Rattle.chi_core.specs.Config.{Config, Instance, State, Running, Waiting, Joi
 use Rattle.chi_core.specs.Performing.{Change, Goes, Exits, performed}
 use Rattle.chi_core.specs.Step.{Outcome, Next, Over, Spent, line_of, name_of, fault_in, after_step, first_done, local_in, local}
 use Rattle.chi_core.specs.Terms.{Item, Term}
-use Rattle.chi_eval.specs.Terms.{first_of}
+use Rattle.chi_frame.specs.Terms.{first_of}
 use Rattle.chi_open.specs.Instances.{rest_of}
 use Rattle.chi_steps.specs.Plans.{IsFew, performed_at}
-use Rattle.chi_eval.specs.declared.stop.Stop.{Stop}
-use Rattle.chi_eval.specs.declared.stop.Stop.TheVariants as stop
-use Rattle.chi_eval.specs.Stops.{Stops}
+use Rattle.chi_frame.specs.declared.stop.Stop.{Stop}
+use Rattle.chi_frame.specs.declared.stop.Stop.TheVariants as stop
+use Rattle.chi_frame.specs.Stops.{Stops}
 use Rattle.chi_steps.specs.declared.stepping.Went.{Went}
 use Rattle.chi_steps.specs.declared.stepping.Went.TheVariants as outcome_went
 use Rattle.chi_steps.specs.Takings.{IsRight, HasName, StopsAs, Takes}

@@ -16,7 +16,7 @@ use Rattle.chi_core.specs.Reading.{quoted_in}
 use Rattle.chi_core.specs.Starting.{Started, all_started}
 use Rattle.chi_core.specs.Terms.{Do, Loop, Walk, Term}
 use Rattle.chi_core.specs.Variables.{Variables}
-use Rattle.chi_eval.specs.Terms.{first_of}
+use Rattle.chi_frame.specs.Terms.{first_of}
 use Rattle.chi_steps.specs.declared.deed.Deed.{Deed}
 use Rattle.chi_steps.specs.declared.deed.Deed.TheVariants as deed
 use Rattle.chi_steps.specs.declared.deed.Done.{Done}

@@ -5,8 +5,8 @@ use Rattle.chi_core.specs.Config.{Config}
 use Rattle.chi_core.specs.Step as outcome
 use Rattle.chi_core.specs.Step.{Outcome}
 use Rattle.chi_core.specs.declared.verdict.Verdict.TheVariants as verdict
-use Rattle.chi_eval.specs.declared.stop.Stop.{Stop}
-use Rattle.chi_eval.specs.declared.stop.Stop.TheVariants as stop
+use Rattle.chi_frame.specs.declared.stop.Stop.{Stop}
+use Rattle.chi_frame.specs.declared.stop.Stop.TheVariants as stop
 use Rattle.chi_steps.specs.declared.stepping.Went.{Went}
 use Rattle.chi_steps.specs.declared.stepping.Went.TheVariants.{On, Over, Spent}
 

@@ -7,14 +7,15 @@ ghost use Rattle.chi_core.specs.Answer.{Amiss, Gives};
 ghost use Rattle.chi_core.specs.Beginning as beginning;
 ghost use Rattle.chi_core.specs.Beginning.{constant_value, first_config, start};
 ghost use Rattle.chi_core.specs.Starting.{started_by};
-ghost use Rattle.chi_eval.specs.Stops.{Stops};
+ghost use Rattle.chi_frame.specs.Stops.{Stops};
 ghost use Rattle.chi_steps.specs.Begun.{begun_of};
 
 use crate::configuration::Configuration;
 use crate::ending::Ending;
 use chi_base::NoMemory;
 use chi_core::{ConstDef, Core, Verdict, View};
-use chi_eval::{Stop, Surroundings, constant_value};
+use chi_eval::{Surroundings, constant_value};
+use chi_frame::Stop;
 use chi_open::{Instance, started_by};
 use chi_token::Bytes;
 use chi_value::Value;

@@ -1,4 +1,4 @@
-use chi_eval::Variables;
+use chi_frame::Variables;
 use chi_open::{Instance, Offer};
 use chi_value::Value;
 

@@ -7,15 +7,16 @@ ghost use Rattle.chi_core.specs.Answer.{Amiss, Gives};
 ghost use Rattle.chi_core.specs.Opening.{opened};
 ghost use Rattle.chi_core.specs.Starting.{all_started};
 ghost use Rattle.chi_core.specs.Performing.{all_named, written};
-ghost use Rattle.chi_eval.specs.Stops.{Stops};
+ghost use Rattle.chi_frame.specs.Stops.{Stops};
 ghost use Rattle.chi_eval.specs.Surroundings.{value_in};
 ghost use Rattle.chi_steps.specs.Plans.{is_own, leaves_with, left_with, offers_kept, plan_of, planned};
 
 use crate::deed::Deed;
 use chi_base::NoMemory;
 use chi_core::{CAlt, CElem, CExpr, CStat, Core, FaultKind, ProcDef, View};
-use chi_eval::{Stop, Surroundings, Variables, instance_in, value_of, values_of};
+use chi_eval::{Surroundings, instance_in, value_of, values_of};
 use chi_format::{RenderFault, render, rendered_where_allowed};
+use chi_frame::{Stop, Variables};
 use chi_open::{Instance, Offer, open_select, start_all};
 use chi_value::{Piece, TextFault, Value, quoted_of};
 use std::alloc::Global;

@@ -4,14 +4,14 @@ ghost use Rattle.std.specs.Prelude.{◌≡◌, ◌≢◌, [], None, Some, IfOk, 
 ghost use Rattle.chi_core.specs.declared.statement.CStat.{out-CStat};
 ghost use Rattle.chi_core.specs.declared.verdict.Verdict.TheVariants as verdict;
 ghost use Rattle.chi_core.specs.Step.{line_in, line_of, local, name_of, step};
-ghost use Rattle.chi_eval.specs.Terms.{first_of, item_of};
+ghost use Rattle.chi_frame.specs.Terms.{first_of, item_of};
 ghost use Rattle.chi_steps.specs.Takings.{Appends, HasName, IsRight, StopsAs, Takes};
 
 use crate::configuration::Configuration;
 use crate::deed::Done;
 use chi_base::NoMemory;
 use chi_core::{CStat, Core, FaultKind, Label, Verdict, View};
-use chi_eval::{Stop, Task};
+use chi_frame::{Stop, Task};
 use chi_token::Bytes;
 use std::alloc::Global;
 

@@ -15,7 +15,7 @@ use Rattle.chi_core.specs.declared.target.CTarget.{CTarget}
 use Rattle.chi_core.specs.Functions.{exec}
 use Rattle.std.specs.Prelude.{map}
 use Rattle.chi_core.specs.Variables.{variables_of}
-use Rattle.chi_eval.specs.Stops.{Stops}
+use Rattle.chi_frame.specs.Stops.{Stops}
 use Rattle.chi_eval.specs.Terms.{came_to, act_first}
 use Rattle.chi_eval.specs.Calls.{more_of, run_by, meaning}
 use Rattle.chi_eval.specs.Spans.{item_span, branch_span, target_span, reach}

@@ -9,7 +9,7 @@ use Rattle.chi_eval.specs.Calls.{before_by, meaning, more_of, run_by}
 use Rattle.chi_eval.specs.Spans.{reach, span, branch_span, item_span, step_span, target_span}
 use Rattle.chi_ops.specs.Paths.{steps_of}
 use Rattle.chi_core.specs.Spots.{spot_of, step_at}
-use Rattle.chi_eval.specs.Spots.{spot_in}
+use Rattle.chi_frame.specs.Spots.{spot_in}
 use Rattle.chi_eval.specs.Surroundings.{scene_in}
 use Rattle.chi_eval.proofs.+eval.Given as goal
 

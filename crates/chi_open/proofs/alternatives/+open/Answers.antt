@@ -1,7 +1,7 @@
 use Rattle.std.proofs.Common.{◌∙◌, refl, sym, subst, rules, arith}
 use Rattle.chi_core.specs.Answer.{Answer}
 use Rattle.chi_core.specs.Opening.{Opening, opens}
-use Rattle.chi_eval.specs.Stops.{Stops}
+use Rattle.chi_frame.specs.Stops.{Stops}
 use Rattle.chi_eval.specs.Surroundings.{value_in}
 use Rattle.chi_open.specs.Drafts.{opening_of}
 use Rattle.chi_open.proofs.Unwinding.{guarded_is, unwinds_is}

@@ -1,7 +1,7 @@
 use Rattle.std.proofs.Common.{◌∙◌, refl, sym, subst, rules, arith}
 use Rattle.chi_core.specs.Answer.{Answer}
 use Rattle.chi_core.specs.Starting.{Started, starts}
-use Rattle.chi_eval.specs.Stops.{Stops}
+use Rattle.chi_frame.specs.Stops.{Stops}
 use Rattle.chi_eval.specs.Surroundings.{value_in}
 use Rattle.chi_open.specs.Drafts.{started_of}
 use Rattle.chi_open.proofs.Unwinding.{makes_is, starts_unwound_is}

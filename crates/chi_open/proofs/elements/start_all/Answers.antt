@@ -1,7 +1,7 @@
 use Rattle.std.proofs.Common.{◌∙◌, ap, subst, rules}
 use Rattle.chi_core.specs.Answer.{Answer, through}
 use Rattle.chi_core.specs.Starting.{Started, starts, all_started}
-use Rattle.chi_eval.specs.Stops.{Stops}
+use Rattle.chi_frame.specs.Stops.{Stops}
 use Rattle.chi_eval.specs.Surroundings.{value_in}
 use Rattle.chi_open.specs.Drafts.{Made, started_of}
 use Rattle.chi_open.proofs.Through.{through_map}

@@ -1,7 +1,7 @@
 use Rattle.std.proofs.Common.{◌∙◌, ap, sym, subst, rules}
 use Rattle.chi_core.specs.declared.statement.CStat.{out-CStat}
 use Rattle.chi_core.specs.Answer.{Answer, giving}
-use Rattle.chi_eval.specs.Stops.{Stops}
+use Rattle.chi_frame.specs.Stops.{Stops}
 use Rattle.chi_eval.specs.Surroundings.{value_in}
 use Rattle.chi_steps.specs.Plans.{Plan, Waits, Runs, Starts, planned}
 use Rattle.chi_open.proofs.Going.{giving_stops}

@@ -8,7 +8,7 @@ use mir.Val.{to_z, of_z}
 use Rattle.chi_core.specs.Answer.{Answer, Gives, giving}
 use Rattle.chi_core.specs.Config.{Config, Instance, scene_of, with_instance}
 use Rattle.chi_core.specs.Performing.{Change, quietly}
-use Rattle.chi_eval.specs.Stops.{Stops}
+use Rattle.chi_frame.specs.Stops.{Stops}
 use Rattle.chi_eval.specs.Surroundings.{scene_in}
 use Rattle.chi_steps.specs.Configurations.{config_at}
 use Rattle.chi_steps.specs.Plans.{own_of}

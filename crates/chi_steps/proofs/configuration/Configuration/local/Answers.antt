@@ -5,7 +5,7 @@ use Rattle.std.proofs.lemmas.List.{append-nil}
 use Rattle.std.proofs.lemmas.Option.{slice_get_read, slice_get_within}
 use Rattle.chi_core.specs.Config.{Config}
 use Rattle.chi_core.specs.Step.{name_of}
-use Rattle.chi_eval.specs.declared.stop.Stop.{Stop}
+use Rattle.chi_frame.specs.declared.stop.Stop.{Stop}
 use Rattle.chi_steps.specs.declared.deed.Done.{Done}
 use Rattle.chi_steps.specs.Takings.{StopsAs}
 use Rattle.chi_steps.proofs.Steps.{acts, stopped_takes}

@@ -2,7 +2,7 @@ use Rattle.std.proofs.Common.{◌∙◌, sym, subst, ap}
 use Rattle.chi_core.specs.Answer.{Answer, Gives, giving}
 use Rattle.chi_core.specs.Performing.{Change}
 use Rattle.chi_core.specs.Variables.{Variables}
-use Rattle.chi_eval.specs.Stops.{Stops}
+use Rattle.chi_frame.specs.Stops.{Stops}
 use Rattle.chi_open.specs.Instances.{rest_of}
 use Rattle.chi_steps.specs.Plans.{change_of, plan_of}
 use Rattle.chi_open.proofs.Going.{giving_stops, if_ok, if_err}

@@ -1,0 +1,6 @@
+pub mod Binding
+pub mod Slots
+pub mod Spreading
+pub mod Stopping
+pub mod Storing
+pub mod Tasks

@@ -1,0 +1,6 @@
+pub mod Assignments
+pub mod Bindings
+pub mod Heads
+pub mod Spots
+pub mod Stops
+pub mod Terms
