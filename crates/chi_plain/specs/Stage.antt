@@ -1,5 +1,5 @@
 -- What a runner stands for: a configuration, or the end of a run.
-use Rattle.std.specs.Prelude.{◌≡◌, ℕ, ◌+◌, ◌≤◌, ℤ, List, [], Option, Some, None, option_map, Contains, IsTrue}
+use Rattle.std.specs.Prelude.{◌≡◌, ℕ, ◌+◌, ◌≤◌, ℤ, List, [], ◌++◌, Option, Some, None, option_map, Contains, IsTrue}
 use Rattle.chi_value.specs.declared.text.limit.TheConstants.{MOST_TEXT}
 use Rattle.chi_core.specs.declared.program.Core.{Core}
 use Rattle.chi_core.specs.declared.label.Label.{Label}
@@ -11,6 +11,8 @@ use Rattle.chi_core.specs.Options.{Ending, options, actors, enabled, ending, end
 use Rattle.chi_core.specs.Beginning.{Beginning, Begins, Breaks}
 use Rattle.chi_core.specs.Beginning as beginning
 use Rattle.chi_core.specs.VerdictLine.{may_tell, told_length}
+use Rattle.chi_events.specs.Traces.{event_at}
+use Rattle.chi_trace.specs.declared.event.Event.{Event}
 pub use Rattle.chi_steps.specs.Takings.{Appends}
 use Rattle.chi_plain.specs.declared.stepped.Stepped.{Stepped}
 use Rattle.chi_plain.specs.declared.stepped.Stepped.TheVariants.{Next, Over, Spent, NoMemory}
@@ -70,6 +72,12 @@ clock_at Lost = None
 pub record MayTell (core : Core) (verdict : Verdict) : Type 0 where
   pub may : IsTrue (may_tell core.names.kinds verdict)
   pub within : told_length core.names.kinds verdict ≤ MOST_TEXT
+
+-- it is the event of a label at a turn there
+abbrev pub IsEventAt : Core → Stage → ℕ → Label → Event → Type 0
+IsEventAt core (At config) turn label e = event_at core turn config label ≡ Some e
+IsEventAt core (Ended end) turn label e = ⊥
+IsEventAt core Lost turn label e = ⊥
 
 -- a label that the runner may be given: an enabled one, or any once memory was wanting
 abbrev pub MayStep : Stage → Label → Type 0

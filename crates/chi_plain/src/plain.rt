@@ -6,14 +6,17 @@ ghost use Rattle.chi_core.specs.Beginning.{start};
 ghost use Rattle.chi_core.specs.Kinds.{kinds_of};
 ghost use Rattle.chi_core.specs.Of.{at_start, AreOf};
 ghost use Rattle.chi_core.specs.Sound.{Sound};
-ghost use Rattle.chi_plain.specs.Stage.{Begun, actors_at, options_at, enabled_at, verdict_at, clock_at, MayTell, MayStep, Steps, Appends};
+ghost use Rattle.chi_plain.specs.Stage.{Begun, IsEventAt, actors_at, options_at, enabled_at, verdict_at, clock_at, MayTell, MayStep, Steps, Appends};
+ghost use Rattle.chi_trace.specs.Events.{Fits};
 
 use crate::standing::{Standing, standing_of, step};
 use crate::stepped::Stepped;
 use chi_base::NoMemory;
 use chi_core::{Core, Label, Verdict};
+use chi_events::event_of;
 use chi_kinded::kinded_law;
 use chi_steps::begin;
+use chi_trace::Event;
 use chi_value::Value;
 use std::alloc::Global;
 use std::marker::Model;
@@ -150,6 +153,21 @@ impl<'a> Plain<'a> {
             Standing::At(watched, None) => watched.clock(),
             Standing::Ended(ending) => ending.clock(),
             Standing::Lost => 0,
+        }
+    }
+
+    /// The event of a label at a turn, before it is taken.
+    pub fn event_of(&self, turn: u64, label: &Label) -> Result<Event, NoMemory>
+        requires { MayStep self.now.stage label.now }
+        ensures event { IfOk result (λ e. IsEventAt self.now.core self.now.stage turn label.now e) }
+        ensures fits { IfOk result (λ e. Fits e.label e.detail) }
+    {
+        match &self.standing {
+            Standing::At(watched, _) => {
+                event_of(self.alloc, self.core, watched.configuration(), turn, label)
+            }
+            Standing::Ended(_) => unreachable!(),
+            Standing::Lost => Err(NoMemory),
         }
     }
 

@@ -33,7 +33,8 @@ impl<'a> Watched<'a> {
         out: &mut Vec<u8>,
     ) -> Result<Taken<'a>, NoMemory>
         requires { IsRight (step core.now self label.now left) }
-        ensures taken { IfOk result (λ taken. Appends out.old.items out.new.items (λ text. TakesTo (step core.now self.entry label.now left) self.entry text taken)) }
+        ensures taken { IfOk result (λ taken. Appends out.old.items out.new.items
+            (λ text. TakesTo (step core.now self.entry label.now left) self.entry text taken)) }
         ensures kept { OnErr result (out.new.items ≡ out.old.items) }
     {
         let Watched {

@@ -50,6 +50,14 @@ impl<'a> Model for Watched<'a> {
     ghost invariant = { λ w. IsWatched w.configuration w.marks w.parties w.joiners };
 }
 
+impl<'a> Watched<'a> {
+    pub fn configuration(&self) -> &Configuration<'a>
+        ensures { result.now ≡ self.now }
+    {
+        &self.configuration
+    }
+}
+
 /// What is known before a step: the instances that its label names, how many instances there are, whether those
 /// two are under way, and some that may lose an option.
 #[derive(Debug, Drop)]
