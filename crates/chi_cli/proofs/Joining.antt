@@ -1,13 +1,10 @@
 -- What was said before some words, together with what they say.
-use Rattle.std.proofs.Common.{◌≡◌, Bool, true, false, List, [], ◌∷◌, ◌++◌, Option, Some, None, refl, sym, ap, ◌∙◌, append_assoc, append-nil}
+use Rattle.std.proofs.Common.{◌≡◌, true, false, List, [], ◌∷◌, ◌++◌, Option, Some, None, refl, ap, append_assoc, append-nil}
 use Rattle.std.specs.Prelude.{option_map}
 use Rattle.chi_cli.specs.declared.command.Command.{Command}
 use Rattle.chi_cli.specs.Commands.{Text}
 use Rattle.chi_cli.specs.Splitting.{Said, Next, Word, plain, given, waiting, end, unfit, is_fit, next_after, split_from, with_word, word_of}
 use Rattle.chi_cli.specs.Saying.{joined, nothing, said_after, said_and}
-
-pub append_nothing : {A : Type 0} (xs : List A) → xs ++ [] ≡ xs
-append_nothing xs = append-nil xs
 
 pub joined_nothing : (o : Option Said) → joined nothing o ≡ o
 joined_nothing None = refl

@@ -2,6 +2,7 @@ pub mod Answers
 pub mod Arguments
 pub mod Commands
 pub mod Numbers
+pub mod Parsing
 pub mod Ranges
 pub mod Requests
 pub mod Saying

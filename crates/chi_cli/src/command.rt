@@ -1,5 +1,5 @@
 ghost use Rattle.std.specs.Prelude.{◌≡◌};
-ghost use Rattle.chi_cli.specs.Commands.{command_named, option_named, options_of, option_text, takes_value};
+ghost use Rattle.chi_cli.specs.Commands.{command_named, options_of, option_text, takes_value};
 
 /// What the first word asks for.
 #[derive(Clone, Copy, Debug)]
@@ -57,34 +57,20 @@ impl Command {
             Command::Check | Command::Load | Command::TraceUp => &[],
         }
     }
-
-    /// The option of the command with this name.
-    pub fn option_named(self, name: &[u8]) -> Option<OptionName>
-        ensures { result ≡ option_named self name.now }
-    {
-        let mut rest = self.options();
-        while let Some((option, after)) = rest.split_first() {
-            if option.text() == name {
-                return Some(*option);
-            }
-            rest = after;
-        }
-        None
-    }
 }
 
 impl OptionName {
     /// The name of the option, without the hyphens.
-    pub fn text(self) -> &'static [u8]
+    pub fn text<'a>(self) -> &'a str
         ensures { result.now ≡ option_text self }
     {
         match self {
-            OptionName::Seed => b"seed",
-            OptionName::Steps => b"steps",
-            OptionName::Policy => b"policy",
-            OptionName::Salt => b"salt",
-            OptionName::Until => b"until",
-            OptionName::Trace => b"trace",
+            OptionName::Seed => "seed",
+            OptionName::Steps => "steps",
+            OptionName::Policy => "policy",
+            OptionName::Salt => "salt",
+            OptionName::Until => "until",
+            OptionName::Trace => "trace",
         }
     }
 

@@ -6,11 +6,10 @@ mod command;
 mod fault;
 mod laws;
 mod number;
+mod parsing;
 mod policy;
 mod reading;
 mod request;
-mod said;
-mod word;
 mod words;
 
 pub use args::ArgFault;

@@ -1,16 +1,21 @@
-ghost use Rattle.std.specs.Prelude.{◌≡◌, ◌++◌, Ok, IfOk, IfErr, map, option_map};
-ghost use Rattle.chi_cli.specs.Requests.{IsRefused, asked, check, load, one_word, request_of, sim, sim_of_file, trace_up};
-ghost use Rattle.chi_cli.specs.Saying.{given_in, said_in, texts};
+ghost use Rattle.std.specs.Prelude.{◌≡◌, Bool, [], Some, Ok, IfOk, IfErr, codes, option_map, unwrap_or};
+ghost use Rattle.clap.specs.Words.{all_of, first_of, found_of, one_of, rows_of};
+ghost use Rattle.chi_cli.specs.declared.command.Command.TheVariants as command;
+ghost use Rattle.chi_cli.specs.Commands.{option_text};
+ghost use Rattle.chi_cli.specs.Parsing.{EachGiven, rest, truth_text};
+ghost use Rattle.chi_cli.specs.Requests.{IsRefused, asked, check, load, request_of, sim, sim_of_file, trace_up};
+ghost use Rattle.chi_cli.specs.Saying.{texts};
 
 use crate::command::{Command, OptionName};
 use crate::fault::CliFault;
 use crate::number::{number_in, number_or, time_or_none};
+use crate::parsing::matched;
 use crate::policy::PolicyName;
 use crate::request::Request;
-use crate::said::{Said, each_once, split, value_given};
 use chi_base::{Items, NoMemory};
 use chi_load::MOST_MACHINES;
 use chi_token::Bytes;
+use clap::ArgMatches;
 use std::alloc::Global;
 
 /// How many steps a run may cost where the words don't say it.
@@ -30,34 +35,47 @@ pub fn read_words(alloc: Global, words: &[&str]) -> Result<Request, CliFault>
     let Some(command) = Command::named(name.as_bytes()) else {
         return Err(CliFault::Command);
     };
-    let said = split(alloc, command, words)?;
-    if !each_once(&said.options) {
-        return Err(CliFault::Usage);
-    }
-    asked(alloc, command, &said)
+    let matches = matched(alloc, command, words)?;
+    asked(alloc, command, &matches)
 }
 
-/// The request of a command's options and plain words.
-fn asked(alloc: Global, command: Command, said: &Said<'_>) -> Result<Request, CliFault>
-    ensures request { IfOk result (λ request. asked command (said_in said.now) ≡ Ok request) }
-    ensures fault { IfErr result (λ fault. IsRefused (asked command (said_in said.now)) fault) }
+/// The request of a command's matches.
+fn asked(alloc: Global, command: Command, matches: &ArgMatches<'_>) -> Result<Request, CliFault>
+    ensures request { IfOk result (λ request. EachGiven command (rows_of (found_of matches.now)) (λ said. asked command said ≡ Ok request)) }
+    ensures fault { IfErr result (λ fault. EachGiven command (rows_of (found_of matches.now)) (λ said. IsRefused (asked command said) fault)) }
 {
     match command {
-        Command::Sim => sim(alloc, &said.plain, &said.options),
-        Command::Check => check(alloc, one_word(&said.plain)),
-        Command::Load => load(one_word(&said.plain)),
-        Command::TraceUp => trace_up(alloc, one_word(&said.plain)),
+        Command::Sim => sim(alloc, matches),
+        Command::Check => check(alloc, text_of(matches, "file")),
+        Command::Load => load(text_of(matches, "file")),
+        Command::TraceUp => trace_up(alloc, text_of(matches, "file")),
     }
 }
 
-/// The only plain word.
-fn one_word<'a>(words: &[&'a [u8]]) -> Option<&'a [u8]>
-    ensures { option_map (λ word. word.now) result ≡ one_word (texts words.now) }
+/// The first value of an argument.
+#[tactic(auto, using(crate::proofs::Parsed::first_text))]
+fn text_of<'a>(matches: &ArgMatches<'a>, id: &str) -> Option<&'a [u8]>
+    ensures { option_map (λ text. text.now) result ≡ first_of id.now (rows_of (found_of matches.now)) }
 {
-    match words {
-        [word] => Some(*word),
-        _ => None,
+    match matches.get_str(id) {
+        Some(text) => Some(text.as_bytes()),
+        None => None,
     }
+}
+
+/// The value of an option.
+fn value_of<'a>(matches: &ArgMatches<'a>, option: OptionName) -> Option<&'a [u8]>
+    ensures { option_map (λ text. text.now) result ≡ first_of (option_text option) (rows_of (found_of matches.now)) }
+{
+    text_of(matches, option.text())
+}
+
+/// Whether the trace is wanted.
+#[tactic(auto, using(crate::proofs::Parsed::flag_text))]
+fn has_trace(matches: &ArgMatches<'_>) -> bool
+    ensures { (wanted : Bool) → unwrap_or (one_of (codes "trace") (rows_of (found_of matches.now))) (codes "false") ≡ truth_text wanted → result ≡ wanted }
+{
+    matches.get_flag(OptionName::Trace.text())
 }
 
 fn check(alloc: Global, file: Option<&[u8]>) -> Result<Request, CliFault>
@@ -97,50 +115,48 @@ fn trace_up(alloc: Global, file: Option<&[u8]>) -> Result<Request, CliFault>
     }
 }
 
-fn sim(alloc: Global, plain: &[&[u8]], options: &[(OptionName, &[u8])]) -> Result<Request, CliFault>
-    ensures request { IfOk result (λ request. sim (texts plain.now) (map given_in options.now) ≡ Ok request) }
-    ensures fault { IfErr result (λ fault. IsRefused (sim (texts plain.now) (map given_in options.now)) fault) }
+/// A run, by what the matches give.
+fn sim(alloc: Global, matches: &ArgMatches<'_>) -> Result<Request, CliFault>
+    ensures request { IfOk result (λ request. EachGiven command.Sim (rows_of (found_of matches.now)) (λ said. sim said.plain said.options ≡ Ok request)) }
+    ensures fault { IfErr result (λ fault. EachGiven command.Sim (rows_of (found_of matches.now)) (λ said. IsRefused (sim said.plain said.options) fault)) }
 {
-    let Some((file, args)) = plain.split_first() else {
+    let Some(file) = text_of(matches, "file") else {
         return Err(CliFault::Usage);
     };
-    match PolicyName::asked(value_given(options, OptionName::Policy)) {
-        Some(policy) => sim_of_file(alloc, *file, args, policy, options),
+    match PolicyName::asked(value_of(matches, OptionName::Policy)) {
+        Some(policy) => sim_of_file(alloc, file, policy, matches),
         None => Err(CliFault::Usage),
     }
 }
 
-/// A run of a file with arguments, by what its options give.
+/// A run of a file, where its policy is known.
 fn sim_of_file(
     alloc: Global,
     file: &[u8],
-    args: &[&[u8]],
     policy: PolicyName,
-    options: &[(OptionName, &[u8])],
+    matches: &ArgMatches<'_>,
 ) -> Result<Request, CliFault>
-    ensures request { IfOk result (λ request. sim_of_file file.now (texts args.now) (Some policy) (map given_in options.now) ≡ Ok request) }
-    ensures fault { IfErr result (λ fault. IsRefused (sim_of_file file.now (texts args.now) (Some policy) (map given_in options.now)) fault) }
+    ensures request { IfOk result (λ request. EachGiven command.Sim (rows_of (found_of matches.now))
+        (λ said. sim_of_file file.now (rest said.plain) (Some policy) said.options ≡ Ok request)) }
+    ensures fault { IfErr result (λ fault. EachGiven command.Sim (rows_of (found_of matches.now))
+        (λ said. IsRefused (sim_of_file file.now (rest said.plain) (Some policy) said.options) fault)) }
 {
-    let trace = value_given(options, OptionName::Trace).is_some();
-    let seed = value_given(options, OptionName::Seed);
-    let Some(seed) = number_or(0, 0, u64::MAX, seed) else {
+    let trace = has_trace(matches);
+    let Some(seed) = number_or(0, 0, u64::MAX, value_of(matches, OptionName::Seed)) else {
         return Err(CliFault::BadNumber);
     };
-    let bound = value_given(options, OptionName::Steps);
-    let Some(bound) = number_or(STEPS, 0, MOST_STEPS, bound) else {
+    let Some(bound) = number_or(STEPS, 0, MOST_STEPS, value_of(matches, OptionName::Steps)) else {
         return Err(CliFault::BadNumber);
     };
-    let salt = value_given(options, OptionName::Salt);
-    let Some(salt) = number_or(0, 0, u64::MAX, salt) else {
+    let Some(salt) = number_or(0, 0, u64::MAX, value_of(matches, OptionName::Salt)) else {
         return Err(CliFault::BadNumber);
     };
-    let until = value_given(options, OptionName::Until);
-    let Some(until) = time_or_none(until) else {
+    let Some(until) = time_or_none(value_of(matches, OptionName::Until)) else {
         return Err(CliFault::BadNumber);
     };
     Ok(Request::Sim {
         file: Bytes::copy_of(alloc, file)?,
-        args: copied(alloc, args)?,
+        args: args_of(alloc, matches)?,
         seed,
         bound,
         until,
@@ -149,12 +165,22 @@ fn sim_of_file(
     })
 }
 
-fn copied(alloc: Global, words: &[&[u8]]) -> Result<Items<Bytes>, NoMemory>
+#[tactic(auto, using(crate::proofs::Parsed::all_texts))]
+fn args_of(alloc: Global, matches: &ArgMatches<'_>) -> Result<Items<Bytes>, NoMemory>
+    ensures { IfOk result (λ items. items ≡ unwrap_or (all_of (codes "args") (rows_of (found_of matches.now))) []) }
+{
+    match matches.get_strs("args") {
+        Some(args) => copied(alloc, args),
+        None => copied(alloc, &[]),
+    }
+}
+
+fn copied(alloc: Global, words: &[&str]) -> Result<Items<Bytes>, NoMemory>
     ensures { IfOk result (λ items. items ≡ texts words.now) }
 {
     let mut kept = Vec::new(alloc);
     for word in words {
-        kept.push(Bytes::copy_of(alloc, *word)?)?;
+        kept.push(Bytes::copy_of(alloc, word.as_bytes())?)?;
     }
     Items::of(alloc, kept)
 }

@@ -1,0 +1,86 @@
+-- The arguments that clap builds of a command's rules.
+use Rattle.std.proofs.Common.{◌≡◌, ◌||◌, ℕ, Bool, true, false, codes, List, Option, Some, None, if◌then◌else◌, refl}
+use Rattle.std.specs.Prelude.{bytes_eq, option_map}
+use Rattle.clap.specs.Walk.{Rule, arg_by_id, arg_by_index, arg_by_long, arg_by_short, takes_values}
+use Rattle.clap.specs.Simple.{Shape, built, filled, with_index}
+use Rattle.chi_cli.specs.declared.command.Command.{Command}
+use Rattle.chi_cli.specs.declared.command.Command.TheVariants as command
+use Rattle.chi_cli.specs.declared.command.OptionName.{OptionName}
+use Rattle.chi_cli.specs.declared.command.OptionName.TheVariants as option
+use Rattle.chi_cli.specs.Commands.{Text, option_named, option_text, takes_value}
+use Rattle.chi_cli.specs.Parsing.{app_for, args_rule, file_rule, option_rule}
+
+abbrev pub shape : Command → Shape
+shape c = (built (app_for c)).top
+
+abbrev pub rules : Command → List Rule
+rules c = (shape c).rules
+
+abbrev pub built_option : OptionName → Rule
+built_option o = with_index 1 (filled (option_rule o))
+
+abbrev pub built_file : Rule
+built_file = with_index 1 (filled file_rule)
+
+abbrev pub built_args : Rule
+built_args = with_index 2 (filled args_rule)
+
+abbrev built_for : Bool → OptionName → Option Rule → Option Rule
+built_for named o other = if named then Some (built_option o) else other
+
+pub long_found : (c : Command) (name : Text) → arg_by_long (rules c) name ≡ option_map built_option (option_named c name)
+long_found command.Check name = refl
+long_found command.Load name = refl
+long_found command.TraceUp name = refl
+long_found command.Sim name = each
+    (bytes_eq (option_text option.Seed) name) (bytes_eq (option_text option.Steps) name) (bytes_eq (option_text option.Policy) name)
+    (bytes_eq (option_text option.Salt) name) (bytes_eq (option_text option.Until) name) (bytes_eq (option_text option.Trace) name) where
+      each : (a b c d e f : Bool)
+          → built_for (a || false) option.Seed (built_for (b || false) option.Steps (built_for (c || false) option.Policy
+          (built_for (d || false) option.Salt (built_for (e || false) option.Until (built_for (f || false) option.Trace None)))))
+          ≡ option_map built_option (if a then Some option.Seed else if b then Some option.Steps else if c then Some option.Policy
+          else if d then Some option.Salt else if e then Some option.Until else if f then Some option.Trace else None)
+      each true b c d e f = refl
+      each false true c d e f = refl
+      each false false true d e f = refl
+      each false false false true e f = refl
+      each false false false false true f = refl
+      each false false false false false true = refl
+      each false false false false false false = refl
+
+pub short_none : (c : Command) (x : ℕ) → arg_by_short (rules c) x ≡ None
+short_none command.Sim x = refl
+short_none command.Check x = refl
+short_none command.Load x = refl
+short_none command.TraceUp x = refl
+
+pub id_found : (c : Command) (name : Text) (o : OptionName) → option_named c name ≡ Some o → arg_by_id (rules c) (option_text o) ≡ Some (built_option o)
+id_found command.Check name o e = absurd (cc)
+id_found command.Load name o e = absurd (cc)
+id_found command.TraceUp name o e = absurd (cc)
+id_found command.Sim name option.Seed e = refl
+id_found command.Sim name option.Steps e = refl
+id_found command.Sim name option.Policy e = refl
+id_found command.Sim name option.Salt e = refl
+id_found command.Sim name option.Until e = refl
+id_found command.Sim name option.Trace e = refl
+
+pub file_first : (c : Command) → arg_by_index (rules c) 1 ≡ Some built_file
+file_first command.Sim = refl
+file_first command.Check = refl
+file_first command.Load = refl
+file_first command.TraceUp = refl
+
+pub file_found : (c : Command) → arg_by_id (rules c) (codes "file") ≡ Some built_file
+file_found command.Sim = refl
+file_found command.Check = refl
+file_found command.Load = refl
+file_found command.TraceUp = refl
+
+pub takes : (o : OptionName) → takes_values (built_option o) ≡ takes_value o
+takes option.Seed = refl
+takes option.Steps = refl
+takes option.Policy = refl
+takes option.Salt = refl
+takes option.Until = refl
+takes option.Trace = refl
