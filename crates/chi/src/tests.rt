@@ -2,20 +2,15 @@
 
 mod checking;
 mod computing;
-mod costs;
-mod faults;
 mod functions;
-mod gallery;
 mod joins;
 mod library;
 mod limits;
-mod operators;
 mod processes;
 mod refusals;
 mod runs;
 mod selects;
 mod traces;
-mod tutorial;
 mod words;
 
 use chi_io::{MemShelf, MemSink};
@@ -44,16 +39,6 @@ const fn row(
 
 /// Words of the command line, and what the call writes and answers.
 type Row = (&'static [&'static str], &'static str, &'static str, u8);
-
-/// The same with the name of the run and the source.
-type Printed = (
-    &'static [&'static str],
-    &'static str,
-    &'static str,
-    &'static str,
-    &'static str,
-    u8,
-);
 
 const DONE: &str = "completed at time 0.0\n";
 
@@ -138,19 +123,6 @@ fn expect_words(rt: &impl Abort, alloc: Global, source: &str, rows: &[Row]) -> R
         };
         let about = words.last().copied().unwrap_or("nothing");
         expect(rt, alloc, words, source.as_bytes(), about, wanted)?;
-    }
-    Ok(())
-}
-
-/// Runs each words over its source as the file `m.chi`.
-fn expect_printed(rt: &impl Abort, alloc: Global, rows: &[Printed]) -> Result<(), Fail> {
-    for (words, name, source, out, log, status) in rows {
-        let wanted = Wanted {
-            out,
-            log,
-            status: *status,
-        };
-        expect(rt, alloc, words, source.as_bytes(), name, wanted)?;
     }
     Ok(())
 }
