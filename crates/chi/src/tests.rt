@@ -2,15 +2,19 @@
 
 mod checking;
 mod computing;
+mod costs;
+mod faults;
 mod functions;
 mod joins;
 mod library;
 mod limits;
+mod operators;
 mod processes;
 mod refusals;
 mod runs;
 mod selects;
 mod traces;
+mod tutorial;
 mod words;
 
 use chi_io::{MemShelf, MemSink};

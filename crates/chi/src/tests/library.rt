@@ -1,8 +1,11 @@
 //! The library call: a source is simulated by a policy.
 
+ghost use Rattle.std.specs.Prelude.{◌≡◌, ◌<◌};
+ghost use Rattle.chi_sched.specs.Policies.{listed};
+
 use crate::tests::Wanted;
 use chi_io::MemSink;
-use chi_sched::{Chooser, First, Last, Listed, Spread};
+use chi_sched::{Chooser, First, Last, Listed, Policy, Spread, listed_of};
 use chi_tool::simulate;
 use std::alloc::Global;
 use std::process::Abort;
@@ -80,4 +83,37 @@ fn a_list_of_picks_is_replayed(rt: HostRuntime) -> Result<(), Fail> {
         status: 0,
     };
     expect_by(&rt, rt.alloc(), Listed { picks }, 1_000, false, second)
+}
+
+/// Simulates the source by a stored closure that has the list.
+fn expect_replayed(
+    rt: &impl Abort,
+    alloc: Global,
+    picks: Vec<u64>,
+    wanted: Wanted,
+) -> Result<(), Fail> {
+    let pick = Box::new(
+        alloc,
+        move |question: u64, count: u64| -> u64
+            requires { 0 < count }
+            ensures { result ≡ listed picks.items question count }
+        { listed_of(&picks, question, count) },
+    )?;
+    let policy = Policy::new(pick);
+    expect_by(rt, alloc, policy, 1_000, true, wanted)
+}
+
+#[test]
+fn a_stored_closure_replays_a_run(rt: HostRuntime) -> Result<(), Fail> {
+    // the picks of the policy `last`; where there are none, the first choice is taken
+    let picks = [0, 0, 0, 0, 2, 0, 2, 0, 1, 0, 1, 0, 1, 0, 1];
+    let picks = Vec::from_slice(rt.alloc(), &picks)?;
+    let last = Wanted {
+        out: "2\n1\n",
+        log: "trace 2\n0 local 0 M 1\n1 local 0 M 1\n2 local 3 R 1\n3 local 3 R 1\n4 local 2 S 1\n5 pair 2 0 3 0 0 2\n\
+             6 local 3 R 1\n7 local 3 R 1\n8 local 1 S 1\n9 pair 1 0 3 0 0 1\n10 local 3 R 1\ncompleted at time 0.0\n",
+        status: 0,
+    };
+    expect_by(&rt, rt.alloc(), Last, 1_000, true, last)?;
+    expect_replayed(&rt, rt.alloc(), picks, last)
 }

@@ -61,6 +61,13 @@ fn containers_hold_so_much(rt: HostRuntime) -> Result<(), Fail> {
         ),
         row("model M(): list(1048577) bool bs end", "", TOO_LARGE, 12),
         row("model M(): list(0 - 1) bool bs end", "", TOO_LARGE, 12),
+        row(
+            "model M(): dict(int : int) d; for i in range(1048576): d[i] = i end \
+             d[7] = 8; writeln(\"%d %d\", size(d), d[7]); d[1048576] = 1 end",
+            "1048576 8\n",
+            TOO_LARGE,
+            12,
+        ),
     ];
     expect_rows(&rt, rt.alloc(), &rows)
 }

@@ -1,6 +1,8 @@
 //! The traces of runs: a line for each label before that of the verdict.
 
-use crate::tests::{Row, expect_words};
+use crate::tests::{Row, expect_words, shelf_of, written};
+use chi_io::MemSink;
+use chi_tool::chi;
 use std::test::Fail;
 
 #[test]
@@ -109,4 +111,37 @@ fn a_label_that_ends_the_run_has_its_line(rt: HostRuntime) -> Result<(), Fail> {
         12,
     )];
     expect_words(&rt, rt.alloc(), broken, &rows)
+}
+
+/// With its quotes the first value has 65,536 bytes, and the second one more.
+#[test]
+fn a_long_value_is_hidden(rt: HostRuntime) -> Result<(), Fail> {
+    let alloc = rt.alloc();
+    let source = "proc S(chan! string c): string s = \"a\"; for i in range(16): s = s + s end \
+         s = s[:65534]; c!s; c!s + \"a\" end \
+         model M(): chan string c; string x; start S(c); c?x; c?x end";
+    let mut shelf = shelf_of(alloc, "m.chi", source.as_bytes(), Vec::new(alloc))?;
+    let mut out = MemSink::new(alloc, 9, 9, Vec::new(alloc))?;
+    let mut log = MemSink::new(alloc, 200_000, 200_000, Vec::new(alloc))?;
+    let words = ["sim", "--trace", "m.chi"];
+    let status = chi(alloc, &words, &mut shelf, &mut out, &mut log);
+    let first = "trace 2\n0 local 0 M 1\n1 local 0 M 1\n2 local 0 M 1\n3 local 0 M 1\n";
+    let mut wanted = written(alloc, &[(first, 1)])?;
+    for turn in 4..41u32 {
+        let line = format!(in alloc; "{turn} local 1 S 1\n")?;
+        wanted.extend_from_slice(line.as_bytes())?;
+    }
+    let rest = [
+        ("41 pair 1 0 0 0 0 \"", 1),
+        ("a", 65_534),
+        (
+            "\"\n42 local 0 M 1\n43 local 1 S 1\n44 pair 1 0 0 0 0 *\n",
+            1,
+        ),
+        ("completed at time 0.0\n", 1),
+    ];
+    wanted.extend_from_slice(written(alloc, &rest)?.as_slice())?;
+    assert_eq!(rt; status, 0);
+    assert_eq!(rt; log.bytes(), wanted.as_slice());
+    Ok(())
 }
