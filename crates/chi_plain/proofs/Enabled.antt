@@ -1,6 +1,6 @@
 -- Whether something is enabled, and how a run ends where nothing is.
-use Rattle.std.proofs.Common.{◌≡◌, ℕ, zero, suc, ◌<◌, ◌≤◌, ℤ, List, [], ◌∷◌, ◌++◌, Option, Some, None, Bool, true, false, cond, length, sym, ◌∙◌, ap, subst, refl, arith}
-use Rattle.std.specs.Prelude.{map, filter, not, nat_eq, nat_lt, int_lt, IsTrue, is_some, ◌↔◌, ◌||◌}
+use Rattle.std.proofs.Common.{◌≡◌, ℕ, zero, suc, ◌<◌, ℤ, List, [], ◌∷◌, ◌++◌, Option, Some, None, Bool, true, false, cond, length, sym, ◌∙◌, ap, subst, refl, arith}
+use Rattle.std.specs.Prelude.{map, not, nat_eq, nat_lt, int_lt, IsTrue, is_some, ◌↔◌, ◌||◌}
 use Rattle.std.specs.List.{slice_get, Contains, flat_map, list_any}
 use Rattle.std.specs.Option.{option_to_list}
 use Rattle.std.proofs.lemmas.Bool.{false≢true}
@@ -12,18 +12,9 @@ use Rattle.chi_core.specs.declared.label.Label.TheVariants.{Pair, Wake, Join, Ad
 use Rattle.chi_core.specs.Config.{Config, Instance, Offer, State, Running, Waiting, Joining, Finished, offers_in}
 use Rattle.chi_core.specs.Meeting.{may_reach, next_due}
 use Rattle.chi_core.specs.Options.{numbers, receivers, pairs_with, options_by, options_for, none_under_way, options_in, options_of, options, actors, advance_to, advance, enabled, enabled_of, Ending, at_rest, ending, ending_of}
-use Rattle.chi_plain.specs.Scanning.{is_advance}
-
--- what a filter keeps passes its test
-pub filter-passes : (t : ℕ → Bool) (xs : List ℕ) (k n : ℕ) → slice_get (filter t xs) k ≡ Some n → t n ≡ true
-filter-passes t [] k n e = absurd (cc)
-filter-passes t (x ∷ xs) k n e = by_test (filter-passes t xs) (t x) refl k e
-  where
-    by_test : ((k n : ℕ) → slice_get (filter t xs) k ≡ Some n → t n ≡ true)
-        → (b : Bool) → t x ≡ b → (k : ℕ) → slice_get (cond b (x ∷ filter t xs) (filter t xs)) k ≡ Some n → t n ≡ true
-    by_test below true is zero e = let same : x ≡ n = cc in ap t (sym same) ∙ is
-    by_test below true is (suc k) e = below k n e
-    by_test below false is k e = below k n e
+use Rattle.chi_runs.proofs.Lists.{kept}
+use Rattle.chi_choices.proofs.Lists.{none-of, lt-true, lt-false}
+use Rattle.chi_plain.specs.Watching.{is_advance}
 
 none-append : {A : Type 0} (t : A → Bool) (xs ys : List A) → list_any t xs ≡ false → list_any t ys ≡ false → list_any t (xs ++ ys) ≡ false
 none-append t [] ys e f = f
@@ -104,17 +95,6 @@ enabled-acts config (p ∷ ps) h c =
     contains-none is_advance (flat_map (options config) (p ∷ ps)) Advance refl
     (none-flat is_advance (options config) (p ∷ ps) (λ q. of-none config q (slice_get config.instances q))) c
 
-pub none-of : {A : Type 0} (xs : List A) → length xs ≤ 0 → xs ≡ []
-none-of [] h = refl
-none-of (x ∷ xs) h = absurd (omega arith)
-
-pub lt-true : (n : ℕ) → nat_lt 0 n ≡ true → 0 < n
-lt-true zero e = absurd (false≢true e)
-lt-true (suc n) e = omega arith
-
-pub lt-false : (n : ℕ) → nat_lt 0 n ≡ false → n ≤ 0
-lt-false n e = grind arith
-
 advance-is : (config : Config) (l : Label) → advance config ≡ Some l → l ≡ Advance
 advance-is config l e = by_due (next_due config) e
   where
@@ -160,7 +140,7 @@ ending-acts config acts same some = sym (by_actors (actors config) refl (lt-true
     by_actors [] is h = absurd (omega (arith, ap length is))
     by_actors (p ∷ ps) is h =
         let acts : nat_lt 0 (length (options config p)) ≡ true
-        = filter-passes (λ q. nat_lt 0 (length (options config q))) (numbers (length config.instances)) 0 p (ap (λ l. slice_get l 0) is) in
+        = (kept (λ q. nat_lt 0 (length (options config q))) (numbers (length config.instances)) 0 p (ap (λ l. slice_get l 0) is)).0 in
         ap (λ l. ending_of (enabled_of config l) config) is ∙ some-first config (options config p) _ (lt-true _ acts)
 
 module _ (config : Config) (acts can : Bool) (is : acts ≡ nat_lt 0 (length (actors config))) (none : acts ≡ false) (same : can ≡ is_some (advance config)) where

@@ -3,16 +3,22 @@ use Rattle.std.proofs.Common.{◌≡◌, ◌≢◌, ℕ, zero, suc, ◌<◌, ◌
 use Rattle.std.specs.Prelude.{nat_eq, nat_lt, int_lt, not, ◌&&◌}
 use Rattle.std.specs.List.{slice_get, Contains, flat_map, list_all}
 use Rattle.std.proofs.lemmas.Bool.{eq-eqb, false≢true}
+use Rattle.std.proofs.lemmas.Grind.{flat_map-append}
+use Rattle.std.proofs.lemmas.List.{append-nil}
 use Rattle.std.proofs.lemmas.Option.{slice_get_past}
 use Rattle.chi_core.specs.declared.act.Act.{Act}
 use Rattle.chi_core.specs.declared.act.Act.TheVariants.{Send, Receive, Delay}
 use Rattle.chi_core.specs.declared.label.Label.TheVariants.{Wake, Join}
 use Rattle.chi_core.specs.Config.{Config, Instance, Offer, State, Running, Waiting, Joining, Finished, offers_in}
 use Rattle.chi_core.specs.Options.{numbers, receivers, pairs_with, pairs, options_by, options_for, options_in, options_of, options, is_under_way, none_under_way}
-use Rattle.chi_plain.specs.declared.parties.Parties.{Parties}
-use Rattle.chi_plain.specs.Watching.{AllJoiners, AllParties, Covers, IsAffected, IsJoiner, IsParty, IsPartyBy, Keeps, Others, Reaches, is_joining, listed_at, acts}
+use Rattle.chi_choices.specs.declared.parties.Parties.{Parties}
+use Rattle.chi_choices.specs.Listing.{AllJoiners, AllParties, IsJoiner, IsParty, IsPartyBy, Keeps, is_joining, listed_at}
+use Rattle.chi_choices.specs.Reaching.{Covers, Reaches}
+use Rattle.chi_plain.specs.Watching.{IsAffected, Others}
+use Rattle.chi_choices.specs.Acting.{acts}
 use Rattle.chi_plain.specs.Led.{Settles}
-use Rattle.chi_plain.proofs.Havings.{no-receivers, receives-reaches, pairs_with-none, acts-none}
+use Rattle.chi_choices.proofs.Lists.{eq-cases}
+use Rattle.chi_choices.proofs.Havings.{no-receivers, receives-reaches, pairs_with-none, acts-none}
 
 -- lists of numbers
 
@@ -37,8 +43,7 @@ flat-same f g [] h = refl
 flat-same f g (x ∷ xs) h = (λ k. h x k ++ flat-same f g xs h k)
 
 flat-append : {B : Type 0} (f : ℕ → List B) (xs ys : List ℕ) → flat_map f ys ≡ [] → flat_map f (xs ++ ys) ≡ flat_map f xs
-flat-append f [] ys e = e
-flat-append f (x ∷ xs) ys e = ap (λ l. f x ++ l) (flat-append f xs ys e)
+flat-append f xs ys e = flat_map-append f xs ys ∙ ap (λ l. flat_map f xs ++ l) e ∙ append-nil (flat_map f xs)
 
 -- what is beyond n adds nothing
 flat-beyond : {B : Type 0} (f : ℕ → List B) (m n : ℕ) → m ≤ n → ((x : ℕ) → m ≤ x → f x ≡ []) → flat_map f (numbers n) ≡ flat_map f (numbers m)
@@ -53,16 +58,6 @@ flat-beyond f m (suc n) h none = by_cases (flat-beyond f m n) (let c : (m ≤ n)
 all-same : (f g : ℕ → Bool) (xs : List ℕ) → ((x : ℕ) → f x ≡ g x) → list_all f xs ≡ list_all g xs
 all-same f g [] h = refl
 all-same f g (x ∷ xs) h = (λ k. h x k && all-same f g xs h k)
-
-pub eq-cases : (x y : ℕ) → (x ≡ y) ⊎ (x ≢ y)
-eq-cases zero zero = inl refl
-eq-cases zero (suc y) = inr (λ e. cc)
-eq-cases (suc x) zero = inr (λ e. cc)
-eq-cases (suc x) (suc y) = by_rest (eq-cases x y)
-  where
-    by_rest : (x ≡ y) ⊎ (x ≢ y) → (suc x ≡ suc y) ⊎ (suc x ≢ suc y)
-    by_rest (inl e) = inl (ap suc e)
-    by_rest (inr d) = inr (λ e. d (omega (arith, e)))
 
 module _ (old new : Config) (parties : Parties) (joiners : List ℕ) (p q : ℕ) (some : List ℕ)
     (others : Others p q old.instances new.instances) (still : new.clock ≡ old.clock)

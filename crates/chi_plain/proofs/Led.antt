@@ -1,5 +1,5 @@
 -- What is kept beside a configuration, from the one before a step to the one after it.
-use Rattle.std.proofs.Common.{◌≡◌, ◌≢◌, ℕ, ◌<◌, ◌≤◌, List, Bool, true, false, length, ◌⊎◌, inl, inr, sym, ◌∙◌, ap, subst, refl, arith}
+use Rattle.std.proofs.Common.{◌≡◌, ◌≢◌, ℕ, ◌<◌, ◌≤◌, List, Option, Bool, true, false, length, ◌⊎◌, inl, inr, sym, ◌∙◌, ap, subst, refl, arith}
 use Rattle.std.specs.Prelude.{IsTrue}
 use Rattle.std.specs.Bool.{OnFalse}
 use Rattle.std.specs.List.{slice_get, Contains}
@@ -15,15 +15,16 @@ use Rattle.chi_steps.specs.declared.stepping.Went.{Went}
 use Rattle.chi_steps.specs.declared.stepping.Went.TheVariants as wents
 use Rattle.chi_steps.specs.Takings.{Appends, Takes}
 use Rattle.chi_plain.specs.declared.watching.Before.{Before}
-use Rattle.chi_plain.specs.declared.parties.Parties.{Parties}
-use Rattle.chi_plain.specs.Marked.{is_marked}
-use Rattle.chi_plain.specs.Scanning.{is_advance}
-use Rattle.chi_plain.specs.Watching.{AllJoiners, AllParties, Covers, CoversFrom, IsAffected, IsJoiner, IsParty, IsWatched, Keeps, KeepsParties, first_named, second_named}
+use Rattle.chi_choices.specs.declared.parties.Parties.{Parties}
+use Rattle.chi_choices.specs.Marked.{is_marked}
+use Rattle.chi_plain.specs.Watching.{is_advance, IsAffected, IsWatched, first_named, second_named}
+use Rattle.chi_choices.specs.Listing.{AllJoiners, AllParties, IsJoiner, IsParty, Keeps, KeepsParties}
+use Rattle.chi_choices.specs.Reaching.{Covers, CoversFrom}
 use Rattle.chi_plain.specs.Led.{IsBefore, IsListed, Leads, Led, Settles}
-use Rattle.chi_plain.proofs.Keeping.{keeps-trans}
-use Rattle.chi_plain.proofs.Listed.{covers-kept, party-kept, joiner-kept, parties-trans}
+use Rattle.chi_choices.proofs.Keeping.{keeps-trans}
+use Rattle.chi_choices.proofs.Listings.{covers-kept, party-kept, joiner-kept}
 use Rattle.chi_plain.proofs.Touched.{touches}
-use Rattle.chi_plain.proofs.Mending.{RightBut, all_parties, all_joiners, right-led, settles_still, settles_later}
+use Rattle.chi_plain.proofs.Mending.{RightBut, holds_of_all, right-led, settles_still, settles_later}
 
 pub is_before : (parties : Parties) (label : Label) (old : List Instance) (b : Before) (one : List ℕ) → b.first ≡ first_named label
     → b.second ≡ second_named label → b.count ≡ length old → b.first_under_way ≡ is_under_way (slice_get old b.first)
@@ -120,6 +121,10 @@ led_on core old new label left before after went rest marks parties joiners b wa
   leads = let P : Went → Type 0 = λ w. Takes (step core old label left) old new took.0 w in leads_on core old new label left took.0 rest (subst P is took.2);
 }
 
+-- of whichever instance the one is so, of that is the other
+abbrev Stays : (P Q : ℕ → Option Instance → Type 0) → Type 0
+Stays P Q = (r : ℕ) (o : Option Instance) → P r o → Q r o
+
 -- all is mended
 module _ (label : Label) (new : Config) (marks : List Bool) (parties : Parties) (joiners : List ℕ) (b : Before) (led : Led label new marks parties joiners b) where
   old_listed : IsListed led.old parties joiners
@@ -136,28 +141,29 @@ module _ (label : Label) (new : Config) (marks : List Bool) (parties : Parties) 
   led_right longer some same settled = right-led led.old new marks longer some led.watched.marked same (led_settled some settled)
 
   module _ (first second : ℕ) (is_first : first ≡ first_named label) (is_second : second ≡ second_named label) where
+    -- of all instances, through three changes of what is kept: at the first that was named, at the second, and at the new ones
+    led_all : (P P1 P2 P3 : ℕ → Option Instance → Type 0) → Stays P P1 → Stays P1 P2 → Stays P2 P3 → ((r : ℕ) → P r (slice_get led.old.instances r))
+        → P1 first (slice_get new.instances first) → P2 second (slice_get new.instances second)
+        → ((r : ℕ) → b.count ≤ r → P3 r (slice_get new.instances r)) → (r : ℕ) → P3 r (slice_get new.instances r)
+    led_all P P1 P2 P3 s1 s2 s3 held one two added =
+        holds_of_all label led.old new led.leads P P3 (λ r o h. s3 r o (s2 r o (s1 r o h))) held
+        (subst Holds is_first (s3 first (slice_get new.instances first) (s2 first (slice_get new.instances first) one)))
+        (subst Holds is_second (s3 second (slice_get new.instances second) two))
+        (λ r h. added r (subst (λ (k : ℕ). k ≤ r) (sym led.before.count) h))
+      where
+        Holds : ℕ → Type 0
+        Holds k = P3 k (slice_get new.instances k)
+
     pub led_parties : (one two three : Parties) → KeepsParties parties one → KeepsParties one two → KeepsParties two three
         → IsParty one first (slice_get new.instances first) → IsParty two second (slice_get new.instances second)
         → ((r : ℕ) → b.count ≤ r → IsParty three r (slice_get new.instances r)) → AllParties three new.instances
     led_parties one two three k1 k2 k3 f s added =
-        all_parties label led.old new led.leads parties three led.watched.communicating
-        (parties-trans parties one three k1 (parties-trans one two three k2 k3))
-        (subst P is_first (party-kept one three first (slice_get new.instances first) (parties-trans one two three k2 k3) f))
-        (subst P is_second (party-kept two three second (slice_get new.instances second) k3 s))
-        (λ r h. added r (subst (λ (k : ℕ). k ≤ r) (sym led.before.count) h))
-      where
-        P : ℕ → Type 0
-        P k = IsParty three k (slice_get new.instances k)
+        led_all (IsParty parties) (IsParty one) (IsParty two) (IsParty three) (λ r o. party-kept parties one r o k1) (λ r o. party-kept one two r o k2)
+        (λ r o. party-kept two three r o k3) led.watched.communicating f s added
 
     pub led_joiners : (one two three : List ℕ) → Keeps joiners one → Keeps one two → Keeps two three
         → IsJoiner one first (slice_get new.instances first) → IsJoiner two second (slice_get new.instances second)
         → ((r : ℕ) → b.count ≤ r → IsJoiner three r (slice_get new.instances r)) → AllJoiners three new.instances
     led_joiners one two three k1 k2 k3 f s added =
-        all_joiners label led.old new led.leads joiners three led.watched.waiting
-        (keeps-trans joiners one three k1 (keeps-trans one two three k2 k3))
-        (subst P is_first (joiner-kept one three first (slice_get new.instances first) (keeps-trans one two three k2 k3) f))
-        (subst P is_second (joiner-kept two three second (slice_get new.instances second) k3 s))
-        (λ r h. added r (subst (λ (k : ℕ). k ≤ r) (sym led.before.count) h))
-      where
-        P : ℕ → Type 0
-        P k = IsJoiner three k (slice_get new.instances k)
+        led_all (IsJoiner joiners) (IsJoiner one) (IsJoiner two) (IsJoiner three) (λ r o. joiner-kept joiners one r o k1) (λ r o. joiner-kept one two r o k2)
+        (λ r o. joiner-kept two three r o k3) led.watched.waiting f s added

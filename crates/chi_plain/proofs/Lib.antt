@@ -1,12 +1,5 @@
-pub mod Pairs
 pub mod MarkedActors
-pub mod Options
 pub mod Enabled
-pub mod Ascending
-pub mod Keeping
-pub mod Marking
-pub mod Havings
-pub mod Listed
 pub mod Touched
 pub mod Frames
 pub mod Mending

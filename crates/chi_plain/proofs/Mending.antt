@@ -8,14 +8,15 @@ use Rattle.std.proofs.lemmas.Option.{slice_get_past}
 use Rattle.chi_core.specs.declared.label.Label.{Label}
 use Rattle.chi_core.specs.declared.label.Label.TheVariants.{Advance}
 use Rattle.chi_core.specs.Config.{Config, Instance}
-use Rattle.chi_plain.specs.declared.parties.Parties.{Parties}
-use Rattle.chi_plain.specs.Marked.{is_marked}
-use Rattle.chi_plain.specs.Watching.{AllJoiners, AllParties, IsAffected, IsJoiner, IsMarked, IsParty, Keeps, KeepsParties, acts, first_named, second_named}
+use Rattle.chi_choices.specs.declared.parties.Parties.{Parties}
+use Rattle.chi_choices.specs.Marked.{is_marked}
+use Rattle.chi_plain.specs.Watching.{IsAffected, IsMarked, first_named, second_named}
+use Rattle.chi_choices.specs.Acting.{acts}
 use Rattle.chi_plain.specs.Led.{IsListed, Leads, Settles}
-use Rattle.chi_plain.proofs.Havings.{acts-none}
-use Rattle.chi_plain.proofs.Frames.{settles, settles-all, eq-cases}
-use Rattle.chi_plain.proofs.Keeping.{keeps-more, contains-pushed, get_or-within}
-use Rattle.chi_plain.proofs.Listed.{party-kept, joiner-kept}
+use Rattle.chi_choices.proofs.Havings.{acts-none}
+use Rattle.chi_plain.proofs.Frames.{settles, settles-all}
+use Rattle.chi_choices.proofs.Lists.{eq-cases, get_or-within}
+use Rattle.chi_choices.proofs.Keeping.{keeps-more, contains-pushed}
 
 -- marks
 
@@ -127,51 +128,29 @@ right-led old new marks longer some marked same settled p = by_cases (settled p)
     by_cases (inl e) = inl (same p ∙ marked.each p ∙ sym e)
     by_cases (inr c) = inr c
 
--- all are listed: the two that were named, the new ones, and the others as before
+-- What held of each instance holds of all, in its new form: it holds of the two that were named, of the new ones, and of the others as before.
 module _ (label : Label) (old new : Config) (leads : Leads label old new) where
   others_stay : (r : ℕ) → r ≢ first_named label → r ≢ second_named label → r < length old.instances → slice_get old.instances r ≡ slice_get new.instances r
   others_stay r f g h = sym (leads.others.same r f g h)
 
-  pub all_parties : (before after : Parties) → AllParties before old.instances → KeepsParties before after
-      → IsParty after (first_named label) (slice_get new.instances (first_named label)) → IsParty after (second_named label) (slice_get new.instances (second_named label))
-      → ((r : ℕ) → length old.instances ≤ r → IsParty after r (slice_get new.instances r)) → AllParties after new.instances
-  all_parties before after parts keeps first second added r = by_first (eq-cases r (first_named label))
+  pub holds_of_all : (P Q : ℕ → Option Instance → Type 0) → ((r : ℕ) (o : Option Instance) → P r o → Q r o) → ((r : ℕ) → P r (slice_get old.instances r))
+      → Q (first_named label) (slice_get new.instances (first_named label)) → Q (second_named label) (slice_get new.instances (second_named label))
+      → ((r : ℕ) → length old.instances ≤ r → Q r (slice_get new.instances r)) → (r : ℕ) → Q r (slice_get new.instances r)
+  holds_of_all P Q stays held first second added r = by_first (eq-cases r (first_named label))
     where
-      P : ℕ → Type 0
-      P k = IsParty after k (slice_get new.instances k)
+      Holds : ℕ → Type 0
+      Holds k = Q k (slice_get new.instances k)
 
-      by_old : r ≢ first_named label → r ≢ second_named label → (r < length old.instances) ⊎ (length old.instances ≤ r) → IsParty after r (slice_get new.instances r)
-      by_old f g (inl l) =
-          subst (λ (o : Option Instance). IsParty after r o) (others_stay r f g l) (party-kept before after r (slice_get old.instances r) keeps (parts r))
+      by_old : r ≢ first_named label → r ≢ second_named label → (r < length old.instances) ⊎ (length old.instances ≤ r) → Q r (slice_get new.instances r)
+      by_old f g (inl l) = subst (λ (o : Option Instance). Q r o) (others_stay r f g l) (stays r (slice_get old.instances r) (held r))
       by_old f g (inr h) = added r h
 
-      by_second : r ≢ first_named label → (r ≡ second_named label) ⊎ (r ≢ second_named label) → IsParty after r (slice_get new.instances r)
-      by_second f (inl e) = subst P (sym e) second
+      by_second : r ≢ first_named label → (r ≡ second_named label) ⊎ (r ≢ second_named label) → Q r (slice_get new.instances r)
+      by_second f (inl e) = subst Holds (sym e) second
       by_second f (inr g) = by_old f g (let c : (r < length old.instances) ⊎ (length old.instances ≤ r) = grind arith in c)
 
-      by_first : (r ≡ first_named label) ⊎ (r ≢ first_named label) → IsParty after r (slice_get new.instances r)
-      by_first (inl e) = subst P (sym e) first
-      by_first (inr f) = by_second f (eq-cases r (second_named label))
-
-  pub all_joiners : (before after : List ℕ) → AllJoiners before old.instances → Keeps before after
-      → IsJoiner after (first_named label) (slice_get new.instances (first_named label)) → IsJoiner after (second_named label) (slice_get new.instances (second_named label))
-      → ((r : ℕ) → length old.instances ≤ r → IsJoiner after r (slice_get new.instances r)) → AllJoiners after new.instances
-  all_joiners before after joins keeps first second added r = by_first (eq-cases r (first_named label))
-    where
-      P : ℕ → Type 0
-      P k = IsJoiner after k (slice_get new.instances k)
-
-      by_old : r ≢ first_named label → r ≢ second_named label → (r < length old.instances) ⊎ (length old.instances ≤ r) → IsJoiner after r (slice_get new.instances r)
-      by_old f g (inl l) =
-          subst (λ (o : Option Instance). IsJoiner after r o) (others_stay r f g l) (joiner-kept before after r (slice_get old.instances r) keeps (joins r))
-      by_old f g (inr h) = added r h
-
-      by_second : r ≢ first_named label → (r ≡ second_named label) ⊎ (r ≢ second_named label) → IsJoiner after r (slice_get new.instances r)
-      by_second f (inl e) = subst P (sym e) second
-      by_second f (inr g) = by_old f g (let c : (r < length old.instances) ⊎ (length old.instances ≤ r) = grind arith in c)
-
-      by_first : (r ≡ first_named label) ⊎ (r ≢ first_named label) → IsJoiner after r (slice_get new.instances r)
-      by_first (inl e) = subst P (sym e) first
+      by_first : (r ≡ first_named label) ⊎ (r ≢ first_named label) → Q r (slice_get new.instances r)
+      by_first (inl e) = subst Holds (sym e) first
       by_first (inr f) = by_second f (eq-cases r (second_named label))
 
   -- the time stood still

@@ -1,7 +1,4 @@
 pub mod Stage
-pub mod Scanning
-pub mod Marked
-pub mod Ascending
 pub mod Watching
 pub mod Led
 pub mod Taken

@@ -3,8 +3,8 @@
 ghost use Rattle.std.specs.Prelude.{◌≡◌, ◌<◌, length, slice_get, Some};
 ghost use Rattle.chi_core.specs.Options.{actors, options};
 
-use crate::choices;
 use crate::watching::Watched;
+use chi_choices::{option_at, option_count};
 use chi_core::Label;
 
 impl<'a> Watched<'a> {
@@ -35,7 +35,7 @@ impl<'a> Watched<'a> {
     pub fn option_count(&self, pid: u32) -> u64
         ensures { result ≡ length (options self.now pid) }
     {
-        choices::option_count(&self.configuration, &self.parties, pid)
+        option_count(&self.configuration, &self.parties, pid)
     }
 
     /// Option number `i` of instance `pid`.
@@ -43,6 +43,6 @@ impl<'a> Watched<'a> {
         requires { i < length (options self.now pid) }
         ensures { slice_get (options self.now pid) i ≡ Some result }
     {
-        choices::option_at(&self.configuration, &self.parties, pid, i)
+        option_at(&self.configuration, &self.parties, pid, i)
     }
 }

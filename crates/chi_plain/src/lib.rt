@@ -1,16 +1,10 @@
-//! Runs a core by scanning: the options of an instance are found by going over all offers. Which instances have one
-//! is kept, and mended after each step for those that the step may have given or taken one.
+//! Runs a core by scanning: the options of an instance are found by going over its offers (`chi_choices`). Which instances
+//! have one is kept, and mended after each step for those that the step may have given or taken one.
 //! It is slow and plain, and keeps to the semantics step by step.
 #![tactic(auto)]
 
-mod acting;
 mod actors;
-mod block;
-mod choices;
 mod ending;
-mod listing;
-mod marks;
-mod parties;
 mod plain;
 mod standing;
 mod stepped;

@@ -7,16 +7,16 @@ ghost use Rattle.chi_core.specs.declared.label.Label.{Label};
 ghost use Rattle.chi_core.specs.declared.limits.TheConstants.{MOST_INSTANCES};
 ghost use Rattle.chi_core.specs.Config.{Config, Instance};
 ghost use Rattle.chi_core.specs.Options.{is_under_way};
-ghost use Rattle.chi_plain.specs.Marked.{is_marked};
-ghost use Rattle.chi_plain.specs.Scanning.{is_advance};
-ghost use Rattle.chi_plain.specs.Watching.{AllParties, IsAffected, IsJoiner, IsMarked, IsParty, IsWatched, Keeps, KeepsParties, acts, first_named, second_named};
+ghost use Rattle.chi_choices.specs.Marked.{is_marked};
+ghost use Rattle.chi_plain.specs.Watching.{is_advance, IsAffected, IsMarked, IsWatched, first_named, second_named};
+ghost use Rattle.chi_choices.specs.Listing.{AllParties};
+ghost use Rattle.chi_choices.specs.Acting.{acts};
 ghost use Rattle.chi_plain.specs.Led.{IsBefore, IsListed, Leads, Led, Settles};
 
-use crate::acting::has_option;
-use crate::listing::{cover, cover_from, cover_joiners, list_joiner, list_party};
-use crate::marks::Marks;
-use crate::parties::{Listed, Parties};
 use chi_base::NoMemory;
+use chi_choices::{
+    Listed, Marks, Parties, cover, cover_from, cover_joiners, has_option, relist, relist_from,
+};
 use chi_core::Label;
 use chi_steps::Configuration;
 use std::alloc::Global;
@@ -122,42 +122,6 @@ fn lengthen(marks: &mut Marks, count: usize) -> Result<(), NoMemory>
 {
     for _more in marks.len()..count {
         marks.lengthen()?;
-    }
-    Ok(())
-}
-
-/// Lists an instance anew.
-#[tactic(auto, using(crate::proofs::Listed::listing))]
-fn relist(
-    config: &Configuration<'_>,
-    parties: &mut Parties,
-    joiners: &mut Listed,
-    pid: u32,
-) -> Result<(), NoMemory>
-    ensures parties { KeepsParties parties.old parties.new }
-    ensures joiners { Keeps joiners.old joiners.new }
-    ensures party { OnOk result (IsParty parties.new pid (slice_get config.now.instances pid)) }
-    ensures joiner { OnOk result (IsJoiner joiners.new pid (slice_get config.now.instances pid)) }
-{
-    list_party(config, parties, pid)?;
-    list_joiner(config, joiners, pid)
-}
-
-/// Lists each instance from this number on.
-#[tactic(auto, using(crate::proofs::Listed::listing))]
-fn relist_from(
-    config: &Configuration<'_>,
-    parties: &mut Parties,
-    joiners: &mut Listed,
-    from: u32,
-) -> Result<(), NoMemory>
-    ensures parties { KeepsParties parties.old parties.new }
-    ensures joiners { Keeps joiners.old joiners.new }
-    ensures party { OnOk result ((p : ℕ) → from ≤ p → IsParty parties.new p (slice_get config.now.instances p)) }
-    ensures joiner { OnOk result ((p : ℕ) → from ≤ p → IsJoiner joiners.new p (slice_get config.now.instances p)) }
-{
-    for pid in from..config.instances().len() as u32 {
-        relist(config, parties, joiners, pid)?;
     }
     Ok(())
 }

@@ -1,0 +1,8 @@
+pub mod Lists
+pub mod Ascending
+pub mod Keeping
+pub mod Marking
+pub mod Havings
+pub mod Pairs
+pub mod Options
+pub mod Listings

@@ -1,0 +1,5 @@
+use Rattle.std.proofs.Common.{◌<◌, length}
+use Rattle.chi_choices.proofs.parties.Channels.new.Given as goal
+
+abbrev pub invariant-loop-more : goal.invariant-loop-more
+invariant-loop-more l = 0 < length l.lists.items

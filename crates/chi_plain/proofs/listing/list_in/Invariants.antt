@@ -1,6 +1,0 @@
-use Rattle.chi_plain.specs.Watching.{KeepsParties}
-use Rattle.chi_plain.proofs.Listed.{PartyBelow}
-use Rattle.chi_plain.proofs.listing.list_in.Given as goal
-
-abbrev pub invariant-loop-offer : goal.invariant-loop-offer
-invariant-loop-offer l = KeepsParties l.initial.parties l.parties × PartyBelow l.parties l.fn.pid l.fn.offers l.offer-index
