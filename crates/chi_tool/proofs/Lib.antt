@@ -17,3 +17,4 @@ pub mod Factories
 pub mod Simulations
 pub mod Readings
 pub mod Turns
+pub mod RunEnds

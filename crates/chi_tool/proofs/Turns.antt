@@ -1,7 +1,6 @@
 -- The turns of a run: what each of them leaves of it.
-use Rattle.std.proofs.Common.{Bool, true, false, ◌≡◌, ℕ, ◌+◌, ◌*◌, ◌-◌, ◌<◌, ◌≤◌, ◌^◌, ℤ, List, [], ◌∷◌, ◌++◌, Option, Some, None, length, sym, ◌∙◌, ap, subst, refl, arith, append-nil, length-append}
-use Rattle.std.specs.Prelude.{IfOk, IfSome, Result, Ok, Err, option_map}
-use Rattle.chi_base.specs.declared.no_memory.NoMemory.{NoMemory}
+use Rattle.std.proofs.Common.{Bool, ◌≡◌, ℕ, ◌+◌, ◌*◌, ◌-◌, ◌<◌, ◌≤◌, ◌^◌, ℤ, List, [], ◌∷◌, ◌++◌, Option, Some, None, length, sym, ◌∙◌, ap, subst, refl, arith, append-nil, length-append}
+use Rattle.std.specs.Prelude.{IfSome, option_map}
 use Rattle.std.specs.List.{slice_get}
 use Rattle.chi_sched.specs.Policies.{Answers, GivesOne, IsAsked}
 use Rattle.chi_core.specs.declared.program.Core.{Core}
@@ -27,11 +26,8 @@ use Rattle.chi_plain.specs.declared.stepped.Stepped.{Stepped}
 use Rattle.chi_plain.specs.declared.stepped.Stepped.TheVariants.{Next, Over, Spent}
 use Rattle.chi_plain.specs.Stage as stages
 use Rattle.chi_plain.specs.Stage.{Stage, At, Ended, Lost, Runner, Begun, actors_at, options_at, verdict_at, clock_at, MayTell, MayStep, Steps, Appends}
-use Rattle.chi_tool.specs.declared.report.Reported.{Reported}
-use Rattle.chi_tool.specs.Reported.{report_in}
-use Rattle.chi_tool.specs.Refusals.{Report}
-use Rattle.chi_tool.specs.Running.{Course, IsCourse, run_report}
-use Rattle.chi_tool.specs.Turns.{GoesOn, PicksAt, EndsWith, HasRun, first_log, Logs, LogsBy, LoggedSoFar, Leads, IsThere, Keeps, RunsTo}
+use Rattle.chi_tool.specs.Running.{IsCourse}
+use Rattle.chi_tool.specs.Turns.{GoesOn, PicksAt, EndsWith, first_log, Logs, LogsBy, LoggedSoFar, Leads, IsThere, Keeps}
 use Rattle.chi_tool.proofs.Logged.{TurnLaw, log_begins, log_of_none, log_on, log_over, log_whole}
 
 -- what is picked at a turn, as its law gives it
@@ -362,35 +358,6 @@ module _ (law : TurnLaw) (gives : ℕ → ℕ → ℕ → Type 0) (trace : Bool)
       by_stage (At config) (At config') p text s = absurd s
       by_stage (At config) Lost p text s = absurd s
       by_stage (At config) (Ended end) p text s = omega arith
-
--- the report of a run that ended so
-pub run_reported : (gives : ℕ → ℕ → ℕ → Type 0) (trace : Bool) (core other : Core) (first : Stage) (bound : ℕ) (stage : Stage) (output log : List ℕ) (cut : Bool) (verdict : Verdict) (clock : ℤ)
-    (result : Result Reported NoMemory) → other ≡ core
-    → IfOk result (λ r. report_in r ≡ run_report core (record { told = record { labels = []; ending = record { verdict = verdict; clock = clock }; output = output }; log = log }))
-    → ((begin : Beginning) → Begun begin first → (pick : Pick) → Answers gives pick → HasRun trace other begin pick bound stage output log cut)
-    → ((begin : Beginning) (pick : Pick) → HasRun trace core begin pick bound stage output log cut → EndsWith trace core begin pick bound verdict clock output log)
-    → IfOk result (λ r. (begin : Beginning) → Begun begin first → (pick : Pick) → Answers gives pick → RunsTo trace core begin pick bound (report_in r))
-run_reported gives trace core other first bound stage output log cut verdict clock (Err lost) same is ran ends = tt
-run_reported gives trace core other first bound stage output log cut verdict clock (Ok r) same is ran ends =
-    λ begin begun pick answers.
-    let here : HasRun trace core begin pick bound stage output log cut =
-    subst (λ (c : Core). HasRun trace c begin pick bound stage output log cut) same (ran begin begun pick answers) in
-    let e = ends begin pick here in
-    (record { told = record { labels = e.0; ending = record { verdict = verdict; clock = clock }; output = output }; log = log }, e.1, is)
-
--- a run that was cut
-pub cut_ends : (trace : Bool) (core : Core) (bound : ℕ) (stage : Stage) (output log : List ℕ) (cut : Bool) (clock : ℤ) → cut ≡ true
-    → IfSome (clock_at stage) (λ time. clock ≡ time) → (begin : Beginning) (pick : Pick)
-    → HasRun trace core begin pick bound stage output log cut → EndsWith trace core begin pick bound OutOfSteps clock output log
-cut_ends trace core bound stage output log true clock is time begin pick ran = ran clock time
-cut_ends trace core bound stage output log false clock is time begin pick ran = absurd (cc (is))
-
--- and one that came to its end
-pub run_ends : (trace : Bool) (core : Core) (bound : ℕ) (stage : Stage) (output log : List ℕ) (cut : Bool) (verdict : Verdict) (clock : ℤ) → cut ≡ false
-    → Some verdict ≡ verdict_at stage → IfSome (clock_at stage) (λ time. clock ≡ time) → (begin : Beginning) (pick : Pick)
-    → HasRun trace core begin pick bound stage output log cut → EndsWith trace core begin pick bound verdict clock output log
-run_ends trace core bound stage output log true verdict clock is e time begin pick ran = absurd (cc (is))
-run_ends trace core bound stage output log false verdict clock is e time begin pick ran = ran verdict clock (sym e) time
 
 -- what can be told of a verdict
 

@@ -17,6 +17,8 @@ use Rattle.chi_plain.specs.Stage.{Stage, At, Ended, Lost, Runner, Begun, IsEvent
 use Rattle.chi_runs.specs.Turns.{UnderWay}
 use Rattle.chi_trace.specs.declared.event.Event.{Event}
 use Rattle.chi_trace.specs.Lines.{event_line}
+use Rattle.chi_tool.specs.declared.run_end.RunEnd.{RunEnd}
+use Rattle.chi_tool.specs.declared.run_end.RunEnd.TheVariants as run_ends
 use Rattle.chi_tool.specs.Refusals.{Report}
 use Rattle.chi_tool.specs.Running.{Course, IsCourse, run_report}
 
@@ -92,10 +94,10 @@ EndsWith trace core begin pick bound verdict clock output log =
     (labels : List Label)
     × IsCourse trace core begin pick bound (record { told = record { labels = labels; ending = record { verdict = verdict; clock = clock }; output = output }; log = log })
 
--- a run that isn't cut ends with the verdict that the runner tells, and one that is cut out of steps
-abbrev pub HasRun : Bool → Core → Beginning → Pick → ℕ → Stage → List ℕ → List ℕ → Bool → Type 0
-HasRun trace core begin pick bound stage output log false =
+-- a run that is over ends with the verdict that the runner tells, and one that is cut off out of steps
+abbrev pub HasRun : Bool → Core → Beginning → Pick → ℕ → Stage → List ℕ → List ℕ → RunEnd → Type 0
+HasRun trace core begin pick bound stage output log run_ends.Over =
     (verdict : Verdict) (clock : ℤ) → verdict_at stage ≡ Some verdict → IfSome (clock_at stage) (λ time. clock ≡ time)
     → EndsWith trace core begin pick bound verdict clock output log
-HasRun trace core begin pick bound stage output log true =
+HasRun trace core begin pick bound stage output log run_ends.CutOff =
     (clock : ℤ) → IfSome (clock_at stage) (λ time. clock ≡ time) → EndsWith trace core begin pick bound OutOfSteps clock output log

@@ -10,6 +10,7 @@ mod program;
 mod refusal;
 mod report;
 mod run;
+mod run_end;
 mod serve;
 mod settings;
 mod source;

@@ -1,4 +1,4 @@
-ghost use Rattle.std.specs.Prelude.{◌≡◌, ◌<◌, ◌^◌, [], false, Some, IfOk, IsSomeAnd, slice_get};
+ghost use Rattle.std.specs.Prelude.{◌≡◌, ◌<◌, ◌^◌, [], Some, IfOk, IsSomeAnd, slice_get};
 ghost use Rattle.chi_core.specs.declared.program.ProcDef.{ProcDef};
 ghost use Rattle.chi_core.specs.Beginning.{Beginning};
 ghost use Rattle.chi_core.specs.Kinds.{kinds_of};
@@ -9,9 +9,11 @@ ghost use Rattle.chi_plain.specs.Stage.{Begun, MayTell, MayStep, verdict_at};
 ghost use Rattle.chi_sched.specs.Policies.{Answers};
 ghost use Rattle.chi_tool.specs.Reported.{report_in};
 ghost use Rattle.chi_tool.specs.Running.{IsRunReport, run_report};
+ghost use Rattle.chi_tool.specs.declared.run_end.RunEnd.TheVariants.{Over};
 ghost use Rattle.chi_tool.specs.Turns.{GoesOn, HasRun, PicksAt, IsThere, RunsTo, first_log};
 
 use crate::report::Reported;
+use crate::run_end::RunEnd;
 use crate::settings::Settings;
 use crate::status::status_of;
 use crate::tracing::{Telling, first_log, take};
@@ -68,8 +70,7 @@ fn picked_label<P: Chooser>(plain: &Plain<'_>, policy: &P, turn: u64) -> Label
     plain.option_at(actor, policy.choose(2 * turn + 1, options))
 }
 
-/// Runs from the beginning: a label is picked at each turn, until the run is over, which is no cut, or the next
-/// label costs more than is left of the bound, which is one.
+/// Runs from the beginning: a label is picked at each turn, until the run is over or cut off.
 fn run_on<P: Chooser>(
     alloc: Global,
     plain: &mut Plain<'_>,
@@ -77,15 +78,15 @@ fn run_on<P: Chooser>(
     bound: u64,
     trace: bool,
     told: &mut Telling,
-) -> Result<bool, NoMemory>
+) -> Result<RunEnd, NoMemory>
     requires there { IsThere plain.old.stage }
     requires bound { bound < 2 ^ 63 }
     requires out { told.old.out.items ≡ [] }
     requires log { told.old.log.items ≡ first_log trace }
     ensures same_core { plain.new.core ≡ plain.old.core }
-    ensures told { IfOk result (λ cut. cut ≡ false → IsSomeAnd (verdict_at plain.new.stage) (MayTell plain.old.core)) }
-    ensures ran { IfOk result (λ cut. (beginning : Beginning) → Begun beginning plain.old.stage → (pick : Pick) → Answers (P.gives policy.now) pick
-        → HasRun trace plain.old.core beginning pick bound plain.new.stage told.new.out.items told.new.log.items cut) }
+    ensures told { IfOk result (λ end. end ≡ Over → IsSomeAnd (verdict_at plain.new.stage) (MayTell plain.old.core)) }
+    ensures ran { IfOk result (λ end. (beginning : Beginning) → Begun beginning plain.old.stage → (pick : Pick) → Answers (P.gives policy.now) pick
+        → HasRun trace plain.old.core beginning pick bound plain.new.stage told.new.out.items told.new.log.items end) }
 {
     time_law();
     turn_law();
@@ -94,7 +95,7 @@ fn run_on<P: Chooser>(
     let mut turn = 0;
     'turn: loop {
         let label = match plain.ending() {
-            Some(_) => return Ok(false),
+            Some(_) => return Ok(RunEnd::Over),
             None => picked_label(plain, policy, turn),
         };
         match take(alloc, plain, trace, turn, &label, left, told) {
@@ -103,7 +104,7 @@ fn run_on<P: Chooser>(
                 turn += 1;
             }
             Stepped::Over => {}
-            Stepped::Spent => return Ok(true),
+            Stepped::Spent => return Ok(RunEnd::CutOff),
             Stepped::NoMemory => return Err(NoMemory),
         }
     }
@@ -127,14 +128,14 @@ fn run_from<P: Chooser>(
     let out = Vec::new(alloc);
     let log = first_log(alloc, trace)?;
     let mut told = Telling { out, log };
-    let cut = run_on(alloc, plain, policy, bound, trace, &mut told)?;
+    let end = run_on(alloc, plain, policy, bound, trace, &mut told)?;
     let clock = plain.clock();
-    if cut {
-        return reported(alloc, core, &Verdict::OutOfSteps, clock, told);
-    }
-    match plain.ending() {
-        Some(verdict) => reported(alloc, core, verdict, clock, told),
-        None => unreachable!(),
+    match end {
+        RunEnd::CutOff => reported(alloc, core, &Verdict::OutOfSteps, clock, told),
+        RunEnd::Over => match plain.ending() {
+            Some(verdict) => reported(alloc, core, verdict, clock, told),
+            None => unreachable!(),
+        },
     }
 }
 
