@@ -110,6 +110,9 @@ module _ (m : Evaluates) (next : List Value → Does Value) (parts : List CExpr)
   all_there h = then_there (in_turn (map m parts) view) next h
 
   module _ (values : List Value) (now : View) (got : in_turn (map m parts) view ≡ Gives values now) where
+    pub all_goes : then_do (in_turn (map m parts) view) next ≡ next values now
+    all_goes = ap (λ it. then_do it next) got
+
     pub all_next : then_do (in_turn (map m parts) view) next ≢ Amiss → next values now ≢ Amiss
     all_next h = next_there (in_turn (map m parts) view) next values now h got
 
@@ -117,3 +120,5 @@ module _ (m : Evaluates) (next : List Value → Does Value) (parts : List CExpr)
     all_ends stop s = let P : Answer Value → Type 0 = Stops stop in subst P (sym (ap (λ it. then_do it next) got)) s
 
 pub ruleset operating = (one_there, one_stops, one_goes, one_next, one_ends, two_first, two_stops, two_second, two_second_stops, two_goes, two_next, two_ends, all_there, all_next, all_ends)
+
+pub ruleset gathering = (all_there, all_next)
