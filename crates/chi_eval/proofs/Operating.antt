@@ -110,9 +110,6 @@ module _ (m : Evaluates) (next : List Value → Does Value) (parts : List CExpr)
   all_there h = then_there (in_turn (map m parts) view) next h
 
   module _ (values : List Value) (now : View) (got : in_turn (map m parts) view ≡ Gives values now) where
-    pub all_goes : then_do (in_turn (map m parts) view) next ≡ next values now
-    all_goes = ap (λ it. then_do it next) got
-
     pub all_next : then_do (in_turn (map m parts) view) next ≢ Amiss → next values now ≢ Amiss
     all_next h = next_there (in_turn (map m parts) view) next values now h got
 

@@ -93,9 +93,6 @@ module _ (m : Evaluates) (n each : CExpr) (view : View) where
       repeat_times_stops stop s =
           let P : Answer Value → Type 0 = Stops stop in subst P (sym listed) (giving_stops stop (times k (m each) now) value.ListOf s)
 
-      pub repeat_gives : (xs : List Value) (new : View) → times k (m each) now ≡ Gives xs new → repeated_each m n each view ≡ Gives (value.ListOf xs) new
-      repeat_gives xs new g = listed ∙ ap (giving value.ListOf) g
-
 pub ruleset repeating = (one_there, one_goes, one_stops, all_done)
 
 pub ruleset repeats = (repeat_first, repeat_stops, repeat_count, repeat_many, repeat_times, repeat_times_stops)
