@@ -1,5 +1,5 @@
 -- What an item does: where it isn't amiss, nor is what it evaluates, and each value is of its kind.
-use Rattle.std.proofs.Common.{◌≡◌, ◌≢◌, ℕ, ◌<◌, Bool, true, false, nat_lt, List, [], ◌∷◌, Option, Some, None, length, ap, refl, ◌∙◌, rules, slice_set}
+use Rattle.std.proofs.Common.{◌≡◌, ◌≢◌, ℕ, ◌<◌, Bool, true, false, nat_lt, List, [], ◌∷◌, Option, Some, None, length, ap, sym, refl, ◌∙◌, rules, slice_set}
 use Rattle.std.specs.Prelude.{if◌then◌else◌, option_map}
 use Rattle.chi_value.specs.declared.value.Value.{Value}
 use Rattle.chi_value.specs.declared.format.Piece.{Piece}
@@ -15,7 +15,7 @@ use Rattle.chi_core.specs.Answer.{Answer, Gives, Amiss, gives, wanted, giving}
 use Rattle.chi_core.specs.Reading.{truth_of, elements_of}
 use Rattle.chi_core.specs.Variables.{Variables, with_slot, bound}
 use Rattle.chi_core.specs.Evaluation.{Evaluates, on_truth}
-use Rattle.chi_core.specs.Terms.{Term, Did, On, Do, Loop, Walk, act_stat, tested, chosen, assigned, on_with, after_loop, from_loop, first_the}
+use Rattle.chi_core.specs.Terms.{Term, Did, On, Do, Loop, Walk, act_stat, declared, walking, tested, chosen, assigned, on_with, after_loop, from_loop, first_the}
 use Rattle.chi_frame.specs.Heads.{IsWalk, walk_done}
 use Rattle.chi_frame.specs.Terms.{first_of}
 use Rattle.chi_eval.specs.Terms.{act_first}
@@ -38,36 +38,28 @@ module _ (m : Evaluates) (variables : Variables) (x : CStat) (rest : Term) (view
   at : (o : CStat-F CAlt CStat Branch) → out-CStat x ≡ o → act_stat m variables (out-CStat x) rest view ≢ Amiss → act_stat m variables o rest view ≢ Amiss
   at o e h a = h (ap (λ o. act_stat m variables o rest view) e ∙ a)
 
-  pub declare_first : (l slot : ℕ) (e : CExpr) → x ≡ s.Declare l slot e → act_stat m variables (out-CStat x) rest view ≢ Amiss → m e view ≢ Amiss
-  declare_first l slot e is h =
-      then_there (m e view) (λ x now. giving (on_with rest) (wanted (with_slot slot x variables) now)) (at _ (ap out-CStat is ∙ s.outs-Declare l slot e) h)
+  -- what each kind of statement is
+  pub declare_is : (l slot : ℕ) (e : CExpr) → x ≡ s.Declare l slot e → act_stat m variables (out-CStat x) rest view ≡ declared m variables slot e rest view
+  declare_is l slot e is = ap (λ o. act_stat m variables o rest view) (ap out-CStat is ∙ s.outs-Declare l slot e)
 
-  pub declare_there : (l slot : ℕ) (e : CExpr) (v : Value) (now : View) → x ≡ s.Declare l slot e → m e view ≡ Gives v now → act_stat m variables (out-CStat x) rest view ≢ Amiss
-      → slot < length variables
-  declare_there l slot e v now is got h =
-      slot_there slot v variables (wanted_there (with_slot slot v variables) now (giving_there (on_with rest) (wanted (with_slot slot v variables) now)
-      (next_there (m e view) (λ x now. giving (on_with rest) (wanted (with_slot slot x variables) now)) v now (at _ (ap out-CStat is ∙ s.outs-Declare l slot e) h) got)))
+  pub assign_is : (l : ℕ) (targets ts : List CTarget) (values vs : List CExpr) → x ≡ s.Assign l targets values → ts ≡ targets → vs ≡ values
+      → act_stat m variables (out-CStat x) rest view ≡ assigned m variables ts vs rest view
+  assign_is l targets ts values vs is same next =
+      ap (λ o. act_stat m variables o rest view) (ap out-CStat (is ∙ (λ i. s.Assign l (sym same i) (sym next i))) ∙ s.outs-Assign l ts vs)
 
-  pub while_tested : (l : ℕ) (test : CExpr) (block : List CStat) → x ≡ s.While l test block → act_stat m variables (out-CStat x) rest view ≢ Amiss → tested m variables l test block rest view ≢ Amiss
-  while_tested l test block is h = at _ (ap out-CStat is ∙ s.outs-While l test block) h
+  pub if_is : (l : ℕ) (branches bs : List Branch) (otherwise os : List CStat) → x ≡ s.If l branches otherwise → bs ≡ branches → os ≡ otherwise
+      → act_stat m variables (out-CStat x) rest view ≡ chosen m variables bs os rest view
+  if_is l branches bs otherwise os is same next =
+      ap (λ o. act_stat m variables o rest view) (ap out-CStat (is ∙ (λ i. s.If l (sym same i) (sym next i))) ∙ s.outs-If l bs os)
 
-  pub if_chosen : (l : ℕ) (branches : List Branch) (otherwise : List CStat) → x ≡ s.If l branches otherwise → act_stat m variables (out-CStat x) rest view ≢ Amiss
-      → chosen m variables branches otherwise rest view ≢ Amiss
-  if_chosen l branches otherwise is h = at _ (ap out-CStat is ∙ s.outs-If l branches otherwise) h
+  pub while_is : (l : ℕ) (test : CExpr) (block b : List CStat) → x ≡ s.While l test block → b ≡ block
+      → act_stat m variables (out-CStat x) rest view ≡ tested m variables l test b rest view
+  while_is l test block b is same = ap (λ o. act_stat m variables o rest view) (ap out-CStat (is ∙ ap (s.While l test) (sym same)) ∙ s.outs-While l test b)
 
-  pub assign_assigned : (l : ℕ) (targets : List CTarget) (values : List CExpr) → x ≡ s.Assign l targets values → act_stat m variables (out-CStat x) rest view ≢ Amiss
-      → assigned m variables targets values rest view ≢ Amiss
-  assign_assigned l targets values is h = at _ (ap out-CStat is ∙ s.outs-Assign l targets values) h
-
-  pub for_first : (l : ℕ) (slots : List ℕ) (e : CExpr) (block : List CStat) → x ≡ s.For l slots e block → act_stat m variables (out-CStat x) rest view ≢ Amiss → m e view ≢ Amiss
-  for_first l slots e block is h =
-      then_there (m e view) (λ x now. giving (λ elements. On variables (Walk l slots elements block ∷ rest)) (wanted (elements_of x) now)) (at _ (ap out-CStat is ∙ s.outs-For l slots e block) h)
-
-  pub for_there : (l : ℕ) (slots : List ℕ) (e : CExpr) (block : List CStat) (v : Value) (now : View) → x ≡ s.For l slots e block → m e view ≡ Gives v now
-      → act_stat m variables (out-CStat x) rest view ≢ Amiss → elements_of v ≢ None
-  for_there l slots e block v now is got h =
-      wanted_there (elements_of v) now (giving_there (λ elements. On variables (Walk l slots elements block ∷ rest)) (wanted (elements_of v) now)
-      (next_there (m e view) (λ x now. giving (λ elements. On variables (Walk l slots elements block ∷ rest)) (wanted (elements_of x) now)) v now (at _ (ap out-CStat is ∙ s.outs-For l slots e block) h) got))
+  pub for_is : (l : ℕ) (slots ns : List ℕ) (e : CExpr) (block b : List CStat) → x ≡ s.For l slots e block → ns ≡ slots → b ≡ block
+      → act_stat m variables (out-CStat x) rest view ≡ walking m variables l ns e b rest view
+  for_is l slots ns e block b is same next =
+      ap (λ o. act_stat m variables o rest view) (ap out-CStat (is ∙ (λ i. s.For l (sym same i) e (sym next i))) ∙ s.outs-For l ns e b)
 
   pub return_first : (l : ℕ) (e : CExpr) → x ≡ s.Return l e → act_stat m variables (out-CStat x) rest view ≢ Amiss → m e view ≢ Amiss
   return_first l e is h = giving_there _ (m e view) (at _ (ap out-CStat is ∙ s.outs-Return l e) h)
@@ -96,6 +88,26 @@ module _ (m : Evaluates) (variables : Variables) (x : CStat) (rest : Term) (view
 
   pub finish_amiss : (l : ℕ) (es : List CExpr) → x ≡ s.Finish l es → act_stat m variables (out-CStat x) rest view ≢ Amiss → ⊥
   finish_amiss l es is h = at _ (ap out-CStat is ∙ s.outs-Finish l es) h refl
+
+-- a declaration
+module _ (m : Evaluates) (variables : Variables) (slot : ℕ) (e : CExpr) (rest : Term) (view : View) where
+  pub declare_first : declared m variables slot e rest view ≢ Amiss → m e view ≢ Amiss
+  declare_first h = then_there (m e view) (λ x now. giving (on_with rest) (wanted (with_slot slot x variables) now)) h
+
+  pub declare_there : (v : Value) (now : View) → m e view ≡ Gives v now → declared m variables slot e rest view ≢ Amiss → slot < length variables
+  declare_there v now got h =
+      slot_there slot v variables (wanted_there (with_slot slot v variables) now (giving_there (on_with rest) (wanted (with_slot slot v variables) now)
+      (next_there (m e view) (λ x now. giving (on_with rest) (wanted (with_slot slot x variables) now)) v now h got)))
+
+-- the beginning of a walk
+module _ (m : Evaluates) (variables : Variables) (line : ℕ) (slots : List ℕ) (e : CExpr) (block : List CStat) (rest : Term) (view : View) where
+  pub walk_first : walking m variables line slots e block rest view ≢ Amiss → m e view ≢ Amiss
+  walk_first h = then_there (m e view) (λ x now. giving (λ elements. On variables (Walk line slots elements block ∷ rest)) (wanted (elements_of x) now)) h
+
+  pub elements_there : (v : Value) (now : View) → m e view ≡ Gives v now → walking m variables line slots e block rest view ≢ Amiss → elements_of v ≢ None
+  elements_there v now got h =
+      wanted_there (elements_of v) now (giving_there (λ elements. On variables (Walk line slots elements block ∷ rest)) (wanted (elements_of v) now)
+      (next_there (m e view) (λ x now. giving (λ elements. On variables (Walk line slots elements block ∷ rest)) (wanted (elements_of x) now)) v now h got))
 
 -- the test of a loop
 module _ (m : Evaluates) (variables : Variables) (line : ℕ) (test : CExpr) (block : List CStat) (rest : Term) (view : View) where
@@ -133,8 +145,12 @@ pub walk_goes : (m : Evaluates) (variables variables2 : Variables) (term term2 :
     → act_first m variables term view ≡ Gives (On variables2 term2) view
 walk_goes m variables variables2 term term2 view is e = walk_is m variables term view is ∙ ap (λ o. giving on_pair (wanted o view)) e
 
-pub ruleset acting = (declare_first, declare_there, while_tested, if_chosen, assign_assigned, for_first, for_there, return_first, break_there, continue_there, exit_amiss, write_amiss, select_amiss, run_amiss, start_amiss, finish_amiss)
+pub ruleset acting = (return_first, break_there, continue_there, exit_amiss, write_amiss, select_amiss, run_amiss, start_amiss, finish_amiss)
+
+pub ruleset declaring = (declare_first, declare_there)
+
+pub ruleset beginning = (walk_first, elements_there)
 
 pub ruleset testing = (test_first, test_truth)
 
-pub ruleset walking = (walk_there, walk_goes)
+pub ruleset walks = (walk_there, walk_goes)

@@ -4,17 +4,14 @@ use Rattle.std.proofs.lemmas.List.{drop_more, drop_all}
 use Rattle.chi_value.specs.declared.value.Value.{Value, Value-F, out-Value}
 use Rattle.chi_ops.specs.Sequences.{insert_at}
 use Rattle.chi_core.specs.declared.expression.CExpr.{CExpr}
-use Rattle.chi_core.specs.declared.expression.CExpr.TheVariants as e
-use Rattle.chi_core.specs.declared.scene.Scene.{Scene}
 use Rattle.chi_core.specs.declared.view.View.{View}
 use Rattle.chi_core.specs.Answer.{Answer, Does, Gives, Fails, Spent, Amiss, then_do, gives, giving}
 use Rattle.chi_core.specs.Containers.{done}
-use Rattle.chi_core.specs.Evaluation.{Run, eval, inserted, on_truth, place_before}
+use Rattle.chi_core.specs.Evaluation.{Run, Evaluates, inserted, on_truth, place_before}
 use Rattle.chi_core.specs.Reading.{truth_of, elements_in, elements_of}
-use Rattle.chi_core.specs.Variables.{Variables}
-use Rattle.chi_core.proofs.Equations.{eval_insert}
 use Rattle.chi_frame.specs.declared.stop.Stop.{Stop}
 use Rattle.chi_eval.specs.Calls.{before_by}
+use Rattle.chi_eval.specs.Kinds.{inserted_by}
 use Rattle.chi_frame.specs.Stops.{Stops}
 use Rattle.chi_frame.proofs.Stopping.{then_stops, then_there, giving_stops}
 
@@ -41,24 +38,59 @@ module _ (run : Run) (k : ℕ) (xs x : Value) (view : View) where
     unfolding insert_into
     list_is = list_is_in (out-Value xs) items h are
 
-    pub place_there : place_before (before_by run k x) items view ≢ Amiss
-    place_there = then_there _ (insert_into xs) (λ a. h (list_is ∙ a))
+-- one evaluated, then the other, then how far the elements are passed
+module _ (m : Evaluates) (run : Run) (k : ℕ) (a b : CExpr) (view : View) where
+  with_list : Value → Does Value
+  with_list xs now = then_do (m b now) (λ v. inserted run k xs v (out-Value xs))
 
-    pub place_stops : (stop : Stop) → Stops stop (place_before (before_by run k x) items view) → Stops stop (inserted run k xs x (out-Value xs) view)
-    place_stops stop s = let P : Answer Value → Type 0 = Stops stop in subst P (sym list_is) (then_stops stop _ (insert_into xs) s)
+  pub list_first : inserted_by m run k a b view ≢ Amiss → m a view ≢ Amiss
+  unfolding with_list
+  list_first h = then_there (m a view) with_list h
 
-    module _ (n : ℕ) (now : View) (got : place_before (before_by run k x) items view ≡ Gives n now) where
-      pub place_goes : inserted run k xs x (out-Value xs) view ≡ done (insert_at xs n x) now
-      unfolding insert_into
-      place_goes = list_is ∙ ap (λ it. then_do it (insert_into xs)) got
+  pub list_stops : (stop : Stop) → Stops stop (m a view) → Stops stop (inserted_by m run k a b view)
+  unfolding with_list
+  list_stops stop s = then_stops stop (m a view) with_list s
 
-      pub insert_there : done (insert_at xs n x) now ≢ Amiss
-      insert_there a = h (place_goes ∙ a)
+  module _ (xs : Value) (now : View) (got : m a view ≡ Gives xs now) where
+    then_element : inserted_by m run k a b view ≡ with_list xs now
+    unfolding with_list
+    then_element = ap (λ it. then_do it with_list) got
 
-      pub insert_stops : (stop : Stop) → Stops stop (done (insert_at xs n x) now) → Stops stop (inserted run k xs x (out-Value xs) view)
-      insert_stops stop s = let P : Answer Value → Type 0 = Stops stop in subst P (sym place_goes) s
+    pub element_there : inserted_by m run k a b view ≢ Amiss → m b now ≢ Amiss
+    unfolding with_list
+    element_there h = then_there (m b now) (λ v. inserted run k xs v (out-Value xs)) (λ e. h (then_element ∙ e))
 
-pub ruleset inserting = (list_there, place_there, place_stops, place_goes, insert_there, insert_stops)
+    pub element_stops : (stop : Stop) → Stops stop (m b now) → Stops stop (inserted_by m run k a b view)
+    unfolding with_list
+    element_stops stop s = let P : Answer Value → Type 0 = Stops stop in subst P (sym then_element) (then_stops stop (m b now) (λ v. inserted run k xs v (out-Value xs)) s)
+
+    module _ (x : Value) (last : View) (found : m b now ≡ Gives x last) where
+      is_inserted : inserted_by m run k a b view ≡ inserted run k xs x (out-Value xs) last
+      unfolding with_list
+      is_inserted = then_element ∙ ap (λ it. then_do it (λ v. inserted run k xs v (out-Value xs))) found
+
+      pub items_there : inserted_by m run k a b view ≢ Amiss → elements_of xs ≢ None
+      items_there h = list_there run k xs x last (λ e. h (is_inserted ∙ e))
+
+      module _ (items : List Value) (are : elements_of xs ≡ Some items) (h : inserted_by m run k a b view ≢ Amiss) where
+        is_placed : inserted_by m run k a b view ≡ then_do (place_before (before_by run k x) items last) (insert_into run k xs x last xs)
+        is_placed = is_inserted ∙ list_is run k xs x last items are (λ e. h (is_inserted ∙ e))
+
+        pub place_there : place_before (before_by run k x) items last ≢ Amiss
+        place_there = then_there _ (insert_into run k xs x last xs) (λ e. h (is_placed ∙ e))
+
+        pub place_stops : (stop : Stop) → Stops stop (place_before (before_by run k x) items last) → Stops stop (inserted_by m run k a b view)
+        place_stops stop s = let P : Answer Value → Type 0 = Stops stop in subst P (sym is_placed) (then_stops stop _ (insert_into run k xs x last xs) s)
+
+        module _ (n : ℕ) (new : View) (at : place_before (before_by run k x) items last ≡ Gives n new) where
+          pub place_goes : inserted_by m run k a b view ≡ done (insert_at xs n x) new
+          unfolding insert_into
+          place_goes = is_placed ∙ ap (λ it. then_do it (insert_into run k xs x last xs)) at
+
+          pub insert_there : done (insert_at xs n x) new ≢ Amiss
+          insert_there e = h (place_goes ∙ e)
+
+pub ruleset inserting = (list_first, list_stops, element_there, element_stops, items_there, place_there, place_stops, insert_there)
 
 -- one more is passed
 added : (i : ℕ) (it : Answer ℕ) → giving (λ n. i + n) (giving suc it) ≡ giving (λ n. (i + 1) + n) it
@@ -127,43 +159,3 @@ none_passed Spent = refl
 none_passed Amiss = refl
 
 pub ruleset placing = (all_passed, test_there, test_stops, test_truth, place_found, place_passed, rest_there, none_passed)
-
--- as an expression
-module _ (run : Run) (scene : Scene) (variables : Variables) (view : View) (x a b : CExpr) (k : ℕ) (is : x ≡ e.InsertBy a b k) where
-  with_list : Value → Does Value
-  with_list xs now = then_do (eval run scene variables b now) (λ v. inserted run k xs v (out-Value xs))
-
-  at : eval run scene variables x view ≡ then_do (eval run scene variables a view) with_list
-  unfolding with_list
-  at = ap (λ x. eval run scene variables x view) is ∙ eval_insert run scene variables view a b k
-
-  pub insert_first : eval run scene variables x view ≢ Amiss → eval run scene variables a view ≢ Amiss
-  insert_first h = then_there _ with_list (λ e. h (at ∙ e))
-
-  pub insert_first_stops : (stop : Stop) → Stops stop (eval run scene variables a view) → Stops stop (eval run scene variables x view)
-  insert_first_stops stop s = let P : Answer Value → Type 0 = Stops stop in subst P (sym at) (then_stops stop _ with_list s)
-
-  module _ (xs : Value) (now : View) (got : eval run scene variables a view ≡ Gives xs now) where
-    then_element : eval run scene variables x view ≡ with_list xs now
-    then_element = at ∙ ap (λ it. then_do it with_list) got
-
-    pub insert_second : eval run scene variables x view ≢ Amiss → eval run scene variables b now ≢ Amiss
-    unfolding with_list
-    insert_second h = then_there _ (λ v. inserted run k xs v (out-Value xs)) (λ e. h (then_element ∙ e))
-
-    pub insert_second_stops : (stop : Stop) → Stops stop (eval run scene variables b now) → Stops stop (eval run scene variables x view)
-    unfolding with_list
-    insert_second_stops stop s = let P : Answer Value → Type 0 = Stops stop in subst P (sym then_element) (then_stops stop _ (λ v. inserted run k xs v (out-Value xs)) s)
-
-    module _ (v : Value) (last : View) (found : eval run scene variables b now ≡ Gives v last) where
-      pub insert_goes : eval run scene variables x view ≡ inserted run k xs v (out-Value xs) last
-      unfolding with_list
-      insert_goes = then_element ∙ ap (λ it. then_do it (λ v. inserted run k xs v (out-Value xs))) found
-
-      pub insert_into_there : eval run scene variables x view ≢ Amiss → inserted run k xs v (out-Value xs) last ≢ Amiss
-      insert_into_there h e = h (insert_goes ∙ e)
-
-      pub insert_last_stops : (stop : Stop) → Stops stop (inserted run k xs v (out-Value xs) last) → Stops stop (eval run scene variables x view)
-      insert_last_stops stop s = let P : Answer Value → Type 0 = Stops stop in subst P (sym insert_goes) s
-
-pub ruleset inserts = (insert_first, insert_first_stops, insert_second, insert_second_stops, insert_goes, insert_into_there, insert_last_stops)

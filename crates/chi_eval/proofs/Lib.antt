@@ -3,9 +3,11 @@ pub mod Assigned
 pub mod Choosing
 pub mod Insertions
 pub mod Operating
+pub mod Passing
 pub mod Repeating
 pub mod Spans
 pub mod Spotting
 pub mod Standing
 pub mod Stepped
+pub mod Truths
 pub mod Turns

@@ -117,3 +117,5 @@ module _ (m : Evaluates) (next : List Value → Does Value) (parts : List CExpr)
     all_ends stop s = let P : Answer Value → Type 0 = Stops stop in subst P (sym (ap (λ it. then_do it next) got)) s
 
 pub ruleset operating = (one_there, one_stops, one_goes, one_next, one_ends, two_first, two_stops, two_second, two_second_stops, two_goes, two_next, two_ends, all_there, all_next, all_ends)
+
+pub ruleset gathering = (all_there, all_next)

@@ -5,17 +5,14 @@ use Rattle.chi_value.specs.declared.value.TheConstants.{MOST_ELEMENTS}
 use Rattle.chi_value.specs.declared.value.Value.{Value, Value-F, out-Value}
 use Rattle.chi_value.specs.declared.value.Value.TheVariants as value
 use Rattle.chi_core.specs.declared.expression.CExpr.{CExpr}
-use Rattle.chi_core.specs.declared.expression.CExpr.TheVariants as e
 use Rattle.chi_core.specs.declared.fault.FaultKind.TheVariants.{TooLarge}
-use Rattle.chi_core.specs.declared.scene.Scene.{Scene}
 use Rattle.chi_core.specs.declared.view.View.{View}
 use Rattle.chi_core.specs.Answer.{Answer, Does, Gives, Fails, Amiss, then_do, giving, gathered_times, times}
-use Rattle.chi_core.specs.Evaluation.{Run, eval, repeated}
+use Rattle.chi_core.specs.Evaluation.{Evaluates, repeated}
 use Rattle.chi_core.specs.Reading.{int_of, int_in}
-use Rattle.chi_core.specs.Variables.{Variables}
-use Rattle.chi_core.proofs.Equations.{eval_repeat}
 use Rattle.chi_frame.specs.declared.stop.Stop.{Stop}
 use Rattle.chi_frame.specs.Stops.{Stops}
+use Rattle.chi_eval.specs.Kinds.{repeated_each}
 use Rattle.chi_frame.proofs.Stopping.{then_stops, then_there, giving_stops}
 
 -- one more
@@ -62,45 +59,40 @@ count_in each view (Value-F.Int (pos n)) h = λ e. absurd (cc)
 count_in each view (Value-F.Int (negsuc n)) h = λ e. absurd (cc)
 count_in each view _ h = absurd (h refl)
 
-module _ (run : Run) (scene : Scene) (variables : Variables) (view : View) (x : CExpr) (n each : CExpr) (is : x ≡ e.Repeat n each) where
+module _ (m : Evaluates) (n each : CExpr) (view : View) where
   made : Value → Does Value
-  made v = repeated (eval run scene variables each) (out-Value v)
+  made v = repeated (m each) (out-Value v)
 
-  at : eval run scene variables x view ≡ then_do (eval run scene variables n view) made
+  pub repeat_first : repeated_each m n each view ≢ Amiss → m n view ≢ Amiss
   unfolding made
-  at = ap (λ x. eval run scene variables x view) is ∙ eval_repeat run scene variables view n each
+  repeat_first h = then_there (m n view) made h
 
-  pub repeat_first : eval run scene variables x view ≢ Amiss → eval run scene variables n view ≢ Amiss
-  repeat_first h = then_there _ made (λ a. h (at ∙ a))
+  pub repeat_stops : (stop : Stop) → Stops stop (m n view) → Stops stop (repeated_each m n each view)
+  unfolding made
+  repeat_stops stop s = then_stops stop (m n view) made s
 
-  pub repeat_stops : (stop : Stop) → Stops stop (eval run scene variables n view) → Stops stop (eval run scene variables x view)
-  repeat_stops stop s = let P : Answer Value → Type 0 = Stops stop in subst P (sym at) (then_stops stop _ made s)
-
-  module _ (v : Value) (now : View) (got : eval run scene variables n view ≡ Gives v now) where
-    goes : eval run scene variables x view ≡ repeated (eval run scene variables each) (out-Value v) now
+  module _ (v : Value) (now : View) (got : m n view ≡ Gives v now) where
+    goes : repeated_each m n each view ≡ repeated (m each) (out-Value v) now
     unfolding made
-    goes = at ∙ ap (λ a. then_do a made) got
+    goes = ap (λ a. then_do a made) got
 
-    pub repeat_count : eval run scene variables x view ≢ Amiss → int_of v ≢ None
-    repeat_count h = count_in (eval run scene variables each) now (out-Value v) (λ a. h (goes ∙ a))
+    pub repeat_count : repeated_each m n each view ≢ Amiss → int_of v ≢ None
+    repeat_count h = count_in (m each) now (out-Value v) (λ a. h (goes ∙ a))
 
-    pub repeat_many : int_of v ≢ None → ((n : ℕ) → int_of v ≡ Some (pos n) → MOST_ELEMENTS < n) → eval run scene variables x view ≡ Fails TooLarge
-    repeat_many h over = goes ∙ many_in (eval run scene variables each) now (out-Value v) h over
+    pub repeat_many : int_of v ≢ None → ((n : ℕ) → int_of v ≡ Some (pos n) → MOST_ELEMENTS < n) → repeated_each m n each view ≡ Fails TooLarge
+    repeat_many h over = goes ∙ many_in (m each) now (out-Value v) h over
 
     module _ (k : ℕ) (few : int_of v ≡ Some (pos k)) (small : k ≤ MOST_ELEMENTS) where
-      listed : eval run scene variables x view ≡ giving value.ListOf (times k (eval run scene variables each) now)
-      listed = goes ∙ few_in (eval run scene variables each) now (out-Value v) k few small
+      listed : repeated_each m n each view ≡ giving value.ListOf (times k (m each) now)
+      listed = goes ∙ few_in (m each) now (out-Value v) k few small
 
-      pub repeat_each : eval run scene variables x view ≢ Amiss → times k (eval run scene variables each) now ≢ Amiss
-      repeat_each h a = h (listed ∙ ap (giving value.ListOf) a)
+      pub repeat_times : repeated_each m n each view ≢ Amiss → times k (m each) now ≢ Amiss
+      repeat_times h a = h (listed ∙ ap (giving value.ListOf) a)
 
-      pub repeat_each_stops : (stop : Stop) → Stops stop (times k (eval run scene variables each) now) → Stops stop (eval run scene variables x view)
-      repeat_each_stops stop s =
-          let P : Answer Value → Type 0 = Stops stop in subst P (sym listed) (giving_stops stop (times k (eval run scene variables each) now) value.ListOf s)
-
-      pub repeat_gives : (xs : List Value) (new : View) → times k (eval run scene variables each) now ≡ Gives xs new → eval run scene variables x view ≡ Gives (value.ListOf xs) new
-      repeat_gives xs new g = listed ∙ ap (giving value.ListOf) g
+      pub repeat_times_stops : (stop : Stop) → Stops stop (times k (m each) now) → Stops stop (repeated_each m n each view)
+      repeat_times_stops stop s =
+          let P : Answer Value → Type 0 = Stops stop in subst P (sym listed) (giving_stops stop (times k (m each) now) value.ListOf s)
 
 pub ruleset repeating = (one_there, one_goes, one_stops, all_done)
 
-pub ruleset repeats = (repeat_first, repeat_stops, repeat_count, repeat_many, repeat_each, repeat_each_stops, repeat_gives)
+pub ruleset repeats = (repeat_first, repeat_stops, repeat_count, repeat_many, repeat_times, repeat_times_stops)

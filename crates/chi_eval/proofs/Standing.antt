@@ -1,32 +1,33 @@
--- Where the value of an expression isn't amiss, nor is that of its parts, and each is of its kind.
-use Rattle.std.proofs.Common.{◌≡◌, ◌≢◌, ℕ, ◌∙◌, Bool, true, false, List, Option, Some, None, map, ap, refl, slice_get}
+-- What each kind of expression is, and that what it asks for isn't amiss where the whole isn't.
+use Rattle.std.proofs.Common.{◌≡◌, ◌≢◌, ℕ, ◌∙◌, Bool, true, false, List, Option, Some, None, map, ap, sym, refl, slice_get}
 use Rattle.std.specs.Prelude.{nat_eq, if◌then◌else◌}
 use Rattle.std.specs.Option.{option_and_then}
 use Rattle.chi_core.specs.declared.program.FuncDef.{FuncDef}
 use Rattle.chi_core.specs.Functions.{callee, taking}
 use Rattle.chi_value.specs.declared.value.Value.{Value}
 use Rattle.chi_value.specs.declared.format.Kind.{Kind}
+use Rattle.chi_value.specs.declared.shape.Shape.{Shape}
 use Rattle.chi_ops.specs.Operations.{build}
 use Rattle.chi_core.specs.declared.op_name.OpName.{OpName}
 use Rattle.chi_core.specs.declared.expression.CExpr.{CExpr}
 use Rattle.chi_core.specs.declared.expression.CExpr.TheVariants as e
 use Rattle.chi_core.specs.declared.scene.Scene.{Scene}
 use Rattle.chi_core.specs.declared.view.View.{View}
-use Rattle.chi_core.specs.Answer.{Does, Gives, Amiss, then_do, gives, wanted, in_turn}
-use Rattle.chi_core.specs.Reading.{truth_of, part_of}
+use Rattle.chi_core.specs.Answer.{Gives, Amiss, then_do, wanted, in_turn}
+use Rattle.chi_core.specs.Reading.{part_of}
 use Rattle.chi_core.specs.Variables.{Variables, value_at}
 use Rattle.chi_core.specs.Containers.{done}
 use Rattle.chi_core.specs.Operators.{applied}
-use Rattle.chi_core.specs.Evaluation.{Run, eval, on_truth}
-use Rattle.chi_core.proofs.Equations.{eval_var, eval_const, eval_op, eval_and, eval_or, eval_build, eval_part}
+use Rattle.chi_core.specs.Evaluation.{Run, Evaluates, eval, fresh}
+use Rattle.chi_core.proofs.Equations.{eval_lit, eval_var, eval_const, eval_op, eval_and, eval_or, eval_build, eval_part, eval_call, eval_insert, eval_default, eval_repeat}
+use Rattle.chi_frame.specs.declared.stop.Stop.{Stop}
+use Rattle.chi_frame.specs.Stops.{Stops}
+use Rattle.chi_eval.specs.Kinds as kinds
 use Rattle.chi_operate.proofs.Parts.{at_place}
-use Rattle.chi_frame.proofs.Stopping.{then_there, next_there}
+use Rattle.chi_frame.proofs.Stopping.{then_stops, then_there}
 
 pub wanted_there : {A : Type 0} (o : Option A) (view : View) → wanted o view ≢ Amiss → o ≢ None
 wanted_there o view h e = h (ap (λ o. wanted o view) e)
-
-on_truth_there : {A : Type 0} (o : Option Bool) (a b : Does A) (view : View) → on_truth o a b view ≢ Amiss → o ≢ None
-on_truth_there o a b view h e = h (ap (λ o. on_truth o a b view) e)
 
 -- the function that takes so many arguments
 taking_is : (count : ℕ) (f : FuncDef) → taking count f ≢ None → taking count f ≡ Some f
@@ -42,7 +43,6 @@ callee_place functions k count h e = h (ap (option_and_then (taking count)) e)
 pub callee_found : (functions : List FuncDef) (k count : ℕ) (f : FuncDef) → slice_get functions k ≡ Some f → callee functions k count ≢ None → callee functions k count ≡ Some f
 callee_found functions k count f e h = ap (option_and_then (taking count)) e ∙ taking_is count f (λ a. h (ap (option_and_then (taking count)) e ∙ a))
 
--- the variables and the constant that there are, the parts of what isn't amiss
 module _ (run : Run) (scene : Scene) (variables : Variables) (view : View) (x : CExpr) where
   pub var_there : (slot : ℕ) → x ≡ e.Var slot → eval run scene variables x view ≢ Amiss → value_at variables slot ≢ None
   var_there slot is h = wanted_there (value_at variables slot) view (λ a. h (ap (λ x. eval run scene variables x view) is ∙ eval_var run scene variables view slot ∙ a))
@@ -50,56 +50,98 @@ module _ (run : Run) (scene : Scene) (variables : Variables) (view : View) (x : 
   pub const_there : (k : ℕ) → x ≡ e.Const k → eval run scene variables x view ≢ Amiss → slice_get scene.constants k ≢ None
   const_there k is h = wanted_there (slice_get scene.constants k) view (λ a. h (ap (λ x. eval run scene variables x view) is ∙ eval_const run scene variables view k ∙ a))
 
-  pub op_whole : (name : OpName) (parts : List CExpr) → x ≡ e.Op name parts → eval run scene variables x view ≢ Amiss → then_do (in_turn (map (eval run scene variables) parts) view) (applied scene name) ≢ Amiss
-  op_whole name parts is h a = h (ap (λ x. eval run scene variables x view) is ∙ eval_op run scene variables view name parts ∙ a)
+  -- what each kind of expression is
+  pub lit_is : (v : Value) → x ≡ e.Lit v → eval run scene variables x view ≡ Gives v view
+  lit_is v is = ap (λ x. eval run scene variables x view) is ∙ eval_lit run scene variables view v
 
-  pub build_parts : (kind : Kind) (parts : List CExpr) → x ≡ e.Build kind parts → eval run scene variables x view ≢ Amiss → in_turn (map (eval run scene variables) parts) view ≢ Amiss
-  build_parts kind parts is h = then_there _ (λ values. done (build kind values)) (λ a. h (ap (λ x. eval run scene variables x view) is ∙ eval_build run scene variables view kind parts ∙ a))
+  pub var_is : (slot : ℕ) (v : Value) → x ≡ e.Var slot → value_at variables slot ≡ Some v → eval run scene variables x view ≡ Gives v view
+  var_is slot v is at = ap (λ x. eval run scene variables x view) is ∙ eval_var run scene variables view slot ∙ ap (λ o. wanted o view) at
 
-  pub build_there : (kind : Kind) (parts : List CExpr) (values : List Value) (now : View) → x ≡ e.Build kind parts → in_turn (map (eval run scene variables) parts) view ≡ Gives values now
-      → eval run scene variables x view ≢ Amiss → done (build kind values) now ≢ Amiss
-  build_there kind parts values now is got h =
-      next_there _ (λ values. done (build kind values)) values now (λ a. h (ap (λ x. eval run scene variables x view) is ∙ eval_build run scene variables view kind parts ∙ a)) got
+  pub const_is : (k : ℕ) (v : Value) → x ≡ e.Const k → slice_get scene.constants k ≡ Some v → eval run scene variables x view ≡ Gives v view
+  const_is k v is at = ap (λ x. eval run scene variables x view) is ∙ eval_const run scene variables view k ∙ ap (λ o. wanted o view) at
 
-  pub part_whole : (a : CExpr) (k : ℕ) → x ≡ e.Part a k → eval run scene variables x view ≢ Amiss → eval run scene variables a view ≢ Amiss
-  part_whole a k is h = then_there _ (λ x. wanted (part_of x k)) (λ b. h (ap (λ x. eval run scene variables x view) is ∙ eval_part run scene variables view a k ∙ b))
+  pub op_is : (name : OpName) (parts l : List CExpr) → x ≡ e.Op name parts → l ≡ parts
+      → eval run scene variables x view ≡ then_do (in_turn (map (eval run scene variables) l) view) (applied scene name)
+  op_is name parts l is same = ap (λ x. eval run scene variables x view) (is ∙ ap (e.Op name) (sym same)) ∙ eval_op run scene variables view name l
 
-  pub part_there : (a : CExpr) (k : ℕ) (v : Value) (now : View) → x ≡ e.Part a k → eval run scene variables a view ≡ Gives v now → eval run scene variables x view ≢ Amiss → part_of v k ≢ None
-  part_there a k v now is got h =
-      wanted_there (part_of v k) now (next_there _ (λ x. wanted (part_of x k)) v now (λ b. h (ap (λ x. eval run scene variables x view) is ∙ eval_part run scene variables view a k ∙ b)) got)
+  pub and_is : (a b c d : CExpr) → x ≡ e.And a b → c ≡ a → d ≡ b → eval run scene variables x view ≡ kinds.both (eval run scene variables) c d view
+  and_is a b c d is same next = ap (λ x. eval run scene variables x view) (is ∙ (λ i. e.And (sym same i) (sym next i))) ∙ eval_and run scene variables view c d
 
-  pub and_first : (a b : CExpr) → x ≡ e.And a b → eval run scene variables x view ≢ Amiss → eval run scene variables a view ≢ Amiss
-  and_first a b is h = then_there _ (λ x. on_truth (truth_of x) (eval run scene variables b) (gives x)) (λ c. h (ap (λ x. eval run scene variables x view) is ∙ eval_and run scene variables view a b ∙ c))
+  pub or_is : (a b c d : CExpr) → x ≡ e.Or a b → c ≡ a → d ≡ b → eval run scene variables x view ≡ kinds.either (eval run scene variables) c d view
+  or_is a b c d is same next = ap (λ x. eval run scene variables x view) (is ∙ (λ i. e.Or (sym same i) (sym next i))) ∙ eval_or run scene variables view c d
 
-  and_next : (a b : CExpr) (v : Value) (now : View) → x ≡ e.And a b → eval run scene variables a view ≡ Gives v now → eval run scene variables x view ≢ Amiss
-      → on_truth (truth_of v) (eval run scene variables b) (gives v) now ≢ Amiss
-  and_next a b v now is got h =
-      next_there _ (λ x. on_truth (truth_of x) (eval run scene variables b) (gives x)) v now (λ c. h (ap (λ x. eval run scene variables x view) is ∙ eval_and run scene variables view a b ∙ c)) got
+  pub build_is : (kind : Kind) (parts l : List CExpr) → x ≡ e.Build kind parts → l ≡ parts
+      → eval run scene variables x view ≡ then_do (in_turn (map (eval run scene variables) l) view) (λ values. done (build kind values))
+  build_is kind parts l is same = ap (λ x. eval run scene variables x view) (is ∙ ap (e.Build kind) (sym same)) ∙ eval_build run scene variables view kind l
 
-  pub and_truth : (a b : CExpr) (v : Value) (now : View) → x ≡ e.And a b → eval run scene variables a view ≡ Gives v now → eval run scene variables x view ≢ Amiss → truth_of v ≢ None
-  and_truth a b v now is got h = on_truth_there (truth_of v) (eval run scene variables b) (gives v) now (and_next a b v now is got h)
+  pub part_is : (a c : CExpr) (k : ℕ) → x ≡ e.Part a k → c ≡ a → eval run scene variables x view ≡ kinds.taken_part (eval run scene variables) c k view
+  part_is a c k is same = ap (λ x. eval run scene variables x view) (is ∙ ap (λ a. e.Part a k) (sym same)) ∙ eval_part run scene variables view c k
 
-  pub and_second : (a b : CExpr) (v : Value) (now : View) (t : Bool) → x ≡ e.And a b → eval run scene variables a view ≡ Gives v now → truth_of v ≡ Some t → t ≡ true
-      → eval run scene variables x view ≢ Amiss → eval run scene variables b now ≢ Amiss
-  and_second a b v now t is got so true_is h c =
-      and_next a b v now is got h (ap (λ o. on_truth o (eval run scene variables b) (gives v) now) (so ∙ ap Some true_is) ∙ c)
+  pub call_is : (k : ℕ) (parts l : List CExpr) → x ≡ e.Call k parts → l ≡ parts
+      → eval run scene variables x view ≡ then_do (in_turn (map (eval run scene variables) l) view) (run k)
+  call_is k parts l is same = ap (λ x. eval run scene variables x view) (is ∙ ap (e.Call k) (sym same)) ∙ eval_call run scene variables view k l
 
-  pub or_first : (a b : CExpr) → x ≡ e.Or a b → eval run scene variables x view ≢ Amiss → eval run scene variables a view ≢ Amiss
-  or_first a b is h = then_there _ (λ x. on_truth (truth_of x) (gives x) (eval run scene variables b)) (λ c. h (ap (λ x. eval run scene variables x view) is ∙ eval_or run scene variables view a b ∙ c))
+  pub insert_is : (a b c d : CExpr) (k : ℕ) → x ≡ e.InsertBy a b k → c ≡ a → d ≡ b
+      → eval run scene variables x view ≡ kinds.inserted_by (eval run scene variables) run k c d view
+  insert_is a b c d k is same next =
+      ap (λ x. eval run scene variables x view) (is ∙ (λ i. e.InsertBy (sym same i) (sym next i) k)) ∙ eval_insert run scene variables view c d k
 
-  or_next : (a b : CExpr) (v : Value) (now : View) → x ≡ e.Or a b → eval run scene variables a view ≡ Gives v now → eval run scene variables x view ≢ Amiss
-      → on_truth (truth_of v) (gives v) (eval run scene variables b) now ≢ Amiss
-  or_next a b v now is got h =
-      next_there _ (λ x. on_truth (truth_of x) (gives x) (eval run scene variables b)) v now (λ c. h (ap (λ x. eval run scene variables x view) is ∙ eval_or run scene variables view a b ∙ c)) got
+  pub default_is : (shape : Shape) → x ≡ e.Default shape → eval run scene variables x view ≡ fresh shape view
+  default_is shape is = ap (λ x. eval run scene variables x view) is ∙ eval_default run scene variables view shape
 
-  pub or_truth : (a b : CExpr) (v : Value) (now : View) → x ≡ e.Or a b → eval run scene variables a view ≡ Gives v now → eval run scene variables x view ≢ Amiss → truth_of v ≢ None
-  or_truth a b v now is got h = on_truth_there (truth_of v) (gives v) (eval run scene variables b) now (or_next a b v now is got h)
+  pub repeat_is : (a b c d : CExpr) → x ≡ e.Repeat a b → c ≡ a → d ≡ b → eval run scene variables x view ≡ kinds.repeated_each (eval run scene variables) c d view
+  repeat_is a b c d is same next = ap (λ x. eval run scene variables x view) (is ∙ (λ i. e.Repeat (sym same i) (sym next i))) ∙ eval_repeat run scene variables view c d
 
-  pub or_second : (a b : CExpr) (v : Value) (now : View) (t : Bool) → x ≡ e.Or a b → eval run scene variables a view ≡ Gives v now → truth_of v ≡ Some t → t ≡ false
-      → eval run scene variables x view ≢ Amiss → eval run scene variables b now ≢ Amiss
-  or_second a b v now t is got so false_is h c =
-      or_next a b v now is got h (ap (λ o. on_truth o (gives v) (eval run scene variables b) now) (so ∙ ap Some false_is) ∙ c)
+  -- and where the whole isn't amiss
+  pub op_whole : (name : OpName) (parts : List CExpr) → x ≡ e.Op name parts → eval run scene variables x view ≢ Amiss
+      → then_do (in_turn (map (eval run scene variables) parts) view) (applied scene name) ≢ Amiss
+  op_whole name parts is h a = h (op_is name parts parts is refl ∙ a)
 
-pub ruleset standing = (var_there, const_there, op_whole, build_parts, build_there, part_whole, part_there, and_first, and_truth, and_second, or_first, or_truth, or_second)
+  pub and_whole : (a b : CExpr) → x ≡ e.And a b → eval run scene variables x view ≢ Amiss → kinds.both (eval run scene variables) a b view ≢ Amiss
+  and_whole a b is h n = h (and_is a b a b is refl refl ∙ n)
+
+  pub or_whole : (a b : CExpr) → x ≡ e.Or a b → eval run scene variables x view ≢ Amiss → kinds.either (eval run scene variables) a b view ≢ Amiss
+  or_whole a b is h n = h (or_is a b a b is refl refl ∙ n)
+
+  pub build_whole : (kind : Kind) (parts : List CExpr) → x ≡ e.Build kind parts → eval run scene variables x view ≢ Amiss
+      → then_do (in_turn (map (eval run scene variables) parts) view) (λ values. done (build kind values)) ≢ Amiss
+  build_whole kind parts is h a = h (build_is kind parts parts is refl ∙ a)
+
+  pub part_whole : (a : CExpr) (k : ℕ) → x ≡ e.Part a k → eval run scene variables x view ≢ Amiss → kinds.taken_part (eval run scene variables) a k view ≢ Amiss
+  part_whole a k is h n = h (part_is a a k is refl ∙ n)
+
+  pub call_whole : (k : ℕ) (parts : List CExpr) → x ≡ e.Call k parts → eval run scene variables x view ≢ Amiss
+      → then_do (in_turn (map (eval run scene variables) parts) view) (run k) ≢ Amiss
+  call_whole k parts is h a = h (call_is k parts parts is refl ∙ a)
+
+  pub insert_whole : (a b : CExpr) (k : ℕ) → x ≡ e.InsertBy a b k → eval run scene variables x view ≢ Amiss
+      → kinds.inserted_by (eval run scene variables) run k a b view ≢ Amiss
+  insert_whole a b k is h n = h (insert_is a b a b k is refl refl ∙ n)
+
+  pub repeat_whole : (a b : CExpr) → x ≡ e.Repeat a b → eval run scene variables x view ≢ Amiss → kinds.repeated_each (eval run scene variables) a b view ≢ Amiss
+  repeat_whole a b is h n = h (repeat_is a b a b is refl refl ∙ n)
+
+-- the part of a tuple
+module _ (m : Evaluates) (a : CExpr) (k : ℕ) (view : View) where
+  pub part_first : kinds.taken_part m a k view ≢ Amiss → m a view ≢ Amiss
+  part_first h = then_there (m a view) (λ x. wanted (part_of x k)) h
+
+  pub part_stops : (stop : Stop) → Stops stop (m a view) → Stops stop (kinds.taken_part m a k view)
+  part_stops stop s = then_stops stop (m a view) (λ x. wanted (part_of x k)) s
+
+  pub part_goes : (v : Value) (now : View) → m a view ≡ Gives v now → kinds.taken_part m a k view ≡ wanted (part_of v k) now
+  part_goes v now got = ap (λ it. then_do it (λ x. wanted (part_of x k))) got
+
+  pub part_next : (v : Value) (now : View) → m a view ≡ Gives v now → kinds.taken_part m a k view ≢ Amiss → wanted (part_of v k) now ≢ Amiss
+  part_next v now got h n = h (part_goes v now got ∙ n)
+
+pub wanted_is : {A : Type 0} (o : Option A) (x : A) (view : View) → o ≡ Some x → wanted o view ≡ Gives x view
+wanted_is o x view e = ap (λ o. wanted o view) e
+
+pub ruleset wanted_part = (wanted_there, wanted_is)
+
+pub ruleset parts = (part_first, part_stops, part_next)
+
+pub ruleset standing = (var_there, const_there, op_whole, and_whole, or_whole, build_whole, part_whole, call_whole, insert_whole, repeat_whole)
 
 pub ruleset places = (at_place, callee_place, callee_found)

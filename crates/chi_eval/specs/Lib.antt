@@ -1,4 +1,5 @@
 pub mod Calls
+pub mod Kinds
 pub mod Spans
 pub mod Surroundings
 pub mod Terms

@@ -1,20 +1,41 @@
 //! Calls of functions, and their bodies.
 
 ghost use Rattle.std.specs.Prelude.{◌≡◌, ◌≢◌, IfOk, IfErr, map};
-ghost use Rattle.chi_core.specs.Answer.{Gives, Amiss};
+ghost use Rattle.chi_core.specs.Answer.{Gives, Amiss, in_turn, then_do};
 ghost use Rattle.chi_core.specs.Functions.{exec};
 ghost use Rattle.chi_core.specs.Terms.{Do};
-ghost use Rattle.chi_eval.specs.Calls.{run_by};
+ghost use Rattle.chi_eval.specs.Calls.{meaning, run_by};
 ghost use Rattle.chi_frame.specs.Stops.{Stops};
 ghost use Rattle.chi_eval.specs.Surroundings.{scene_in};
 
 use crate::calls::Calls;
+use crate::expressions::eval_all;
 use crate::items::act;
 use crate::surroundings::{Surroundings, function};
-use chi_core::{CStat, FaultKind, View};
+use chi_core::{CExpr, CStat, FaultKind, View};
 use chi_frame::{Stop, Term, Variables};
 use chi_value::Value;
 use std::alloc::Global;
+
+/// A call of a function, whose arguments are evaluated from left to right.
+#[cycle(eval)]
+#[tactic(auto, using(chi_frame::proofs::Stopping::stopping, crate::proofs::Operating::gathering))]
+pub fn call_with(
+    parts: &[CExpr],
+    alloc: Global,
+    s: &Surroundings<'_>,
+    calls: Calls,
+    number: u32,
+    variables: &Variables,
+    view: &mut View,
+) -> Result<Value, Stop>
+    requires { then_do (in_turn (map (meaning calls s.now variables.now) parts.now) view.old) (run_by calls s.now number) ≢ Amiss }
+    ensures value { IfOk result (λ v. then_do (in_turn (map (meaning calls s.now variables.now) parts.now) view.old) (run_by calls s.now number) ≡ Gives v view.new) }
+    ensures stops { IfErr result (λ stop. Stops stop (then_do (in_turn (map (meaning calls s.now variables.now) parts.now) view.old) (run_by calls s.now number))) }
+{
+    let arguments = eval_all(parts, alloc, s, calls, variables, view)?;
+    call(number, arguments, alloc, s, calls, view)
+}
 
 /// A call of a function.
 #[cycle(eval)]
@@ -39,14 +60,15 @@ pub fn call(
             }
             let f = function(s, number, arguments.len());
             let mut variables = Variables::new(alloc, f.slots.as_slice().len(), arguments)?;
-            Ok(run_body(
-                f.body.as_slice(),
+            let body = f.body.as_slice();
+            run_body(
+                body,
                 alloc,
                 s,
                 Calls::Within(more - 1),
                 &mut variables,
                 view,
-            )?)
+            )
         }
     }
 }

@@ -1,40 +1,45 @@
 //! Insertion into lists, by a function.
 
 ghost use Rattle.std.specs.Prelude.{◌≡◌, ◌≢◌, [], ◌∷◌, IfOk, IfErr};
-ghost use Rattle.chi_value.specs.declared.value.Value.{out-Value};
 ghost use Rattle.chi_core.specs.Answer.{Gives, Amiss};
-ghost use Rattle.chi_core.specs.Evaluation.{inserted, place_before};
-ghost use Rattle.chi_eval.specs.Calls.{before_by, run_by};
+ghost use Rattle.chi_core.specs.Evaluation.{place_before};
+ghost use Rattle.chi_eval.specs.Calls.{before_by, meaning, run_by};
+ghost use Rattle.chi_eval.specs.Kinds.{inserted_by};
 ghost use Rattle.chi_frame.specs.Stops.{Stops};
 
 use crate::bodies::call;
 use crate::calls::Calls;
+use crate::expressions::eval;
+use crate::given::insertion_of;
 use crate::surroundings::Surroundings;
 use chi_base::NoMemory;
-use chi_core::View;
-use chi_frame::{Stop, copied};
-use chi_operate::{inserted_at, items_in, truth_in};
+use chi_core::{CExpr, View};
+use chi_frame::{Stop, Variables, copied};
+use chi_operate::{items_in, truth_in};
 use chi_value::Value;
 use std::alloc::Global;
 
 /// A list with an element before the first of which a function says that it stands before it.
 #[cycle(eval)]
-#[tactic(auto, using(chi_frame::proofs::Stopping::stopping, crate::proofs::Insertions::inserting))]
+#[tactic(auto, using(crate::proofs::Insertions::inserting))]
 pub fn insert_by(
-    xs: &Value,
+    a: &CExpr,
     alloc: Global,
     s: &Surroundings<'_>,
     calls: Calls,
+    b: &CExpr,
     number: u32,
-    x: &Value,
+    variables: &Variables,
     view: &mut View,
 ) -> Result<Value, Stop>
-    requires { inserted (run_by calls s.now) number xs.now x.now (out-Value xs.now) view.old ≢ Amiss }
-    ensures value { IfOk result (λ v. inserted (run_by calls s.now) number xs.now x.now (out-Value xs.now) view.old ≡ Gives v view.new) }
-    ensures stops { IfErr result (λ stop. Stops stop (inserted (run_by calls s.now) number xs.now x.now (out-Value xs.now) view.old)) }
+    requires { inserted_by (meaning calls s.now variables.now) (run_by calls s.now) number a.now b.now view.old ≢ Amiss }
+    ensures value { IfOk result (λ v. inserted_by (meaning calls s.now variables.now) (run_by calls s.now) number a.now b.now view.old ≡ Gives v view.new) }
+    ensures stops { IfErr result (λ stop. Stops stop (inserted_by (meaning calls s.now variables.now) (run_by calls s.now) number a.now b.now view.old)) }
 {
-    let place = place_before(items_in(xs), alloc, s, calls, number, x, view)?;
-    Ok(inserted_at(alloc, xs, place, x, view)?)
+    let xs = eval(a, alloc, s, calls, variables, view)?;
+    let x = eval(b, alloc, s, calls, variables, view)?;
+    let place = place_before(items_in(&xs), alloc, s, calls, number, &x, view)?;
+    insertion_of(alloc, xs, place, x, view)
 }
 
 /// How many elements come before the first of which a function says that x stands before it.

@@ -1,8 +1,8 @@
 //! The items of terms that functions and processes share.
 
-ghost use Rattle.std.specs.Prelude.{◌≡◌, ◌≢◌, Err, IfOk, IfErr, OnOk, drop};
+ghost use Rattle.std.specs.Prelude.{◌≡◌, ◌≢◌, Err, IfOk, IfErr, drop};
 ghost use Rattle.chi_core.specs.Answer.{Gives, Amiss};
-ghost use Rattle.chi_core.specs.Terms.{On, act_stat, assigned, chosen, tested};
+ghost use Rattle.chi_core.specs.Terms.{act_stat, assigned, chosen, declared, tested, walking};
 ghost use Rattle.chi_core.specs.declared.statement.CStat.{out-CStat};
 ghost use Rattle.chi_eval.specs.Calls.{meaning};
 ghost use Rattle.chi_frame.specs.Stops.{Stops};
@@ -20,7 +20,7 @@ use std::alloc::Global;
 
 /// The first item of a term.
 #[cycle(eval)]
-#[tactic(auto, using(chi_frame::proofs::Stopping::stopping, crate::proofs::Turns::acts, crate::proofs::Acting::walking))]
+#[tactic(auto, using(chi_frame::proofs::Stopping::stopping, crate::proofs::Turns::acts, crate::proofs::Acting::walks))]
 pub fn act<'a>(
     term: &mut Term<'a>,
     alloc: Global,
@@ -35,10 +35,9 @@ pub fn act<'a>(
     ensures kept { result ≡ Err Stop.Spent → (variables.new ≡ variables.old) × (term.new ≡ term.old) }
 {
     match term.head() {
-        Head::Do(statement) => Ok(act_on(statement, alloc, s, calls, term, variables, view)?),
+        Head::Do(statement) => act_on(statement, alloc, s, calls, term, variables, view),
         Head::Loop(line, test, block) => {
-            test_loop(test, alloc, s, calls, line, block, term, variables, view)?;
-            Ok(None)
+            test_loop(test, alloc, s, calls, line, block, term, variables, view)
         }
         Head::Walk => {
             term.walk(alloc, variables)?;
@@ -66,35 +65,27 @@ fn act_on<'a>(
     ensures kept { result ≡ Err Stop.Spent → (variables.new ≡ variables.old) × (term.new ≡ term.old) }
 {
     match statement {
-        CStat::Declare(_, slot, e) => {
-            let value = eval(e, alloc, s, calls, variables, view)?;
-            variables.set(*slot, value);
-            term.drop_first();
-            Ok(None)
-        }
+        CStat::Declare(_, slot, e) => { declare(e, alloc, s, calls, *slot, term, variables, view) }
         CStat::Assign(_, targets, values) => {
             let places = targets.as_slice();
             let expressions = values.as_slice();
-            assign(expressions, alloc, s, calls, places, term, variables, view)?;
-            Ok(None)
+            assign(expressions, alloc, s, calls, places, term, variables, view)
         }
         CStat::If(_, branches, otherwise) => {
             let tests = branches.as_slice();
             let last = otherwise.as_slice();
-            choose(tests, alloc, s, calls, last, term, variables, view)?;
-            Ok(None)
+            choose(tests, alloc, s, calls, last, term, variables, view)
         }
         CStat::While(line, test, block) => {
             let turn = block.as_slice();
-            test_loop(test, alloc, s, calls, *line, turn, term, variables, view)?;
-            Ok(None)
+            test_loop(test, alloc, s, calls, *line, turn, term, variables, view)
         }
         CStat::For(line, slots, e, block) => {
-            let container = eval(e, alloc, s, calls, variables, view)?;
-            let elements = elements_in(alloc, container)?;
-            term.drop_first();
-            term.put_walk(*line, slots.as_slice(), elements, block.as_slice())?;
-            Ok(None)
+            let names = slots.as_slice();
+            let turn = block.as_slice();
+            begin_walk(
+                e, alloc, s, calls, *line, names, turn, term, variables, view,
+            )
         }
         CStat::Break(_) => {
             term.drop_first();
@@ -120,6 +111,57 @@ fn act_on<'a>(
     }
 }
 
+/// A declaration, which stands first.
+#[cycle(eval)]
+#[tactic(auto, using(chi_frame::proofs::Stopping::stopping, crate::proofs::Acting::declaring))]
+fn declare(
+    e: &CExpr,
+    alloc: Global,
+    s: &Surroundings<'_>,
+    calls: Calls,
+    slot: u32,
+    term: &mut Term<'_>,
+    variables: &mut Variables,
+    view: &mut View,
+) -> Result<Option<Value>, Stop>
+    requires { declared (meaning calls s.now variables.old) variables.old slot e.now (drop 1 term.old) view.old ≢ Amiss }
+    ensures value { IfOk result (λ r. declared (meaning calls s.now variables.old) variables.old slot e.now (drop 1 term.old) view.old ≡ Gives (came_to r variables.new term.new) view.new) }
+    ensures stops { IfErr result (λ stop. Stops stop (declared (meaning calls s.now variables.old) variables.old slot e.now (drop 1 term.old) view.old)) }
+    ensures kept { result ≡ Err Stop.Spent → (variables.new ≡ variables.old) × (term.new ≡ term.old) }
+{
+    let value = eval(e, alloc, s, calls, variables, view)?;
+    variables.set(slot, value);
+    term.drop_first();
+    Ok(None)
+}
+
+/// A walk over a container, whose statement stands first.
+#[cycle(eval)]
+#[tactic(auto, using(chi_frame::proofs::Stopping::stopping, crate::proofs::Acting::beginning))]
+fn begin_walk<'a>(
+    e: &CExpr,
+    alloc: Global,
+    s: &Surroundings<'_>,
+    calls: Calls,
+    line: u32,
+    slots: &'a [u32],
+    block: &'a [CStat],
+    term: &mut Term<'a>,
+    variables: &Variables,
+    view: &mut View,
+) -> Result<Option<Value>, Stop>
+    requires { walking (meaning calls s.now variables.now) variables.now line slots.now e.now block.now (drop 1 term.old) view.old ≢ Amiss }
+    ensures value { IfOk result (λ r. walking (meaning calls s.now variables.now) variables.now line slots.now e.now block.now (drop 1 term.old) view.old ≡ Gives (came_to r variables.now term.new) view.new) }
+    ensures stops { IfErr result (λ stop. Stops stop (walking (meaning calls s.now variables.now) variables.now line slots.now e.now block.now (drop 1 term.old) view.old)) }
+    ensures kept { result ≡ Err Stop.Spent → term.new ≡ term.old }
+{
+    let container = eval(e, alloc, s, calls, variables, view)?;
+    let elements = elements_in(alloc, container)?;
+    term.drop_first();
+    term.put_walk(line, slots, elements, block)?;
+    Ok(None)
+}
+
 /// The test of a loop, whose statement or turn stands first.
 #[cycle(eval)]
 #[tactic(auto, using(chi_frame::proofs::Stopping::stopping, crate::proofs::Acting::testing))]
@@ -133,9 +175,9 @@ fn test_loop<'a>(
     term: &mut Term<'a>,
     variables: &Variables,
     view: &mut View,
-) -> Result<(), Stop>
+) -> Result<Option<Value>, Stop>
     requires { tested (meaning calls s.now variables.now) variables.now line test.now block.now (drop 1 term.old) view.old ≢ Amiss }
-    ensures value { OnOk result (tested (meaning calls s.now variables.now) variables.now line test.now block.now (drop 1 term.old) view.old ≡ Gives (On variables.now term.new) view.new) }
+    ensures value { IfOk result (λ r. tested (meaning calls s.now variables.now) variables.now line test.now block.now (drop 1 term.old) view.old ≡ Gives (came_to r variables.now term.new) view.new) }
     ensures stops { IfErr result (λ stop. Stops stop (tested (meaning calls s.now variables.now) variables.now line test.now block.now (drop 1 term.old) view.old)) }
     ensures kept { result ≡ Err Stop.Spent → term.new ≡ term.old }
 {
@@ -144,9 +186,9 @@ fn test_loop<'a>(
     if truth_in(&value) {
         term.put_loop(line, test, block)?;
         term.put_first(block)?;
-        Ok(())
+        Ok(None)
     } else {
-        Ok(())
+        Ok(None)
     }
 }
 
@@ -162,9 +204,9 @@ fn choose<'a>(
     term: &mut Term<'a>,
     variables: &Variables,
     view: &mut View,
-) -> Result<(), Stop>
+) -> Result<Option<Value>, Stop>
     requires { chosen (meaning calls s.now variables.now) variables.now branches.now otherwise.now (drop 1 term.old) view.old ≢ Amiss }
-    ensures value { OnOk result (chosen (meaning calls s.now variables.now) variables.now branches.now otherwise.now (drop 1 term.old) view.old ≡ Gives (On variables.now term.new) view.new) }
+    ensures value { IfOk result (λ r. chosen (meaning calls s.now variables.now) variables.now branches.now otherwise.now (drop 1 term.old) view.old ≡ Gives (came_to r variables.now term.new) view.new) }
     ensures stops { IfErr result (λ stop. Stops stop (chosen (meaning calls s.now variables.now) variables.now branches.now otherwise.now (drop 1 term.old) view.old)) }
     ensures kept { result ≡ Err Stop.Spent → term.new ≡ term.old }
 {
@@ -173,12 +215,12 @@ fn choose<'a>(
         if truth_in(&holds) {
             term.drop_first();
             term.put_first(branch.block.as_slice())?;
-            return Ok(());
+            return Ok(None);
         }
     }
     term.drop_first();
     term.put_first(otherwise)?;
-    Ok(())
+    Ok(None)
 }
 
 /// An assignment, which stands first: the values, then the targets' indexes, then the stores.
@@ -193,9 +235,9 @@ fn assign(
     term: &mut Term<'_>,
     variables: &mut Variables,
     view: &mut View,
-) -> Result<(), Stop>
+) -> Result<Option<Value>, Stop>
     requires { assigned (meaning calls s.now variables.old) variables.old targets.now values.now (drop 1 term.old) view.old ≢ Amiss }
-    ensures value { OnOk result (assigned (meaning calls s.now variables.old) variables.old targets.now values.now (drop 1 term.old) view.old ≡ Gives (On variables.new term.new) view.new) }
+    ensures value { IfOk result (λ r. assigned (meaning calls s.now variables.old) variables.old targets.now values.now (drop 1 term.old) view.old ≡ Gives (came_to r variables.new term.new) view.new) }
     ensures stops { IfErr result (λ stop. Stops stop (assigned (meaning calls s.now variables.old) variables.old targets.now values.now (drop 1 term.old) view.old)) }
     ensures kept { result ≡ Err Stop.Spent → (variables.new ≡ variables.old) × (term.new ≡ term.old) }
 {
@@ -203,5 +245,5 @@ fn assign(
     let spots = spots_of(targets, alloc, s, calls, variables, view)?;
     store_all(alloc, targets, spots, xs, variables, view)?;
     term.drop_first();
-    Ok(())
+    Ok(None)
 }

@@ -80,20 +80,44 @@ invariant-places::spots_of-loop-target l =
     (gathered (map spot_in l.spots.items) (map does (drop l.target-index l.targets)) l.view ≢ Amiss)
     × (in_turn (map does l.targets) l.fn.view ≡ gathered (map spot_in l.spots.items) (map does (drop l.target-index l.targets)) l.view)
 
-abbrev pub decreases-expressions::repeat : goal.decreases-expressions::repeat
-decreases-expressions::repeat l = (more_of l.calls * reach l.s.now.functions.now) + (3 * size-CExpr l.each.now) + 1
+abbrev pub decreases-literals::repeat : goal.decreases-literals::repeat
+decreases-literals::repeat l = (more_of l.calls * reach l.s.now.functions.now) + (3 * size-CExpr l.each.now) + 1
 
-abbrev pub invariant-expressions::repeat-loop-turn : goal.invariant-expressions::repeat-loop-turn
-invariant-expressions::repeat-loop-turn l =
+abbrev pub invariant-literals::repeat-loop-turn : goal.invariant-literals::repeat-loop-turn
+invariant-literals::repeat-loop-turn l =
     let m = meaning l.calls l.s l.variables l.each in
     (gathered_times l.values.items (l.count - l.turn) m l.view ≢ Amiss)
     × (times l.count m l.fn.view ≡ gathered_times l.values.items (l.count - l.turn) m l.view)
 
-abbrev pub decreases-expressions::operate : goal.decreases-expressions::operate
-decreases-expressions::operate l = (more_of l.calls * reach l.s.now.functions.now) + (3 * most size-CExpr l.parts.now) + 2
+abbrev pub decreases-operators::operate : goal.decreases-operators::operate
+decreases-operators::operate l = (more_of l.calls * reach l.s.now.functions.now) + (3 * most size-CExpr l.parts.now) + 2
 
 abbrev pub decreases-inserting::insert_by : goal.decreases-inserting::insert_by
-decreases-inserting::insert_by l = (more_of l.calls * reach l.s.now.functions.now) + 2
+decreases-inserting::insert_by l = (more_of l.calls * reach l.s.now.functions.now) + (3 * max (size-CExpr l.a.now) (size-CExpr l.b.now)) + 2
+
+abbrev pub decreases-operators::both : goal.decreases-operators::both
+decreases-operators::both l = (more_of l.calls * reach l.s.now.functions.now) + (3 * max (size-CExpr l.a.now) (size-CExpr l.b.now)) + 1
+
+abbrev pub decreases-operators::either : goal.decreases-operators::either
+decreases-operators::either l = (more_of l.calls * reach l.s.now.functions.now) + (3 * max (size-CExpr l.a.now) (size-CExpr l.b.now)) + 1
+
+abbrev pub decreases-operators::part : goal.decreases-operators::part
+decreases-operators::part l = (more_of l.calls * reach l.s.now.functions.now) + (3 * size-CExpr l.a.now) + 1
+
+abbrev pub decreases-literals::build : goal.decreases-literals::build
+decreases-literals::build l = (more_of l.calls * reach l.s.now.functions.now) + (3 * most size-CExpr l.parts.now) + 2
+
+abbrev pub decreases-literals::repeat_each : goal.decreases-literals::repeat_each
+decreases-literals::repeat_each l = (more_of l.calls * reach l.s.now.functions.now) + (3 * max (size-CExpr l.count.now) (size-CExpr l.each.now)) + 2
+
+abbrev pub decreases-bodies::call_with : goal.decreases-bodies::call_with
+decreases-bodies::call_with l = (more_of l.calls * reach l.s.now.functions.now) + (3 * most size-CExpr l.parts.now) + 2
+
+abbrev pub decreases-items::declare : goal.decreases-items::declare
+decreases-items::declare l = (more_of l.calls * reach l.s.now.functions.now) + (3 * size-CExpr l.e.now) + 1
+
+abbrev pub decreases-items::begin_walk : goal.decreases-items::begin_walk
+decreases-items::begin_walk l = (more_of l.calls * reach l.s.now.functions.now) + (3 * size-CExpr l.e.now) + 1
 
 abbrev pub decreases-inserting::place_before : goal.decreases-inserting::place_before
 decreases-inserting::place_before l = (more_of l.calls * reach l.s.now.functions.now) + 1
