@@ -142,17 +142,17 @@ module _ (label : Label) (new : Config) (marks : List Bool) (parties : Parties) 
 
   module _ (first second : ℕ) (is_first : first ≡ first_named label) (is_second : second ≡ second_named label) where
     -- of all instances, through three changes of what is kept: at the first that was named, at the second, and at the new ones
-    led_all : (P P1 P2 P3 : ℕ → Option Instance → Type 0) → Stays P P1 → Stays P1 P2 → Stays P2 P3 → ((r : ℕ) → P r (slice_get led.old.instances r))
-        → P1 first (slice_get new.instances first) → P2 second (slice_get new.instances second)
-        → ((r : ℕ) → b.count ≤ r → P3 r (slice_get new.instances r)) → (r : ℕ) → P3 r (slice_get new.instances r)
-    led_all P P1 P2 P3 s1 s2 s3 held one two added =
-        holds_of_all label led.old new led.leads P P3 (λ r o h. s3 r o (s2 r o (s1 r o h))) held
+    led_all : (P Q R S : ℕ → Option Instance → Type 0) → Stays P Q → Stays Q R → Stays R S → ((r : ℕ) → P r (slice_get led.old.instances r))
+        → Q first (slice_get new.instances first) → R second (slice_get new.instances second)
+        → ((r : ℕ) → b.count ≤ r → S r (slice_get new.instances r)) → (r : ℕ) → S r (slice_get new.instances r)
+    led_all P Q R S s1 s2 s3 held one two added =
+        holds_of_all label led.old new led.leads P S (λ r o h. s3 r o (s2 r o (s1 r o h))) held
         (subst Holds is_first (s3 first (slice_get new.instances first) (s2 first (slice_get new.instances first) one)))
         (subst Holds is_second (s3 second (slice_get new.instances second) two))
         (λ r h. added r (subst (λ (k : ℕ). k ≤ r) (sym led.before.count) h))
       where
         Holds : ℕ → Type 0
-        Holds k = P3 k (slice_get new.instances k)
+        Holds k = S k (slice_get new.instances k)
 
     pub led_parties : (one two three : Parties) → KeepsParties parties one → KeepsParties one two → KeepsParties two three
         → IsParty one first (slice_get new.instances first) → IsParty two second (slice_get new.instances second)

@@ -1,5 +1,5 @@
 -- What a runner stands for: a configuration, or the end of a run.
-use Rattle.std.specs.Prelude.{◌≡◌, ℕ, ◌+◌, ◌≤◌, ℤ, List, [], ◌++◌, Option, Some, None, option_map, Contains, IsTrue}
+use Rattle.std.specs.Prelude.{◌≡◌, ℕ, ◌+◌, ◌≤◌, ℤ, List, [], Option, Some, None, option_map, Contains, IsTrue}
 use Rattle.chi_value.specs.declared.text.limit.TheConstants.{MOST_TEXT}
 use Rattle.chi_core.specs.declared.program.Core.{Core}
 use Rattle.chi_core.specs.declared.label.Label.{Label}
