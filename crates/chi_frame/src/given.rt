@@ -14,8 +14,9 @@ ghost use Rattle.chi_frame.specs.declared.stop.Stop.TheVariants.{NoMemory};
 ghost use Rattle.chi_frame.specs.Stops.{Stops};
 ghost use Rattle.chi_operate.specs.Scenery.{scene_of};
 
+use crate::scalars::copied;
+use crate::stop::Stop;
 use chi_core::{OpName, View};
-use chi_frame::{Stop, copied};
 use chi_operate::{Scenery, apply, fresh, inserted_at, made_of, of_one, of_two, part_in};
 use chi_value::{Items, Kind, Shape, Value};
 use std::alloc::Global;
@@ -29,7 +30,7 @@ pub fn copy_of(alloc: Global, value: &Value) -> Result<Value, Stop>
 }
 
 /// A fresh default: each channel in it is new.
-#[tactic(auto, using(chi_frame::proofs::Stopping::stopping))]
+#[tactic(auto, using(crate::proofs::Stopping::stopping))]
 pub fn fresh_of(alloc: Global, shape: &Shape, view: &mut View) -> Result<Value, Stop>
     ensures value { IfOk result (λ v. fresh shape.now view.old ≡ Gives v view.new) }
     ensures stops { IfErr result (λ stop. Stops stop (fresh shape.now view.old)) }
@@ -38,7 +39,7 @@ pub fn fresh_of(alloc: Global, shape: &Shape, view: &mut View) -> Result<Value, 
 }
 
 /// A literal of its parts.
-#[tactic(auto, using(chi_frame::proofs::Stopping::stopping))]
+#[tactic(auto, using(crate::proofs::Stopping::stopping))]
 pub fn literal_of(alloc: Global, kind: Kind, parts: Vec<Value>, view: &View) -> Result<Value, Stop>
     requires { done (build kind parts.items) view.now ≢ Amiss }
     ensures value { IfOk result (λ v. done (build kind parts.items) view.now ≡ Gives v view.now) }
@@ -48,7 +49,7 @@ pub fn literal_of(alloc: Global, kind: Kind, parts: Vec<Value>, view: &View) -> 
 }
 
 /// The part of a tuple.
-#[tactic(auto, using(crate::proofs::Standing::wanted_part))]
+#[tactic(auto, using(crate::proofs::Stopping::wanted_part))]
 pub fn part_of(alloc: Global, whole: Value, number: u32, view: &View) -> Result<Value, Stop>
     requires { wanted (part_of whole number) view.now ≢ Amiss }
     ensures value { IfOk result (λ v. wanted (part_of whole number) view.now ≡ Gives v view.now) }
@@ -58,7 +59,7 @@ pub fn part_of(alloc: Global, whole: Value, number: u32, view: &View) -> Result<
 }
 
 /// What an operator makes of one operand.
-#[tactic(auto, using(chi_frame::proofs::Stopping::stopping))]
+#[tactic(auto, using(crate::proofs::Stopping::stopping))]
 pub fn operator_of_one(
     alloc: Global,
     scenery: &Scenery<'_>,
@@ -74,7 +75,7 @@ pub fn operator_of_one(
 }
 
 /// What an operator makes of two operands.
-#[tactic(auto, using(chi_frame::proofs::Stopping::stopping))]
+#[tactic(auto, using(crate::proofs::Stopping::stopping))]
 pub fn operator_of_two(
     alloc: Global,
     scenery: &Scenery<'_>,
@@ -91,7 +92,7 @@ pub fn operator_of_two(
 }
 
 /// What an operator makes of any number of operands.
-#[tactic(auto, using(chi_frame::proofs::Stopping::stopping))]
+#[tactic(auto, using(crate::proofs::Stopping::stopping))]
 pub fn operator_of_all(
     alloc: Global,
     scenery: &Scenery<'_>,
@@ -107,7 +108,7 @@ pub fn operator_of_all(
 }
 
 /// A list with an element put before a place.
-#[tactic(auto, using(chi_frame::proofs::Stopping::stopping))]
+#[tactic(auto, using(crate::proofs::Stopping::stopping))]
 pub fn insertion_of(
     alloc: Global,
     xs: Value,

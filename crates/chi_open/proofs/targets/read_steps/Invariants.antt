@@ -2,7 +2,7 @@ use Rattle.std.proofs.Common.{◌≡◌, ◌≢◌, drop}
 use Rattle.chi_core.specs.Answer.{Amiss, through}
 use Rattle.chi_core.specs.Spots.{read_step}
 use Rattle.chi_eval.specs.Surroundings.{value_in}
-use Rattle.chi_eval.proofs.targets.read_steps.Given as goal
+use Rattle.chi_open.proofs.targets.read_steps.Given as goal
 
 abbrev pub invariant-loop-step : goal.invariant-loop-step
 invariant-loop-step l =

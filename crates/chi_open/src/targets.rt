@@ -8,9 +8,8 @@ ghost use Rattle.chi_core.specs.Spots.{element_by, read_step, read_at};
 ghost use Rattle.chi_frame.specs.Stops.{Stops};
 ghost use Rattle.chi_eval.specs.Surroundings.{value_in};
 
-use crate::evaluating::value_of;
-use crate::surroundings::Surroundings;
 use chi_core::{CStep, CTarget, View};
+use chi_eval::{Surroundings, value_of};
 use chi_frame::{Stop, Variables};
 use chi_operate::{element_at, looked_up, part_in};
 use chi_value::Value;
