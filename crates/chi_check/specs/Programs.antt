@@ -21,7 +21,7 @@ use Rattle.chi_stat_parts.specs.Stated.{in_turn}
 use Rattle.chi_headers.specs.declared.sketch.Sketch.{Sketch}
 use Rattle.chi_headers.specs.declared.sketch.Early.{Early}
 use Rattle.chi_headers.specs.declared.sketch.Named.{Named}
-use Rattle.chi_headers.specs.Headers.{header_in}
+use Rattle.chi_headers.specs.Headers.{header_in, header_faults}
 use Rattle.chi_headers.specs.Definitions.{sketching, early_defined, with_all_late, with_all_headed}
 use Rattle.chi_check.specs.Bodies.{functions_of, processes_of}
 

@@ -13,7 +13,10 @@ ghost use Rattle.chi_check.specs.Programs as spec;
 use crate::bodies::{define_functions, define_processes};
 use chi_base::{Items, NoMemory};
 use chi_core::{ConstDef, Core, FuncDef, ProcDef};
-use chi_headers::{Early, Header, Named, Sketch, add_all_headed, add_all_late, after, define_all_early, headers_in, name_all};
+use chi_headers::{
+    Early, Header, Named, Sketch, add_all_headed, add_all_late, after, define_all_early,
+    headers_in, name_all,
+};
 use chi_streams::with_streams;
 use chi_token::{Bytes, Place};
 use chi_tree::{Definition, Item, Program};

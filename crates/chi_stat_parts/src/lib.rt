@@ -12,10 +12,14 @@ mod names;
 mod state;
 mod values;
 
-pub use blocks::{branched, chosen, guarded, loop_word, looped, offered, ran, selected, started, walked};
+pub use blocks::{
+    branched, chosen, guarded, loop_word, looped, offered, ran, selected, started, walked,
+};
 pub use declarations::{declare, open_walk};
 pub use growing::Growing;
-pub use lines::{communicating, communication_in, element_in, exit_in, finish_in, return_in, write_in};
+pub use lines::{
+    communicating, communication_in, element_in, exit_in, finish_in, return_in, write_in,
+};
 pub use lists::{joined, nothing, one};
 pub use names::{add_name, bind, copied, note_new_name};
 pub use state::{Binder, Opened, State};

@@ -14,7 +14,9 @@ ghost use Rattle.chi_statements.specs.Statements as spec;
 
 use chi_base::{Items, NoMemory};
 use chi_core::{CElem, CStat};
-use chi_stat_parts::{Binder, Opened, State, element_in, joined, nothing, one, open_walk, ran, started};
+use chi_stat_parts::{
+    Binder, Opened, State, element_in, joined, nothing, one, open_walk, ran, started,
+};
 use chi_stat_rules::{Home, note_running};
 use chi_token::Place;
 use chi_tree::{Element, Walk};

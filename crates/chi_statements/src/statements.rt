@@ -17,7 +17,11 @@ ghost use Rattle.chi_statements.specs.Statements as spec;
 use crate::elements::{run_all, start_only};
 use chi_base::{Items, NoMemory};
 use chi_core::{Branch, CAlt, CStat};
-use chi_stat_parts::{Binder, State, assignment_in, branched, chosen, communicating, communication_in, declare, exit_in, finish_in, guard_in, guarded, joined, loop_word, looped, nothing, offered, one, open_walk, return_in, selected, test_in, walked, write_in};
+use chi_stat_parts::{
+    Binder, State, assignment_in, branched, chosen, communicating, communication_in, declare,
+    exit_in, finish_in, guard_in, guarded, joined, loop_word, looped, nothing, offered, one,
+    open_walk, return_in, selected, test_in, walked, write_in,
+};
 use chi_stat_rules::{Home, note_running};
 use chi_token::Place;
 use chi_tree::{Alternative, Communication, Expr, Statement, Step, Walk};
