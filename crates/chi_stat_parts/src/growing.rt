@@ -22,6 +22,7 @@ impl<T> Model for Growing<T> {
 }
 
 impl<T: Drop> Growing<T> {
+    /// An empty list.
     pub fn new(alloc: Global) -> Growing<T>
         ensures { result ≡ [] }
     {
@@ -30,6 +31,7 @@ impl<T: Drop> Growing<T> {
         }
     }
 
+    /// Adds an element at the end.
     pub fn push(&mut self, value: T) -> Result<(), NoMemory>
         ensures ok { OnOk result (self.new ≡ self.old ++ value ∷ []) }
     {
@@ -37,12 +39,14 @@ impl<T: Drop> Growing<T> {
         Ok(())
     }
 
+    /// How many elements there are.
     pub fn count(&self) -> usize
         ensures { result ≡ length self.now }
     {
         self.elements.len()
     }
 
+    /// The elements, as a list that grows no more.
     pub fn into_items(self, alloc: Global) -> Result<Items<T>, NoMemory>
         ensures { IfOk result (λ items. items ≡ self) }
     {
