@@ -6,7 +6,7 @@ ghost use Rattle.std.specs.Prelude.{◌≡◌, ◌&&◌, IfOk, OnOk};
 ghost use Rattle.std.specs.Option.{option_copied};
 ghost use Rattle.chi_types.specs.Same.{same};
 ghost use Rattle.chi_types.specs.declared.ty.Ty.{out-Ty};
-ghost use Rattle.chi_types.specs.declared.ty.Ty.TheVariants as Ty;
+ghost use Rattle.chi_types.specs.declared.ty.Ty.TheVariants as ty;
 ghost use Rattle.chi_core.specs.declared.expression.CExpr.TheVariants as expression;
 ghost use Rattle.chi_typing.specs.Faults.{first_of};
 ghost use Rattle.chi_expr_rules.specs.PredefinedCalls as spec;
@@ -22,7 +22,7 @@ use std::alloc::Global;
 
 /// Whether a function that takes two values of these types tells which of two elements stands first.
 fn tells_order_of(element: &Ty, a: &Ty, b: &Ty, outcome: &Ty) -> bool
-    ensures { result ≡ (same a.now element.now && same b.now element.now && same outcome.now Ty.Bool) }
+    ensures { result ≡ (same a.now element.now && same b.now element.now && same outcome.now ty.Bool) }
 {
     same(a, element) && same(b, element) && same(outcome, &Ty::Bool)
 }
