@@ -10,14 +10,15 @@ use Rattle.chi_typing.specs.declared.fault.Fault.{Fault}
 use Rattle.chi_typing.specs.Faults.{first_of}
 use Rattle.chi_typing.specs.Names.{Names}
 use Rattle.chi_typing.proofs.Firsts.{first_of_append}
-use Rattle.chi_check.specs.declared.header.Header.{Header}
-use Rattle.chi_check.specs.declared.sketch.Sketch.{Sketch}
-use Rattle.chi_check.specs.declared.sketch.Early.{Early}
-use Rattle.chi_check.specs.declared.sketch.Named.{Named}
-use Rattle.chi_check.specs.Stated.{Stated, in_turn}
-use Rattle.chi_check.specs.Headers.{Found, header_in}
-use Rattle.chi_check.specs.Definitions.{sketching, early_defined, with_all_late, with_all_headed, functions_of, processes_of}
-use Rattle.chi_check.specs.Programs.{no_names, first_early, first_named, header_faults, first_model, model_rule, core_of, definitions_checked}
+use Rattle.chi_stat_parts.specs.Stated.{Stated, in_turn}
+use Rattle.chi_headers.specs.declared.header.Header.{Header}
+use Rattle.chi_headers.specs.declared.sketch.Sketch.{Sketch}
+use Rattle.chi_headers.specs.declared.sketch.Early.{Early}
+use Rattle.chi_headers.specs.declared.sketch.Named.{Named}
+use Rattle.chi_headers.specs.Headers.{Found, header_in, header_faults}
+use Rattle.chi_headers.specs.Definitions.{sketching, early_defined, with_all_late, with_all_headed}
+use Rattle.chi_check.specs.Bodies.{functions_of, processes_of}
+use Rattle.chi_check.specs.Programs.{no_names, first_early, first_named, first_model, model_rule, core_of, definitions_checked}
 
 noted_six : (kept : Option Fault) (a b c d e f : List Fault) → first_of kept (a ++ b ++ c ++ d ++ e ++ f) ≡ first_of (first_of (first_of (first_of (first_of (first_of kept a) b) c) d) e) f
 noted_six kept a b c d e f =

@@ -1,10 +1,2 @@
-pub mod AlternativeSteps
 pub mod Answered
-pub mod ElementSteps
-pub mod Folds
-pub mod Held
 pub mod Layers
-pub mod Parts
-pub mod StatementSteps
-pub mod Turns
-pub mod Typed

@@ -1,6 +1,2 @@
-pub mod Stated
-pub mod States
-pub mod Statements
-pub mod Headers
-pub mod Definitions
+pub mod Bodies
 pub mod Programs

@@ -17,13 +17,13 @@ use Rattle.chi_typing.specs.Faults.{fault, first}
 use Rattle.chi_typing.specs.Names.{Names}
 use Rattle.chi_typing.specs.Typed.{Typed, unless, refused}
 use Rattle.chi_streams.specs.Streams.{with_streams}
-use Rattle.chi_check.specs.declared.header.Header.{Header}
-use Rattle.chi_check.specs.declared.sketch.Sketch.{Sketch}
-use Rattle.chi_check.specs.declared.sketch.Early.{Early}
-use Rattle.chi_check.specs.declared.sketch.Named.{Named}
-use Rattle.chi_check.specs.Stated.{Stated, both, in_turn}
-use Rattle.chi_check.specs.Headers.{Found, header_in}
-use Rattle.chi_check.specs.Definitions.{sketching, early_defined, with_all_late, with_all_headed, functions_of, processes_of}
+use Rattle.chi_stat_parts.specs.Stated.{in_turn}
+use Rattle.chi_headers.specs.declared.sketch.Sketch.{Sketch}
+use Rattle.chi_headers.specs.declared.sketch.Early.{Early}
+use Rattle.chi_headers.specs.declared.sketch.Named.{Named}
+use Rattle.chi_headers.specs.Headers.{header_in, header_faults}
+use Rattle.chi_headers.specs.Definitions.{sketching, early_defined, with_all_late, with_all_headed}
+use Rattle.chi_check.specs.Bodies.{functions_of, processes_of}
 
 abbrev pub no_names : Sketch
 no_names = record { all = []; early = []; enumerations = 0; processes = 0; experiments = 0 }
@@ -33,10 +33,6 @@ first_early names = record { names = names; constants = 0 }
 
 abbrev pub first_named : Names → Named
 first_named names = record { names = names; functions = 0; processes = 0 }
-
-abbrev pub header_faults : List (Found (Option Header)) → List Fault
-header_faults [] = []
-header_faults (h ∷ hs) = h.faults ++ header_faults hs
 
 -- ---- the model that is run: the first, by its place among processes and models
 

@@ -4,27 +4,23 @@
 
 ghost use Rattle.std.specs.Prelude.{◌≡◌, map, IfOk, OnOk};
 ghost use Rattle.chi_typing.specs.Faults.{first_of};
-ghost use Rattle.chi_check.specs.Stated.{in_turn};
-ghost use Rattle.chi_check.specs.Headers as header;
-ghost use Rattle.chi_check.specs.Definitions as spec;
+ghost use Rattle.chi_stat_parts.specs.Stated.{in_turn};
+ghost use Rattle.chi_headers.specs.Headers as header;
+ghost use Rattle.chi_check.specs.Bodies as spec;
 
-use crate::growing::Growing;
-use crate::header::Header;
-use crate::headers::all_types;
-use crate::lists::{joined, nothing, one};
-use crate::names::bind;
-use crate::state::{Binder, State};
-use crate::statements::check_all;
 use chi_base::{Items, NoMemory};
 use chi_core::{CStat, FuncDef, ProcDef};
+use chi_headers::{Header, all_types};
+use chi_stat_parts::{Binder, Growing, State, bind, joined, nothing, one};
 use chi_stat_rules::{ExitType, Home};
+use chi_statements::check_all;
 use chi_token::Bytes;
 use chi_tree::{Definition, Formal, Item, Name, Step};
 use chi_types::Ty;
 use chi_typing::{Fault, Scope};
 use std::alloc::Global;
 
-#[tactic(auto, using(chi_typing::proofs::Firsts::first_of_none, chi_typing::proofs::Firsts::first_of_append, crate::proofs::Turns::joined_more, crate::proofs::Turns::joined_end))]
+#[tactic(auto, using(chi_typing::proofs::Firsts::first_of_none, chi_typing::proofs::Firsts::first_of_append, chi_stat_parts::proofs::Turns::joined_more, chi_stat_parts::proofs::Turns::joined_end))]
 fn bind_formals(
     alloc: Global,
     formals: &[Formal],
@@ -245,7 +241,7 @@ fn define_process(
 }
 
 /// All functions.
-#[tactic(auto, using(chi_typing::proofs::Firsts::first_of_none, chi_typing::proofs::Firsts::first_of_append, crate::proofs::Turns::joined_more, crate::proofs::Turns::joined_end))]
+#[tactic(auto, using(chi_typing::proofs::Firsts::first_of_none, chi_typing::proofs::Firsts::first_of_append, chi_stat_parts::proofs::Turns::joined_more, chi_stat_parts::proofs::Turns::joined_end))]
 pub(crate) fn define_functions(
     alloc: Global,
     items: &[Item],
@@ -273,7 +269,7 @@ pub(crate) fn define_functions(
 }
 
 /// All processes and models.
-#[tactic(auto, using(chi_typing::proofs::Firsts::first_of_none, chi_typing::proofs::Firsts::first_of_append, crate::proofs::Turns::joined_more, crate::proofs::Turns::joined_end))]
+#[tactic(auto, using(chi_typing::proofs::Firsts::first_of_none, chi_typing::proofs::Firsts::first_of_append, chi_stat_parts::proofs::Turns::joined_more, chi_stat_parts::proofs::Turns::joined_end))]
 pub(crate) fn define_processes(
     alloc: Global,
     items: &[Item],

@@ -4,19 +4,19 @@
 
 ghost use Rattle.std.specs.Prelude.{◌≡◌, length, map, take, IfOk, OnOk};
 ghost use Rattle.chi_typing.specs.Faults.{first_of};
-ghost use Rattle.chi_check.specs.Stated.{in_turn};
-ghost use Rattle.chi_check.specs.Headers.{header_in};
-ghost use Rattle.chi_check.specs.Definitions.{with_all_late, with_all_headed, functions_of, processes_of};
+ghost use Rattle.chi_stat_parts.specs.Stated.{in_turn};
+ghost use Rattle.chi_headers.specs.Headers.{header_in, header_faults};
+ghost use Rattle.chi_headers.specs.Definitions.{with_all_late, with_all_headed};
+ghost use Rattle.chi_check.specs.Bodies.{functions_of, processes_of};
 ghost use Rattle.chi_check.specs.Programs as spec;
 
 use crate::bodies::{define_functions, define_processes};
-use crate::early::define_all_early;
-use crate::header::Header;
-use crate::late::{add_all_headed, add_all_late, headers_in};
-use crate::naming::{after, name_all};
-use crate::sketch::{Early, Named, Sketch};
 use chi_base::{Items, NoMemory};
 use chi_core::{ConstDef, Core, FuncDef, ProcDef};
+use chi_headers::{
+    Early, Header, Named, Sketch, add_all_headed, add_all_late, after, define_all_early,
+    headers_in, name_all,
+};
 use chi_streams::with_streams;
 use chi_token::{Bytes, Place};
 use chi_tree::{Definition, Item, Program};
@@ -115,7 +115,7 @@ fn late_headers(
         OnOk result (names.new ≡ take (length names.old) (with_all_late all.now names.old ds)) }
     ensures noted { let ds = map (λ item. item.definition) items.now in
         let late = with_all_late all.now names.old ds in
-        OnOk result (kept.new ≡ first_of kept.old (spec.header_faults (map (header_in late) ds))) }
+        OnOk result (kept.new ≡ first_of kept.old (header_faults (map (header_in late) ds))) }
 {
     let count = names.count();
     add_all_late(all, names, items)?;
@@ -185,7 +185,7 @@ fn define_late(
         let named = with_all_headed all.now ds given (spec.first_named (take (length early) late)) in
         let funcs = in_turn (functions_of ds given) named.names in
         let procs = in_turn (processes_of ds given) funcs.next in
-        OnOk result (kept.new ≡ first_of (first_of (first_of kept.old (spec.header_faults (map (header_in late) ds))) funcs.faults) procs.faults) }
+        OnOk result (kept.new ≡ first_of (first_of (first_of kept.old (header_faults (map (header_in late) ds))) funcs.faults) procs.faults) }
 {
     let mut names = early;
     let headers = late_headers(alloc, all, items, &mut names, kept)?;

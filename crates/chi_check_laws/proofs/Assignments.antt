@@ -27,8 +27,8 @@ use Rattle.chi_stat_rules.specs.declared.parts.Aim.{Aim}
 use Rattle.chi_stat_rules.specs.Assignments.{all_aims, assign, stored, parts_fit, spread, spread_value, spread_one, only_one, uneven, even}
 use Rattle.chi_stat_laws.specs.Parts.{SoundAim}
 use Rattle.chi_stat_laws.proofs.Targets.{aims_take}
-use Rattle.chi_check.specs.Stated.{alone}
-use Rattle.chi_check.specs.Statements.{made_of, assignment_place, values_in, target_in, assignment_in}
+use Rattle.chi_stat_parts.specs.Stated.{alone}
+use Rattle.chi_stat_parts.specs.Values.{made_of, assignment_place, values_in, target_in, assignment_in}
 use Rattle.chi_check_laws.specs.Bodies.{role_of}
 use Rattle.chi_check_laws.specs.Whole.{has_any}
 use Rattle.chi_check_laws.proofs.Bodies.{SoundOne, StatementKept, statements_by_parts}

@@ -48,8 +48,9 @@ use Rattle.chi_stat_rules.specs.Targets.{visible_target, named_target, is_text, 
 use Rattle.chi_stat_laws.specs.Parts.{texts_if_any, SoundAim, SoundReceiver, Communicates}
 use Rattle.chi_stat_laws.proofs.Communications.{sending_sound, void_sending_sound, receiving_sound, void_receiving_sound, delaying_sound}
 use Rattle.chi_stat_laws.proofs.Targets.{target_name_sound, target_index_sound, target_field_sound}
-use Rattle.chi_check.specs.Stated.{alone}
-use Rattle.chi_check.specs.Statements.{made_if, communication_place, selected, value_in, step_in, steps_in, target_in, receiver_in, guard_in, test_in, parts_in, communication_in, communicating}
+use Rattle.chi_stat_parts.specs.Stated.{alone}
+use Rattle.chi_stat_parts.specs.Values.{made_if, value_in, step_in, steps_in, target_in, guard_in, test_in}
+use Rattle.chi_stat_parts.specs.Lines.{communication_place, selected, receiver_in, parts_in, communication_in, communicating}
 use Rattle.chi_check_laws.specs.Bodies.{role_of}
 use Rattle.chi_check_laws.proofs.Bodies.{SoundOne, SoundOffer, AllSound, StatementKept, offer_at, body_sound, statements_by_parts}
 use Rattle.chi_check_laws.proofs.Endings.{runs_in}

@@ -26,11 +26,12 @@ use Rattle.chi_stat_rules.specs.Homes.{site_of, has_channel, channel_rule}
 use Rattle.chi_stat_rules.specs.Places.{type_place}
 use Rattle.chi_stat_rules.specs.Values.{fitted}
 use Rattle.chi_stat_laws.proofs.Values.{fitted_has}
-use Rattle.chi_check.specs.declared.state.Binder.TheVariants as binder
-use Rattle.chi_check.specs.declared.state.State.{State}
-use Rattle.chi_check.specs.Stated.{in_turn}
-use Rattle.chi_check.specs.States.{is_taken, next_slot, new_name_rule}
-use Rattle.chi_check.specs.Statements.{declaration, value_in, initial_in, declared, declaration_in}
+use Rattle.chi_stat_parts.specs.declared.state.Binder.TheVariants as binder
+use Rattle.chi_stat_parts.specs.declared.state.State.{State}
+use Rattle.chi_stat_parts.specs.Stated.{in_turn}
+use Rattle.chi_stat_parts.specs.States.{is_taken, next_slot, new_name_rule}
+use Rattle.chi_stat_parts.specs.Values.{value_in}
+use Rattle.chi_stat_parts.specs.Declarations.{declaration, initial_in, declared, declaration_in}
 use Rattle.chi_check_laws.specs.Bodies.{role_of, SlotsHave, set_by, Agrees, Grows}
 use Rattle.chi_check_laws.proofs.Bodies.{AllSound, StatementKept, all_append, set_append}
 use Rattle.chi_check_laws.proofs.Channels.{channel_kind}

@@ -45,8 +45,9 @@ use Rattle.chi_stat_rules.specs.Elements.{as_instance_target, is_other_exit, exi
 use Rattle.chi_stat_rules.specs.Values.{is_inst}
 use Rattle.chi_stat_laws.specs.Parts.{SoundAim}
 use Rattle.chi_stat_laws.proofs.Targets.{aim_takes}
-use Rattle.chi_check.specs.Stated.{alone}
-use Rattle.chi_check.specs.Statements.{made_of, made_if, values_in, goal_in, element_in, target_in}
+use Rattle.chi_stat_parts.specs.Stated.{alone}
+use Rattle.chi_stat_parts.specs.Values.{made_of, made_if, values_in, goal_in, target_in}
+use Rattle.chi_stat_parts.specs.Lines.{element_in}
 use Rattle.chi_check_laws.specs.Bodies.{role_of}
 use Rattle.chi_check_laws.specs.Texts.{target_texts_if}
 use Rattle.chi_check_laws.proofs.Bodies.{SoundMake, MakeKept, make_at, nothing_more, each_by_parts}

@@ -25,8 +25,9 @@ use Rattle.chi_stat_rules.specs.Endings.{returning, return_of, exiting, exit_of,
 use Rattle.chi_stat_rules.specs.Homes.{running_rule}
 use Rattle.chi_stat_rules.specs.Values.{fitted}
 use Rattle.chi_stat_laws.proofs.Values.{fitted_has, exiting_sound}
-use Rattle.chi_check.specs.Stated.{alone}
-use Rattle.chi_check.specs.Statements.{value_in, instance_in, all_of, made_if, return_in, exit_in, finish_in}
+use Rattle.chi_stat_parts.specs.Stated.{alone}
+use Rattle.chi_stat_parts.specs.Values.{value_in, instance_in, all_of, made_if}
+use Rattle.chi_stat_parts.specs.Lines.{return_in, exit_in, finish_in}
 use Rattle.chi_check_laws.specs.Bodies.{role_of}
 use Rattle.chi_check_laws.proofs.Bodies.{SoundOne, StatementKept, statements_by_parts}
 use Rattle.chi_check_laws.proofs.Statements.{one_pass, one_break, one_continue, one_return, one_exit, one_exit_with, one_finish}

@@ -49,11 +49,13 @@ use Rattle.chi_stat_rules.specs.Homes.{site_of, running_rule, channel_rule}
 use Rattle.chi_stat_rules.specs.Places.{type_place}
 use Rattle.chi_stat_rules.specs.Values.{is_inst, fitted}
 use Rattle.chi_stat_rules.specs.Writes.{ended, pieces_of, shown_count, Written, all_shown, written, write_of}
-use Rattle.chi_check.specs.declared.state.Binder.TheVariants as binder
-use Rattle.chi_check.specs.declared.state.State.{State}
-use Rattle.chi_check.specs.Stated.{in_turn, alone}
-use Rattle.chi_check.specs.States.{next_slot, new_name_rule}
-use Rattle.chi_check.specs.Statements.{made_of, made_if, all_of, placed, assignment_place, communication_place, selected, declaration, value_in, values_in, instance_in, target_in, receiver_in, parts_in, communication_in, communicating, goal_in, element_in, initial_in, declared, declaration_in, assignment_in, return_in, exit_in, finish_in, write_in}
+use Rattle.chi_stat_parts.specs.declared.state.Binder.TheVariants as binder
+use Rattle.chi_stat_parts.specs.declared.state.State.{State}
+use Rattle.chi_stat_parts.specs.Stated.{in_turn, alone}
+use Rattle.chi_stat_parts.specs.States.{next_slot, new_name_rule}
+use Rattle.chi_stat_parts.specs.Values.{made_of, made_if, all_of, assignment_place, value_in, values_in, instance_in, target_in, goal_in, assignment_in}
+use Rattle.chi_stat_parts.specs.Declarations.{declaration, initial_in, declared, declaration_in}
+use Rattle.chi_stat_parts.specs.Lines.{placed, communication_place, selected, receiver_in, parts_in, communication_in, communicating, element_in, return_in, exit_in, finish_in, write_in}
 use Rattle.chi_check_laws.proofs.Declarations.{no_initial}
 use Rattle.chi_check_laws.proofs.Filled.{Visible, Old, Filled, Filling, in_turn_filling, alone_filling}
 use Rattle.chi_check_laws.proofs.FilledNames.{new_filled, target_seen, receiver_seen}

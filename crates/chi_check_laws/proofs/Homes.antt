@@ -17,14 +17,14 @@ use Rattle.chi_typing.specs.Names.{Names}
 use Rattle.chi_check_expr.proofs.Kept.{Each}
 use Rattle.chi_typing_laws.specs.Standing.{AllStand}
 use Rattle.chi_typing_laws.proofs.Conversions.{some_is, mapped}
-use Rattle.chi_check.specs.declared.header.Header.{Header}
-use Rattle.chi_check.specs.declared.state.Binder.TheVariants as binder
-use Rattle.chi_check.specs.declared.state.State.{State}
-use Rattle.chi_check.specs.Stated.{in_turn}
-use Rattle.chi_check.specs.States.{is_taken, with_variable, next_slot, slot_if}
-use Rattle.chi_check.specs.Headers.{all_types}
-use Rattle.chi_check.specs.Definitions.{formals_bound, body_in}
-use Rattle.chi_check.specs.Statements.{stating_all}
+use Rattle.chi_stat_parts.specs.declared.state.Binder.TheVariants as binder
+use Rattle.chi_stat_parts.specs.declared.state.State.{State}
+use Rattle.chi_stat_parts.specs.Stated.{in_turn}
+use Rattle.chi_stat_parts.specs.States.{is_taken, with_variable, next_slot, slot_if}
+use Rattle.chi_statements.specs.Statements.{stating_all}
+use Rattle.chi_headers.specs.declared.header.Header.{Header}
+use Rattle.chi_headers.specs.Headers.{all_types}
+use Rattle.chi_check.specs.Bodies.{formals_bound, body_in}
 use Rattle.chi_check_laws.specs.Bodies.{role_of, SlotsHave, Agrees, SoundBodyOf}
 use Rattle.chi_check_laws.specs.Whole.{steps_are_whole}
 use Rattle.chi_check_laws.proofs.Apart.{each_map}

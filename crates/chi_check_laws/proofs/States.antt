@@ -12,9 +12,9 @@ use Rattle.chi_typing.specs.declared.known.Known.{Known}
 use Rattle.chi_typing.specs.Names.{Names, known_in}
 use Rattle.chi_typing_laws.specs.Standing.{Stands, AllStand}
 use Rattle.chi_typing_laws.proofs.Conversions.{some_is, chosen}
-use Rattle.chi_check.specs.declared.state.Binder.{Binder}
-use Rattle.chi_check.specs.declared.state.State.{State}
-use Rattle.chi_check.specs.States.{is_taken, bound, with_slot, with_variable, cut}
+use Rattle.chi_stat_parts.specs.declared.state.Binder.{Binder}
+use Rattle.chi_stat_parts.specs.declared.state.State.{State}
+use Rattle.chi_stat_parts.specs.States.{is_taken, bound, with_slot, with_variable, cut}
 use Rattle.chi_check_laws.specs.Bodies.{SlotsHave, Grows, Agrees}
 use Rattle.chi_check_laws.proofs.More.{Within, names_more}
 

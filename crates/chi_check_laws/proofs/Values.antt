@@ -25,7 +25,7 @@ use Rattle.chi_stat_rules.specs.declared.home.Home.TheVariants as home
 use Rattle.chi_stat_rules.specs.Homes.{site_of}
 use Rattle.chi_stat_rules.specs.Values.{as_bool, as_instance}
 use Rattle.chi_stat_laws.proofs.Values.{condition_has, instance_has}
-use Rattle.chi_check.specs.Statements.{made_of, value_in, values_in, test_in, instance_in}
+use Rattle.chi_stat_parts.specs.Values.{made_of, value_in, values_in, test_in, instance_in}
 use Rattle.chi_check_laws.specs.Bodies.{role_of}
 
 -- ---- nodes that come to something

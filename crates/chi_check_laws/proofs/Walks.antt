@@ -28,13 +28,14 @@ use Rattle.chi_stat_rules.specs.declared.home.Home.{Home}
 use Rattle.chi_stat_rules.specs.declared.parts.Walked.{Walked}
 use Rattle.chi_stat_rules.specs.Walks.{element_type, types_of_parts, name_types, walked, walked_by, walk_over, walk_of}
 use Rattle.chi_stat_laws.proofs.Values.{walked_sound}
-use Rattle.chi_check.specs.declared.state.Binder.{Binder}
-use Rattle.chi_check.specs.declared.state.Binder.TheVariants as binder
-use Rattle.chi_check.specs.declared.state.Opened.{Opened}
-use Rattle.chi_check.specs.declared.state.State.{State}
-use Rattle.chi_check.specs.Stated.{in_turn}
-use Rattle.chi_check.specs.States.{is_taken, bound, with_variable, next_slot, slot_if, first_type, other_types, bindings}
-use Rattle.chi_check.specs.Statements.{opened, opening, types_of, value_in, walk_in, walk_place}
+use Rattle.chi_stat_parts.specs.declared.state.Binder.{Binder}
+use Rattle.chi_stat_parts.specs.declared.state.Binder.TheVariants as binder
+use Rattle.chi_stat_parts.specs.declared.state.Opened.{Opened}
+use Rattle.chi_stat_parts.specs.declared.state.State.{State}
+use Rattle.chi_stat_parts.specs.Stated.{in_turn}
+use Rattle.chi_stat_parts.specs.States.{is_taken, bound, with_variable, next_slot, slot_if, first_type, other_types, bindings}
+use Rattle.chi_stat_parts.specs.Values.{value_in}
+use Rattle.chi_stat_parts.specs.Declarations.{opened, opening, types_of, walk_in, walk_place}
 use Rattle.chi_stat_rules.specs.Places.{expr_place}
 use Rattle.chi_check_laws.specs.Bodies.{role_of, SlotsHave, Agrees, Grows}
 use Rattle.chi_check_laws.specs.Whole.{has_any}

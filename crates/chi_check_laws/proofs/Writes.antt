@@ -38,8 +38,9 @@ use Rattle.chi_stat_rules.specs.declared.home.Home.{Home}
 use Rattle.chi_stat_rules.specs.Homes.{running_rule}
 use Rattle.chi_stat_rules.specs.Writes.{ended, read_pieces, pieces_of, is_shown, shown_count, showing, Written, shown_one, with_first, all_shown, written, write_of}
 use Rattle.chi_stat_laws.proofs.Values.{fitted_has}
-use Rattle.chi_check.specs.Stated.{alone}
-use Rattle.chi_check.specs.Statements.{values_in, made_of, placed, write_in}
+use Rattle.chi_stat_parts.specs.Stated.{alone}
+use Rattle.chi_stat_parts.specs.Values.{values_in, made_of}
+use Rattle.chi_stat_parts.specs.Lines.{placed, write_in}
 use Rattle.chi_check_laws.specs.Bodies.{role_of}
 use Rattle.chi_check_laws.proofs.Bodies.{SoundOne, StatementKept, statements_by_parts}
 use Rattle.chi_check_laws.proofs.Endings.{runs_in}

@@ -15,7 +15,7 @@ use Rattle.chi_typing.specs.declared.known.Known.{Known}
 use Rattle.chi_typing.specs.declared.known.Known.TheVariants as known
 use Rattle.chi_typing.specs.Names.{known_in}
 use Rattle.chi_typing_laws.specs.Standing.{AllStand}
-use Rattle.chi_check.specs.declared.state.State.{State}
+use Rattle.chi_stat_parts.specs.declared.state.State.{State}
 use Rattle.chi_check_laws.specs.Texts.{body_texts}
 
 -- the role of what a statement stands in, where that has all types

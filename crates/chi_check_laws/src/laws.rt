@@ -14,11 +14,11 @@ ghost use Rattle.chi_streams.specs.Streams.{each, of_statement};
 ghost use Rattle.chi_typing.specs.Names.{Names};
 ghost use Rattle.chi_stat_rules.specs.declared.home.Home.{Home};
 ghost use Rattle.chi_typing_laws.specs.Standing.{AllStand};
-ghost use Rattle.chi_check.specs.declared.header.Header.{Header};
-ghost use Rattle.chi_check.specs.declared.state.State.{State};
-ghost use Rattle.chi_check.specs.Definitions.{body_in};
-ghost use Rattle.chi_check.specs.Headers.{all_types};
-ghost use Rattle.chi_check.specs.Statements.{stating_all};
+ghost use Rattle.chi_stat_parts.specs.declared.state.State.{State};
+ghost use Rattle.chi_statements.specs.Statements.{stating_all};
+ghost use Rattle.chi_headers.specs.declared.header.Header.{Header};
+ghost use Rattle.chi_headers.specs.Headers.{all_types};
+ghost use Rattle.chi_check.specs.Bodies.{body_in};
 ghost use Rattle.chi_check_laws.specs.Bodies.{role_of, SlotsHave, set_by, Agrees, SoundBody, SoundBodyOf, Grows, HaveSlots};
 ghost use Rattle.chi_check_laws.specs.Whole.{steps_are_whole};
 

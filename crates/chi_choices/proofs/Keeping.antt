@@ -1,5 +1,5 @@
 -- Lists that keep what they have.
-use Rattle.std.proofs.Common.{◌≡◌, ◌≢◌, ℕ, ◌+◌, ◌%◌, ◌<◌, ◌≤◌, List, [], ◌∷◌, ◌++◌, Bool, true, false, cond, length, get_or, ◌⊎◌, inl, inr, sym, ◌∙◌, ap, subst, refl, arith}
+use Rattle.std.proofs.Common.{◌≡◌, ◌≢◌, ℕ, zero, suc, ◌+◌, ◌%◌, ◌<◌, ◌≤◌, List, [], ◌∷◌, ◌++◌, Bool, true, false, cond, length, get_or, ◌⊎◌, inl, inr, sym, ◌∙◌, ap, subst, refl, arith}
 use Rattle.std.specs.Prelude.{slice_set, Result, Ok, Err, MatchResult}
 use Rattle.std.specs.Ordering.{nat_cmp}
 use Rattle.std.specs.List.{Contains, insert}
@@ -10,7 +10,7 @@ use Rattle.std.proofs.lemmas.List.Edits.{length-insert, get_or-insert_below, get
 use Rattle.std.proofs.lemmas.List.Sorted.{searched}
 use Rattle.std.proofs.lemmas.List.Elements.{Contains-append_left, Contains-append_right}
 use Rattle.chi_choices.specs.Ascending.{Ascends}
-use Rattle.chi_choices.specs.Listing.{Keeps, KeepsLists, listed_at}
+use Rattle.chi_choices.specs.Listing.{Keeps, KeepsLists, NobodyListed, listed_at}
 use Rattle.chi_choices.proofs.Lists.{get_or-within, eq-cases}
 use Rattle.chi_choices.proofs.Ascending.{ascends-order, ascends-insert}
 
@@ -123,6 +123,26 @@ module _ (lists : List (List ℕ)) (k : ℕ) (l : List ℕ) (h : k < length list
       let R : List ℕ → Type 0 = λ m. Contains m p in
       subst P (sym e) (subst R (sym (at_same channel (sym same))) c)
 
+-- every list is empty
+abbrev pub AllEmpty : List (List ℕ) → Type 0
+AllEmpty lists = (k : ℕ) → get_or lists k [] ≡ []
+
+pub no-lists : (lists : List (List ℕ)) → lists ≡ [] → AllEmpty lists
+no-lists lists e k = ap (λ l. get_or l k []) e
+
+empty-more : (lists : List (List ℕ)) → AllEmpty lists → AllEmpty (lists ++ [] ∷ [])
+empty-more [] h zero = refl
+empty-more [] h (suc k) = refl
+empty-more (l ∷ ls) h zero = h zero
+empty-more (l ∷ ls) h (suc k) = empty-more ls (λ j. h (suc j)) k
+
+pub all-empty-more : (lists new : List (List ℕ)) (l : List ℕ) → AllEmpty lists → l ≡ [] → new ≡ lists ++ l ∷ [] → AllEmpty new
+all-empty-more lists new l h none e =
+    subst (λ (ls : List (List ℕ)). AllEmpty ls) (sym e) (subst (λ (m : List ℕ). AllEmpty (lists ++ m ∷ [])) (sym none) (empty-more lists h))
+
+pub nobody-listed : (lists : List (List ℕ)) → AllEmpty lists → NobodyListed lists
+nobody-listed lists h channel = h (channel % length lists)
+
 pub ruleset keeping = (
   keeps-refl,
   keeps-same,
@@ -138,4 +158,7 @@ pub ruleset keeping = (
   listed_at-read,
   keeps-set,
   contains-set,
+  no-lists,
+  all-empty-more,
+  nobody-listed,
 )

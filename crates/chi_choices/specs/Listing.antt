@@ -13,6 +13,10 @@ Keeps old new = (q : ℕ) → Contains old q → Contains new q
 abbrev pub listed_at : List (List ℕ) → ℕ → List ℕ
 listed_at lists channel = get_or lists (channel % length lists) []
 
+-- nobody is in the list of any channel
+abbrev pub NobodyListed : List (List ℕ) → Type 0
+NobodyListed lists = (channel : ℕ) → listed_at lists channel ≡ []
+
 abbrev pub KeepsLists : List (List ℕ) → List (List ℕ) → Type 0
 KeepsLists old new = (channel : ℕ) → Keeps (listed_at old channel) (listed_at new channel)
 
@@ -20,6 +24,11 @@ KeepsLists old new = (channel : ℕ) → Keeps (listed_at old channel) (listed_a
 pub record KeepsParties (old new : Parties) : Type 0 where
   pub senders : KeepsLists old.senders new.senders
   pub receivers : KeepsLists old.receivers new.receivers
+
+-- nobody is listed as one who sends or receives
+pub record NobodyCommunicates (parties : Parties) : Type 0 where
+  pub senders : NobodyListed parties.senders
+  pub receivers : NobodyListed parties.receivers
 
 -- instance p is in the list of the channel on which it communicates by an offer
 abbrev pub IsPartyBy : Parties → ℕ → Act → Type 0

@@ -1,7 +1,7 @@
 ghost use Rattle.std.specs.Prelude.{◌≡◌, ℕ, ◌<◌, [], IfOk, OnOk, Contains};
 ghost use Rattle.chi_core.specs.declared.limits.TheConstants.{MOST_INSTANCES};
 ghost use Rattle.chi_choices.specs.Ascending.{Ascends};
-ghost use Rattle.chi_choices.specs.Listing.{Keeps, KeepsLists, listed_at};
+ghost use Rattle.chi_choices.specs.Listing.{Keeps, KeepsLists, NobodyCommunicates, NobodyListed, listed_at};
 
 use chi_base::NoMemory;
 use std::alloc::Global;
@@ -30,7 +30,7 @@ impl Model for Listed {
 }
 
 impl Listed {
-    /// None is listed.
+    /// Nobody is listed.
     pub fn new(alloc: Global) -> Listed
         ensures { result ≡ [] }
     {
@@ -81,8 +81,11 @@ impl Model for Channels {
 }
 
 impl Channels {
-    /// A list for each channel, where none is listed.
-    pub fn new(alloc: Global) -> Result<Channels, NoMemory> {
+    /// A list for each channel, where nobody is listed.
+    #[tactic(auto, using(crate::proofs::Keeping::keeping))]
+    pub fn new(alloc: Global) -> Result<Channels, NoMemory>
+        ensures { IfOk result (λ channels. NobodyListed channels) }
+    {
         let mut lists = Vec::new(alloc);
         lists.push(Listed::new(alloc))?;
         for _more in 1..LISTS {
@@ -121,8 +124,10 @@ pub struct Parties {
 }
 
 impl Parties {
-    /// No instance is listed.
-    pub fn new(alloc: Global) -> Result<Parties, NoMemory> {
+    /// Nobody is listed.
+    pub fn new(alloc: Global) -> Result<Parties, NoMemory>
+        ensures { IfOk result (λ parties. NobodyCommunicates parties) }
+    {
         let senders = Channels::new(alloc)?;
         let receivers = Channels::new(alloc)?;
         Ok(Parties { senders, receivers })

@@ -8,6 +8,5 @@ pub mod Repeating
 pub mod Spans
 pub mod Spotting
 pub mod Standing
-pub mod Stepped
 pub mod Truths
 pub mod Turns

@@ -24,10 +24,7 @@ use Rattle.chi_frame.specs.declared.stop.Stop.{Stop}
 use Rattle.chi_frame.specs.Stops.{Stops}
 use Rattle.chi_eval.specs.Kinds as kinds
 use Rattle.chi_operate.proofs.Parts.{at_place}
-use Rattle.chi_frame.proofs.Stopping.{then_stops, then_there}
-
-pub wanted_there : {A : Type 0} (o : Option A) (view : View) → wanted o view ≢ Amiss → o ≢ None
-wanted_there o view h e = h (ap (λ o. wanted o view) e)
+use Rattle.chi_frame.proofs.Stopping.{then_stops, then_there, wanted_there}
 
 -- the function that takes so many arguments
 taking_is : (count : ℕ) (f : FuncDef) → taking count f ≢ None → taking count f ≡ Some f
@@ -64,10 +61,10 @@ module _ (run : Run) (scene : Scene) (variables : Variables) (view : View) (x : 
       → eval run scene variables x view ≡ then_do (in_turn (map (eval run scene variables) l) view) (applied scene name)
   op_is name parts l is same = ap (λ x. eval run scene variables x view) (is ∙ ap (e.Op name) (sym same)) ∙ eval_op run scene variables view name l
 
-  pub and_is : (a b c d : CExpr) → x ≡ e.And a b → c ≡ a → d ≡ b → eval run scene variables x view ≡ kinds.both (eval run scene variables) c d view
+  pub and_is : (a b c d : CExpr) → x ≡ e.And a b → c ≡ a → d ≡ b → eval run scene variables x view ≡ kinds.second_where (eval run scene variables) true c d view
   and_is a b c d is same next = ap (λ x. eval run scene variables x view) (is ∙ (λ i. e.And (sym same i) (sym next i))) ∙ eval_and run scene variables view c d
 
-  pub or_is : (a b c d : CExpr) → x ≡ e.Or a b → c ≡ a → d ≡ b → eval run scene variables x view ≡ kinds.either (eval run scene variables) c d view
+  pub or_is : (a b c d : CExpr) → x ≡ e.Or a b → c ≡ a → d ≡ b → eval run scene variables x view ≡ kinds.second_where (eval run scene variables) false c d view
   or_is a b c d is same next = ap (λ x. eval run scene variables x view) (is ∙ (λ i. e.Or (sym same i) (sym next i))) ∙ eval_or run scene variables view c d
 
   pub build_is : (kind : Kind) (parts l : List CExpr) → x ≡ e.Build kind parts → l ≡ parts
@@ -97,10 +94,10 @@ module _ (run : Run) (scene : Scene) (variables : Variables) (view : View) (x : 
       → then_do (in_turn (map (eval run scene variables) parts) view) (applied scene name) ≢ Amiss
   op_whole name parts is h a = h (op_is name parts parts is refl ∙ a)
 
-  pub and_whole : (a b : CExpr) → x ≡ e.And a b → eval run scene variables x view ≢ Amiss → kinds.both (eval run scene variables) a b view ≢ Amiss
+  pub and_whole : (a b : CExpr) → x ≡ e.And a b → eval run scene variables x view ≢ Amiss → kinds.second_where (eval run scene variables) true a b view ≢ Amiss
   and_whole a b is h n = h (and_is a b a b is refl refl ∙ n)
 
-  pub or_whole : (a b : CExpr) → x ≡ e.Or a b → eval run scene variables x view ≢ Amiss → kinds.either (eval run scene variables) a b view ≢ Amiss
+  pub or_whole : (a b : CExpr) → x ≡ e.Or a b → eval run scene variables x view ≢ Amiss → kinds.second_where (eval run scene variables) false a b view ≢ Amiss
   or_whole a b is h n = h (or_is a b a b is refl refl ∙ n)
 
   pub build_whole : (kind : Kind) (parts : List CExpr) → x ≡ e.Build kind parts → eval run scene variables x view ≢ Amiss
@@ -134,11 +131,6 @@ module _ (m : Evaluates) (a : CExpr) (k : ℕ) (view : View) where
 
   pub part_next : (v : Value) (now : View) → m a view ≡ Gives v now → kinds.taken_part m a k view ≢ Amiss → wanted (part_of v k) now ≢ Amiss
   part_next v now got h n = h (part_goes v now got ∙ n)
-
-pub wanted_is : {A : Type 0} (o : Option A) (x : A) (view : View) → o ≡ Some x → wanted o view ≡ Gives x view
-wanted_is o x view e = ap (λ o. wanted o view) e
-
-pub ruleset wanted_part = (wanted_there, wanted_is)
 
 pub ruleset parts = (part_first, part_stops, part_next)
 

@@ -1,5 +1,5 @@
 -- What expressions with parts do, by their kinds, where the evaluation of the parts is given. Private to proofs.
-use Rattle.std.specs.Prelude.{ℕ}
+use Rattle.std.specs.Prelude.{ℕ, Bool, true, false}
 use Rattle.chi_value.specs.declared.value.Value.{Value, out-Value}
 use Rattle.chi_core.specs.declared.expression.CExpr.{CExpr}
 use Rattle.chi_core.specs.Answer.{Does, then_do, gives, wanted}
@@ -7,12 +7,10 @@ use Rattle.chi_core.specs.Reading.{truth_of, part_of}
 use Rattle.chi_core.specs.Evaluation.{Evaluates, Run, on_truth, inserted, repeated}
 
 module _ (value_of : Evaluates) where
-  -- the second only where the first is true, and only where it is false
-  abbrev pub both : CExpr → CExpr → Does Value
-  both a b view = then_do (value_of a view) (λ x. on_truth (truth_of x) (value_of b) (gives x))
-
-  abbrev pub either : CExpr → CExpr → Does Value
-  either a b view = then_do (value_of a view) (λ x. on_truth (truth_of x) (gives x) (value_of b))
+  -- the second only where the first comes to this truth: true for `and`, false for `or`
+  abbrev pub second_where : Bool → CExpr → CExpr → Does Value
+  second_where true a b view = then_do (value_of a view) (λ x. on_truth (truth_of x) (value_of b) (gives x))
+  second_where false a b view = then_do (value_of a view) (λ x. on_truth (truth_of x) (gives x) (value_of b))
 
   abbrev pub taken_part : CExpr → ℕ → Does Value
   taken_part a number view = then_do (value_of a view) (λ x. wanted (part_of x number))

@@ -7,13 +7,12 @@ ghost use Rattle.chi_frame.specs.Stops.{Stops};
 
 use crate::bodies::call_with;
 use crate::calls::Calls;
-use crate::given::{copy_of, fresh_of};
 use crate::inserting::insert_by;
 use crate::literals::{build, repeat_each};
-use crate::operators::{both, either, operate, part};
+use crate::operators::{operate, part, second_where};
 use crate::surroundings::{Surroundings, constant};
 use chi_core::{CExpr, View};
-use chi_frame::{Stop, Variables};
+use chi_frame::{Stop, Variables, copy_of, fresh_of};
 use chi_value::Value;
 use std::alloc::Global;
 
@@ -39,8 +38,8 @@ pub fn eval(
         CExpr::Op(name, parts) => {
             operate(parts.as_slice(), alloc, s, calls, *name, variables, view)
         }
-        CExpr::And(a, b) => both(a.get(), alloc, s, calls, b.get(), variables, view),
-        CExpr::Or(a, b) => either(a.get(), alloc, s, calls, b.get(), variables, view),
+        CExpr::And(a, b) => second_where(a.get(), alloc, s, calls, b.get(), true, variables, view),
+        CExpr::Or(a, b) => second_where(a.get(), alloc, s, calls, b.get(), false, variables, view),
         CExpr::Build(kind, parts) => {
             build(parts.as_slice(), alloc, s, calls, *kind, variables, view)
         }

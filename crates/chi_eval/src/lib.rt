@@ -6,18 +6,15 @@ mod bodies;
 mod calls;
 mod evaluating;
 mod expressions;
-mod given;
 mod inserting;
 mod items;
 mod literals;
 mod operators;
 mod places;
 mod surroundings;
-mod targets;
 
 pub use chi_operate::{
     channel_in, due_in, elements_in, instance_in, int_in, part_in, parts_in, real_in, truth_in,
 };
 pub use evaluating::{act, constant_value, spot_of, value_of, values_of};
 pub use surroundings::Surroundings;
-pub use targets::read_at;

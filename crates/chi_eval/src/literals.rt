@@ -10,10 +10,9 @@ ghost use Rattle.chi_frame.specs.Stops.{Stops};
 
 use crate::calls::Calls;
 use crate::expressions::{eval, eval_all};
-use crate::given::{list_of, literal_of};
 use crate::surroundings::Surroundings;
 use chi_core::{CExpr, FaultKind, View};
-use chi_frame::{Stop, Variables};
+use chi_frame::{Stop, Variables, list_of, literal_of};
 use chi_operate::times_in;
 use chi_value::{Kind, Value};
 use std::alloc::Global;

@@ -4,16 +4,15 @@ ghost use Rattle.std.specs.Prelude.{◌≡◌, ◌≢◌, IfOk, IfErr, map};
 ghost use Rattle.chi_core.specs.Answer.{Gives, Amiss, in_turn, then_do};
 ghost use Rattle.chi_core.specs.Operators.{applied};
 ghost use Rattle.chi_eval.specs.Calls.{meaning};
-ghost use Rattle.chi_eval.specs.Kinds.{both, either, taken_part};
+ghost use Rattle.chi_eval.specs.Kinds.{second_where, taken_part};
 ghost use Rattle.chi_frame.specs.Stops.{Stops};
 ghost use Rattle.chi_eval.specs.Surroundings.{scene_in};
 
 use crate::calls::Calls;
 use crate::expressions::{eval, eval_all};
-use crate::given::{operator_of_all, operator_of_one, operator_of_two, part_of};
 use crate::surroundings::{Surroundings, scenery};
 use chi_core::{CExpr, OpName, View};
-use chi_frame::{Stop, Variables};
+use chi_frame::{Stop, Variables, operator_of_all, operator_of_one, operator_of_two, part_of};
 use chi_operate::truth_in;
 use chi_value::Value;
 use std::alloc::Global;
@@ -52,51 +51,28 @@ pub fn operate(
     }
 }
 
-/// `and`: the second only where the first is true.
+/// `and` and `or`: the second is evaluated only where the first comes to this truth.
 #[cycle(eval)]
-#[tactic(auto, using(crate::proofs::Truths::both))]
-pub fn both(
+#[tactic(auto, using(crate::proofs::Truths::truths))]
+pub fn second_where(
     a: &CExpr,
     alloc: Global,
     s: &Surroundings<'_>,
     calls: Calls,
     b: &CExpr,
+    truth: bool,
     variables: &Variables,
     view: &mut View,
 ) -> Result<Value, Stop>
-    requires { both (meaning calls s.now variables.now) a.now b.now view.old ≢ Amiss }
-    ensures value { IfOk result (λ v. both (meaning calls s.now variables.now) a.now b.now view.old ≡ Gives v view.new) }
-    ensures stops { IfErr result (λ stop. Stops stop (both (meaning calls s.now variables.now) a.now b.now view.old)) }
-{
-    let holds = eval(a, alloc, s, calls, variables, view)?;
-    if truth_in(&holds) {
-        eval(b, alloc, s, calls, variables, view)
-    } else {
-        Ok(holds)
-    }
-}
-
-/// `or`: the second only where the first is false.
-#[cycle(eval)]
-#[tactic(auto, using(crate::proofs::Truths::either))]
-pub fn either(
-    a: &CExpr,
-    alloc: Global,
-    s: &Surroundings<'_>,
-    calls: Calls,
-    b: &CExpr,
-    variables: &Variables,
-    view: &mut View,
-) -> Result<Value, Stop>
-    requires { either (meaning calls s.now variables.now) a.now b.now view.old ≢ Amiss }
-    ensures value { IfOk result (λ v. either (meaning calls s.now variables.now) a.now b.now view.old ≡ Gives v view.new) }
-    ensures stops { IfErr result (λ stop. Stops stop (either (meaning calls s.now variables.now) a.now b.now view.old)) }
+    requires { second_where (meaning calls s.now variables.now) truth a.now b.now view.old ≢ Amiss }
+    ensures value { IfOk result (λ v. second_where (meaning calls s.now variables.now) truth a.now b.now view.old ≡ Gives v view.new) }
+    ensures stops { IfErr result (λ stop. Stops stop (second_where (meaning calls s.now variables.now) truth a.now b.now view.old)) }
 {
     let first = eval(a, alloc, s, calls, variables, view)?;
-    if truth_in(&first) {
-        Ok(first)
-    } else {
+    if truth_in(&first) == truth {
         eval(b, alloc, s, calls, variables, view)
+    } else {
+        Ok(first)
     }
 }
 

@@ -1,8 +1,9 @@
 //! What an instance of a process, or a function's call, keeps: its variables by their slots, and what
-//! is left for it to do; stores into parts of variables; and why something has no value.
+//! is left for it to do; stores into parts of variables; and what is made of values, or why there is none.
 #![tactic(auto)]
 
 mod assigning;
+mod given;
 mod scalars;
 mod spots;
 mod stop;
@@ -10,6 +11,10 @@ mod term;
 mod variables;
 
 pub use assigning::store_all;
+pub use given::{
+    copy_of, fresh_of, insertion_of, list_of, literal_of, operator_of_all, operator_of_one,
+    operator_of_two, part_of,
+};
 pub use scalars::copied;
 pub use spots::{Spot, store};
 pub use stop::Stop;

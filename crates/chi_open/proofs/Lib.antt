@@ -6,3 +6,4 @@ pub mod Keeping
 pub mod Through
 pub mod Unwinding
 pub mod Making
+pub mod Stepped

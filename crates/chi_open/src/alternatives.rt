@@ -10,10 +10,9 @@ ghost use Rattle.chi_eval.specs.Surroundings.{value_in};
 ghost use Rattle.chi_open.specs.Drafts.{opening_of};
 
 use crate::opening::Opening;
+use crate::targets::read_at;
 use chi_core::{Act, CAlt, CComm, CExpr, CStat, FaultKind, View};
-use chi_eval::{
-    Surroundings, channel_in, due_in, elements_in, read_at, real_in, truth_in, value_of,
-};
+use chi_eval::{Surroundings, channel_in, due_in, elements_in, real_in, truth_in, value_of};
 use chi_frame::{Stop, Variables};
 use chi_num::Real;
 use chi_value::Value;

@@ -9,6 +9,7 @@ mod instance;
 mod offer;
 mod opening;
 mod starting;
+mod targets;
 
 pub use alternatives::open_select;
 pub use draft::Draft;

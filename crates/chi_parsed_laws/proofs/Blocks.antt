@@ -39,13 +39,17 @@ use Rattle.chi_stat_rules.specs.declared.home.Home.{Home}
 use Rattle.chi_stat_rules.specs.Endings.{loop_rule}
 use Rattle.chi_stat_rules.specs.Homes.{running_rule}
 use Rattle.chi_check_expr.proofs.Kept.{Each, IfGiven}
-use Rattle.chi_check.specs.declared.state.Binder.TheVariants as binder
-use Rattle.chi_check.specs.declared.state.Opened.{Opened}
-use Rattle.chi_check.specs.declared.state.State.{State}
-use Rattle.chi_check.specs.Stated.{Turn, both, in_turn, alone}
-use Rattle.chi_check.specs.States.{block}
-use Rattle.chi_check.specs.Statements as check
-use Rattle.chi_check.specs.Statements.{Going, each_in, test_in, guard_in, communication_in, walk_in, element_in, starting, stating, stepping, branching, offering, stepping_in, stating_all, offers, runs, starts}
+use Rattle.chi_stat_parts.specs.declared.state.Binder.TheVariants as binder
+use Rattle.chi_stat_parts.specs.declared.state.Opened.{Opened}
+use Rattle.chi_stat_parts.specs.declared.state.State.{State}
+use Rattle.chi_stat_parts.specs.Stated.{Turn, both, in_turn, alone}
+use Rattle.chi_stat_parts.specs.States.{block}
+use Rattle.chi_stat_parts.specs.Values.{test_in, guard_in, assignment_in}
+use Rattle.chi_stat_parts.specs.Declarations.{walk_in}
+use Rattle.chi_stat_parts.specs.Lines.{communication_in, communicating, element_in, return_in, exit_in, finish_in, write_in}
+use Rattle.chi_stat_parts.specs.Blocks.{offers, runs, starts}
+use Rattle.chi_statements.specs.Statements as check
+use Rattle.chi_statements.specs.Statements.{Going, each_in, starting, stating, stepping, branching, offering, stepping_in, stating_all}
 use Rattle.chi_check_laws.proofs.Layers.{statement_short, alternative_short, branch_short, element_short}
 use Rattle.chi_check_laws.specs.Texts.{statement_texts, branch_texts, alternative_texts, element_texts}
 use Rattle.chi_parsed_laws.proofs.Tokens.{AllFit, fit_left, fit_right}
@@ -242,8 +246,8 @@ module _ (home : Home) where
 
     statement_states : (ends : Bool) (b d : ℕ) (x : Statement) → FormedStatement ends b d x → StatesShort x
     statement_states _ _ _ _ (formed.declare {d = d} {t = t} {vs = vs} f g) = at_statement _ _ (statement.outs-Declare t vs) (λ fit loop. declaration_short home d t vs f g fit)
-    statement_states _ _ _ _ (formed.assign {d = d} {ts = ts} {place = place} {e = e} {es = es} f g) = at_statement _ _ (statement.outs-Assign ts place (e ∷ es)) (λ fit loop s. alone_short StatementShort s (check.assignment_in home s.names ts place (e ∷ es)) (assignment_short home s.names d ts place (e ∷ es) f g fit))
-    statement_states _ _ _ _ (formed.communicate {d = d} {c = c} f) = at_statement _ _ (statement.outs-Communicate c) (λ fit loop s. alone_short StatementShort s (check.communicating home s.names c) (communicating_short home s.names d c f fit))
+    statement_states _ _ _ _ (formed.assign {d = d} {ts = ts} {place = place} {e = e} {es = es} f g) = at_statement _ _ (statement.outs-Assign ts place (e ∷ es)) (λ fit loop s. alone_short StatementShort s (assignment_in home s.names ts place (e ∷ es)) (assignment_short home s.names d ts place (e ∷ es) f g fit))
+    statement_states _ _ _ _ (formed.communicate {d = d} {c = c} f) = at_statement _ _ (statement.outs-Communicate c) (λ fit loop s. alone_short StatementShort s (communicating home s.names c) (communicating_short home s.names d c f fit))
     statement_states _ _ _ _ (formed.pass {place = place}) = at_statement _ _ (statement.outs-Pass place) (λ fit loop s. alone_short StatementShort s (unless [] (made.Pass place.line)) (statement_short _ _ (made.outs-Pass place.line)))
     statement_states _ _ _ _ (formed.leave {place = place}) = at_statement _ _ (statement.outs-Break place) (λ fit loop s. alone_short StatementShort s (unless (loop_rule loop place) (made.Break place.line)) (unless_on StatementShort (loop_rule loop place) (made.Break place.line) (statement_short _ _ (made.outs-Break place.line))))
     statement_states _ _ _ _ (formed.continue {place = place}) = at_statement _ _ (statement.outs-Continue place) (λ fit loop s. alone_short StatementShort s (unless (loop_rule loop place) (made.Continue place.line)) (unless_on StatementShort (loop_rule loop place) (made.Continue place.line) (statement_short _ _ (made.outs-Continue place.line))))
@@ -277,8 +281,8 @@ module _ (home : Home) where
         let inner = inner_short b d xs g (fit_left (all (map spelled_step xs)) _ rest.1) in
         both_on OpenShort (Each StatementShort) (Each StatementShort) (λ w inner. made.For place.line w.slots w.container inner ∷ []) (walk_in home binder.Variable walk s).made (in_turn (each_in true (map (stepping home) xs)) (walk_in home binder.Variable walk s).next).made (λ o xs h k. (for_short place.line o xs h k, tt))
         (walk_short home binder.Variable d walk f (fit_left (spelled_walk walk) _ fit.1) s) (in_turn_short StatementShort true (map (stepping home) xs) inner (walk_in home binder.Variable walk s).next))
-    statement_states _ _ _ _ (formed.return {d = d} {place = place} {e = e} f) = at_statement _ _ (statement.outs-Return place e) (λ fit loop s. alone_short StatementShort s (check.return_in home s.names place e) (return_short home s.names place d e f fit.1))
-    statement_states _ _ _ _ (formed.exit {d = d} {place = place} {e = e} f) = at_statement _ _ (statement.outs-Exit place e) (λ fit loop s. alone_short StatementShort s (check.exit_in home s.names place e) (exit_short home s.names place d e f fit.1))
+    statement_states _ _ _ _ (formed.return {d = d} {place = place} {e = e} f) = at_statement _ _ (statement.outs-Return place e) (λ fit loop s. alone_short StatementShort s (return_in home s.names place e) (return_short home s.names place d e f fit.1))
+    statement_states _ _ _ _ (formed.exit {d = d} {place = place} {e = e} f) = at_statement _ _ (statement.outs-Exit place e) (λ fit loop s. alone_short StatementShort s (exit_in home s.names place e) (exit_short home s.names place d e f fit.1))
     statement_states _ _ _ _ (formed.run {ends = ends} {b = b} {d = d} {place = place} {es = es} f) = at_statement _ _ (statement.outs-Run place es) (λ fit loop s.
         let turn = in_turn (map (starting home) es) s in
         held_on (Each StatementShort) (running_rule home place) (record { next = turn.next; faults = turn.faults; made = runs place.line turn.made })
@@ -287,9 +291,9 @@ module _ (home : Home) where
         let turn = in_turn (map (starting home) es) s in
         held_on (Each StatementShort) (running_rule home place) (record { next = turn.next; faults = turn.faults; made = starts place.line turn.made })
         (on_map (Each MakeShort) (Each StatementShort) (λ each. made.Start place.line each ∷ []) turn.made (λ xs h. (start_short place.line xs h, tt)) (turns_short MakeShort (map (starting home) es) (all_elements ends b d es f fit.1) s)))
-    statement_states _ _ _ _ (formed.finish {d = d} {place = place} {e = e} {es = es} f) = at_statement _ _ (statement.outs-Finish place (e ∷ es)) (λ fit loop s. alone_short StatementShort s (check.finish_in home s.names place (e ∷ es)) (finish_short home s.names place d (e ∷ es) f fit.1))
+    statement_states _ _ _ _ (formed.finish {d = d} {place = place} {e = e} {es = es} f) = at_statement _ _ (statement.outs-Finish place (e ∷ es)) (λ fit loop s. alone_short StatementShort s (finish_in home s.names place (e ∷ es)) (finish_short home s.names place d (e ∷ es) f fit.1))
     statement_states _ _ _ _ (formed.write {d = d} {place = place} {line = line} {text = text} {at = at} {es = es} f) = at_statement _ _ (statement.outs-Write place line text at es) (λ fit loop s.
-        alone_short StatementShort s (check.write_in home s.names place line text at es) (write_short home s.names place line text at d es f (fit_left (each_after (token.Sign sign.Comma) (map spelled_expr es)) _ fit.1.1.1)))
+        alone_short StatementShort s (write_in home s.names place line text at es) (write_short home s.names place line text at d es f (fit_left (each_after (token.Sign sign.Comma) (map spelled_expr es)) _ fit.1.1.1)))
 
     branches_choose : (b d : ℕ) (xs : List Branch) → FormedBranches b d xs → AllFit (each_after (token.Word keyword.ElifWord) (map spelled_branch xs)) → Each (GoesShort BranchShort) (map (branching home) xs)
     branches_choose _ _ _ (formed.one_branch {b = b} {d = d} {e = e} {block = xs} f g) fit = (branch_chooses d e xs f (inner_short b d xs g) (fit_left (spelled_branch (formed.branch e xs)) _ fit.1), tt)

@@ -43,13 +43,15 @@ use Rattle.chi_stat_rules.specs.Walks.{walk_of}
 use Rattle.chi_stat_rules.specs.Writes.{ended, pieces_of, write_of}
 use Rattle.chi_check_expr.specs.Typing.{reading}
 use Rattle.chi_check_expr.proofs.Kept.{Each, IfGiven}
-use Rattle.chi_check.specs.declared.state.Binder.{Binder}
-use Rattle.chi_check.specs.declared.state.Binder.TheVariants as binder
-use Rattle.chi_check.specs.declared.state.Opened.{Opened}
-use Rattle.chi_check.specs.declared.state.State.{State}
-use Rattle.chi_check.specs.Stated.{Stated, Turn, both, in_turn, one, held_by}
-use Rattle.chi_check.specs.States.{next_slot, new_name_rule, with_variable, bindings}
-use Rattle.chi_check.specs.Statements.{made_of, made_if, all_of, all_faults, communication_place, walk_place, declaration, types_of, opened, receiver_in, placed, selected, value_in, values_in, test_in, guard_in, instance_in, step_in, steps_in, target_in, assignment_place, assignment_in, initial_in, declared, declaration_in, walk_in, parts_in, communication_in, communicating, goal_in, element_in, write_in, return_in, exit_in, finish_in}
+use Rattle.chi_stat_parts.specs.declared.state.Binder.{Binder}
+use Rattle.chi_stat_parts.specs.declared.state.Binder.TheVariants as binder
+use Rattle.chi_stat_parts.specs.declared.state.Opened.{Opened}
+use Rattle.chi_stat_parts.specs.declared.state.State.{State}
+use Rattle.chi_stat_parts.specs.Stated.{Stated, Turn, both, in_turn, one, held_by}
+use Rattle.chi_stat_parts.specs.States.{next_slot, new_name_rule, with_variable, bindings}
+use Rattle.chi_stat_parts.specs.Values.{made_of, made_if, all_of, all_faults, value_in, values_in, test_in, guard_in, instance_in, step_in, steps_in, target_in, assignment_place, assignment_in, goal_in}
+use Rattle.chi_stat_parts.specs.Declarations.{walk_place, declaration, types_of, opened, initial_in, declared, declaration_in, walk_in}
+use Rattle.chi_stat_parts.specs.Lines.{communication_place, receiver_in, placed, selected, parts_in, communication_in, communicating, element_in, write_in, return_in, exit_in, finish_in}
 use Rattle.chi_check_laws.proofs.Layers.{statement_short, alternative_short}
 use Rattle.chi_parsed_laws.proofs.Tokens.{Fits, AllFit, fit_left, fit_right}
 use Rattle.chi_check_laws.proofs.Turns.{each_append}

@@ -34,12 +34,13 @@ use Rattle.chi_typing.specs.Names.{Names}
 use Rattle.chi_stat_rules.specs.Values.{constant_value}
 use Rattle.chi_check_expr.specs.Typing.{typing}
 use Rattle.chi_check_expr.proofs.Kept.{Each, IfGiven}
-use Rattle.chi_check.specs.declared.header.Header.{Header}
-use Rattle.chi_check.specs.Definitions.{early_defined, constant, formals_bound, body_in, function, process, result_of, exit_of, function_made, process_made, function_of, process_of, functions_of, processes_of, with_all_late, with_all_headed, sketching}
-use Rattle.chi_check.specs.Headers.{all_types, type_in, header_in}
+use Rattle.chi_stat_parts.specs.Stated.{in_turn}
+use Rattle.chi_statements.specs.Statements.{stating_all}
+use Rattle.chi_headers.specs.declared.header.Header.{Header}
+use Rattle.chi_headers.specs.Definitions.{early_defined, constant, with_all_late, with_all_headed, sketching}
+use Rattle.chi_headers.specs.Headers.{all_types, type_in, header_in}
+use Rattle.chi_check.specs.Bodies.{formals_bound, body_in, function, process, result_of, exit_of, function_made, process_made, function_of, process_of, functions_of, processes_of}
 use Rattle.chi_check.specs.Programs.{core_of, core, definitions_checked, checked, no_names, first_early, first_named, first_model}
-use Rattle.chi_check.specs.Stated.{in_turn}
-use Rattle.chi_check.specs.Statements.{stating_all}
 use Rattle.chi_check_laws.specs.Texts.{statement_texts, body_texts}
 use Rattle.chi_program_laws.specs.Bodies.{TextsAreShort}
 use Rattle.chi_program_laws.proofs.Positions.{each_every}

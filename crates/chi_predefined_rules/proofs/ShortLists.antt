@@ -1,8 +1,11 @@
 -- Private to proofs. The parts of short lists of arguments.
-use Rattle.std.proofs.Common.{◌≡◌, ℕ, List, [], ◌∷◌, length, get_or, Option, Some, None, refl, ap, arith}
+use Rattle.std.proofs.Common.{◌≡◌, ℕ, List, [], ◌∷◌, length, get_or, Option, Some, None, false, ◌&&◌, refl, sym, ap, arith}
 use Rattle.std.specs.List.{remove}
 use Rattle.chi_typing.specs.declared.meant.Made.{Made}
-use Rattle.chi_expr_rules.specs.PredefinedCalls.{only, pair, before_third}
+use Rattle.chi_types.specs.declared.ty.Ty.{Ty}
+use Rattle.chi_types.specs.declared.ty.Ty.TheVariants as ty
+use Rattle.chi_types.specs.Same.{same}
+use Rattle.chi_expr_rules.specs.PredefinedCalls.{only, pair, before_third, tells_order}
 
 pub only_of_others : (ms : List Made) → (length ms ≡ 1 → ⊥) → only ms ≡ None
 only_of_others [] h = refl
@@ -43,3 +46,16 @@ first_two_of_three (a ∷ b ∷ c ∷ []) rest m n h e r f =
     let k : get_or rest 0 n ≡ b = ap (λ xs. get_or xs 0 n) r in
     cc
 first_two_of_three (a ∷ b ∷ c ∷ d ∷ ms) rest m n h e r f = absurd (omega arith)
+
+pub tells_of_others : (t : Ty) (params : List Ty) (result : Ty) → (length params ≡ 2 → ⊥) → tells_order t params result ≡ false
+tells_of_others t [] result h = refl
+tells_of_others t (a ∷ []) result h = refl
+tells_of_others t (a ∷ b ∷ []) result h = absurd (h refl)
+tells_of_others t (a ∷ b ∷ c ∷ params) result h = refl
+
+pub tells_of_two : (t : Ty) (params : List Ty) (result a b : Ty) → length params ≡ 2 → a ≡ get_or params 0 a → b ≡ get_or params 1 b
+    → tells_order t params result ≡ (same a t && same b t && same result ty.Bool)
+tells_of_two t [] result a b n at next = absurd (omega arith)
+tells_of_two t (x ∷ []) result a b n at next = absurd (omega arith)
+tells_of_two t (x ∷ y ∷ []) result a b n at next = λ i. same (sym at i) t && same (sym next i) t && same result ty.Bool
+tells_of_two t (x ∷ y ∷ z ∷ params) result a b n at next = absurd (omega arith)

@@ -2,9 +2,11 @@
 
 #![tactic(auto, using(chi_typing::proofs::Firsts::first_of_none))]
 
-ghost use Rattle.std.specs.Prelude.{◌≡◌, IfOk, OnOk};
+ghost use Rattle.std.specs.Prelude.{◌≡◌, ◌&&◌, IfOk, OnOk};
 ghost use Rattle.std.specs.Option.{option_copied};
+ghost use Rattle.chi_types.specs.Same.{same};
 ghost use Rattle.chi_types.specs.declared.ty.Ty.{out-Ty};
+ghost use Rattle.chi_types.specs.declared.ty.Ty.TheVariants as ty;
 ghost use Rattle.chi_core.specs.declared.expression.CExpr.TheVariants as expression;
 ghost use Rattle.chi_typing.specs.Faults.{first_of};
 ghost use Rattle.chi_expr_rules.specs.PredefinedCalls as spec;
@@ -18,12 +20,20 @@ use chi_types::{Ty, fits, same};
 use chi_typing::{Fault, Known, Made, NameKind, note, rules};
 use std::alloc::Global;
 
+/// Whether a function that takes two values of these types tells which of two elements stands first.
+fn tells_order_of(element: &Ty, a: &Ty, b: &Ty, outcome: &Ty) -> bool
+    ensures { result ≡ (same a.now element.now && same b.now element.now && same outcome.now ty.Bool) }
+{
+    same(a, element) && same(b, element) && same(outcome, &Ty::Bool)
+}
+
 /// Whether a function of these types tells which of two elements stands first.
+#[tactic(auto, using(crate::proofs::ShortLists::tells_of_two, crate::proofs::ShortLists::tells_of_others))]
 fn tells_order(element: &Ty, params: &[Ty], outcome: &Ty) -> bool
     ensures { result ≡ spec.tells_order element.now params.now outcome.now }
 {
     match params {
-        [a, b] => same(a, element) && same(b, element) && same(outcome, &Ty::Bool),
+        [a, b] => tells_order_of(element, a, b, outcome),
         _ => false,
     }
 }

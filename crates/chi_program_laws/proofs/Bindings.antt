@@ -28,12 +28,13 @@ use Rattle.chi_stat_rules.specs.Homes.{site_of, channel_rule}
 use Rattle.chi_stat_rules.specs.Places.{expr_place, type_place}
 use Rattle.chi_stat_rules.specs.Values.{fitted, initial_value}
 use Rattle.chi_stat_rules.specs.Walks.{element_type, types_of_parts, name_types, walked, walk_over, walk_of}
-use Rattle.chi_check.specs.declared.state.Binder.{Binder}
-use Rattle.chi_check.specs.declared.state.Binder.TheVariants as binder
-use Rattle.chi_check.specs.declared.state.State.{State}
-use Rattle.chi_check.specs.Stated.{Stated, in_turn, preceded, held_by}
-use Rattle.chi_check.specs.States.{is_taken, new_name_rule, bound, next_slot, slot_if, with_variable, binding, bindings}
-use Rattle.chi_check.specs.Statements.{walk_place, types_of, opened, opening, declaration, value_in, initial_in, declared, declaration_in, walk_in}
+use Rattle.chi_stat_parts.specs.declared.state.Binder.{Binder}
+use Rattle.chi_stat_parts.specs.declared.state.Binder.TheVariants as binder
+use Rattle.chi_stat_parts.specs.declared.state.State.{State}
+use Rattle.chi_stat_parts.specs.Stated.{Stated, in_turn, preceded, held_by}
+use Rattle.chi_stat_parts.specs.States.{is_taken, new_name_rule, bound, next_slot, slot_if, with_variable, binding, bindings}
+use Rattle.chi_stat_parts.specs.Values.{value_in}
+use Rattle.chi_stat_parts.specs.Declarations.{walk_place, types_of, opened, opening, declaration, initial_in, declared, declaration_in, walk_in}
 use Rattle.chi_program_laws.proofs.Entries.{entries_with, first_entries}
 use Rattle.chi_program_laws.proofs.Shaped.{Fine, Shaped, reading_shaped}
 use Rattle.chi_program_laws.proofs.Turns.{Leaves, Keeps, EachKeeps, turns_keep, each_keeps, FineState, Holds, held_leaves, preceded_leaves}

@@ -16,14 +16,15 @@ use Rattle.chi_stat_rules.specs.declared.home.ExitType.{ExitType}
 use Rattle.chi_stat_rules.specs.declared.home.ExitType.TheVariants as exit
 use Rattle.chi_stat_rules.specs.declared.home.Home.{Home}
 use Rattle.chi_stat_rules.specs.declared.home.Home.TheVariants as home
-use Rattle.chi_check.specs.declared.header.Header.{Header}
-use Rattle.chi_check.specs.declared.sketch.Named.{Named as Bodies}
-use Rattle.chi_check.specs.declared.state.Binder.TheVariants as binder
-use Rattle.chi_check.specs.declared.state.State.{State}
-use Rattle.chi_check.specs.Stated.{in_turn}
-use Rattle.chi_check.specs.Headers.{all_types, function_known, process_known, home_known}
-use Rattle.chi_check.specs.Definitions.{with_headed, with_all_headed, formals_bound, body_in, function, process, result_of, exit_known, exit_of, process_made, function_of, process_of, functions_of, processes_of}
-use Rattle.chi_check.specs.Statements.{stating_all}
+use Rattle.chi_stat_parts.specs.declared.state.Binder.TheVariants as binder
+use Rattle.chi_stat_parts.specs.declared.state.State.{State}
+use Rattle.chi_stat_parts.specs.Stated.{in_turn}
+use Rattle.chi_statements.specs.Statements.{stating_all}
+use Rattle.chi_headers.specs.declared.header.Header.{Header}
+use Rattle.chi_headers.specs.declared.sketch.Named.{Named as Bodies}
+use Rattle.chi_headers.specs.Headers.{all_types, function_known, process_known, home_known}
+use Rattle.chi_headers.specs.Definitions.{with_headed, with_all_headed}
+use Rattle.chi_check.specs.Bodies.{formals_bound, body_in, function, process, result_of, exit_known, exit_of, process_made, function_of, process_of, functions_of, processes_of}
 use Rattle.chi_program_laws.proofs.Bindings.{binding_keeps, fine_takes, fine_holds}
 use Rattle.chi_program_laws.proofs.Definitions.{definition_fine, meant_as}
 use Rattle.chi_program_laws.proofs.Entries.{Entries, entries_with, first_entries}

@@ -28,11 +28,11 @@ use Rattle.chi_check_expr.specs.Typing.{typing, reading}
 use Rattle.chi_check_expr.proofs.Nodes.{settled_made, barred_made}
 use Rattle.chi_stat_rules.specs.Values.{fitted, constant_rule, initial_value, constant_value}
 use Rattle.chi_streams.specs.Streams.{of_constant, each}
-use Rattle.chi_check.specs.declared.sketch.Early.{Early}
-use Rattle.chi_check.specs.Stated.{in_turn}
-use Rattle.chi_check.specs.States.{with_name}
-use Rattle.chi_check.specs.Headers.{type_in}
-use Rattle.chi_check.specs.Definitions.{means, constant_known, constant, constant_defined, type_known, type_defined, early_defined}
+use Rattle.chi_stat_parts.specs.Stated.{in_turn}
+use Rattle.chi_stat_parts.specs.States.{with_name}
+use Rattle.chi_headers.specs.declared.sketch.Early.{Early}
+use Rattle.chi_headers.specs.Headers.{type_in}
+use Rattle.chi_headers.specs.Definitions.{means, constant_known, constant, constant_defined, type_known, type_defined, early_defined}
 use Rattle.chi_stat_laws.proofs.Values.{fitted_has}
 use Rattle.chi_typing_laws.specs.Standing.{AllStand, Has, Stands, ConstantStands}
 use Rattle.chi_typing_laws.proofs.Whole.{expression_sound, type_sound}

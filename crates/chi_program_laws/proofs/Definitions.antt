@@ -23,11 +23,11 @@ use Rattle.chi_check_expr.proofs.Exact.{exact_typing}
 use Rattle.chi_check_expr.proofs.Kept.{Good}
 use Rattle.chi_check_expr.proofs.Nodes.{left_nil, right_nil}
 use Rattle.chi_stat_rules.specs.Values.{fitted, constant_rule, initial_value, constant_value}
-use Rattle.chi_check.specs.declared.sketch.Early.{Early}
-use Rattle.chi_check.specs.Stated.{in_turn}
-use Rattle.chi_check.specs.States.{with_name}
-use Rattle.chi_check.specs.Headers.{type_of, type_in}
-use Rattle.chi_check.specs.Definitions.{means, with_definition, constant_known, constant, constant_defined, type_known, type_defined, early_defined, with_meaning, late_name, with_late, with_all_late}
+use Rattle.chi_stat_parts.specs.Stated.{in_turn}
+use Rattle.chi_stat_parts.specs.States.{with_name}
+use Rattle.chi_headers.specs.declared.sketch.Early.{Early}
+use Rattle.chi_headers.specs.Headers.{type_of, type_in}
+use Rattle.chi_headers.specs.Definitions.{means, with_definition, constant_known, constant, constant_defined, type_known, type_defined, early_defined, with_meaning, late_name, with_late, with_all_late}
 use Rattle.chi_program_laws.proofs.Entries.{Entries, entries_with}
 use Rattle.chi_program_laws.proofs.Headers.{StandsForOne}
 use Rattle.chi_program_laws.proofs.Lookups.{Continues, continues_same, continues_on, continues_with}

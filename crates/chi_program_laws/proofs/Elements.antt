@@ -4,10 +4,12 @@ use Rattle.chi_tree.specs.declared.statement.Element.{Element, Element-F, roll-E
 use Rattle.chi_core.specs.declared.element.CElem.{CElem}
 use Rattle.chi_check_expr.proofs.Nodes.{left_nil, right_nil}
 use Rattle.chi_stat_rules.specs.declared.home.Home.{Home}
-use Rattle.chi_check.specs.declared.state.Binder.TheVariants as binder
-use Rattle.chi_check.specs.declared.state.State.{State}
-use Rattle.chi_check.specs.Stated.{Turn, in_turn}
-use Rattle.chi_check.specs.Statements.{element_in, element_step, starting, unwound, walk_in}
+use Rattle.chi_stat_parts.specs.declared.state.Binder.TheVariants as binder
+use Rattle.chi_stat_parts.specs.declared.state.State.{State}
+use Rattle.chi_stat_parts.specs.Stated.{Turn, in_turn}
+use Rattle.chi_stat_parts.specs.Declarations.{walk_in}
+use Rattle.chi_stat_parts.specs.Lines.{element_in}
+use Rattle.chi_statements.specs.Statements.{element_step, starting, unwound}
 use Rattle.chi_core.specs.declared.element.CElem.TheVariants as element
 use Rattle.chi_program_laws.proofs.Communications.{element_whole}
 use Rattle.chi_program_laws.proofs.Turns.{Keeps, EachKeeps, turns_keep, Holds, alone_leaves, closed_leaves}

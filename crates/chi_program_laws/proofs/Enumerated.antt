@@ -14,10 +14,10 @@ use Rattle.chi_typing.specs.declared.known.Known.{Known}
 use Rattle.chi_typing.specs.declared.known.Known.TheVariants as known
 use Rattle.chi_typing.specs.Names.{Names}
 use Rattle.chi_check_expr.proofs.Kept.{Each}
-use Rattle.chi_check.specs.declared.sketch.Sketch.{Sketch}
-use Rattle.chi_check.specs.Stated.{in_turn, joined}
-use Rattle.chi_check.specs.States.{is_taken, with_name}
-use Rattle.chi_check.specs.Definitions.{early_known, named_early, values_from, enumeration_named, sketching}
+use Rattle.chi_stat_parts.specs.Stated.{in_turn, joined}
+use Rattle.chi_stat_parts.specs.States.{is_taken, with_name}
+use Rattle.chi_headers.specs.declared.sketch.Sketch.{Sketch}
+use Rattle.chi_headers.specs.Definitions.{early_known, named_early, values_from, enumeration_named, sketching}
 use Rattle.chi_program_laws.specs.Spelled.{AreNames, Spelled, EachSpelled}
 use Rattle.chi_program_laws.proofs.Entries.{Entries, entries_with, entries_so}
 use Rattle.chi_program_laws.proofs.Positions.{length_join, get_seam, each_every, each_join, joined_parts, some_same}

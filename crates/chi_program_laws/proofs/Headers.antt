@@ -26,10 +26,9 @@ use Rattle.chi_check_expr.specs.Typing.{reading}
 use Rattle.chi_check_expr.proofs.Exact.{Anything}
 use Rattle.chi_check_expr.proofs.Kept.{Good}
 use Rattle.chi_check_expr.proofs.Nodes.{left_nil, right_nil, ExactTyped, unless_exact, refused_exact, node_good}
-use Rattle.chi_check.specs.declared.header.Header.{Header}
-use Rattle.chi_check.specs.Headers.{type_of, type_in, formal_type, formal_types, exit_given, exit_type_in, process_header, header_in}
-use Rattle.chi_check.specs.Definitions.{result_of, exit_known, exit_of}
-use Rattle.chi_check.specs.Programs.{header_faults}
+use Rattle.chi_headers.specs.declared.header.Header.{Header}
+use Rattle.chi_headers.specs.Headers.{type_of, type_in, formal_type, formal_types, exit_given, exit_type_in, process_header, header_in, header_faults}
+use Rattle.chi_check.specs.Bodies.{result_of, exit_known, exit_of}
 use Rattle.chi_program_laws.specs.Formals.{begin_typed, headers_are_typed, header_is_typed}
 use Rattle.chi_program_laws.proofs.Entries.{Entries, known_entry}
 use Rattle.chi_program_laws.proofs.Unsized.{KeepsTypes, reading_unsized}

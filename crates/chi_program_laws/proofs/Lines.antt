@@ -19,7 +19,8 @@ use Rattle.chi_stat_rules.specs.declared.home.Home.TheVariants as home
 use Rattle.chi_stat_rules.specs.Endings.{returning, return_as, return_of, exiting, exit_with, exit_of}
 use Rattle.chi_stat_rules.specs.Homes.{running_rule}
 use Rattle.chi_stat_rules.specs.Writes.{Written, ended, pieces_of, shown_count, next_shown, showing, shown_one, with_first, shown_then, all_shown, written, write_of}
-use Rattle.chi_check.specs.Statements.{made_of, all_faults, faults_if, made_if, all_of, placed, value_in, values_in, instance_in, return_in, exit_in, finish_in, write_in}
+use Rattle.chi_stat_parts.specs.Values.{made_of, all_faults, faults_if, made_if, all_of, value_in, values_in, instance_in}
+use Rattle.chi_stat_parts.specs.Lines.{placed, return_in, exit_in, finish_in, write_in}
 use Rattle.chi_program_laws.proofs.Entries.{Entries}
 use Rattle.chi_program_laws.proofs.Shaped.{Fine}
 use Rattle.chi_program_laws.proofs.Values.{GivenComes, all_of_whole, if_given, value_whole, values_come, instance_whole}

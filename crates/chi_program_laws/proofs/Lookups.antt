@@ -12,7 +12,7 @@ use Rattle.chi_typing.specs.Names.{Names, known_in}
 use Rattle.chi_typing.specs.Predefined.{is_predefined}
 use Rattle.chi_typing.specs.Typed.{broken_if}
 use Rattle.chi_check_expr.proofs.Nodes.{cons_nil}
-use Rattle.chi_check.specs.States.{is_taken, new_name_rule, with_name}
+use Rattle.chi_stat_parts.specs.States.{is_taken, new_name_rule, with_name}
 
 -- ---- what is known stays known
 

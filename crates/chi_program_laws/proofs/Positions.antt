@@ -3,7 +3,7 @@ use Rattle.std.proofs.Common.{ℕ, zero, suc, ◌≡◌, ◌+◌, List, [], ◌�
 use Rattle.std.specs.Prelude.{slice_get, option_map}
 use Rattle.chi_core.specs.Kinds.{Every}
 use Rattle.chi_streams.specs.Streams.{Counting, each}
-use Rattle.chi_check.specs.Stated.{both, joined}
+use Rattle.chi_stat_parts.specs.Stated.{both, joined}
 use Rattle.chi_check_expr.proofs.Kept.{Each}
 
 pub length_join : {A : Type 0} (xs ys : List A) → length (xs ++ ys) ≡ length xs + length ys

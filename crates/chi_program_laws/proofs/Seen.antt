@@ -25,11 +25,12 @@ use Rattle.chi_stat_rules.specs.declared.home.Home.{Home}
 use Rattle.chi_stat_rules.specs.declared.home.Home.TheVariants as home
 use Rattle.chi_streams.specs.Streams.{each, of_function, of_process}
 use Rattle.chi_typing_laws.specs.Standing.{Stands}
-use Rattle.chi_check.specs.declared.header.Header.{Header}
-use Rattle.chi_check.specs.declared.sketch.Named.{Named as Bodies}
-use Rattle.chi_check.specs.States.{with_name}
-use Rattle.chi_check.specs.Headers.{all_types, process_known, home_known}
-use Rattle.chi_check.specs.Definitions.{means, with_definition, result_of, exit_known, exit_of, with_headed, with_all_headed}
+use Rattle.chi_stat_parts.specs.States.{with_name}
+use Rattle.chi_headers.specs.declared.header.Header.{Header}
+use Rattle.chi_headers.specs.declared.sketch.Named.{Named as Bodies}
+use Rattle.chi_headers.specs.Headers.{all_types, process_known, home_known}
+use Rattle.chi_headers.specs.Definitions.{means, with_definition, with_headed, with_all_headed}
+use Rattle.chi_check.specs.Bodies.{result_of, exit_known, exit_of}
 use Rattle.chi_program_laws.proofs.Constants.{ConstantIs}
 use Rattle.chi_program_laws.proofs.Definitions.{meant_as}
 use Rattle.chi_program_laws.proofs.Entries.{Entries, entries_with}

@@ -18,13 +18,14 @@ use Rattle.chi_typing.specs.Names.{Names}
 use Rattle.chi_check_expr.proofs.Nodes.{left_nil, right_nil}
 use Rattle.chi_streams.specs.Streams.{each, of_constant, of_function, of_process, with_streams}
 use Rattle.chi_typing_laws.specs.Texts.{texts_are_short}
-use Rattle.chi_check.specs.declared.header.Header.{Header}
-use Rattle.chi_check.specs.declared.sketch.Sketch.{Sketch}
-use Rattle.chi_check.specs.declared.sketch.Early.{Early}
-use Rattle.chi_check.specs.Stated.{Stated, in_turn}
-use Rattle.chi_check.specs.Headers.{header_in}
-use Rattle.chi_check.specs.Definitions.{sketching, early_defined, with_all_late, with_all_headed, functions_of, processes_of}
-use Rattle.chi_check.specs.Programs.{no_names, first_early, first_named, header_faults, first_model, model_rule, core, core_of, definitions_checked, checked}
+use Rattle.chi_stat_parts.specs.Stated.{Stated, in_turn}
+use Rattle.chi_headers.specs.declared.header.Header.{Header}
+use Rattle.chi_headers.specs.declared.sketch.Sketch.{Sketch}
+use Rattle.chi_headers.specs.declared.sketch.Early.{Early}
+use Rattle.chi_headers.specs.Headers.{header_in, header_faults}
+use Rattle.chi_headers.specs.Definitions.{sketching, early_defined, with_all_late, with_all_headed}
+use Rattle.chi_check.specs.Bodies.{functions_of, processes_of}
+use Rattle.chi_check.specs.Programs.{no_names, first_early, first_named, first_model, model_rule, core, core_of, definitions_checked, checked}
 use Rattle.chi_check_laws.specs.Texts.{body_texts}
 use Rattle.chi_program_laws.specs.Bodies.{EachIsWhole, BodiesAreWhole, TextsAreShort}
 use Rattle.chi_program_laws.specs.Spelled.{EachSpelled, NamesAreNames}

@@ -21,9 +21,9 @@ use Rattle.chi_stat_rules.specs.declared.home.ExitType.TheVariants as exit
 use Rattle.chi_stat_rules.specs.declared.home.Home.{Home}
 use Rattle.chi_stat_rules.specs.declared.home.Home.TheVariants as home
 use Rattle.chi_streams.specs.Streams.{of_function, of_process}
-use Rattle.chi_check.specs.declared.header.Header.{Header}
-use Rattle.chi_check.specs.Headers.{all_types}
-use Rattle.chi_check.specs.Definitions.{body_in, exit_known, exit_of, result_of}
+use Rattle.chi_headers.specs.declared.header.Header.{Header}
+use Rattle.chi_headers.specs.Headers.{all_types}
+use Rattle.chi_check.specs.Bodies.{body_in, exit_known, exit_of, result_of}
 use Rattle.chi_typing_laws.specs.Standing.{Stands}
 use Rattle.chi_check_laws.specs.Bodies.{role_of, SoundBodyOf}
 use Rattle.chi_check_laws.specs.Texts.{body_texts}

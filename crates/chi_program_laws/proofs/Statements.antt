@@ -16,11 +16,15 @@ use Rattle.chi_check_expr.proofs.Nodes.{left_nil, right_nil}
 use Rattle.chi_stat_rules.specs.declared.home.Home.{Home}
 use Rattle.chi_stat_rules.specs.Endings.{loop_rule}
 use Rattle.chi_stat_rules.specs.Homes.{running_rule}
-use Rattle.chi_check.specs.declared.state.Binder.TheVariants as binder
-use Rattle.chi_check.specs.declared.state.State.{State}
-use Rattle.chi_check.specs.Stated.{in_turn}
-use Rattle.chi_check.specs.States.{block}
-use Rattle.chi_check.specs.Statements.{Going, each_in, starting, walk_in, assignment_in, communicating, communication_in, return_in, exit_in, finish_in, write_in, test_in, guard_in, offers, runs, starts, walked, guarded, offered, statement_step, branch_step, alternative_step, step_step, stating, stepping, branching, offering, stepping_in, stating_all}
+use Rattle.chi_stat_parts.specs.declared.state.Binder.TheVariants as binder
+use Rattle.chi_stat_parts.specs.declared.state.State.{State}
+use Rattle.chi_stat_parts.specs.Stated.{in_turn}
+use Rattle.chi_stat_parts.specs.States.{block}
+use Rattle.chi_stat_parts.specs.Values.{assignment_in, test_in, guard_in}
+use Rattle.chi_stat_parts.specs.Declarations.{walk_in}
+use Rattle.chi_stat_parts.specs.Lines.{communicating, communication_in, return_in, exit_in, finish_in, write_in}
+use Rattle.chi_stat_parts.specs.Blocks.{offers, runs, starts, walked, guarded, offered}
+use Rattle.chi_statements.specs.Statements.{Going, each_in, starting, statement_step, branch_step, alternative_step, step_step, stating, stepping, branching, offering, stepping_in, stating_all}
 use Rattle.chi_program_laws.proofs.Communications.{communicating_whole, communication_whole}
 use Rattle.chi_program_laws.proofs.Elements.{starting_keeps}
 use Rattle.chi_program_laws.proofs.Lines.{TypedHome, return_in_whole, exit_in_whole, finish_in_whole, write_in_whole}

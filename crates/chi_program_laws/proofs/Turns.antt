@@ -7,11 +7,12 @@ use Rattle.chi_typing.specs.declared.fault.Fault.{Fault}
 use Rattle.chi_typing.specs.Typed.{Typed}
 use Rattle.chi_check_expr.proofs.Nodes.{left_nil, right_nil, cons_nil}
 use Rattle.chi_stat_rules.specs.declared.home.Home.{Home}
-use Rattle.chi_check.specs.declared.state.Binder.{Binder}
-use Rattle.chi_check.specs.declared.state.State.{State}
-use Rattle.chi_check.specs.Stated.{Stated, Turn, in_turn, alone, preceded, held_by}
-use Rattle.chi_check.specs.States.{cut, closed, block}
-use Rattle.chi_check.specs.Statements.{Going, each_in, declaration_in, walk_in}
+use Rattle.chi_stat_parts.specs.declared.state.Binder.{Binder}
+use Rattle.chi_stat_parts.specs.declared.state.State.{State}
+use Rattle.chi_stat_parts.specs.Stated.{Stated, Turn, in_turn, alone, preceded, held_by}
+use Rattle.chi_stat_parts.specs.States.{cut, closed, block}
+use Rattle.chi_stat_parts.specs.Declarations.{declaration_in, walk_in}
+use Rattle.chi_statements.specs.Statements.{Going, each_in}
 use Rattle.chi_program_laws.proofs.Entries.{Entries}
 use Rattle.chi_program_laws.proofs.Shaped.{Fine}
 use Rattle.chi_program_laws.proofs.Whole.{Comes, WholeTyped, mapped_comes, both_comes}

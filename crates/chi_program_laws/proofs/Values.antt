@@ -28,7 +28,7 @@ use Rattle.chi_stat_rules.specs.Homes.{site_of}
 use Rattle.chi_stat_rules.specs.Places.{expr_place}
 use Rattle.chi_stat_rules.specs.Targets.{visible_target, named_target, is_text, indexed, index_into, index_step, field_of}
 use Rattle.chi_stat_rules.specs.Values.{as_bool, condition, as_instance, finished_one}
-use Rattle.chi_check.specs.Statements.{made_of, all_faults, faults_if, made_if, all_of, if_any, assignment_place, value_in, values_in, test_in, guard_in, instance_in, step_in, steps_in, target_in, assignment_in}
+use Rattle.chi_stat_parts.specs.Values.{made_of, all_faults, faults_if, made_if, all_of, if_any, assignment_place, value_in, values_in, test_in, guard_in, instance_in, step_in, steps_in, target_in, assignment_in}
 use Rattle.chi_program_laws.proofs.Entries.{Entries, known_entry}
 use Rattle.chi_program_laws.proofs.Shaped.{Fine, clean_of}
 use Rattle.chi_program_laws.proofs.Whole.{Comes, WholeTyped, EachComes, exact_whole, refused_whole, cond_whole, of_one_whole, of_two_whole, then_whole, mapped_comes, both_comes}

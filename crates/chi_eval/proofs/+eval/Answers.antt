@@ -2,7 +2,8 @@ use Rattle.std.proofs.Common.{drop, ◌≡◌, ◌-◌, ◌*◌, refl, ◌∙◌
 use Rattle.std.proofs.lemmas.Grind.{common_steps}
 use denote.Param.Weighed.{most}
 use Rattle.chi_core.specs.Answer.{Gives}
-use Rattle.chi_core.specs.Terms.{Do, On}
+use Rattle.chi_core.specs.Terms.{Do, On, act_stat}
+use Rattle.chi_core.specs.declared.statement.CStat.{out-CStat}
 use Rattle.chi_core.specs.declared.expression.CExpr.{size-CExpr}
 use Rattle.chi_core.specs.Functions.{exec}
 use Rattle.std.specs.Prelude.{map}
@@ -14,7 +15,7 @@ use Rattle.chi_eval.specs.Surroundings.{scene_in}
 use Rattle.chi_eval.proofs.Acting.{declare_is, assign_is, if_is, while_is, for_is, return_first}
 use Rattle.chi_eval.proofs.Spans.{is_assign, is_declare, is_if, is_while, is_for, is_return, body_falls, act_sized, most_do, test_within}
 use Rattle.chi_eval.proofs.Choosing.{choose_first}
-use Rattle.chi_eval.proofs.Passing.{gives_by, gives_same, stops_by}
+use Rattle.chi_eval.proofs.Passing.{did_by, gives_by, gives_same, stops_by}
 use Rattle.chi_eval.proofs.Repeating.{repeat_count, repeat_many}
 use Rattle.chi_eval.proofs.Standing.{const_there, lit_is, var_is, const_is, op_is, and_is, or_is, build_is, part_is, call_is, insert_is, default_is, repeat_is}
 use Rattle.chi_eval.proofs.Turns.{body_is, turns_start, turn_goes, turn_gives}
@@ -119,16 +120,16 @@ pub expressions::eval-returns-in-Op-clause-stops : goal.expressions::eval-return
 expressions::eval-returns-in-Op-clause-stops t c = stops_by c.operate.result ((meaning c.args.calls c.args.s.now c.args.variables.now) c.args.e.now c.args.view.now) _ (op_is (run_by c.args.calls c.args.s.now) (scene_in c.args.s.now) c.args.variables.now c.args.view.now c.args.e.now c.in-Op.name c.in-Op.parts c.as_slice.result.now c.in-Op.is c.as_slice.ensures.same) c.operate.ensures.stops
 
 pub expressions::eval-returns-in-And-clause-value : goal.expressions::eval-returns-in-And-clause-value
-expressions::eval-returns-in-And-clause-value t c = gives_by c.both.result c.both.new.view ((meaning c.args.calls c.args.s.now c.args.variables.now) c.args.e.now c.args.view.now) _ (and_is (run_by c.args.calls c.args.s.now) (scene_in c.args.s.now) c.args.variables.now c.args.view.now c.args.e.now c.in-And.a c.in-And.b c.get-in-And.result.now c.get-in-And-2.result.now c.in-And.is c.get-in-And.ensures.same c.get-in-And-2.ensures.same) c.both.ensures.value
+expressions::eval-returns-in-And-clause-value t c = gives_by c.second_where.result c.second_where.new.view ((meaning c.args.calls c.args.s.now c.args.variables.now) c.args.e.now c.args.view.now) _ (and_is (run_by c.args.calls c.args.s.now) (scene_in c.args.s.now) c.args.variables.now c.args.view.now c.args.e.now c.in-And.a c.in-And.b c.get-in-And.result.now c.get-in-And-2.result.now c.in-And.is c.get-in-And.ensures.same c.get-in-And-2.ensures.same) c.second_where.ensures.value
 
 pub expressions::eval-returns-in-And-clause-stops : goal.expressions::eval-returns-in-And-clause-stops
-expressions::eval-returns-in-And-clause-stops t c = stops_by c.both.result ((meaning c.args.calls c.args.s.now c.args.variables.now) c.args.e.now c.args.view.now) _ (and_is (run_by c.args.calls c.args.s.now) (scene_in c.args.s.now) c.args.variables.now c.args.view.now c.args.e.now c.in-And.a c.in-And.b c.get-in-And.result.now c.get-in-And-2.result.now c.in-And.is c.get-in-And.ensures.same c.get-in-And-2.ensures.same) c.both.ensures.stops
+expressions::eval-returns-in-And-clause-stops t c = stops_by c.second_where.result ((meaning c.args.calls c.args.s.now c.args.variables.now) c.args.e.now c.args.view.now) _ (and_is (run_by c.args.calls c.args.s.now) (scene_in c.args.s.now) c.args.variables.now c.args.view.now c.args.e.now c.in-And.a c.in-And.b c.get-in-And.result.now c.get-in-And-2.result.now c.in-And.is c.get-in-And.ensures.same c.get-in-And-2.ensures.same) c.second_where.ensures.stops
 
 pub expressions::eval-returns-in-Or-clause-value : goal.expressions::eval-returns-in-Or-clause-value
-expressions::eval-returns-in-Or-clause-value t c = gives_by c.either.result c.either.new.view ((meaning c.args.calls c.args.s.now c.args.variables.now) c.args.e.now c.args.view.now) _ (or_is (run_by c.args.calls c.args.s.now) (scene_in c.args.s.now) c.args.variables.now c.args.view.now c.args.e.now c.in-Or.a c.in-Or.b c.get-in-Or.result.now c.get-in-Or-2.result.now c.in-Or.is c.get-in-Or.ensures.same c.get-in-Or-2.ensures.same) c.either.ensures.value
+expressions::eval-returns-in-Or-clause-value t c = gives_by c.second_where-in-Or.result c.second_where-in-Or.new.view ((meaning c.args.calls c.args.s.now c.args.variables.now) c.args.e.now c.args.view.now) _ (or_is (run_by c.args.calls c.args.s.now) (scene_in c.args.s.now) c.args.variables.now c.args.view.now c.args.e.now c.in-Or.a c.in-Or.b c.get-in-Or.result.now c.get-in-Or-2.result.now c.in-Or.is c.get-in-Or.ensures.same c.get-in-Or-2.ensures.same) c.second_where-in-Or.ensures.value
 
 pub expressions::eval-returns-in-Or-clause-stops : goal.expressions::eval-returns-in-Or-clause-stops
-expressions::eval-returns-in-Or-clause-stops t c = stops_by c.either.result ((meaning c.args.calls c.args.s.now c.args.variables.now) c.args.e.now c.args.view.now) _ (or_is (run_by c.args.calls c.args.s.now) (scene_in c.args.s.now) c.args.variables.now c.args.view.now c.args.e.now c.in-Or.a c.in-Or.b c.get-in-Or.result.now c.get-in-Or-2.result.now c.in-Or.is c.get-in-Or.ensures.same c.get-in-Or-2.ensures.same) c.either.ensures.stops
+expressions::eval-returns-in-Or-clause-stops t c = stops_by c.second_where-in-Or.result ((meaning c.args.calls c.args.s.now c.args.variables.now) c.args.e.now c.args.view.now) _ (or_is (run_by c.args.calls c.args.s.now) (scene_in c.args.s.now) c.args.variables.now c.args.view.now c.args.e.now c.in-Or.a c.in-Or.b c.get-in-Or.result.now c.get-in-Or-2.result.now c.in-Or.is c.get-in-Or.ensures.same c.get-in-Or-2.ensures.same) c.second_where-in-Or.ensures.stops
 
 pub expressions::eval-returns-in-Build-clause-value : goal.expressions::eval-returns-in-Build-clause-value
 expressions::eval-returns-in-Build-clause-value t c = gives_by c.build.result c.build.new.view ((meaning c.args.calls c.args.s.now c.args.variables.now) c.args.e.now c.args.view.now) _ (build_is (run_by c.args.calls c.args.s.now) (scene_in c.args.s.now) c.args.variables.now c.args.view.now c.args.e.now c.in-Build.kind c.in-Build.parts c.as_slice-in-Build.result.now c.in-Build.is c.as_slice-in-Build.ensures.same) c.build.ensures.value
@@ -189,3 +190,33 @@ bodies::call-returns-clause-stops t c =
     c.in_ok-variables-in-Within.variables c.as_slice-body.result.now c.in-Within.is (omega arith) refl n c.function-f.ensures
     (c.in_ok-variables-in-Within.ensures ∙ ap (λ k. variables_of k c.args.arguments.items) (ap length c.as_slice.ensures.same)) c.as_slice-body.ensures.same in
     stops_by c.run_body.result (run_by c.args.calls c.args.s.now c.args.number c.args.arguments.items c.args.view.now) _ is c.run_body.ensures.stops
+
+pub items::act_on-returns-in-Declare-clause-value : goal.items::act_on-returns-in-Declare-clause-value
+items::act_on-returns-in-Declare-clause-value t c = did_by c.declare.result c.declare.new.variables c.declare.new.term c.declare.new.view (act_stat (meaning c.args.calls c.args.s.now c.args.variables.now) c.args.variables.now (out-CStat c.args.statement.now) (drop 1 c.args.term.now) c.args.view.now) _ (declare_is (meaning c.args.calls c.args.s.now c.args.variables.now) c.args.variables.now c.args.statement.now (drop 1 c.args.term.now) c.args.view.now _ c.in-Declare.slot c.in-Declare.e c.in-Declare.is) c.declare.ensures.value
+
+pub items::act_on-returns-in-Declare-clause-stops : goal.items::act_on-returns-in-Declare-clause-stops
+items::act_on-returns-in-Declare-clause-stops t c = stops_by c.declare.result (act_stat (meaning c.args.calls c.args.s.now c.args.variables.now) c.args.variables.now (out-CStat c.args.statement.now) (drop 1 c.args.term.now) c.args.view.now) _ (declare_is (meaning c.args.calls c.args.s.now c.args.variables.now) c.args.variables.now c.args.statement.now (drop 1 c.args.term.now) c.args.view.now _ c.in-Declare.slot c.in-Declare.e c.in-Declare.is) c.declare.ensures.stops
+
+pub items::act_on-returns-in-Assign-clause-value : goal.items::act_on-returns-in-Assign-clause-value
+items::act_on-returns-in-Assign-clause-value t c = did_by c.assign.result c.assign.new.variables c.assign.new.term c.assign.new.view (act_stat (meaning c.args.calls c.args.s.now c.args.variables.now) c.args.variables.now (out-CStat c.args.statement.now) (drop 1 c.args.term.now) c.args.view.now) _ (assign_is (meaning c.args.calls c.args.s.now c.args.variables.now) c.args.variables.now c.args.statement.now (drop 1 c.args.term.now) c.args.view.now _ c.in-Assign.targets _ c.in-Assign.values _ c.in-Assign.is c.as_slice-places.ensures.same c.as_slice-expressions.ensures.same) c.assign.ensures.value
+
+pub items::act_on-returns-in-Assign-clause-stops : goal.items::act_on-returns-in-Assign-clause-stops
+items::act_on-returns-in-Assign-clause-stops t c = stops_by c.assign.result (act_stat (meaning c.args.calls c.args.s.now c.args.variables.now) c.args.variables.now (out-CStat c.args.statement.now) (drop 1 c.args.term.now) c.args.view.now) _ (assign_is (meaning c.args.calls c.args.s.now c.args.variables.now) c.args.variables.now c.args.statement.now (drop 1 c.args.term.now) c.args.view.now _ c.in-Assign.targets _ c.in-Assign.values _ c.in-Assign.is c.as_slice-places.ensures.same c.as_slice-expressions.ensures.same) c.assign.ensures.stops
+
+pub items::act_on-returns-in-If-clause-value : goal.items::act_on-returns-in-If-clause-value
+items::act_on-returns-in-If-clause-value t c = did_by c.choose.result c.args.variables.now c.choose.new.term c.choose.new.view (act_stat (meaning c.args.calls c.args.s.now c.args.variables.now) c.args.variables.now (out-CStat c.args.statement.now) (drop 1 c.args.term.now) c.args.view.now) _ (if_is (meaning c.args.calls c.args.s.now c.args.variables.now) c.args.variables.now c.args.statement.now (drop 1 c.args.term.now) c.args.view.now _ c.in-If.branches _ c.in-If.otherwise _ c.in-If.is c.as_slice-tests.ensures.same c.as_slice-last.ensures.same) c.choose.ensures.value
+
+pub items::act_on-returns-in-If-clause-stops : goal.items::act_on-returns-in-If-clause-stops
+items::act_on-returns-in-If-clause-stops t c = stops_by c.choose.result (act_stat (meaning c.args.calls c.args.s.now c.args.variables.now) c.args.variables.now (out-CStat c.args.statement.now) (drop 1 c.args.term.now) c.args.view.now) _ (if_is (meaning c.args.calls c.args.s.now c.args.variables.now) c.args.variables.now c.args.statement.now (drop 1 c.args.term.now) c.args.view.now _ c.in-If.branches _ c.in-If.otherwise _ c.in-If.is c.as_slice-tests.ensures.same c.as_slice-last.ensures.same) c.choose.ensures.stops
+
+pub items::act_on-returns-in-While-clause-value : goal.items::act_on-returns-in-While-clause-value
+items::act_on-returns-in-While-clause-value t c = did_by c.test_loop.result c.args.variables.now c.test_loop.new.term c.test_loop.new.view (act_stat (meaning c.args.calls c.args.s.now c.args.variables.now) c.args.variables.now (out-CStat c.args.statement.now) (drop 1 c.args.term.now) c.args.view.now) _ (while_is (meaning c.args.calls c.args.s.now c.args.variables.now) c.args.variables.now c.args.statement.now (drop 1 c.args.term.now) c.args.view.now c.in-While.line c.in-While.test c.in-While.block _ c.in-While.is c.as_slice-turn.ensures.same) c.test_loop.ensures.value
+
+pub items::act_on-returns-in-While-clause-stops : goal.items::act_on-returns-in-While-clause-stops
+items::act_on-returns-in-While-clause-stops t c = stops_by c.test_loop.result (act_stat (meaning c.args.calls c.args.s.now c.args.variables.now) c.args.variables.now (out-CStat c.args.statement.now) (drop 1 c.args.term.now) c.args.view.now) _ (while_is (meaning c.args.calls c.args.s.now c.args.variables.now) c.args.variables.now c.args.statement.now (drop 1 c.args.term.now) c.args.view.now c.in-While.line c.in-While.test c.in-While.block _ c.in-While.is c.as_slice-turn.ensures.same) c.test_loop.ensures.stops
+
+pub items::act_on-returns-in-For-clause-value : goal.items::act_on-returns-in-For-clause-value
+items::act_on-returns-in-For-clause-value t c = did_by c.begin_walk.result c.args.variables.now c.begin_walk.new.term c.begin_walk.new.view (act_stat (meaning c.args.calls c.args.s.now c.args.variables.now) c.args.variables.now (out-CStat c.args.statement.now) (drop 1 c.args.term.now) c.args.view.now) _ (for_is (meaning c.args.calls c.args.s.now c.args.variables.now) c.args.variables.now c.args.statement.now (drop 1 c.args.term.now) c.args.view.now c.in-For.line c.in-For.slots _ c.in-For.e c.in-For.block _ c.in-For.is c.as_slice-names.ensures.same c.as_slice-turn-in-For.ensures.same) c.begin_walk.ensures.value
+
+pub items::act_on-returns-in-For-clause-stops : goal.items::act_on-returns-in-For-clause-stops
+items::act_on-returns-in-For-clause-stops t c = stops_by c.begin_walk.result (act_stat (meaning c.args.calls c.args.s.now c.args.variables.now) c.args.variables.now (out-CStat c.args.statement.now) (drop 1 c.args.term.now) c.args.view.now) _ (for_is (meaning c.args.calls c.args.s.now c.args.variables.now) c.args.variables.now c.args.statement.now (drop 1 c.args.term.now) c.args.view.now c.in-For.line c.in-For.slots _ c.in-For.e c.in-For.block _ c.in-For.is c.as_slice-names.ensures.same c.as_slice-turn-in-For.ensures.same) c.begin_walk.ensures.stops

@@ -95,11 +95,8 @@ decreases-operators::operate l = (more_of l.calls * reach l.s.now.functions.now)
 abbrev pub decreases-inserting::insert_by : goal.decreases-inserting::insert_by
 decreases-inserting::insert_by l = (more_of l.calls * reach l.s.now.functions.now) + (3 * max (size-CExpr l.a.now) (size-CExpr l.b.now)) + 2
 
-abbrev pub decreases-operators::both : goal.decreases-operators::both
-decreases-operators::both l = (more_of l.calls * reach l.s.now.functions.now) + (3 * max (size-CExpr l.a.now) (size-CExpr l.b.now)) + 1
-
-abbrev pub decreases-operators::either : goal.decreases-operators::either
-decreases-operators::either l = (more_of l.calls * reach l.s.now.functions.now) + (3 * max (size-CExpr l.a.now) (size-CExpr l.b.now)) + 1
+abbrev pub decreases-operators::second_where : goal.decreases-operators::second_where
+decreases-operators::second_where l = (more_of l.calls * reach l.s.now.functions.now) + (3 * max (size-CExpr l.a.now) (size-CExpr l.b.now)) + 1
 
 abbrev pub decreases-operators::part : goal.decreases-operators::part
 decreases-operators::part l = (more_of l.calls * reach l.s.now.functions.now) + (3 * size-CExpr l.a.now) + 1

@@ -1,7 +1,7 @@
 use Rattle.std.proofs.Common.{◌≡◌, drop}
 use Rattle.chi_typing.specs.Faults.{first_of}
-use Rattle.chi_check.specs.Definitions.{formals_bound}
-use Rattle.chi_check.specs.Stated.{in_turn, joined}
+use Rattle.chi_stat_parts.specs.Stated.{in_turn, joined}
+use Rattle.chi_check.specs.Bodies.{formals_bound}
 use Rattle.chi_check.proofs.bodies.bind_formals.Given as goal
 
 abbrev pub invariant-loop-formal : goal.invariant-loop-formal

@@ -1,7 +1,7 @@
 use Rattle.std.proofs.Common.{◌≡◌, drop, map}
 use Rattle.chi_typing.specs.Faults.{first_of}
-use Rattle.chi_check.specs.Definitions.{processes_of}
-use Rattle.chi_check.specs.Stated.{in_turn, joined}
+use Rattle.chi_stat_parts.specs.Stated.{in_turn, joined}
+use Rattle.chi_check.specs.Bodies.{processes_of}
 use Rattle.chi_check.proofs.bodies.define_processes.Given as goal
 
 abbrev pub invariant-loop-item : goal.invariant-loop-item

@@ -1,0 +1,168 @@
+//! The names that are visible in the tests.
+
+ghost use Rattle.chi_check_expr.specs.Clean.{Clean, HaveDefaults};
+
+use crate::sources::type_of;
+use chi_base::Items;
+use chi_check_expr::mean_in;
+use chi_token::Bytes;
+use chi_types::{Ty, same};
+use chi_typing::{Known, NameKind, Scope, Site};
+use std::alloc::Global;
+use std::test::Fail;
+
+/// A variable of each kind, with its slot and its type.
+pub const VARIABLES: [(&str, u32, &str); 15] = [
+    ("b", 0, "bool"),
+    ("i", 1, "int"),
+    ("r", 2, "real"),
+    ("s", 3, "string"),
+    ("t", 4, "timer"),
+    ("p", 5, "inst"),
+    ("is", 6, "list int"),
+    ("rs", 7, "list real"),
+    ("ks", 8, "set int"),
+    ("qs", 9, "set real"),
+    ("d", 10, "dict(int: real)"),
+    ("u", 11, "tuple(int x; real y)"),
+    ("g", 12, "dist int"),
+    ("c", 13, "chan int"),
+    ("e", 14, "colour"),
+];
+
+/// Functions with their numbers, the types of their parameters, and those of their results.
+const FUNCTIONS: [(&str, u32, &str, &str); 4] = [
+    ("f", 0, "real", "bool"),
+    ("less", 1, "int int", "bool"),
+    ("below", 2, "real real", "bool"),
+    ("count", 3, "", "int"),
+];
+
+fn declare(alloc: Global, scope: &mut Scope, name: &'static str, known: Known) -> Result<(), Fail> {
+    let name = Bytes::copy_of(alloc, name.as_bytes())?;
+    if scope.known(&name).is_some() || scope.count() > 1000 {
+        return Ok(());
+    }
+    Ok(scope.declare(&name, known)?)
+}
+
+/// The type that a source means, and `Void` where it means none.
+fn meant(alloc: Global, scope: &Scope, source: &str) -> Result<Ty, Fail> {
+    let Some(tree) = type_of(alloc, source.as_bytes())? else {
+        return Ok(Ty::Void);
+    };
+    let mut kept = None;
+    match mean_in(alloc, &tree, scope, Site::Process, false, &mut kept)? {
+        Some(meant) => Ok(meant.ty),
+        None => Ok(Ty::Void),
+    }
+}
+
+fn all_meant(alloc: Global, scope: &Scope, sources: &'static str) -> Result<Items<Ty>, Fail> {
+    let mut types = Vec::new(alloc);
+    for source in sources.split_whitespace() {
+        types.push(meant(alloc, scope, source)?)?;
+    }
+    Ok(Items::of(alloc, types)?)
+}
+
+fn declare_others(alloc: Global, scope: &mut Scope) -> Result<(), Fail> {
+    let pair = meant(alloc, scope, "tuple(tuple(int x; real y) a; int b)")?;
+    let none = Items::of(alloc, Vec::new(alloc))?;
+    declare(alloc, scope, "w", Known::Fixed(15, pair))?;
+    declare(alloc, scope, "n", Known::Const(0, Ty::Int))?;
+    declare(alloc, scope, "red", Known::Value(0, 0))?;
+    declare(alloc, scope, "measure", Known::Kind(Ty::Real))?;
+    declare(alloc, scope, "work", Known::Proc(0, none, None))?;
+    declare(alloc, scope, "plant", Known::Model(1))?;
+    declare(alloc, scope, "trial", Known::Xper(2))
+}
+
+fn declare_untyped(alloc: Global, scope: &mut Scope) -> Result<(), Fail> {
+    declare(
+        alloc,
+        scope,
+        "no_variable",
+        Known::Untyped(NameKind::Variable),
+    )?;
+    declare(
+        alloc,
+        scope,
+        "no_unwound",
+        Known::Untyped(NameKind::Unwound),
+    )?;
+    declare(
+        alloc,
+        scope,
+        "no_constant",
+        Known::Untyped(NameKind::Constant),
+    )?;
+    declare(alloc, scope, "no_type", Known::Untyped(NameKind::Type))?;
+    declare(
+        alloc,
+        scope,
+        "no_function",
+        Known::Untyped(NameKind::Function),
+    )?;
+    declare(
+        alloc,
+        scope,
+        "no_process",
+        Known::Untyped(NameKind::Process),
+    )
+}
+
+/// No names.
+#[tactic(auto, using(crate::proofs::NoNames::are_clean, crate::proofs::NoNames::have_defaults))]
+pub fn no_names(alloc: Global) -> Scope
+    ensures clean { Clean result }
+    ensures defaults { HaveDefaults result }
+{
+    Scope::new(alloc)
+}
+
+fn declare_variables(alloc: Global, scope: &mut Scope) -> Result<(), Fail> {
+    for (name, slot, source) in VARIABLES {
+        let ty = meant(alloc, scope, source)?;
+        declare(alloc, scope, name, Known::Var(slot, ty))?;
+    }
+    Ok(())
+}
+
+fn declare_functions(alloc: Global, scope: &mut Scope) -> Result<(), Fail> {
+    for (name, number, params, outcome) in FUNCTIONS {
+        let params = all_meant(alloc, scope, params)?;
+        let outcome = meant(alloc, scope, outcome)?;
+        declare(alloc, scope, name, Known::Func(number, params, outcome))?;
+    }
+    Ok(())
+}
+
+/// What is known of the names.
+pub fn names(alloc: Global) -> Result<Scope, Fail> {
+    let mut scope = Scope::new(alloc);
+    declare(alloc, &mut scope, "colour", Known::Kind(Ty::Choice(0)))?;
+    declare_variables(alloc, &mut scope)?;
+    declare_functions(alloc, &mut scope)?;
+    declare_others(alloc, &mut scope)?;
+    declare_untyped(alloc, &mut scope)?;
+    Ok(scope)
+}
+
+fn has_type(alloc: Global, scope: &Scope, name: &'static str, ty: &Ty) -> Result<bool, Fail> {
+    let name = Bytes::copy_of(alloc, name.as_bytes())?;
+    match scope.known(&name) {
+        Some(Known::Var(_, other)) => Ok(same(other, ty)),
+        _ => Ok(false),
+    }
+}
+
+/// The name of the variable that has the type, and `?` where none has.
+pub fn named(alloc: Global, scope: &Scope, ty: &Ty) -> Result<String, Fail> {
+    for (name, _, _) in VARIABLES {
+        if has_type(alloc, scope, name, ty)? {
+            return Ok(name.to_string(alloc)?);
+        }
+    }
+    Ok("?".to_string(alloc)?)
+}

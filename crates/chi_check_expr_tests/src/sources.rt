@@ -1,0 +1,39 @@
+//! Sources as trees.
+
+use chi_lex::{MOST_BYTES, lex};
+use chi_parse_expr::{parse_expr, parse_type};
+use chi_tree::{Expr, TypeTree};
+use std::alloc::Global;
+use std::test::Fail;
+
+/// The expression that a source is, if it is one.
+pub fn expr_of(alloc: Global, source: &[u8]) -> Result<Option<Expr>, Fail> {
+    if source.len() > MOST_BYTES {
+        return Ok(None);
+    }
+    let tokens = lex(alloc, source)?;
+    if tokens.len() > MOST_BYTES {
+        return Ok(None);
+    }
+    let (tree, end) = parse_expr(alloc, tokens.as_slice(), 0, 0)?;
+    if end as usize != tokens.len() {
+        return Ok(None);
+    }
+    Ok(Some(tree))
+}
+
+/// The type that a source is, if it is one.
+pub fn type_of(alloc: Global, source: &[u8]) -> Result<Option<TypeTree>, Fail> {
+    if source.len() > MOST_BYTES {
+        return Ok(None);
+    }
+    let tokens = lex(alloc, source)?;
+    if tokens.len() > MOST_BYTES {
+        return Ok(None);
+    }
+    let (tree, end) = parse_type(alloc, tokens.as_slice(), 0, 0)?;
+    if end as usize != tokens.len() {
+        return Ok(None);
+    }
+    Ok(Some(tree))
+}

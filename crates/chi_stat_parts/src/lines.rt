@@ -1,0 +1,297 @@
+//! Statements without blocks.
+
+#![tactic(auto, using(chi_typing::proofs::Firsts::first_of_none, chi_typing::proofs::Firsts::first_of_append, chi_expr_rules::proofs::Barred::made_barred, chi_expr_rules::proofs::Barred::faults_barred))]
+
+ghost use Rattle.std.specs.Prelude.{◌≡◌, None, map, option_map, if◌then◌else◌, IfOk, OnOk};
+ghost use Rattle.chi_tree.specs.declared.statement.Communication.TheVariants as communication;
+ghost use Rattle.chi_core.specs.declared.statement.CStat.TheVariants as statement;
+ghost use Rattle.chi_typing.specs.Faults.{first_of};
+ghost use Rattle.chi_stat_parts.specs.Stated as stated;
+ghost use Rattle.chi_stat_parts.specs.Values.{faults_if, made_if};
+ghost use Rattle.chi_stat_parts.specs.Lines as spec;
+
+use crate::declarations::unless;
+use crate::lists::one;
+use crate::values::{goal_in, instances_in, some_value_in, target_in, value_in, values_in};
+use chi_base::{Items, NoMemory};
+use chi_core::{CAlt, CComm, CElem, CExpr, CStat};
+use chi_stat_rules::{Home, Receiver, expr_place, note_running};
+use chi_token::{Bytes, Place};
+use chi_tree::{Communication, Expr, Name, Target};
+use chi_typing::{Fault, Made, Scope};
+use std::alloc::Global;
+
+pub(crate) fn communication_place(c: &Communication) -> Place
+    ensures { result ≡ spec.communication_place c.now }
+{
+    match c {
+        Communication::Send { target, .. } | Communication::Receive { target, .. } => {
+            target.name.place
+        }
+        Communication::Delay { place, .. } => *place,
+    }
+}
+
+/// A name that receives, if one stands there.
+fn receiver_in(
+    alloc: Global,
+    place: Place,
+    scope: &Scope,
+    name: &Option<Name>,
+    kept: &mut Option<Fault>,
+) -> Result<Option<Option<Receiver>>, NoMemory>
+    ensures made { IfOk result (λ r. r ≡ made_if (option_map (spec.receiver_in place scope.now) name.now)) }
+    ensures noted { OnOk result (kept.new ≡ first_of kept.old (faults_if (option_map (spec.receiver_in place scope.now) name.now))) }
+{
+    match name {
+        None => Ok(None),
+        Some(name) => Ok(Some(chi_channel_rules::named_receiver(alloc, place, scope, name, kept)?)),
+    }
+}
+
+fn send_in(
+    alloc: Global,
+    home: &Home,
+    scope: &Scope,
+    target: &Target,
+    place: Place,
+    value: &Option<Expr>,
+    kept: &mut Option<Fault>,
+) -> Result<Option<CComm>, NoMemory>
+    ensures made { IfOk result (λ m. m ≡ (spec.parts_in home.now scope.now (communication.Send target.now place value.now)).made) }
+    ensures noted { OnOk result (kept.new ≡ first_of kept.old (spec.parts_in home.now scope.now (communication.Send target.now place value.now)).faults) }
+{
+    let to = target_in(alloc, home, scope, target, kept)?;
+    let value = some_value_in(alloc, home, scope, value, kept)?;
+    chi_channel_rules::send_of(alloc, place, to, value, kept)
+}
+
+fn receive_in(
+    alloc: Global,
+    home: &Home,
+    scope: &Scope,
+    target: &Target,
+    place: Place,
+    name: &Option<Name>,
+    kept: &mut Option<Fault>,
+) -> Result<Option<CComm>, NoMemory>
+    ensures made { IfOk result (λ m. m ≡ (spec.parts_in home.now scope.now (communication.Receive target.now place name.now)).made) }
+    ensures noted { OnOk result (kept.new ≡ first_of kept.old (spec.parts_in home.now scope.now (communication.Receive target.now place name.now)).faults) }
+{
+    let from = target_in(alloc, home, scope, target, kept)?;
+    let receiver = receiver_in(alloc, place, scope, name, kept)?;
+    chi_channel_rules::receive_of(alloc, place, from, receiver, kept)
+}
+
+fn delay_in(
+    alloc: Global,
+    home: &Home,
+    scope: &Scope,
+    place: Place,
+    length: &Expr,
+    kept: &mut Option<Fault>,
+) -> Result<Option<CComm>, NoMemory>
+    ensures made { IfOk result (λ m. m ≡ (spec.parts_in home.now scope.now (communication.Delay place length.now)).made) }
+    ensures noted { OnOk result (kept.new ≡ first_of kept.old (spec.parts_in home.now scope.now (communication.Delay place length.now)).faults) }
+{
+    let made = value_in(alloc, home, scope, length, kept)?;
+    chi_channel_rules::delay_of(alloc, place, made, kept)
+}
+
+fn parts_in(
+    alloc: Global,
+    home: &Home,
+    scope: &Scope,
+    c: &Communication,
+    kept: &mut Option<Fault>,
+) -> Result<Option<CComm>, NoMemory>
+    ensures made { IfOk result (λ m. m ≡ (spec.parts_in home.now scope.now c.now).made) }
+    ensures noted { OnOk result (kept.new ≡ first_of kept.old (spec.parts_in home.now scope.now c.now).faults) }
+{
+    match c {
+        Communication::Send {
+            target,
+            place,
+            value,
+        } => send_in(alloc, home, scope, target, *place, value, kept),
+        Communication::Receive {
+            target,
+            place,
+            name,
+        } => receive_in(alloc, home, scope, target, *place, name, kept),
+        Communication::Delay { place, length } => {
+            delay_in(alloc, home, scope, *place, length, kept)
+        }
+    }
+}
+
+/// A send, a receive or a delay.
+pub fn communication_in(
+    alloc: Global,
+    home: &Home,
+    scope: &Scope,
+    c: &Communication,
+    kept: &mut Option<Fault>,
+) -> Result<Option<CComm>, NoMemory>
+    ensures made { IfOk result (λ m. m ≡ (spec.communication_in home.now scope.now c.now).made) }
+    ensures noted { OnOk result (kept.new ≡ first_of kept.old (spec.communication_in home.now scope.now c.now).faults) }
+{
+    let barred = note_running(home, communication_place(c), kept);
+    let made = parts_in(alloc, home, scope, c, kept)?;
+    Ok(unless(barred, made))
+}
+
+/// A select of one alternative without a guard.
+fn selected(alloc: Global, line: u32, c: CComm) -> Result<CStat, NoMemory>
+    ensures { IfOk result (λ s. s ≡ spec.selected line c) }
+{
+    let block = Items::of(alloc, Vec::new(alloc))?;
+    let mut alternatives = Vec::new(alloc);
+    alternatives.push(CAlt::Guarded(None, c, block))?;
+    Ok(CStat::Select(line, Items::of(alloc, alternatives)?))
+}
+
+/// A communication that stands alone.
+pub fn communicating(
+    alloc: Global,
+    home: &Home,
+    scope: &Scope,
+    c: &Communication,
+    kept: &mut Option<Fault>,
+) -> Result<Option<Items<CStat>>, NoMemory>
+    ensures made { IfOk result (λ s. s ≡ stated.one (spec.communicating home.now scope.now c.now).made) }
+    ensures noted { OnOk result (kept.new ≡ first_of kept.old (spec.communicating home.now scope.now c.now).faults) }
+{
+    let line = communication_place(c).line;
+    let Some(made) = communication_in(alloc, home, scope, c, kept)? else {
+        return Ok(None);
+    };
+    one(alloc, Some(selected(alloc, line, made)?))
+}
+
+/// What is run or started: a name with arguments, and where the new instance goes, if it goes anywhere.
+pub fn element_in(
+    alloc: Global,
+    home: &Home,
+    scope: &Scope,
+    target: &Option<Target>,
+    name: &Name,
+    arguments: &[Expr],
+    kept: &mut Option<Fault>,
+) -> Result<Option<Items<CElem>>, NoMemory>
+    ensures made { IfOk result (λ es. es ≡ stated.one (spec.element_in home.now scope.now target.now name.now arguments.now).made) }
+    ensures noted { OnOk result (kept.new ≡ first_of kept.old (spec.element_in home.now scope.now target.now name.now arguments.now).faults) }
+{
+    let target = goal_in(alloc, home, scope, target, kept)?;
+    let arguments = values_in(alloc, home, scope, arguments, kept)?;
+    let started = chi_channel_rules::start_of(alloc, home, scope, name, arguments, kept)?;
+    one(alloc, chi_channel_rules::element_made(target, started))
+}
+
+/// Each value with its place.
+fn placed(
+    alloc: Global,
+    es: &[Expr],
+    made: Items<Option<Made>>,
+) -> Result<Items<(Place, Option<Made>)>, NoMemory>
+    ensures { IfOk result (λ ws. ws ≡ spec.placed es.now made) }
+{
+    let mut all = Vec::new(alloc);
+    let mut others = es;
+    for value in made.into_vec(alloc)? {
+        let Some((e, rest)) = others.split_first() else {
+            return Ok(Items::of(alloc, all)?);
+        };
+        all.push((expr_place(e), value))?;
+        others = rest;
+    }
+    Ok(Items::of(alloc, all)?)
+}
+
+/// A write of values, whose word and whose format stand at the places.
+pub fn write_in(
+    alloc: Global,
+    home: &Home,
+    scope: &Scope,
+    place: Place,
+    ends_line: bool,
+    format: &Bytes,
+    format_place: Place,
+    values: &[Expr],
+    kept: &mut Option<Fault>,
+) -> Result<Option<Items<CStat>>, NoMemory>
+    ensures made { IfOk result (λ s. s ≡ stated.one (spec.write_in home.now scope.now place ends_line format.now format_place values.now).made) }
+    ensures noted { OnOk result (kept.new ≡ first_of kept.old (spec.write_in home.now scope.now place ends_line format.now format_place values.now).faults) }
+{
+    let barred = note_running(home, place, kept);
+    let made = values_in(alloc, home, scope, values, kept)?;
+    let pieces = chi_write_rules::format_pieces(alloc, ends_line, format)?;
+    let written = placed(alloc, values, made)?;
+    let made = chi_write_rules::write_of(alloc, place.line, format_place, pieces, written, kept)?;
+    one(alloc, unless(barred, made))
+}
+
+/// A return, whose word stands at the place.
+pub fn return_in(
+    alloc: Global,
+    home: &Home,
+    scope: &Scope,
+    place: Place,
+    value: &Expr,
+    kept: &mut Option<Fault>,
+) -> Result<Option<Items<CStat>>, NoMemory>
+    ensures made { IfOk result (λ s. s ≡ stated.one (spec.return_in home.now scope.now place value.now).made) }
+    ensures noted { OnOk result (kept.new ≡ first_of kept.old (spec.return_in home.now scope.now place value.now).faults) }
+{
+    let made = value_in(alloc, home, scope, value, kept)?;
+    let made = chi_stat_rules::return_of(alloc, home, place, made, kept)?;
+    one(alloc, made)
+}
+
+/// An exit, whose word stands at the place, with a value where one stands there.
+pub fn exit_in(
+    alloc: Global,
+    home: &Home,
+    scope: &Scope,
+    place: Place,
+    value: &Option<Expr>,
+    kept: &mut Option<Fault>,
+) -> Result<Option<Items<CStat>>, NoMemory>
+    ensures made { IfOk result (λ s. s ≡ stated.one (spec.exit_in home.now scope.now place value.now).made) }
+    ensures noted { OnOk result (kept.new ≡ first_of kept.old (spec.exit_in home.now scope.now place value.now).faults) }
+{
+    let made = some_value_in(alloc, home, scope, value, kept)?;
+    let made = chi_stat_rules::exit_of(alloc, home, place, made, kept)?;
+    one(alloc, made)
+}
+
+fn finished(
+    alloc: Global,
+    barred: bool,
+    line: u32,
+    instances: Option<Items<CExpr>>,
+) -> Result<Option<Items<CStat>>, NoMemory>
+    ensures { IfOk result (λ s. s ≡ stated.one (if barred then None else option_map (statement.Finish line) instances)) }
+{
+    let Some(instances) = instances else {
+        return Ok(None);
+    };
+    one(alloc, unless(barred, Some(CStat::Finish(line, instances))))
+}
+
+/// A `finish`, whose word stands at the place, of instances.
+pub fn finish_in(
+    alloc: Global,
+    home: &Home,
+    scope: &Scope,
+    place: Place,
+    instances: &[Expr],
+    kept: &mut Option<Fault>,
+) -> Result<Option<Items<CStat>>, NoMemory>
+    ensures made { IfOk result (λ s. s ≡ stated.one (spec.finish_in home.now scope.now place instances.now).made) }
+    ensures noted { OnOk result (kept.new ≡ first_of kept.old (spec.finish_in home.now scope.now place instances.now).faults) }
+{
+    let barred = note_running(home, place, kept);
+    let made = instances_in(alloc, home, scope, instances, kept)?;
+    finished(alloc, barred, place.line, made)
+}

@@ -1,0 +1,4 @@
+pub mod AlternativeSteps
+pub mod ElementSteps
+pub mod Folds
+pub mod StatementSteps

@@ -1,0 +1,410 @@
+//! The walk over statements. Each arm checks the parts, all of them whatever the first came to, and then makes the statement.
+
+#![tactic(auto, using(chi_typing::proofs::Firsts::first_of_none, chi_typing::proofs::Firsts::first_of_append))]
+
+ghost use Rattle.std.specs.Prelude.{◌≡◌, None, true, not, length, map, if◌then◌else◌, IfOk, OnOk};
+ghost use Rattle.chi_typing.specs.Faults.{are_none, first_of};
+ghost use Rattle.chi_stat_rules.specs.Homes.{running_rule};
+ghost use Rattle.chi_stat_parts.specs.declared.state.Binder.TheVariants as binder;
+ghost use Rattle.chi_stat_parts.specs.Stated.{in_turn};
+ghost use Rattle.chi_stat_parts.specs.States.{block, cut};
+ghost use Rattle.chi_stat_parts.specs.Values.{guard_in, test_in};
+ghost use Rattle.chi_stat_parts.specs.Declarations.{walk_in};
+ghost use Rattle.chi_stat_parts.specs.Lines.{communication_in};
+ghost use Rattle.chi_stat_parts.specs.Blocks.{offers, chosen, looped, walked, guarded, offered};
+ghost use Rattle.chi_statements.specs.Statements as spec;
+
+use crate::elements::{run_all, start_only};
+use chi_base::{Items, NoMemory};
+use chi_core::{Branch, CAlt, CStat};
+use chi_stat_parts::{
+    Binder, State, assignment_in, branched, chosen, communicating, communication_in, declare,
+    exit_in, finish_in, guard_in, guarded, joined, loop_word, looped, nothing, offered, one,
+    open_walk, return_in, selected, test_in, walked, write_in,
+};
+use chi_stat_rules::{Home, note_running};
+use chi_token::Place;
+use chi_tree::{Alternative, Communication, Expr, Statement, Step, Walk};
+use chi_typing::Fault;
+use std::alloc::Global;
+
+/// What a statement comes to, if it comes to anything, where a loop stands around it or not.
+#[cycle(statement)]
+fn check_statement(
+    alloc: Global,
+    home: &Home,
+    statement: &Statement,
+    loops: bool,
+    state: &mut State,
+    kept: &mut Option<Fault>,
+) -> Result<Option<Items<CStat>>, NoMemory>
+    ensures next { OnOk result (state.new ≡ (spec.stating home.now statement.now loops state.old).next) }
+    ensures made { IfOk result (λ s. s ≡ (spec.stating home.now statement.now loops state.old).made) }
+    ensures noted { OnOk result (kept.new ≡ first_of kept.old (spec.stating home.now statement.now loops state.old).faults) }
+{
+    match statement {
+        Statement::Declare { ty, variables } => {
+            declare(alloc, home, ty, variables.as_slice(), state, kept)
+        }
+        Statement::Assign {
+            targets,
+            equals,
+            values,
+        } => {
+            let targets = targets.as_slice();
+            let values = values.as_slice();
+            assignment_in(alloc, home, &state.names, targets, *equals, values, kept)
+        }
+        Statement::Communicate(c) => communicating(alloc, home, &state.names, c, kept),
+        Statement::Pass(place) => one(alloc, Some(CStat::Pass(place.line))),
+        Statement::Break(place) => {
+            loop_word(alloc, loops, *place, CStat::Break(place.line), kept)
+        }
+        Statement::Continue(place) => {
+            loop_word(alloc, loops, *place, CStat::Continue(place.line), kept)
+        }
+        Statement::Select {
+            place,
+            alternatives,
+        } => check_select(
+            alloc,
+            home,
+            *place,
+            alternatives.as_slice(),
+            loops,
+            state,
+            kept,
+        ),
+        Statement::If {
+            place,
+            branches,
+            otherwise,
+        } => {
+            let parts = branches.as_slice();
+            let steps = otherwise.as_slice();
+            let made = check_branches(alloc, home, parts, loops, state, kept)?;
+            check_otherwise(alloc, home, *place, steps, made, loops, state, kept)
+        }
+        Statement::While {
+            place,
+            condition,
+            block,
+        } => check_while(
+            alloc,
+            home,
+            *place,
+            block.as_slice(),
+            condition,
+            state,
+            kept,
+        ),
+        Statement::For { place, walk, block } => {
+            check_for(alloc, home, *place, walk, block.as_slice(), state, kept)
+        }
+        Statement::Return { place, value } => {
+            return_in(alloc, home, &state.names, *place, value, kept)
+        }
+        Statement::Exit { place, value } => {
+            exit_in(alloc, home, &state.names, *place, value, kept)
+        }
+        Statement::Run { place, elements } => {
+            run_all(alloc, home, *place, elements.as_slice(), state, kept)
+        }
+        Statement::Start { place, elements } => {
+            start_only(alloc, home, *place, elements.as_slice(), state, kept)
+        }
+        Statement::Finish { place, instances } => {
+            finish_in(
+                alloc,
+                home,
+                &state.names,
+                *place,
+                instances.as_slice(),
+                kept,
+            )
+        }
+        Statement::Write {
+            place,
+            ends_line,
+            format,
+            format_place,
+            values,
+        } => {
+            let values = values.as_slice();
+            let format_place = *format_place;
+            write_in(
+                alloc,
+                home,
+                &state.names,
+                *place,
+                *ends_line,
+                format,
+                format_place,
+                values,
+                kept,
+            )
+        }
+    }
+}
+
+#[cycle(statement)]
+fn check_select(
+    alloc: Global,
+    home: &Home,
+    place: Place,
+    alternatives: &[Alternative],
+    loops: bool,
+    state: &mut State,
+    kept: &mut Option<Fault>,
+) -> Result<Option<Items<CStat>>, NoMemory>
+    ensures next { OnOk result (state.new ≡ (in_turn (map (spec.offering_in home.now loops) alternatives.now) state.old).next) }
+    ensures made { IfOk result (λ s. s ≡ (if not (are_none (running_rule home.now place)) then None else offers place.line (in_turn (map (spec.offering_in home.now loops) alternatives.now) state.old).made)) }
+    ensures noted { OnOk result (kept.new ≡ first_of (first_of kept.old (running_rule home.now place)) (in_turn (map (spec.offering_in home.now loops) alternatives.now) state.old).faults) }
+{
+    let barred = note_running(home, place, kept);
+    let inner = check_alternatives(alloc, home, alternatives, loops, state, kept)?;
+    selected(alloc, barred, place.line, inner)
+}
+
+/// The block of `else`, after what the branches came to.
+#[cycle(statement)]
+fn check_otherwise(
+    alloc: Global,
+    home: &Home,
+    place: Place,
+    steps: &[Step],
+    branches: Option<Items<Branch>>,
+    loops: bool,
+    state: &mut State,
+    kept: &mut Option<Fault>,
+) -> Result<Option<Items<CStat>>, NoMemory>
+    ensures next { OnOk result (state.new ≡ (block (map (spec.stepping_in home.now loops) steps.now) state.old).next) }
+    ensures made { IfOk result (λ s. s ≡ chosen place.line branches (block (map (spec.stepping_in home.now loops) steps.now) state.old).made) }
+    ensures noted { OnOk result (kept.new ≡ first_of kept.old (block (map (spec.stepping_in home.now loops) steps.now) state.old).faults) }
+{
+    let otherwise = check_block(alloc, home, steps, loops, state, kept)?;
+    chosen(alloc, place.line, branches, otherwise)
+}
+
+#[cycle(statement)]
+fn check_while(
+    alloc: Global,
+    home: &Home,
+    place: Place,
+    steps: &[Step],
+    condition: &Expr,
+    state: &mut State,
+    kept: &mut Option<Fault>,
+) -> Result<Option<Items<CStat>>, NoMemory>
+    ensures next { OnOk result (state.new ≡ (block (map (spec.stepping_in home.now true) steps.now) state.old).next) }
+    ensures made { IfOk result (λ s. s ≡ looped place.line (test_in home.now state.old.names condition.now).made (block (map (spec.stepping_in home.now true) steps.now) state.old).made) }
+    ensures noted { OnOk result (kept.new ≡ first_of (first_of kept.old (test_in home.now state.old.names condition.now).faults) (block (map (spec.stepping_in home.now true) steps.now) state.old).faults) }
+{
+    let test = test_in(alloc, home, &state.names, condition, kept)?;
+    let count = state.names.count();
+    let inner = check_all(alloc, home, steps, true, state, kept)?;
+    state.names.cut(count);
+    looped(alloc, place.line, test, inner)
+}
+
+#[cycle(statement)]
+fn check_for(
+    alloc: Global,
+    home: &Home,
+    place: Place,
+    walk: &Walk,
+    steps: &[Step],
+    state: &mut State,
+    kept: &mut Option<Fault>,
+) -> Result<Option<Items<CStat>>, NoMemory>
+    ensures next { OnOk result (state.new ≡ cut (length state.old.names) (in_turn (map (spec.stepping_in home.now true) steps.now) (walk_in home.now binder.Variable walk.now state.old).next).next) }
+    ensures made { IfOk result (λ s. s ≡ walked place.line (walk_in home.now binder.Variable walk.now state.old).made (in_turn (map (spec.stepping_in home.now true) steps.now) (walk_in home.now binder.Variable walk.now state.old).next).made) }
+    ensures noted { OnOk result (kept.new ≡ first_of (first_of kept.old (walk_in home.now binder.Variable walk.now state.old).faults) (in_turn (map (spec.stepping_in home.now true) steps.now) (walk_in home.now binder.Variable walk.now state.old).next).faults) }
+{
+    let count = state.names.count();
+    let opened = open_walk(alloc, home, Binder::Variable, walk, state, kept)?;
+    let inner = check_all(alloc, home, steps, true, state, kept)?;
+    state.names.cut(count);
+    walked(alloc, place.line, opened, inner)
+}
+
+#[cycle(statement)]
+fn check_block(
+    alloc: Global,
+    home: &Home,
+    steps: &[Step],
+    loops: bool,
+    state: &mut State,
+    kept: &mut Option<Fault>,
+) -> Result<Option<Items<CStat>>, NoMemory>
+    ensures next { OnOk result (state.new ≡ (block (map (spec.stepping_in home.now loops) steps.now) state.old).next) }
+    ensures made { IfOk result (λ s. s ≡ (block (map (spec.stepping_in home.now loops) steps.now) state.old).made) }
+    ensures noted { OnOk result (kept.new ≡ first_of kept.old (block (map (spec.stepping_in home.now loops) steps.now) state.old).faults) }
+{
+    let visible = state.names.count();
+    let made = check_all(alloc, home, steps, loops, state, kept)?;
+    state.names.cut(visible);
+    Ok(made)
+}
+
+/// Statements in turn.
+#[cycle(statement)]
+pub fn check_all(
+    alloc: Global,
+    home: &Home,
+    steps: &[Step],
+    loops: bool,
+    state: &mut State,
+    kept: &mut Option<Fault>,
+) -> Result<Option<Items<CStat>>, NoMemory>
+    ensures next { OnOk result (state.new ≡ (in_turn (map (spec.stepping_in home.now loops) steps.now) state.old).next) }
+    ensures made { IfOk result (λ s. s ≡ (in_turn (map (spec.stepping_in home.now loops) steps.now) state.old).made) }
+    ensures noted { OnOk result (kept.new ≡ first_of kept.old (in_turn (map (spec.stepping_in home.now loops) steps.now) state.old).faults) }
+{
+    let mut all = nothing(alloc)?;
+    for step in steps {
+        let made = check_statement(alloc, home, &step.statement, loops, state, kept)?;
+        all = joined(alloc, all, made)?;
+    }
+    Ok(all)
+}
+
+#[cycle(statement)]
+fn check_branches(
+    alloc: Global,
+    home: &Home,
+    branches: &[chi_tree::Branch],
+    loops: bool,
+    state: &mut State,
+    kept: &mut Option<Fault>,
+) -> Result<Option<Items<Branch>>, NoMemory>
+    ensures next { OnOk result (state.new ≡ (in_turn (map (spec.branching_in home.now loops) branches.now) state.old).next) }
+    ensures made { IfOk result (λ s. s ≡ (in_turn (map (spec.branching_in home.now loops) branches.now) state.old).made) }
+    ensures noted { OnOk result (kept.new ≡ first_of kept.old (in_turn (map (spec.branching_in home.now loops) branches.now) state.old).faults) }
+{
+    let mut all = nothing(alloc)?;
+    for branch in branches {
+        let made = check_branch(alloc, home, branch, loops, state, kept)?;
+        all = joined(alloc, all, made)?;
+    }
+    Ok(all)
+}
+
+#[cycle(statement)]
+fn check_branch(
+    alloc: Global,
+    home: &Home,
+    branch: &chi_tree::Branch,
+    loops: bool,
+    state: &mut State,
+    kept: &mut Option<Fault>,
+) -> Result<Option<Items<Branch>>, NoMemory>
+    ensures next { OnOk result (state.new ≡ (spec.branching home.now branch.now loops state.old).next) }
+    ensures made { IfOk result (λ s. s ≡ (spec.branching home.now branch.now loops state.old).made) }
+    ensures noted { OnOk result (kept.new ≡ first_of kept.old (spec.branching home.now branch.now loops state.old).faults) }
+{
+    let test = test_in(alloc, home, &state.names, &branch.condition, kept)?;
+    let inner = check_block(alloc, home, branch.block.as_slice(), loops, state, kept)?;
+    branched(alloc, test, inner)
+}
+
+#[cycle(statement)]
+fn check_alternatives(
+    alloc: Global,
+    home: &Home,
+    alternatives: &[Alternative],
+    loops: bool,
+    state: &mut State,
+    kept: &mut Option<Fault>,
+) -> Result<Option<Items<CAlt>>, NoMemory>
+    ensures next { OnOk result (state.new ≡ (in_turn (map (spec.offering_in home.now loops) alternatives.now) state.old).next) }
+    ensures made { IfOk result (λ s. s ≡ (in_turn (map (spec.offering_in home.now loops) alternatives.now) state.old).made) }
+    ensures noted { OnOk result (kept.new ≡ first_of kept.old (in_turn (map (spec.offering_in home.now loops) alternatives.now) state.old).faults) }
+{
+    let mut all = nothing(alloc)?;
+    for alternative in alternatives {
+        let made = check_alternative(alloc, home, alternative, loops, state, kept)?;
+        all = joined(alloc, all, made)?;
+    }
+    Ok(all)
+}
+
+#[cycle(statement)]
+fn check_alternative(
+    alloc: Global,
+    home: &Home,
+    alternative: &Alternative,
+    loops: bool,
+    state: &mut State,
+    kept: &mut Option<Fault>,
+) -> Result<Option<Items<CAlt>>, NoMemory>
+    ensures next { OnOk result (state.new ≡ (spec.offering home.now alternative.now loops state.old).next) }
+    ensures made { IfOk result (λ s. s ≡ (spec.offering home.now alternative.now loops state.old).made) }
+    ensures noted { OnOk result (kept.new ≡ first_of kept.old (spec.offering home.now alternative.now loops state.old).faults) }
+{
+    match alternative {
+        Alternative::Guarded {
+            guard,
+            communication,
+            block,
+        } => {
+            let steps = block.as_slice();
+            check_guarded(alloc, home, guard, communication, steps, loops, state, kept)
+        }
+        Alternative::Unwind {
+            walk,
+            alternatives,
+            ..
+        } => check_unwound(
+            alloc,
+            home,
+            walk,
+            alternatives.as_slice(),
+            loops,
+            state,
+            kept,
+        ),
+    }
+}
+
+#[cycle(statement)]
+fn check_guarded(
+    alloc: Global,
+    home: &Home,
+    guard: &Option<Expr>,
+    offer: &Communication,
+    steps: &[Step],
+    loops: bool,
+    state: &mut State,
+    kept: &mut Option<Fault>,
+) -> Result<Option<Items<CAlt>>, NoMemory>
+    ensures next { OnOk result (state.new ≡ (block (map (spec.stepping_in home.now loops) steps.now) state.old).next) }
+    ensures made { IfOk result (λ s. s ≡ guarded (guard_in home.now state.old.names guard.now).made (communication_in home.now state.old.names offer.now).made (block (map (spec.stepping_in home.now loops) steps.now) state.old).made) }
+    ensures noted { OnOk result (kept.new ≡ first_of (first_of (first_of kept.old (guard_in home.now state.old.names guard.now).faults) (communication_in home.now state.old.names offer.now).faults) (block (map (spec.stepping_in home.now loops) steps.now) state.old).faults) }
+{
+    let guard = guard_in(alloc, home, &state.names, guard, kept)?;
+    let offer = communication_in(alloc, home, &state.names, offer, kept)?;
+    let inner = check_block(alloc, home, steps, loops, state, kept)?;
+    guarded(alloc, guard, offer, inner)
+}
+
+#[cycle(statement)]
+fn check_unwound(
+    alloc: Global,
+    home: &Home,
+    walk: &Walk,
+    alternatives: &[Alternative],
+    loops: bool,
+    state: &mut State,
+    kept: &mut Option<Fault>,
+) -> Result<Option<Items<CAlt>>, NoMemory>
+    ensures next { OnOk result (state.new ≡ cut (length state.old.names) (in_turn (map (spec.offering_in home.now loops) alternatives.now) (walk_in home.now binder.Unwind walk.now state.old).next).next) }
+    ensures made { IfOk result (λ s. s ≡ offered (walk_in home.now binder.Unwind walk.now state.old).made (in_turn (map (spec.offering_in home.now loops) alternatives.now) (walk_in home.now binder.Unwind walk.now state.old).next).made) }
+    ensures noted { OnOk result (kept.new ≡ first_of (first_of kept.old (walk_in home.now binder.Unwind walk.now state.old).faults) (in_turn (map (spec.offering_in home.now loops) alternatives.now) (walk_in home.now binder.Unwind walk.now state.old).next).faults) }
+{
+    let count = state.names.count();
+    let opened = open_walk(alloc, home, Binder::Unwind, walk, state, kept)?;
+    let inner = check_alternatives(alloc, home, alternatives, loops, state, kept)?;
+    state.names.cut(count);
+    offered(alloc, opened, inner)
+}
