@@ -47,4 +47,4 @@ module _ (m : Evaluates) (a b : CExpr) (view : View) where
     second_ends false true so d = on_false ∙ ap (λ o. on_truth o (gives v) (m b) now) so
     second_ends false false so d = absurd (d refl)
 
-pub ruleset truths = (second_first, second_stops, second_truth, second_there, second_ends)
+pub ruleset truths = (second_first, second_stops, second_truth, second_is, second_there, second_ends)
