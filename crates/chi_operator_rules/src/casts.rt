@@ -7,9 +7,10 @@ ghost use Rattle.chi_types.specs.declared.ty.Ty.{out-Ty};
 ghost use Rattle.chi_typing.specs.Faults.{first_of, are_none};
 ghost use Rattle.chi_expr_rules.specs.Casts as spec;
 
+use crate::refused::{refused, unless};
 use chi_base::NoMemory;
 use chi_core::OpName;
-use chi_expr_rules::{list_of_one, note_running, note_running_if, on_one, settle, wanting};
+use chi_expr_rules::{list_of_one, note_running, note_running_if, on_it, settle, wanting};
 use chi_token::Place;
 use chi_tree::CastWord;
 use chi_types::{Ty, is_plain};
@@ -20,8 +21,8 @@ fn to_int(alloc: Global, m: Made) -> Result<Option<Made>, NoMemory>
     ensures { IfOk result (λ n. n ≡ spec.to_int (out-Ty m.ty) m) }
 {
     match &m.ty {
-        Ty::Int | Ty::Text => Ok(Some(on_one(alloc, OpName::ToInt, m.core, Ty::Int)?)),
-        _ => Ok(None),
+        Ty::Int | Ty::Text => on_it(alloc, OpName::ToInt, m, Ty::Int),
+        _ => Ok(refused(m)),
     }
 }
 
@@ -29,10 +30,8 @@ fn to_real(alloc: Global, m: Made) -> Result<Option<Made>, NoMemory>
     ensures { IfOk result (λ n. n ≡ spec.to_real (out-Ty m.ty) m) }
 {
     match &m.ty {
-        Ty::Int | Ty::Real | Ty::Text | Ty::Timer => {
-            Ok(Some(on_one(alloc, OpName::ToReal, m.core, Ty::Real)?))
-        }
-        _ => Ok(None),
+        Ty::Int | Ty::Real | Ty::Text | Ty::Timer => on_it(alloc, OpName::ToReal, m, Ty::Real),
+        _ => Ok(refused(m)),
     }
 }
 
@@ -40,18 +39,19 @@ fn to_bool(alloc: Global, m: Made) -> Result<Option<Made>, NoMemory>
     ensures { IfOk result (λ n. n ≡ spec.to_bool (out-Ty m.ty) m) }
 {
     match &m.ty {
-        Ty::Bool | Ty::Text => Ok(Some(on_one(alloc, OpName::ToBool, m.core, Ty::Bool)?)),
-        _ => Ok(None),
+        Ty::Bool | Ty::Text => on_it(alloc, OpName::ToBool, m, Ty::Bool),
+        _ => Ok(refused(m)),
     }
 }
 
 fn to_text(alloc: Global, m: Made) -> Result<Option<Made>, NoMemory>
     ensures { IfOk result (λ n. n ≡ spec.to_text m) }
 {
-    if !is_plain(&m.ty) {
-        return Ok(None);
+    if is_plain(&m.ty) {
+        on_it(alloc, OpName::ToText, m, Ty::Text)
+    } else {
+        Ok(refused(m))
     }
-    Ok(Some(on_one(alloc, OpName::ToText, m.core, Ty::Text)?))
 }
 
 fn to_timer(alloc: Global, m: Made) -> Result<Option<Made>, NoMemory>
@@ -140,5 +140,5 @@ pub fn cast_of(
 {
     let barred = note_timer(site, word, place, &m, kept);
     let made = cast_made(alloc, word, place, m, kept)?;
-    Ok(if barred { None } else { made })
+    Ok(unless(barred, made))
 }

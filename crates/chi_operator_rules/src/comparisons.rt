@@ -1,34 +1,52 @@
 //! The signs between two sums, by the types of their operands.
 
-ghost use Rattle.std.specs.Prelude.{◌≡◌, IfOk};
+ghost use Rattle.std.specs.Prelude.{◌≡◌, option_map, IfOk};
 ghost use Rattle.std.specs.Option.{option_copied, option_and_then};
 ghost use Rattle.chi_types.specs.declared.ty.Ty.{out-Ty};
 ghost use Rattle.chi_types.specs.Joined.{joined};
 ghost use Rattle.chi_expr_rules.specs.Comparisons as spec;
 
+use crate::refused::both_refused;
 use chi_base::NoMemory;
 use chi_core::OpName;
-use chi_expr_rules::{compared, converted, on_two};
+use chi_expr_rules::{compared, converted, core_of, on_two};
 use chi_tree::RelationSign;
 use chi_types::{Ty, fits, is_plain, joined, same};
 use chi_typing::Made;
 use std::alloc::Global;
 
+fn if_plain(ty: Ty) -> Option<Ty>
+    ensures { result ≡ spec.if_plain ty }
+{
+    if is_plain(&ty) {
+        Some(ty)
+    } else {
+        drop(ty);
+        None
+    }
+}
+
 /// The type that both have in common, where it is plain.
 fn equal_type(alloc: Global, a: &Ty, b: &Ty) -> Result<Option<Ty>, NoMemory>
     ensures { IfOk result (λ t. t ≡ option_and_then spec.if_plain (joined a.now b.now)) }
 {
-    let Some(ty) = joined(alloc, a, b)? else {
-        return Ok(None);
-    };
-    Ok(if is_plain(&ty) { Some(ty) } else { None })
+    match joined(alloc, a, b)? {
+        Some(ty) => Ok(if_plain(ty)),
+        None => Ok(None),
+    }
 }
 
 fn equality(alloc: Global, name: OpName, a: Made, b: Made) -> Result<Option<Made>, NoMemory>
     ensures { IfOk result (λ m. m ≡ spec.equality name a b) }
 {
-    let common = equal_type(alloc, &a.ty, &b.ty)?;
-    compared(alloc, name, common, a, b)
+    match equal_type(alloc, &a.ty, &b.ty) {
+        Ok(common) => compared(alloc, name, common, a, b),
+        Err(refusal) => {
+            drop(a);
+            drop(b);
+            Err(refusal)
+        }
+    }
 }
 
 fn has_order(ty: &Ty) -> bool
@@ -40,21 +58,38 @@ fn has_order(ty: &Ty) -> bool
     }
 }
 
+fn if_ordered(ty: Ty) -> Option<Ty>
+    ensures { result ≡ spec.if_ordered ty }
+{
+    if has_order(&ty) {
+        Some(ty)
+    } else {
+        drop(ty);
+        None
+    }
+}
+
 /// The type that both have in common, where it has an order.
 fn ordered_type(alloc: Global, a: &Ty, b: &Ty) -> Result<Option<Ty>, NoMemory>
     ensures { IfOk result (λ t. t ≡ option_and_then spec.if_ordered (joined a.now b.now)) }
 {
-    let Some(ty) = joined(alloc, a, b)? else {
-        return Ok(None);
-    };
-    Ok(if has_order(&ty) { Some(ty) } else { None })
+    match joined(alloc, a, b)? {
+        Some(ty) => Ok(if_ordered(ty)),
+        None => Ok(None),
+    }
 }
 
 fn ordering(alloc: Global, name: OpName, a: Made, b: Made) -> Result<Option<Made>, NoMemory>
     ensures { IfOk result (λ m. m ≡ spec.ordering name a b) }
 {
-    let common = ordered_type(alloc, &a.ty, &b.ty)?;
-    compared(alloc, name, common, a, b)
+    match ordered_type(alloc, &a.ty, &b.ty) {
+        Ok(common) => compared(alloc, name, common, a, b),
+        Err(refusal) => {
+            drop(a);
+            drop(b);
+            Err(refusal)
+        }
+    }
 }
 
 /// The type of what may be in a container of this type.
@@ -85,17 +120,35 @@ fn member(alloc: Global, given: &Ty, container: &Ty) -> Result<Option<Ty>, NoMem
 fn member_of(alloc: Global, a: Made, b: Made, ty: &Ty) -> Result<Made, NoMemory>
     ensures { IfOk result (λ m. m ≡ spec.member_of a b ty.now) }
 {
-    let element = converted(alloc, a, ty)?;
-    on_two(alloc, OpName::In, element, b.core, Ty::Bool)
+    match converted(alloc, a, ty) {
+        Ok(element) => on_two(alloc, OpName::In, element, core_of(b), Ty::Bool),
+        Err(refusal) => {
+            drop(b);
+            Err(refusal)
+        }
+    }
+}
+
+fn member_by(alloc: Global, common: Option<Ty>, a: Made, b: Made) -> Result<Option<Made>, NoMemory>
+    ensures { IfOk result (λ m. m ≡ option_map (spec.member_of a b) common) }
+{
+    match common {
+        Some(ty) => Ok(Some(member_of(alloc, a, b, &ty)?)),
+        None => Ok(both_refused(a, b)),
+    }
 }
 
 fn membership(alloc: Global, a: Made, b: Made) -> Result<Option<Made>, NoMemory>
     ensures { IfOk result (λ m. m ≡ spec.membership a b) }
 {
-    let Some(ty) = member(alloc, &a.ty, &b.ty)? else {
-        return Ok(None);
-    };
-    Ok(Some(member_of(alloc, a, b, &ty)?))
+    match member(alloc, &a.ty, &b.ty) {
+        Ok(common) => member_by(alloc, common, a, b),
+        Err(refusal) => {
+            drop(a);
+            drop(b);
+            Err(refusal)
+        }
+    }
 }
 
 fn is_set(ty: &Ty) -> bool
@@ -111,9 +164,9 @@ fn subset(alloc: Global, a: Made, b: Made) -> Result<Option<Made>, NoMemory>
     ensures { IfOk result (λ m. m ≡ spec.subset a b) }
 {
     if !is_set(&a.ty) || !same(&a.ty, &b.ty) {
-        return Ok(None);
+        return Ok(both_refused(a, b));
     }
-    Ok(Some(on_two(alloc, OpName::Subset, a.core, b.core, Ty::Bool)?))
+    Ok(Some(on_two(alloc, OpName::Subset, core_of(a), core_of(b), Ty::Bool)?))
 }
 
 /// What a sign between two sums makes of them.

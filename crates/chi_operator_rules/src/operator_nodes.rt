@@ -9,6 +9,7 @@ ghost use Rattle.chi_expr_rules.specs.Operators as spec;
 
 use crate::comparisons::related;
 use crate::operators::{binary, power, prefixed};
+use crate::refused::unless;
 use chi_base::NoMemory;
 use chi_expr_rules::{note_running, settle};
 use chi_token::Place;
@@ -29,9 +30,11 @@ pub fn chain_of(
     ensures noted { OnOk result (kept.new ≡ first_of kept.old (spec.chain_of sign place a b).faults) }
 {
     let Some(a) = a else {
+        drop(b);
         return Ok(None);
     };
     let Some(b) = b else {
+        drop(a);
         return Ok(None);
     };
     Ok(settle(binary(alloc, sign, a, b)?, rules::OPERATOR, place, kept))
@@ -49,9 +52,11 @@ pub fn power_of(
     ensures noted { OnOk result (kept.new ≡ first_of kept.old (spec.power_of place a b).faults) }
 {
     let Some(a) = a else {
+        drop(b);
         return Ok(None);
     };
     let Some(b) = b else {
+        drop(a);
         return Ok(None);
     };
     Ok(settle(power(alloc, a, b)?, rules::OPERATOR, place, kept))
@@ -70,9 +75,11 @@ pub fn relation_of(
     ensures noted { OnOk result (kept.new ≡ first_of kept.old (relation.relation_of sign place a b).faults) }
 {
     let Some(a) = a else {
+        drop(b);
         return Ok(None);
     };
     let Some(b) = b else {
+        drop(a);
         return Ok(None);
     };
     Ok(settle(related(alloc, sign, a, b)?, rules::OPERATOR, place, kept))
@@ -118,5 +125,5 @@ pub fn prefix_of(
 {
     let barred = note_prefix(site, sign, place, kept);
     let made = prefix_made(alloc, sign, place, m, kept)?;
-    Ok(if barred { None } else { made })
+    Ok(unless(barred, made))
 }

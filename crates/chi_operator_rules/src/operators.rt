@@ -1,17 +1,37 @@
 //! The operators of chains, `^` and the prefixes, by the types of their operands.
 
-ghost use Rattle.std.specs.Prelude.{◌≡◌, [], ◌∷◌, IfOk};
+ghost use Rattle.std.specs.Prelude.{◌≡◌, [], ◌∷◌, Some, IfOk};
 ghost use Rattle.chi_types.specs.declared.ty.Ty.{out-Ty};
-ghost use Rattle.chi_core.specs.declared.expression.CExpr.TheVariants as expression;
+ghost use Rattle.chi_expr_rules.specs.Conversions as conversion;
 ghost use Rattle.chi_expr_rules.specs.Operators as spec;
 
-use chi_base::{Boxed, NoMemory};
+use crate::refused::{both_refused, refused};
+use chi_base::{Boxed, Items, NoMemory};
 use chi_core::{CExpr, OpName};
-use chi_expr_rules::{converted, list_of_one, list_of_two, number_of, on_one, on_two, wanting};
+use chi_expr_rules::{
+    all_converted, core_and_type, core_of, list_of_one, list_of_two, number_of, on_it, on_one,
+    on_two, wanting,
+};
 use chi_tree::{Operator, PrefixSign};
 use chi_types::{Ty, same};
 use chi_typing::Made;
 use std::alloc::Global;
+
+fn both_converted(alloc: Global, a: Made, b: Made, ty: &Ty) -> Result<Items<CExpr>, NoMemory>
+    ensures { IfOk result (λ es. es ≡ conversion.converted a ty.now ∷ conversion.converted b ty.now ∷ []) }
+{
+    let operands = list_of_two(alloc, a, b)?;
+    all_converted(alloc, operands, ty)
+}
+
+/// An operation on two numbers, which are converted to the type that it comes to.
+fn to_type(alloc: Global, name: OpName, ty: Ty, a: Made, b: Made) -> Result<Option<Made>, NoMemory>
+    ensures { IfOk result (λ m. m ≡ Some (conversion.both_as name ty a b ty)) }
+{
+    let operands = both_converted(alloc, a, b, &ty)?;
+    let core = CExpr::Op(name, operands);
+    Ok(Some(Made { core, ty }))
+}
 
 /// An operation on two numbers, which are converted to the type of their number.
 fn calculated(
@@ -23,12 +43,10 @@ fn calculated(
 ) -> Result<Option<Made>, NoMemory>
     ensures { IfOk result (λ m. m ≡ spec.calculated name number a b) }
 {
-    let Some(ty) = number else {
-        return Ok(None);
-    };
-    let left = converted(alloc, a, &ty)?;
-    let right = converted(alloc, b, &ty)?;
-    Ok(Some(on_two(alloc, name, left, right, ty)?))
+    match number {
+        Some(ty) => to_type(alloc, name, ty, a, b),
+        None => Ok(both_refused(a, b)),
+    }
 }
 
 fn arithmetic(alloc: Global, name: OpName, a: Made, b: Made) -> Result<Option<Made>, NoMemory>
@@ -38,13 +56,22 @@ fn arithmetic(alloc: Global, name: OpName, a: Made, b: Made) -> Result<Option<Ma
     calculated(alloc, name, number, a, b)
 }
 
+/// An operation that comes to the type of its first operand.
+fn of_first(alloc: Global, name: OpName, a: Made, b: Made) -> Result<Option<Made>, NoMemory>
+    ensures { IfOk result (λ m. m ≡ Some (conversion.as_they_are name (a ∷ b ∷ []) a.ty)) }
+{
+    let (left, ty) = core_and_type(a);
+    Ok(Some(on_two(alloc, name, left, core_of(b), ty)?))
+}
+
 fn of_same(alloc: Global, name: OpName, a: Made, b: Made) -> Result<Option<Made>, NoMemory>
     ensures { IfOk result (λ m. m ≡ spec.of_same name a b) }
 {
-    if !same(&a.ty, &b.ty) {
-        return Ok(None);
+    if same(&a.ty, &b.ty) {
+        of_first(alloc, name, a, b)
+    } else {
+        Ok(both_refused(a, b))
     }
-    Ok(Some(on_two(alloc, name, a.core, b.core, a.ty)?))
 }
 
 fn add(alloc: Global, a: Made, b: Made) -> Result<Option<Made>, NoMemory>
@@ -74,10 +101,11 @@ fn subtract(alloc: Global, a: Made, b: Made) -> Result<Option<Made>, NoMemory>
     match &a.ty {
         Ty::SetOf(_) => of_same(alloc, OpName::Sub, a, b),
         Ty::DictOf(key, _) => {
-            if !is_set_of(key.get(), &b.ty) {
-                return Ok(None);
+            if is_set_of(key.get(), &b.ty) {
+                of_first(alloc, OpName::Sub, a, b)
+            } else {
+                Ok(both_refused(a, b))
             }
-            Ok(Some(on_two(alloc, OpName::Sub, a.core, b.core, a.ty)?))
         }
         _ => arithmetic(alloc, OpName::Sub, a, b),
     }
@@ -107,27 +135,26 @@ fn are_bools(a: &Made, b: &Made) -> bool
     is_bool(&a.ty) && is_bool(&b.ty)
 }
 
-fn and_of(alloc: Global, left: CExpr, right: CExpr) -> Result<CExpr, NoMemory>
-    ensures { IfOk result (λ e. e ≡ expression.And left right) }
+fn boxed_two(
+    alloc: Global,
+    left: CExpr,
+    right: CExpr,
+) -> Result<(Boxed<CExpr>, Boxed<CExpr>), NoMemory>
+    ensures { IfOk result (λ both. both ≡ (left, right)) }
 {
     let left = Boxed::new(alloc, left)?;
-    Ok(CExpr::And(left, Boxed::new(alloc, right)?))
-}
-
-fn or_of(alloc: Global, left: CExpr, right: CExpr) -> Result<CExpr, NoMemory>
-    ensures { IfOk result (λ e. e ≡ expression.Or left right) }
-{
-    let left = Boxed::new(alloc, left)?;
-    Ok(CExpr::Or(left, Boxed::new(alloc, right)?))
+    let right = Boxed::new(alloc, right)?;
+    Ok((left, right))
 }
 
 fn conjunction(alloc: Global, a: Made, b: Made) -> Result<Option<Made>, NoMemory>
     ensures { IfOk result (λ m. m ≡ spec.conjunction a b) }
 {
     if !are_bools(&a, &b) {
-        return Ok(None);
+        return Ok(both_refused(a, b));
     }
-    let core = and_of(alloc, a.core, b.core)?;
+    let (left, right) = boxed_two(alloc, core_of(a), core_of(b))?;
+    let core = CExpr::And(left, right);
     Ok(Some(Made { core, ty: Ty::Bool }))
 }
 
@@ -135,9 +162,10 @@ fn disjunction(alloc: Global, a: Made, b: Made) -> Result<Option<Made>, NoMemory
     ensures { IfOk result (λ m. m ≡ spec.disjunction a b) }
 {
     if !are_bools(&a, &b) {
-        return Ok(None);
+        return Ok(both_refused(a, b));
     }
-    let core = or_of(alloc, a.core, b.core)?;
+    let (left, right) = boxed_two(alloc, core_of(a), core_of(b))?;
+    let core = CExpr::Or(left, right);
     Ok(Some(Made { core, ty: Ty::Bool }))
 }
 
@@ -193,9 +221,9 @@ fn negated(alloc: Global, m: Made) -> Result<Option<Made>, NoMemory>
     ensures { IfOk result (λ n. n ≡ spec.negated (out-Ty m.ty) m) }
 {
     match &m.ty {
-        Ty::Int => Ok(Some(on_one(alloc, OpName::Neg, m.core, Ty::Int)?)),
-        Ty::Real => Ok(Some(on_one(alloc, OpName::Neg, m.core, Ty::Real)?)),
-        _ => Ok(None),
+        Ty::Int => on_it(alloc, OpName::Neg, m, Ty::Int),
+        Ty::Real => on_it(alloc, OpName::Neg, m, Ty::Real),
+        _ => Ok(refused(m)),
     }
 }
 
@@ -205,19 +233,20 @@ fn unchanged(m: Made) -> Option<Made>
     match &m.ty {
         Ty::Int => Some(m),
         Ty::Real => Some(m),
-        _ => None,
+        _ => refused(m),
     }
 }
 
 fn sampled(alloc: Global, m: Made) -> Result<Option<Made>, NoMemory>
     ensures { IfOk result (λ n. n ≡ spec.sampled (out-Ty m.ty) m) }
 {
-    match &m.ty {
+    let (core, ty) = core_and_type(m);
+    match ty {
         Ty::Dist(drawn) => {
-            let outcome = drawn.get().copy(alloc)?;
-            Ok(Some(on_one(alloc, OpName::Sample, m.core, outcome)?))
+            let outcome = drawn.into_inner();
+            Ok(Some(on_one(alloc, OpName::Sample, core, outcome)?))
         }
-        _ => Ok(None),
+        ty => Ok(refused(Made { core, ty })),
     }
 }
 
