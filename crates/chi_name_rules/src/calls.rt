@@ -2,11 +2,14 @@
 
 #![tactic(auto, using(chi_typing::proofs::Firsts::first_of_none, chi_typing::proofs::Firsts::first_of_append, chi_expr_rules::proofs::Barred::made_barred, chi_expr_rules::proofs::Barred::faults_barred))]
 
-ghost use Rattle.std.specs.Prelude.{◌≡◌, IfOk, OnOk};
+ghost use Rattle.std.specs.Prelude.{◌≡◌, Some, IfOk, OnOk};
 ghost use Rattle.std.specs.Option.{option_copied};
+ghost use Rattle.chi_core.specs.declared.expression.CExpr.TheVariants as expression;
 ghost use Rattle.chi_typing.specs.Faults.{first_of};
 ghost use Rattle.chi_expr_rules.specs.Calls as spec;
+ghost use Rattle.chi_expr_rules.specs.Conversions as conversion;
 
+use crate::refused::unless;
 use chi_base::{Items, NoMemory};
 use chi_core::CExpr;
 use chi_expr_rules::{all_made, note_calling, passed, settle};
@@ -14,6 +17,19 @@ use chi_token::Place;
 use chi_types::Ty;
 use chi_typing::{Fault, Known, Made, NameKind, Site, note, rules};
 use std::alloc::Global;
+
+fn calling(
+    alloc: Global,
+    number: u32,
+    cores: Items<CExpr>,
+    outcome: &Ty,
+) -> Result<Option<Made>, NoMemory>
+    ensures { IfOk result (λ m. m ≡ Some (conversion.made (expression.Call number cores) outcome.now)) }
+{
+    let ty = outcome.copy(alloc)?;
+    let core = CExpr::Call(number, cores);
+    Ok(Some(Made { core, ty }))
+}
 
 fn called(
     alloc: Global,
@@ -24,12 +40,10 @@ fn called(
 ) -> Result<Option<Made>, NoMemory>
     ensures { IfOk result (λ m. m ≡ spec.called number params.now outcome.now arguments) }
 {
-    let Some(cores) = passed(alloc, arguments, params)? else {
-        return Ok(None);
-    };
-    let core = CExpr::Call(number, cores);
-    let ty = outcome.copy(alloc)?;
-    Ok(Some(Made { core, ty }))
+    match passed(alloc, arguments, params)? {
+        Some(cores) => calling(alloc, number, cores, outcome),
+        None => Ok(None),
+    }
 }
 
 /// A call of a function of these types.
@@ -86,16 +100,18 @@ pub fn call_of(
     match known {
         None => {
             note(kept, rules::VISIBLE_NAME, place);
+            drop(arguments);
             Ok(None)
         }
         Some(Known::Func(number, params, outcome)) => {
             let barred = note_calling(site, place, kept);
             let params = params.as_slice();
             let made = function_call(alloc, place, *number, params, outcome, arguments, kept)?;
-            Ok(if barred { None } else { made })
+            Ok(unless(barred, made))
         }
         Some(Known::Untyped(kind)) => {
             untyped_call(site, place, *kind, kept);
+            drop(arguments);
             Ok(None)
         }
         Some(Known::Var(_, _))
@@ -107,6 +123,7 @@ pub fn call_of(
         | Some(Known::Model(_))
         | Some(Known::Xper(_)) => {
             note(kept, rules::NAME_KIND, place);
+            drop(arguments);
             Ok(None)
         }
     }

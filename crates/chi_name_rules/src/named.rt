@@ -7,6 +7,7 @@ ghost use Rattle.std.specs.Option.{option_copied};
 ghost use Rattle.chi_typing.specs.Faults.{first_of};
 ghost use Rattle.chi_expr_rules.specs.Named as spec;
 
+use crate::refused::unless;
 use chi_base::{Items, NoMemory};
 use chi_core::{CExpr, OpName};
 use chi_expr_rules::note_running;
@@ -107,5 +108,5 @@ pub fn time_of(
     let operands = Items::of(alloc, Vec::new(alloc))?;
     let core = CExpr::Op(OpName::Time, operands);
     let made = Made { core, ty: Ty::Real };
-    Ok(if barred { None } else { Some(made) })
+    Ok(unless(barred, Some(made)))
 }

@@ -27,9 +27,11 @@ pub fn index_of(
     ensures noted { OnOk result (kept.new ≡ first_of kept.old (spec.index_of place whole index).faults) }
 {
     let Some(whole) = whole else {
+        drop(index);
         return Ok(None);
     };
     let Some(index) = index else {
+        drop(whole);
         return Ok(None);
     };
     Ok(settle(indexed(alloc, whole, index)?, rules::INDEX, place, kept))
@@ -48,6 +50,34 @@ fn with_given(
     Ok(parts)
 }
 
+fn given_last(
+    alloc: Global,
+    parts: Vec<Option<Made>>,
+    by: Option<Option<Made>>,
+) -> Result<Items<Option<Made>>, NoMemory>
+    ensures { IfOk result (λ all. all ≡ parts.items ++ spec.if_given by []) }
+{
+    let parts = with_given(parts, by)?;
+    Ok(Items::of(alloc, parts)?)
+}
+
+fn given_after(
+    alloc: Global,
+    parts: Vec<Option<Made>>,
+    upto: Option<Option<Made>>,
+    by: Option<Option<Made>>,
+) -> Result<Items<Option<Made>>, NoMemory>
+    ensures { IfOk result (λ all. all ≡ (parts.items ++ spec.if_given upto []) ++ spec.if_given by []) }
+{
+    match with_given(parts, upto) {
+        Ok(parts) => given_last(alloc, parts, by),
+        Err(refusal) => {
+            drop(by);
+            Err(refusal)
+        }
+    }
+}
+
 /// Those bounds that are given, in order.
 #[tactic(auto, using(crate::proofs::Given::one_by_one))]
 fn given(
@@ -58,10 +88,14 @@ fn given(
 ) -> Result<Items<Option<Made>>, NoMemory>
     ensures { IfOk result (λ parts. parts ≡ spec.given (record { from = from; upto = upto; by = by })) }
 {
-    let parts = with_given(Vec::new(alloc), from)?;
-    let parts = with_given(parts, upto)?;
-    let parts = with_given(parts, by)?;
-    Ok(Items::of(alloc, parts)?)
+    match with_given(Vec::new(alloc), from) {
+        Ok(parts) => given_after(alloc, parts, upto, by),
+        Err(refusal) => {
+            drop(upto);
+            drop(by);
+            Err(refusal)
+        }
+    }
 }
 
 fn bounds_made(
@@ -89,11 +123,19 @@ pub fn slice_of(
     ensures noted { OnOk result (kept.new ≡ first_of kept.old (spec.slice_of place whole (record { from = from; upto = upto; by = by })).faults) }
 {
     let (has_from, has_upto, has_by) = (from.is_some(), upto.is_some(), by.is_some());
-    let bounds = bounds_made(alloc, from, upto, by)?;
+    let bounds = match bounds_made(alloc, from, upto, by) {
+        Ok(bounds) => bounds,
+        Err(refusal) => {
+            drop(whole);
+            return Err(refusal);
+        }
+    };
     let Some(whole) = whole else {
+        drop(bounds);
         return Ok(None);
     };
     let Some(bounds) = bounds else {
+        drop(whole);
         return Ok(None);
     };
     let made = sliced(alloc, has_from, has_upto, has_by, whole, bounds)?;
