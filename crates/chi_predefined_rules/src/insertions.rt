@@ -2,16 +2,18 @@
 
 #![tactic(auto, using(chi_typing::proofs::Firsts::first_of_none))]
 
-ghost use Rattle.std.specs.Prelude.{◌≡◌, ◌&&◌, IfOk, OnOk};
+ghost use Rattle.std.specs.Prelude.{◌≡◌, ◌&&◌, Some, IfOk, OnOk};
 ghost use Rattle.std.specs.Option.{option_copied};
 ghost use Rattle.chi_types.specs.Same.{same};
 ghost use Rattle.chi_types.specs.declared.ty.Ty.{out-Ty};
 ghost use Rattle.chi_types.specs.declared.ty.Ty.TheVariants as ty;
 ghost use Rattle.chi_core.specs.declared.expression.CExpr.TheVariants as expression;
 ghost use Rattle.chi_typing.specs.Faults.{first_of};
+ghost use Rattle.chi_expr_rules.specs.Conversions as conversion;
 ghost use Rattle.chi_expr_rules.specs.PredefinedCalls as spec;
 
 use crate::arguments::before_third;
+use crate::refused::both_refused;
 use chi_base::{Boxed, Items, NoMemory};
 use chi_core::CExpr;
 use chi_expr_rules::{converted, core_and_type, settle};
@@ -45,38 +47,56 @@ fn insert_core(alloc: Global, list: CExpr, x: CExpr, number: u32) -> Result<CExp
     Ok(CExpr::InsertBy(list, Boxed::new(alloc, x)?, number))
 }
 
+/// With an element that is converted already.
+fn inserting_core(
+    alloc: Global,
+    list: Made,
+    x: CExpr,
+    number: u32,
+) -> Result<Option<Made>, NoMemory>
+    ensures { IfOk result (λ n. n ≡ Some (conversion.made (expression.InsertBy list.core x number) list.ty)) }
+{
+    let (list, ty) = core_and_type(list);
+    let core = insert_core(alloc, list, x, number)?;
+    Ok(Some(Made { core, ty }))
+}
+
 fn inserting(
     alloc: Global,
     element: &Ty,
     list: Made,
     x: Made,
     number: u32,
-) -> Result<Made, NoMemory>
-    ensures { IfOk result (λ n. n ≡ spec.inserting element.now list x number) }
+) -> Result<Option<Made>, NoMemory>
+    ensures { IfOk result (λ n. n ≡ Some (spec.inserting element.now list x number)) }
 {
-    let x = converted(alloc, x, element)?;
-    let (list, ty) = core_and_type(list);
-    let core = insert_core(alloc, list, x, number)?;
-    Ok(Made { core, ty })
+    match converted(alloc, x, element) {
+        Ok(x) => inserting_core(alloc, list, x, number),
+        Err(refusal) => {
+            drop(list);
+            Err(refusal)
+        }
+    }
 }
 
 fn inserted_by(
     alloc: Global,
-    element: Ty,
+    element: &Ty,
     list: Made,
     x: Made,
     known: &Known,
 ) -> Result<Option<Made>, NoMemory>
-    ensures { IfOk result (λ n. n ≡ spec.inserted_by element list x known.now) }
+    ensures { IfOk result (λ n. n ≡ spec.inserted_by element.now list x known.now) }
 {
     match known {
         Known::Func(number, params, outcome) => {
-            if !fits(&x.ty, &element) || !tells_order(&element, params.as_slice(), outcome) {
-                return Ok(None);
+            if fits(&x.ty, element) && tells_order(element, params.as_slice(), outcome) {
+                inserting(alloc, element, list, x, *number)
+            } else {
+                Ok(both_refused(list, x))
             }
-            Ok(Some(inserting(alloc, &element, list, x, *number)?))
         }
-        _ => Ok(None),
+        _ => Ok(both_refused(list, x)),
     }
 }
 
@@ -84,11 +104,15 @@ fn inserted(alloc: Global, list: Made, x: Made, known: &Known) -> Result<Option<
     ensures { IfOk result (λ n. n ≡ spec.inserted_in (out-Ty list.ty) list x known.now) }
 {
     match &list.ty {
-        Ty::ListOf(element) => {
-            let element = element.get().copy(alloc)?;
-            inserted_by(alloc, element, list, x, known)
-        }
-        _ => Ok(None),
+        Ty::ListOf(element) => match element.get().copy(alloc) {
+            Ok(element) => inserted_by(alloc, &element, list, x, known),
+            Err(refusal) => {
+                drop(list);
+                drop(x);
+                Err(refusal)
+            }
+        },
+        _ => Ok(both_refused(list, x)),
     }
 }
 
@@ -123,10 +147,10 @@ fn insertion(
 {
     let Some(known) = known else {
         note(kept, rules::PREDEFINED, place);
-        return Ok(None);
+        return Ok(both_refused(list, x));
     };
     if is_untyped_function(known) {
-        return Ok(None);
+        return Ok(both_refused(list, x));
     }
     let made = inserted(alloc, list, x, known)?;
     Ok(settle(made, rules::PREDEFINED, place, kept))
@@ -144,9 +168,11 @@ fn insertion_of(
     ensures noted { OnOk result (kept.new ≡ first_of kept.old (spec.insertion_of place list x (option_copied known.entry)).faults) }
 {
     let Some(list) = list else {
+        drop(x);
         return Ok(None);
     };
     let Some(x) = x else {
+        drop(list);
         return Ok(None);
     };
     insertion(alloc, place, list, x, known, kept)

@@ -1,13 +1,17 @@
 //! What predefined names make of their arguments, by the types of these. Distributions that draw
 //! get their streams later, when all of a program is known.
 
-ghost use Rattle.std.specs.Prelude.{◌≡◌, ◌++◌, [], ◌∷◌, IfOk};
+ghost use Rattle.std.specs.Prelude.{◌≡◌, ◌++◌, [], ◌∷◌, Some, IfOk};
 ghost use Rattle.chi_types.specs.declared.ty.Ty.{out-Ty};
 ghost use Rattle.chi_types.specs.declared.ty.Ty.TheVariants as ty;
+ghost use Rattle.chi_core.specs.declared.expression.CExpr.TheVariants as expression;
+ghost use Rattle.chi_core.specs.declared.op_name.OpName.TheVariants as op;
 ghost use Rattle.chi_typing.specs.TypeRules.{is_drawn};
+ghost use Rattle.chi_expr_rules.specs.Conversions as conversion;
 ghost use Rattle.chi_expr_rules.specs.PredefinedCalls as spec;
 
 use crate::arguments::{only, pair};
+use crate::refused::{both_refused, refused};
 use chi_base::{Boxed, Items, NoMemory};
 use chi_core::{CExpr, OpName};
 use chi_expr_rules::{
@@ -19,26 +23,33 @@ use chi_types::Ty;
 use chi_typing::{Made, Predefined};
 use std::alloc::Global;
 
-/// One more part of a tuple, which has no name.
-fn with_part(alloc: Global, parts: Vec<(Bytes, Ty)>, ty: Ty) -> Result<Vec<(Bytes, Ty)>, NoMemory>
-    ensures { IfOk result (λ more. more.items ≡ parts.items ++ ([], ty) ∷ []) }
+/// A part of a tuple, which has no name.
+fn nameless(alloc: Global, ty: &Ty) -> Result<(Bytes, Ty), NoMemory>
+    ensures { IfOk result (λ part. part ≡ ([], ty.now)) }
+{
+    let name = Bytes::copy_of(alloc, b"")?;
+    Ok((name, ty.copy(alloc)?))
+}
+
+/// One more part of a tuple.
+fn with_part(alloc: Global, parts: Vec<(Bytes, Ty)>, ty: &Ty) -> Result<Vec<(Bytes, Ty)>, NoMemory>
+    ensures { IfOk result (λ more. more.items ≡ parts.items ++ ([], ty.now) ∷ []) }
 {
     let mut parts = parts;
-    let name = Bytes::copy_of(alloc, b"")?;
-    parts.push((name, ty))?;
+    parts.push(nameless(alloc, ty)?)?;
     Ok(parts)
 }
 
-fn tuple_of_two(alloc: Global, a: Ty, b: Ty) -> Result<Ty, NoMemory>
-    ensures { IfOk result (λ t. t ≡ spec.tuple (a ∷ b ∷ [])) }
+fn tuple_of_two(alloc: Global, a: &Ty, b: &Ty) -> Result<Ty, NoMemory>
+    ensures { IfOk result (λ t. t ≡ spec.tuple (a.now ∷ b.now ∷ [])) }
 {
     let parts = with_part(alloc, Vec::new(alloc), a)?;
     let parts = with_part(alloc, parts, b)?;
     Ok(Ty::TupleOf(Items::of(alloc, parts)?))
 }
 
-fn tuple_of_three(alloc: Global, a: Ty, b: Ty, c: Ty) -> Result<Ty, NoMemory>
-    ensures { IfOk result (λ t. t ≡ spec.tuple (a ∷ b ∷ c ∷ [])) }
+fn tuple_of_three(alloc: Global, a: &Ty, b: &Ty, c: &Ty) -> Result<Ty, NoMemory>
+    ensures { IfOk result (λ t. t ≡ spec.tuple (a.now ∷ b.now ∷ c.now ∷ [])) }
 {
     let parts = with_part(alloc, Vec::new(alloc), a)?;
     let parts = with_part(alloc, parts, b)?;
@@ -52,7 +63,7 @@ fn absolute(alloc: Global, m: Made) -> Result<Option<Made>, NoMemory>
     match &m.ty {
         Ty::Int => on_it(alloc, OpName::Abs, m, Ty::Int),
         Ty::Real => on_it(alloc, OpName::Abs, m, Ty::Real),
-        _ => Ok(None),
+        _ => Ok(refused(m)),
     }
 }
 
@@ -62,7 +73,7 @@ fn sign(alloc: Global, m: Made) -> Result<Option<Made>, NoMemory>
     match &m.ty {
         Ty::Int => on_it(alloc, OpName::Sign, m, Ty::Int),
         Ty::Real => on_it(alloc, OpName::Sign, m, Ty::Int),
-        _ => Ok(None),
+        _ => Ok(refused(m)),
     }
 }
 
@@ -78,10 +89,12 @@ fn is_counted(ty: &Ty) -> bool
 fn counted(alloc: Global, name: OpName, outcome: Ty, m: Made) -> Result<Option<Made>, NoMemory>
     ensures { IfOk result (λ n. n ≡ spec.counted name outcome m) }
 {
-    if !is_counted(&m.ty) {
-        return Ok(None);
+    if is_counted(&m.ty) {
+        on_it(alloc, name, m, outcome)
+    } else {
+        drop(outcome);
+        Ok(refused(m))
     }
-    on_it(alloc, name, m, outcome)
 }
 
 /// The type of a pop: the first or the least, and the rest.
@@ -90,13 +103,10 @@ fn popped_type(alloc: Global, whole: &Ty) -> Result<Option<Ty>, NoMemory>
 {
     match whole {
         Ty::ListOf(element) | Ty::SetOf(element) => {
-            let element = element.get().copy(alloc)?;
-            Ok(Some(tuple_of_two(alloc, element, whole.copy(alloc)?)?))
+            Ok(Some(tuple_of_two(alloc, element.get(), whole)?))
         }
         Ty::DictOf(key, value) => {
-            let key = key.get().copy(alloc)?;
-            let value = value.get().copy(alloc)?;
-            Ok(Some(tuple_of_three(alloc, key, value, whole.copy(alloc)?)?))
+            Ok(Some(tuple_of_three(alloc, key.get(), value.get(), whole)?))
         }
         _ => Ok(None),
     }
@@ -108,8 +118,7 @@ fn enumerated_type(alloc: Global, whole: &Ty) -> Result<Option<Ty>, NoMemory>
 {
     match whole {
         Ty::ListOf(element) => {
-            let element = element.get().copy(alloc)?;
-            let pair = tuple_of_two(alloc, Ty::Int, element)?;
+            let pair = tuple_of_two(alloc, &Ty::Int, element.get())?;
             Ok(Some(Ty::ListOf(Boxed::new(alloc, pair)?)))
         }
         _ => Ok(None),
@@ -149,38 +158,58 @@ fn taken_by(
 ) -> Result<Option<Made>, NoMemory>
     ensures { IfOk result (λ n. n ≡ spec.taken_by name m outcome) }
 {
-    let Some(outcome) = outcome else {
-        return Ok(None);
-    };
-    on_it(alloc, name, m, outcome)
+    match outcome {
+        Some(outcome) => on_it(alloc, name, m, outcome),
+        None => Ok(refused(m)),
+    }
 }
 
 fn popped(alloc: Global, m: Made) -> Result<Option<Made>, NoMemory>
     ensures { IfOk result (λ n. n ≡ spec.popped m) }
 {
-    let outcome = popped_type(alloc, &m.ty)?;
-    taken_by(alloc, OpName::Pop, m, outcome)
+    match popped_type(alloc, &m.ty) {
+        Ok(outcome) => taken_by(alloc, OpName::Pop, m, outcome),
+        Err(refusal) => {
+            drop(m);
+            Err(refusal)
+        }
+    }
 }
 
 fn enumerated(alloc: Global, m: Made) -> Result<Option<Made>, NoMemory>
     ensures { IfOk result (λ n. n ≡ spec.enumerated m) }
 {
-    let outcome = enumerated_type(alloc, &m.ty)?;
-    taken_by(alloc, OpName::Enumerate, m, outcome)
+    match enumerated_type(alloc, &m.ty) {
+        Ok(outcome) => taken_by(alloc, OpName::Enumerate, m, outcome),
+        Err(refusal) => {
+            drop(m);
+            Err(refusal)
+        }
+    }
 }
 
 fn keys(alloc: Global, m: Made) -> Result<Option<Made>, NoMemory>
     ensures { IfOk result (λ n. n ≡ spec.keys m) }
 {
-    let outcome = keys_type(alloc, &m.ty)?;
-    taken_by(alloc, OpName::DictKeys, m, outcome)
+    match keys_type(alloc, &m.ty) {
+        Ok(outcome) => taken_by(alloc, OpName::DictKeys, m, outcome),
+        Err(refusal) => {
+            drop(m);
+            Err(refusal)
+        }
+    }
 }
 
 fn values(alloc: Global, m: Made) -> Result<Option<Made>, NoMemory>
     ensures { IfOk result (λ n. n ≡ spec.values m) }
 {
-    let outcome = values_type(alloc, &m.ty)?;
-    taken_by(alloc, OpName::DictValues, m, outcome)
+    match values_type(alloc, &m.ty) {
+        Ok(outcome) => taken_by(alloc, OpName::DictValues, m, outcome),
+        Err(refusal) => {
+            drop(m);
+            Err(refusal)
+        }
+    }
 }
 
 fn is_drawn(ty: &Ty) -> bool
@@ -196,10 +225,15 @@ fn constant(alloc: Global, m: Made) -> Result<Option<Made>, NoMemory>
     ensures { IfOk result (λ n. n ≡ spec.constant m) }
 {
     if !is_drawn(&m.ty) {
-        return Ok(None);
+        return Ok(refused(m));
     }
-    let outcome = dist_of(alloc, &m.ty)?;
-    on_it(alloc, OpName::Constant, m, outcome)
+    match dist_of(alloc, &m.ty) {
+        Ok(outcome) => on_it(alloc, OpName::Constant, m, outcome),
+        Err(refusal) => {
+            drop(m);
+            Err(refusal)
+        }
+    }
 }
 
 fn is_list(ty: &Ty) -> bool
@@ -215,7 +249,7 @@ fn deleted(alloc: Global, list: Made, index: Made) -> Result<Option<Made>, NoMem
     ensures { IfOk result (λ n. n ≡ spec.deleted list index) }
 {
     if !is_list(&list.ty) || !is_int(&index.ty) {
-        return Ok(None);
+        return Ok(both_refused(list, index));
     }
     let (list, ty) = core_and_type(list);
     Ok(Some(on_two(alloc, OpName::Del, list, core_of(index), ty)?))
@@ -228,15 +262,27 @@ fn dist_of(alloc: Global, drawn: &Ty) -> Result<Ty, NoMemory>
     Ok(Ty::Dist(Boxed::new(alloc, drawn)?))
 }
 
+fn between_as(alloc: Global, number: &Ty, a: Made, b: Made) -> Result<Option<Made>, NoMemory>
+    ensures { IfOk result (λ n. n ≡ Some (conversion.both_as op.Uniform number.now a b (ty.Dist number.now))) }
+{
+    match dist_of(alloc, number) {
+        Ok(outcome) => Ok(Some(both_as(alloc, OpName::Uniform, number, a, b, outcome)?)),
+        Err(refusal) => {
+            drop(a);
+            drop(b);
+            Err(refusal)
+        }
+    }
+}
+
 /// A distribution between two numbers, which are converted to the type of their number.
 fn between(alloc: Global, number: Option<Ty>, a: Made, b: Made) -> Result<Option<Made>, NoMemory>
     ensures { IfOk result (λ n. n ≡ spec.between number a b) }
 {
-    let Some(ty) = number else {
-        return Ok(None);
-    };
-    let outcome = dist_of(alloc, &ty)?;
-    Ok(Some(both_as(alloc, OpName::Uniform, &ty, a, b, outcome)?))
+    match number {
+        Some(ty) => between_as(alloc, &ty, a, b),
+        None => Ok(both_refused(a, b)),
+    }
 }
 
 fn uniform(alloc: Global, a: Made, b: Made) -> Result<Option<Made>, NoMemory>
@@ -273,6 +319,14 @@ fn extreme(alloc: Global, name: OpName, numbers: Items<Made>) -> Result<Option<M
     Ok(Some(Made { core, ty }))
 }
 
+fn ranged(alloc: Global, operands: Items<CExpr>) -> Result<Option<Made>, NoMemory>
+    ensures { IfOk result (λ n. n ≡ Some (conversion.made (expression.Op op.Range operands) (ty.ListOf ty.Int))) }
+{
+    let ty = Ty::ListOf(Boxed::new(alloc, Ty::Int)?);
+    let core = CExpr::Op(OpName::Range, operands);
+    Ok(Some(Made { core, ty }))
+}
+
 fn range(alloc: Global, bounds: Items<Made>) -> Result<Option<Made>, NoMemory>
     ensures { IfOk result (λ n. n ≡ spec.range bounds) }
 {
@@ -280,9 +334,7 @@ fn range(alloc: Global, bounds: Items<Made>) -> Result<Option<Made>, NoMemory>
         return Ok(None);
     }
     let operands = with_cores(alloc, Vec::new(alloc), bounds)?;
-    let core = CExpr::Op(OpName::Range, operands);
-    let ty = Ty::ListOf(Boxed::new(alloc, Ty::Int)?);
-    Ok(Some(Made { core, ty }))
+    ranged(alloc, operands)
 }
 
 fn bernoulli(alloc: Global, arguments: Items<Made>) -> Result<Option<Made>, NoMemory>
@@ -328,7 +380,7 @@ fn of_single(alloc: Global, name: Predefined, m: Made) -> Result<Option<Made>, N
         Predefined::DictKeys => keys(alloc, m),
         Predefined::DictValues => values(alloc, m),
         Predefined::Constant => constant(alloc, m),
-        _ => Ok(None),
+        _ => Ok(refused(m)),
     }
 }
 

@@ -10,6 +10,7 @@ ghost use Rattle.chi_expr_rules.specs.PredefinedCalls as spec;
 use crate::arguments::is_count;
 use crate::insertions::insert_call;
 use crate::predefined::predefined;
+use crate::refused::unless;
 use chi_base::{Items, NoMemory};
 use chi_expr_rules::{all_made, note_calling, note_running, settle};
 use chi_token::Place;
@@ -92,5 +93,5 @@ pub fn predefined_call(
 {
     let barred = note_predefined(site, name, place, kept);
     let made = predefined_made(alloc, place, name, arguments, known, kept)?;
-    Ok(if barred { None } else { made })
+    Ok(unless(barred, made))
 }
