@@ -2,7 +2,7 @@
 
 #![tactic(auto, using(chi_typing::proofs::Firsts::first_of_none))]
 
-ghost use Rattle.std.specs.Prelude.{◌≡◌, [], ◌∷◌, map, IfOk, OnOk};
+ghost use Rattle.std.specs.Prelude.{◌≡◌, [], ◌∷◌, Some, map, IfOk, OnOk};
 ghost use Rattle.chi_types.specs.declared.ty.Ty.{out-Ty};
 ghost use Rattle.chi_types.specs.Fits.{fits_unconverted};
 ghost use Rattle.chi_typing.specs.Faults.{first_of};
@@ -10,7 +10,7 @@ ghost use Rattle.chi_stat_rules.specs.Assignments as spec;
 
 use chi_base::{Items, NoMemory};
 use chi_core::{CExpr, CStat, CTarget};
-use chi_expr_rules::{all_made, passed, settle};
+use chi_expr_rules::{all_made, core_and_type, list_of_one, passed, settle};
 use chi_stat_rules::Aim;
 use chi_token::{Bytes, Place};
 use chi_types::{Ty, fits};
@@ -51,6 +51,23 @@ fn targets_of(alloc: Global, aims: Items<Aim>) -> Result<Items<CTarget>, NoMemor
     Ok(Items::of(alloc, targets)?)
 }
 
+fn storing(
+    alloc: Global,
+    line: u32,
+    aims: Items<Aim>,
+    values: Items<CExpr>,
+) -> Result<Option<CStat>, NoMemory>
+    ensures { IfOk result (λ s. s ≡ Some (spec.assign line aims values)) }
+{
+    match targets_of(alloc, aims) {
+        Ok(targets) => Ok(Some(CStat::Assign(line, targets, values))),
+        Err(refusal) => {
+            drop(values);
+            Err(refusal)
+        }
+    }
+}
+
 fn stored(
     alloc: Global,
     line: u32,
@@ -63,8 +80,7 @@ fn stored(
     let Some(values) = passed(alloc, values, types.as_slice())? else {
         return Ok(None);
     };
-    let targets = targets_of(alloc, aims)?;
-    Ok(Some(CStat::Assign(line, targets, values)))
+    storing(alloc, line, aims, values)
 }
 
 /// Whether a type serves for another as it is.
@@ -104,13 +120,17 @@ fn spread(
     ensures { IfOk result (λ s. s ≡ spec.spread line tuple parts.now aims) }
 {
     if !parts_fit(parts, aims.as_slice()) {
+        drop(tuple);
+        drop(aims);
         return Ok(None);
     }
-    let targets = targets_of(alloc, aims)?;
-    let mut values = Vec::new(alloc);
-    values.push(tuple)?;
-    let values = Items::of(alloc, values)?;
-    Ok(Some(CStat::Assign(line, targets, values)))
+    match list_of_one(alloc, tuple) {
+        Ok(values) => storing(alloc, line, aims, values),
+        Err(refusal) => {
+            drop(aims);
+            Err(refusal)
+        }
+    }
 }
 
 fn spread_parts(
@@ -127,10 +147,20 @@ fn spread_parts(
 {
     if parts.len() != aims.as_slice().len() {
         note(kept, rules::TARGET_COUNT, equals);
+        drop(aims);
+        drop(tuple);
         return Ok(None);
     }
-    let Some(aims) = all_aims(alloc, aims)? else {
-        return Ok(None);
+    let aims = match all_aims(alloc, aims) {
+        Ok(Some(aims)) => aims,
+        Ok(None) => {
+            drop(tuple);
+            return Ok(None);
+        }
+        Err(refusal) => {
+            drop(tuple);
+            return Err(refusal);
+        }
     };
     Ok(settle(
         spread(alloc, line, tuple, parts, aims)?,
@@ -152,9 +182,10 @@ fn spread_one(
     ensures noted { OnOk result (kept.new ≡ first_of kept.old (spec.spread_one line equals aims value).faults) }
 {
     let Some(value) = value else {
+        drop(aims);
         return Ok(None);
     };
-    let Made { core, ty } = value;
+    let (core, ty) = core_and_type(value);
     match &ty {
         Ty::TupleOf(parts) => {
             let parts = parts.as_slice();
@@ -162,6 +193,8 @@ fn spread_one(
         }
         _ => {
             note(kept, rules::TARGET_COUNT, equals);
+            drop(aims);
+            drop(core);
             Ok(None)
         }
     }
@@ -176,6 +209,7 @@ fn only_one(alloc: Global, values: Items<Option<Made>>) -> Result<Option<Option<
         return Ok(None);
     };
     if !values.is_empty() {
+        drop(last);
         return Ok(None);
     }
     Ok(Some(last))

@@ -2,7 +2,7 @@
 
 #![tactic(auto, using(chi_typing::proofs::Firsts::first_of_none))]
 
-ghost use Rattle.std.specs.Prelude.{◌≡◌, [], ◌∷◌, ◌++◌, IfOk, OnOk};
+ghost use Rattle.std.specs.Prelude.{◌≡◌, [], ◌∷◌, ◌++◌, Some, None, IfOk, OnOk};
 ghost use Rattle.std.specs.Option.{option_copied};
 ghost use Rattle.chi_types.specs.declared.ty.Ty.{out-Ty};
 ghost use Rattle.chi_typing.specs.Faults.{first_of};
@@ -11,7 +11,7 @@ ghost use Rattle.chi_stat_rules.specs.Targets as spec;
 
 use chi_base::{Items, NoMemory};
 use chi_core::{CStep, CTarget};
-use chi_expr_rules::{converted, settle};
+use chi_expr_rules::{converted, core_of, is_int, settle};
 use chi_stat_rules::Aim;
 use chi_token::{Bytes, Place};
 use chi_tree::Name;
@@ -39,10 +39,17 @@ fn untyped_target(place: Place, kind: NameKind, kept: &mut Option<Fault>) -> Opt
 fn whole(alloc: Global, slot: u32, ty: &Ty) -> Result<Aim, NoMemory>
     ensures { IfOk result (λ a. a ≡ spec.aim slot [] ty.now) }
 {
-    let steps = Items::of(alloc, Vec::new(alloc))?;
-    let target = CTarget { slot, steps };
     let ty = ty.copy(alloc)?;
-    Ok(Aim { target, ty })
+    match Items::of(alloc, Vec::new(alloc)) {
+        Ok(steps) => Ok(Aim {
+            target: CTarget { slot, steps },
+            ty,
+        }),
+        Err(refusal) => {
+            drop(ty);
+            Err(refusal)
+        }
+    }
 }
 
 fn visible_target(
@@ -92,51 +99,121 @@ pub fn named_target(
     visible_target(alloc, name.place, scope.known(&name.text), kept)
 }
 
-fn stepped(alloc: Global, target: CTarget, step: CStep, ty: Ty) -> Result<Aim, NoMemory>
-    ensures { IfOk result (λ a. a ≡ spec.aim target.slot (target.steps ++ step ∷ []) ty) }
+/// Nothing is stored there: the target and the index are let go.
+fn refused(aim: Aim, index: Made) -> Option<Aim>
+    ensures { result ≡ None }
 {
-    let CTarget { slot, steps } = target;
-    let mut steps = steps.into_vec(alloc)?;
+    drop(aim);
+    drop(index);
+    None
+}
+
+fn with_step(alloc: Global, steps: Items<CStep>, step: CStep) -> Result<Items<CStep>, NoMemory>
+    ensures { IfOk result (λ more. more ≡ steps ++ step ∷ []) }
+{
+    match steps.into_vec(alloc) {
+        Ok(steps) => pushed(alloc, steps, step),
+        Err(refusal) => {
+            drop(step);
+            Err(refusal)
+        }
+    }
+}
+
+fn pushed(alloc: Global, steps: Vec<CStep>, step: CStep) -> Result<Items<CStep>, NoMemory>
+    ensures { IfOk result (λ more. more ≡ steps.items ++ step ∷ []) }
+{
+    let mut steps = steps;
     steps.push(step)?;
-    let steps = Items::of(alloc, steps)?;
-    let target = CTarget { slot, steps };
-    Ok(Aim { target, ty })
+    Ok(Items::of(alloc, steps)?)
+}
+
+fn stepped(alloc: Global, aim: Aim, step: CStep, ty: Ty) -> Result<Option<Aim>, NoMemory>
+    ensures { IfOk result (λ a. a ≡ Some (spec.stepped aim step ty)) }
+{
+    let Aim { target, ty: whole } = aim;
+    drop(whole);
+    let CTarget { slot, steps } = target;
+    match with_step(alloc, steps, step) {
+        Ok(steps) => Ok(Some(Aim {
+            target: CTarget { slot, steps },
+            ty,
+        })),
+        Err(refusal) => {
+            drop(ty);
+            Err(refusal)
+        }
+    }
 }
 
 fn to_element(alloc: Global, aim: Aim, element: Ty, index: Made) -> Result<Option<Aim>, NoMemory>
     ensures { IfOk result (λ a. a ≡ spec.to_element aim element index) }
 {
-    let Made { core, ty } = index;
-    match &ty {
-        Ty::Int => Ok(Some(stepped(alloc, aim.target, CStep::Index(core), element)?)),
-        _ => Ok(None),
+    if is_int(&index.ty) {
+        stepped(alloc, aim, CStep::Index(core_of(index)), element)
+    } else {
+        drop(element);
+        Ok(refused(aim, index))
     }
 }
 
-fn to_key(alloc: Global, aim: Aim, key: Ty, value: Ty, index: Made) -> Result<Option<Aim>, NoMemory>
-    ensures { IfOk result (λ a. a ≡ spec.to_key aim key value index) }
+fn to_key(
+    alloc: Global,
+    aim: Aim,
+    key: &Ty,
+    value: Ty,
+    index: Made,
+) -> Result<Option<Aim>, NoMemory>
+    ensures { IfOk result (λ a. a ≡ spec.to_key aim key.now value index) }
 {
-    if !fits(&index.ty, &key) {
-        return Ok(None);
+    if !fits(&index.ty, key) {
+        drop(value);
+        return Ok(refused(aim, index));
     }
-    let index = converted(alloc, index, &key)?;
-    Ok(Some(stepped(alloc, aim.target, CStep::Index(index), value)?))
+    match converted(alloc, index, key) {
+        Ok(index) => stepped(alloc, aim, CStep::Index(index), value),
+        Err(refusal) => {
+            drop(aim);
+            drop(value);
+            Err(refusal)
+        }
+    }
+}
+
+fn entry_types(alloc: Global, key: &Ty, value: &Ty) -> Result<(Ty, Ty), NoMemory>
+    ensures { IfOk result (λ types. types ≡ (key.now, value.now)) }
+{
+    let key = key.copy(alloc)?;
+    match value.copy(alloc) {
+        Ok(value) => Ok((key, value)),
+        Err(refusal) => {
+            drop(key);
+            Err(refusal)
+        }
+    }
 }
 
 fn indexed(alloc: Global, aim: Aim, index: Made) -> Result<Option<Aim>, NoMemory>
     ensures { IfOk result (λ a. a ≡ spec.indexed (out-Ty aim.ty) aim index) }
 {
     match &aim.ty {
-        Ty::ListOf(element) => {
-            let element = element.get().copy(alloc)?;
-            to_element(alloc, aim, element, index)
-        }
-        Ty::DictOf(key, value) => {
-            let key = key.get().copy(alloc)?;
-            let value = value.get().copy(alloc)?;
-            to_key(alloc, aim, key, value, index)
-        }
-        _ => Ok(None),
+        Ty::ListOf(element) => match element.get().copy(alloc) {
+            Ok(element) => to_element(alloc, aim, element, index),
+            Err(refusal) => {
+                drop(aim);
+                drop(index);
+                Err(refusal)
+            }
+        },
+        Ty::DictOf(key, value) => match entry_types(alloc, key.get(), value.get()) {
+            Ok((key, value)) => to_key(alloc, aim, &key, value, index),
+            Err(refusal) => {
+                drop(aim);
+                drop(index);
+                Err(refusal)
+            }
+        },
+        _ => Ok(refused(aim, index)),
     }
 }
 
@@ -162,13 +239,17 @@ pub fn index_step(
     ensures noted { OnOk result (kept.new ≡ first_of kept.old (spec.index_step name place aim index).faults) }
 {
     let Some(aim) = aim else {
+        drop(index);
         return Ok(None);
     };
     if is_text(&aim.ty) {
         note(kept, rules::TARGET, name);
+        drop(aim);
+        drop(index);
         return Ok(None);
     }
     let Some(index) = index else {
+        drop(aim);
         return Ok(None);
     };
     Ok(settle(indexed(alloc, aim, index)?, rules::INDEX, place, kept))
@@ -206,10 +287,17 @@ fn field_in(alloc: Global, ty: &Ty, name: &Bytes) -> Result<Option<(u32, Ty)>, N
 fn field_of(alloc: Global, name: &Bytes, aim: Aim) -> Result<Option<Aim>, NoMemory>
     ensures { IfOk result (λ a. a ≡ spec.field_of name.now aim) }
 {
-    let Some((number, ty)) = field_in(alloc, &aim.ty, name)? else {
-        return Ok(None);
-    };
-    Ok(Some(stepped(alloc, aim.target, CStep::Part(number), ty)?))
+    match field_in(alloc, &aim.ty, name) {
+        Ok(Some((number, ty))) => stepped(alloc, aim, CStep::Part(number), ty),
+        Ok(None) => {
+            drop(aim);
+            Ok(None)
+        }
+        Err(refusal) => {
+            drop(aim);
+            Err(refusal)
+        }
+    }
 }
 
 /// A step by the name of a field.

@@ -11,7 +11,7 @@ ghost use Rattle.chi_stat_rules.specs.Walks as spec;
 
 use chi_base::{Items, NoMemory};
 use chi_core::CExpr;
-use chi_expr_rules::settle;
+use chi_expr_rules::{core_of, list_of_one, settle};
 use chi_stat_rules::Walked;
 use chi_token::{Bytes, Place};
 use chi_types::Ty;
@@ -65,12 +65,12 @@ fn types_of_parts(alloc: Global, count: usize, ty: &Ty) -> Result<Option<Items<T
 fn name_types(alloc: Global, count: usize, element: Ty) -> Result<Option<Items<Ty>>, NoMemory>
     ensures { IfOk result (λ types. types ≡ spec.name_types count element) }
 {
-    if count != 1 {
-        return types_of_parts(alloc, count, &element);
+    if count == 1 {
+        return Ok(Some(list_of_one(alloc, element)?));
     }
-    let mut types = Vec::new(alloc);
-    types.push(element)?;
-    Ok(Some(Items::of(alloc, types)?))
+    let types = types_of_parts(alloc, count, &element);
+    drop(element);
+    types
 }
 
 fn walked(
@@ -81,10 +81,17 @@ fn walked(
 ) -> Result<Option<Walked>, NoMemory>
     ensures { IfOk result (λ w. w ≡ spec.walked_by count container element) }
 {
-    let Some(types) = name_types(alloc, count, element)? else {
-        return Ok(None);
-    };
-    Ok(Some(Walked { container, types }))
+    match name_types(alloc, count, element) {
+        Ok(Some(types)) => Ok(Some(Walked { container, types })),
+        Ok(None) => {
+            drop(container);
+            Ok(None)
+        }
+        Err(refusal) => {
+            drop(container);
+            Err(refusal)
+        }
+    }
 }
 
 /// A walk by so many names over a container. The first place is that of the container, the second
@@ -103,10 +110,19 @@ pub fn walk_of(
     let Some(made) = made else {
         return Ok(None);
     };
-    let Some(element) = element_type(alloc, &made.ty)? else {
-        note(kept, rules::WALK, place);
-        return Ok(None);
-    };
-    let walked = walked(alloc, count, made.core, element)?;
-    Ok(settle(walked, rules::WALK_NAMES, first, kept))
+    match element_type(alloc, &made.ty) {
+        Ok(Some(element)) => {
+            let walked = walked(alloc, count, core_of(made), element)?;
+            Ok(settle(walked, rules::WALK_NAMES, first, kept))
+        }
+        Ok(None) => {
+            note(kept, rules::WALK, place);
+            drop(made);
+            Ok(None)
+        }
+        Err(refusal) => {
+            drop(made);
+            Err(refusal)
+        }
+    }
 }
