@@ -5,6 +5,7 @@
 mod conversions;
 mod nodes;
 mod parts;
+mod refusals;
 mod sites;
 mod taking;
 mod types;
@@ -15,6 +16,7 @@ pub use conversions::{
 };
 pub use nodes::{all_made, settle};
 pub use parts::Contents;
+pub use refusals::{both_refused, refused, unless};
 pub use sites::{note_calling, note_running, note_running_if};
 pub use taking::{core_and_type, core_of, on_it, type_meant};
 pub use types::{are_ints, is_int, number_of};

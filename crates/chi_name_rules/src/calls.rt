@@ -9,10 +9,9 @@ ghost use Rattle.chi_typing.specs.Faults.{first_of};
 ghost use Rattle.chi_expr_rules.specs.Calls as spec;
 ghost use Rattle.chi_expr_rules.specs.Conversions as conversion;
 
-use crate::refused::unless;
 use chi_base::{Items, NoMemory};
 use chi_core::CExpr;
-use chi_expr_rules::{all_made, note_calling, passed, settle};
+use chi_expr_rules::{all_made, note_calling, passed, settle, unless};
 use chi_token::Place;
 use chi_types::Ty;
 use chi_typing::{Fault, Known, Made, NameKind, Site, note, rules};

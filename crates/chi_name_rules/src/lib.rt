@@ -7,7 +7,6 @@ mod literals;
 mod named;
 mod part_nodes;
 mod parts;
-mod refused;
 
 pub use calls::call_of;
 pub use literals::{bool_literal, int_literal, real_literal, text_literal};

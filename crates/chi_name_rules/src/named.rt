@@ -7,10 +7,9 @@ ghost use Rattle.std.specs.Option.{option_copied};
 ghost use Rattle.chi_typing.specs.Faults.{first_of};
 ghost use Rattle.chi_expr_rules.specs.Named as spec;
 
-use crate::refused::unless;
 use chi_base::{Items, NoMemory};
 use chi_core::{CExpr, OpName};
-use chi_expr_rules::note_running;
+use chi_expr_rules::{note_running, unless};
 use chi_token::Place;
 use chi_tree::Name;
 use chi_types::Ty;

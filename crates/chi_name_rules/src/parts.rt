@@ -5,11 +5,11 @@ ghost use Rattle.chi_types.specs.declared.ty.Ty.{out-Ty};
 ghost use Rattle.chi_core.specs.declared.expression.CExpr.TheVariants as expression;
 ghost use Rattle.chi_expr_rules.specs.Parts as spec;
 
-use crate::refused::{both_refused, refused};
 use chi_base::{Boxed, Items, NoMemory};
 use chi_core::{CExpr, OpName};
 use chi_expr_rules::{
-    Contents, are_ints, converted, core_and_type, core_of, is_int, on_two, with_cores,
+    Contents, are_ints, both_refused, converted, core_and_type, core_of, is_int, on_two, refused,
+    with_cores,
 };
 use chi_token::Bytes;
 use chi_types::{Ty, fits};

@@ -7,10 +7,11 @@ ghost use Rattle.chi_types.specs.declared.ty.Ty.{out-Ty};
 ghost use Rattle.chi_typing.specs.Faults.{first_of, are_none};
 ghost use Rattle.chi_expr_rules.specs.Casts as spec;
 
-use crate::refused::{refused, unless};
 use chi_base::NoMemory;
 use chi_core::OpName;
-use chi_expr_rules::{list_of_one, note_running, note_running_if, on_it, settle, wanting};
+use chi_expr_rules::{
+    list_of_one, note_running, note_running_if, on_it, refused, settle, unless, wanting,
+};
 use chi_token::Place;
 use chi_tree::CastWord;
 use chi_types::{Ty, is_plain};

@@ -6,10 +6,9 @@ ghost use Rattle.chi_types.specs.declared.ty.Ty.{out-Ty};
 ghost use Rattle.chi_types.specs.Joined.{joined};
 ghost use Rattle.chi_expr_rules.specs.Comparisons as spec;
 
-use crate::refused::both_refused;
 use chi_base::NoMemory;
 use chi_core::OpName;
-use chi_expr_rules::{compared, converted, core_of, on_two};
+use chi_expr_rules::{both_refused, compared, converted, core_of, on_two};
 use chi_tree::RelationSign;
 use chi_types::{Ty, fits, is_plain, joined, same};
 use chi_typing::Made;

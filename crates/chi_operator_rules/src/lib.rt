@@ -6,7 +6,6 @@ mod casts;
 mod comparisons;
 mod operator_nodes;
 mod operators;
-mod refused;
 
 pub use casts::cast_of;
 pub use operator_nodes::{chain_of, power_of, prefix_of, relation_of};

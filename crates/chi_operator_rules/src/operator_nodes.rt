@@ -9,9 +9,8 @@ ghost use Rattle.chi_expr_rules.specs.Operators as spec;
 
 use crate::comparisons::related;
 use crate::operators::{binary, power, prefixed};
-use crate::refused::unless;
 use chi_base::NoMemory;
-use chi_expr_rules::{note_running, settle};
+use chi_expr_rules::{note_running, settle, unless};
 use chi_token::Place;
 use chi_tree::{Operator, PrefixSign, RelationSign};
 use chi_typing::{Fault, Made, Site, rules};

@@ -5,12 +5,11 @@ ghost use Rattle.chi_types.specs.declared.ty.Ty.{out-Ty};
 ghost use Rattle.chi_expr_rules.specs.Conversions as conversion;
 ghost use Rattle.chi_expr_rules.specs.Operators as spec;
 
-use crate::refused::{both_refused, refused};
 use chi_base::{Boxed, Items, NoMemory};
 use chi_core::{CExpr, OpName};
 use chi_expr_rules::{
-    all_converted, core_and_type, core_of, list_of_one, list_of_two, number_of, on_it, on_one,
-    on_two, wanting,
+    all_converted, both_refused, core_and_type, core_of, list_of_one, list_of_two, number_of,
+    on_it, on_one, on_two, refused, wanting,
 };
 use chi_tree::{Operator, PrefixSign};
 use chi_types::{Ty, same};

@@ -13,10 +13,9 @@ ghost use Rattle.chi_expr_rules.specs.Conversions as conversion;
 ghost use Rattle.chi_expr_rules.specs.PredefinedCalls as spec;
 
 use crate::arguments::before_third;
-use crate::refused::both_refused;
 use chi_base::{Boxed, Items, NoMemory};
 use chi_core::CExpr;
-use chi_expr_rules::{converted, core_and_type, settle};
+use chi_expr_rules::{both_refused, converted, core_and_type, settle};
 use chi_token::Place;
 use chi_types::{Ty, fits, same};
 use chi_typing::{Fault, Known, Made, NameKind, note, rules};

@@ -5,6 +5,5 @@ mod arguments;
 mod insertions;
 mod predefined;
 mod predefined_nodes;
-mod refused;
 
 pub use predefined_nodes::predefined_call;

@@ -11,12 +11,11 @@ ghost use Rattle.chi_expr_rules.specs.Conversions as conversion;
 ghost use Rattle.chi_expr_rules.specs.PredefinedCalls as spec;
 
 use crate::arguments::{only, pair};
-use crate::refused::{both_refused, refused};
 use chi_base::{Boxed, Items, NoMemory};
 use chi_core::{CExpr, OpName};
 use chi_expr_rules::{
-    all_converted, are_ints, both_as, core_and_type, core_of, is_int, number_of, on_it, on_two,
-    wanting, with_cores,
+    all_converted, are_ints, both_as, both_refused, core_and_type, core_of, is_int, number_of,
+    on_it, on_two, refused, wanting, with_cores,
 };
 use chi_token::Bytes;
 use chi_types::Ty;

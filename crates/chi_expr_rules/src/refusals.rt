@@ -1,4 +1,4 @@
-//! Operands of which nothing is made. They are dropped by calls of `drop`: what goes out of scope where a
+//! Parts of which nothing is made. They are dropped by calls of `drop`: what goes out of scope where a
 //! function returns is laid out part by part in its proof, on each way out.
 
 ghost use Rattle.std.specs.Prelude.{◌≡◌, None, if◌then◌else◌};
@@ -6,7 +6,7 @@ ghost use Rattle.std.specs.Prelude.{◌≡◌, None, if◌then◌else◌};
 use chi_typing::Made;
 
 /// Nothing is made of it.
-pub(crate) fn refused(m: Made) -> Option<Made>
+pub fn refused(m: Made) -> Option<Made>
     ensures { result ≡ None }
 {
     drop(m);
@@ -14,7 +14,7 @@ pub(crate) fn refused(m: Made) -> Option<Made>
 }
 
 /// Nothing is made of either.
-pub(crate) fn both_refused(a: Made, b: Made) -> Option<Made>
+pub fn both_refused(a: Made, b: Made) -> Option<Made>
     ensures { result ≡ None }
 {
     drop(a);
@@ -23,7 +23,7 @@ pub(crate) fn both_refused(a: Made, b: Made) -> Option<Made>
 }
 
 /// What is made, where no further rule bars it.
-pub(crate) fn unless(barred: bool, made: Option<Made>) -> Option<Made>
+pub fn unless(barred: bool, made: Option<Made>) -> Option<Made>
     ensures { result ≡ (if barred then None else made) }
 {
     if barred {
