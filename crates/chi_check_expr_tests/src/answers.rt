@@ -1,71 +1,87 @@
-//! What a source comes to, as a text. Where it comes to nothing that is the number of its first
-//! broken rule with the line and the column of the place; `untyped`, where no rule is broken; or
-//! `unread`, where it is no tree.
+//! What a source comes to, as a text. Where a rule is broken that is the number of the first one with the
+//! line and the column of the place; else `untyped`, where it has no type, and `unread`, where it is no tree.
 
-use crate::names::named;
+use crate::names::{named, no_names};
 use crate::shown::shown;
 use crate::sources::{expr_of, type_of};
-use chi_check_expr::{mean_in, type_in};
-use chi_typing::{Fault, Made, Scope, Site};
+use chi_check_expr::{mean_in, type_expr, type_in, type_tree};
+use chi_token::Place;
+use chi_tree::{Expr, TypeTree};
+use chi_typing::{Fault, Made, Scope, Site, TypeFault};
 use std::alloc::Global;
 use std::test::Fail;
 
-fn unmade(alloc: Global, kept: Option<Fault>) -> Result<String, Fail> {
-    let Some(Fault { rule, place }) = kept else {
-        return Ok("untyped".to_string(alloc)?);
-    };
+fn broken(alloc: Global, rule: u8, place: Place) -> Result<String, Fail> {
     let (line, column) = (place.line, place.column);
     Ok(format!(in alloc; "{rule} at {line}:{column}")?)
 }
 
-fn made(alloc: Global, kept: Option<Fault>) -> Result<String, Fail> {
-    let told = if kept.is_none() {
-        "typed"
-    } else {
-        "typed, and broken"
-    };
-    Ok(told.to_string(alloc)?)
+fn unread(alloc: Global) -> Result<String, Fail> {
+    Ok("unread".to_string(alloc)?)
 }
 
-/// Of an expression: `typed`, or what is broken.
+/// What is told of an expression that has a type.
+#[derive(Clone, Copy, Debug)]
+pub enum Asked {
+    /// That it has one: `typed`.
+    Whether,
+    /// The variable that has the same type.
+    Kind,
+    Core,
+}
+
+fn told(alloc: Global, scope: &Scope, made: &Made, asked: Asked) -> Result<String, Fail> {
+    match asked {
+        Asked::Whether => Ok("typed".to_string(alloc)?),
+        Asked::Kind => named(alloc, scope, &made.ty),
+        Asked::Core => shown(alloc, &made.core),
+    }
+}
+
+fn tree_answer(
+    alloc: Global,
+    tree: &Expr,
+    scope: &Scope,
+    site: Site,
+    asked: Asked,
+) -> Result<String, Fail> {
+    let mut kept = None;
+    let made = type_in(alloc, tree, scope, site, &mut kept)?;
+    if let Some(Fault { rule, place }) = kept {
+        return broken(alloc, rule, place);
+    }
+    match made {
+        Some(made) => told(alloc, scope, &made, asked),
+        None => Ok("untyped".to_string(alloc)?),
+    }
+}
+
+/// Of an expression: what is asked, or what is broken.
 pub fn expr_answer(
     alloc: Global,
     source: &[u8],
     scope: &Scope,
     site: Site,
+    asked: Asked,
 ) -> Result<String, Fail> {
-    let Some(tree) = expr_of(alloc, source)? else {
-        return Ok("unread".to_string(alloc)?);
-    };
-    let mut kept = None;
-    match type_in(alloc, &tree, scope, site, &mut kept)? {
-        Some(_) => made(alloc, kept),
-        None => unmade(alloc, kept),
+    match expr_of(alloc, source)? {
+        Some(tree) => tree_answer(alloc, &tree, scope, site, asked),
+        None => unread(alloc),
     }
 }
 
-/// Of an expression in a process: the variable that has its type, or what is broken.
-pub fn kind_answer(alloc: Global, source: &[u8], scope: &Scope) -> Result<String, Fail> {
-    let Some(tree) = expr_of(alloc, source)? else {
-        return Ok("unread".to_string(alloc)?);
-    };
+fn meaning(alloc: Global, tree: &TypeTree, scope: &Scope, sizes: bool) -> Result<String, Fail> {
     let mut kept = None;
-    match type_in(alloc, &tree, scope, Site::Process, &mut kept)? {
-        Some(Made { core: _, ty }) => named(alloc, scope, &ty),
-        None => unmade(alloc, kept),
+    let meant = mean_in(alloc, tree, scope, Site::Process, sizes, &mut kept)?;
+    if let Some(Fault { rule, place }) = kept {
+        return broken(alloc, rule, place);
     }
-}
-
-/// Of an expression in a process: its core, or what is broken.
-pub fn core_answer(alloc: Global, source: &[u8], scope: &Scope) -> Result<String, Fail> {
-    let Some(tree) = expr_of(alloc, source)? else {
-        return Ok("unread".to_string(alloc)?);
+    let told = if meant.is_some() {
+        "typed"
+    } else {
+        "untyped"
     };
-    let mut kept = None;
-    match type_in(alloc, &tree, scope, Site::Process, &mut kept)? {
-        Some(Made { core, ty: _ }) => shown(alloc, &core),
-        None => unmade(alloc, kept),
-    }
+    Ok(told.to_string(alloc)?)
 }
 
 /// Of a type: `typed`, or what is broken. `sizes` says whether a size may stand there.
@@ -75,12 +91,47 @@ pub fn type_answer(
     scope: &Scope,
     sizes: bool,
 ) -> Result<String, Fail> {
-    let Some(tree) = type_of(alloc, source)? else {
-        return Ok("unread".to_string(alloc)?);
-    };
-    let mut kept = None;
-    match mean_in(alloc, &tree, scope, Site::Process, sizes, &mut kept)? {
-        Some(_) => made(alloc, kept),
-        None => unmade(alloc, kept),
+    match type_of(alloc, source)? {
+        Some(tree) => meaning(alloc, &tree, scope, sizes),
+        None => unread(alloc),
+    }
+}
+
+fn refused(alloc: Global, fault: TypeFault) -> Result<String, Fail> {
+    match fault {
+        TypeFault::Broken { rule, place } => broken(alloc, rule, place),
+        TypeFault::NoMemory => Err(Fail::from(TypeFault::NoMemory)),
+    }
+}
+
+fn tree_core(alloc: Global, tree: &Expr) -> Result<String, Fail> {
+    let scope = no_names(alloc);
+    match type_expr(alloc, tree, &scope, Site::Constant) {
+        Ok((core, _)) => shown(alloc, &core),
+        Err(fault) => refused(alloc, fault),
+    }
+}
+
+/// Of an expression of a constant where no name is visible: its core, or what is broken.
+pub fn expr_call(alloc: Global, source: &'static str) -> Result<String, Fail> {
+    match expr_of(alloc, source.as_bytes())? {
+        Some(tree) => tree_core(alloc, &tree),
+        None => unread(alloc),
+    }
+}
+
+fn tree_default(alloc: Global, tree: &TypeTree) -> Result<String, Fail> {
+    let scope = no_names(alloc);
+    match type_tree(alloc, tree, &scope, Site::Process, true) {
+        Ok((_, default)) => shown(alloc, &default),
+        Err(fault) => refused(alloc, fault),
+    }
+}
+
+/// Of the type of a local variable where no name is visible: its default, or what is broken.
+pub fn type_call(alloc: Global, source: &'static str) -> Result<String, Fail> {
+    match type_of(alloc, source.as_bytes())? {
+        Some(tree) => tree_default(alloc, &tree),
+        None => unread(alloc),
     }
 }

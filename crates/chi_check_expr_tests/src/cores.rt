@@ -1,53 +1,65 @@
 //! The cores of expressions and types.
 
-use crate::names::no_names;
+use crate::answers::{expr_call, type_call};
 use crate::rows::expect_cores;
-use crate::shown::shown;
-use crate::sources::{expr_of, type_of};
-use chi_check_expr::{type_expr, type_tree};
-use chi_typing::{Site, TypeFault};
 use std::test::Fail;
 
-const CORES: [(&str, &str); 39] = [
-    ("(i)", "v1"),
-    ("+r", "v2"),
-    ("-(+i)", "Neg(v1)"),
-    ("n", "c0"),
-    ("red", "Choice(0, 0)"),
-    ("i + n", "Add(v1, c0)"),
-    ("i + r", "Add(Widen(v1), v2)"),
-    ("i - i + r", "Add(Widen(Sub(v1, v1)), v2)"),
-    ("r + i * i", "Add(v2, Widen(Mul(v1, v1)))"),
-    ("real(i) + r", "Add(ToReal(v1), v2)"),
-    ("real(i) + i", "Add(ToReal(v1), Widen(v1))"),
-    ("i / i", "Divide(Widen(v1), Widen(v1))"),
-    ("i ^ i ^ i", "Power(v1, Power(v1, v1))"),
-    ("i < r", "Less(Widen(v1), v2)"),
-    ("i == i and b or b", "Or(And(Equal(v1, v1), v0), v0)"),
-    ("i in qs", "In(Widen(v1), v9)"),
-    ("[i, r]", "ListOf(Widen(v1), v2)"),
-    ("{i: i, r: r}", "DictOf(Widen(v1), Widen(v1), v2, v2)"),
-    ("{i: s}", "DictOf(v1, v3)"),
-    ("(i, r)", "TupleOf(v1, v2)"),
-    ("<real>[]", "ListOf()"),
-    ("<int: real>{}", "DictOf()"),
-    ("is[i]", "Index(v6, v1)"),
-    ("d[i]", "Lookup(v10, v1)"),
-    ("is[i:]", "Slice(true, false, false)(v6, v1)"),
-    ("is[::i]", "Slice(false, false, true)(v6, v1)"),
-    ("w.a.y", "v15.0.1"),
-    ("f(i)", "f0(Widen(v1))"),
-    ("count()", "f3()"),
-    ("insert(rs, i, below)", "insert by f2 (v7, Widen(v1))"),
-    ("min(i, r, i)", "Min(Widen(v1), v2, Widen(v1))"),
-    ("floor(i)", "Floor(Widen(v1))"),
-    ("uniform(i, r)", "Uniform(Widen(v1), v2)"),
-    ("binomial(i, i)", "Binomial(v1, Widen(v1))"),
-    ("timer(i)", "ToTimer(Widen(v1))"),
-    ("time", "Time()"),
-    ("sample g", "Sample(v12)"),
-    ("true", "Bool(true)"),
-    ("17", "Int(17)"),
+const CORES: [(&str, &str); 55] = [
+    ("(i)", "Var(1)"),
+    ("+r", "Var(2)"),
+    ("-(+i)", "Op(Neg, [Var(1)])"),
+    ("n", "Const(0)"),
+    ("red", "Lit(Choice(0, 0))"),
+    ("i + n", "Op(Add, [Var(1), Const(0)])"),
+    ("i + r", "Op(Add, [Op(Widen, [Var(1)]), Var(2)])"),
+    ("i - i + r", "Op(Add, [Op(Widen, [Op(Sub, [Var(1), Var(1)])]), Var(2)])"),
+    ("r + i * i", "Op(Add, [Var(2), Op(Widen, [Op(Mul, [Var(1), Var(1)])])])"),
+    ("real(i) + r", "Op(Add, [Op(ToReal, [Var(1)]), Var(2)])"),
+    ("real(i) + i", "Op(Add, [Op(ToReal, [Var(1)]), Op(Widen, [Var(1)])])"),
+    ("i / i", "Op(Divide, [Op(Widen, [Var(1)]), Op(Widen, [Var(1)])])"),
+    ("i ^ i ^ i", "Op(Power, [Var(1), Op(Power, [Var(1), Var(1)])])"),
+    ("i < r", "Op(Less, [Op(Widen, [Var(1)]), Var(2)])"),
+    ("i == i and b or b", "Or(And(Op(Equal, [Var(1), Var(1)]), Var(0)), Var(0))"),
+    ("i - i - i", "Op(Sub, [Op(Sub, [Var(1), Var(1)]), Var(1)])"),
+    ("i - (i - i)", "Op(Sub, [Var(1), Op(Sub, [Var(1), Var(1)])])"),
+    ("r / i / i", "Op(Divide, [Op(Divide, [Var(2), Op(Widen, [Var(1)])]), Op(Widen, [Var(1)])])"),
+    ("b and b and b", "And(And(Var(0), Var(0)), Var(0))"),
+    ("not b == b", "Op(Not, [Op(Equal, [Var(0), Var(0)])])"),
+    ("-i ^ i", "Op(Neg, [Op(Power, [Var(1), Var(1)])])"),
+    ("i ^ -i", "Op(Power, [Var(1), Op(Neg, [Var(1)])])"),
+    ("i ^ i * r", "Op(Mul, [Op(Widen, [Op(Power, [Var(1), Var(1)])]), Var(2)])"),
+    ("sample g + r", "Op(Add, [Op(Widen, [Op(Sample, [Var(12)])]), Var(2)])"),
+    ("i in qs", "Op(In, [Op(Widen, [Var(1)]), Var(9)])"),
+    ("[i, r]", "Build(ListOf, [Op(Widen, [Var(1)]), Var(2)])"),
+    ("{i: i, r: r}", "Build(DictOf, [Op(Widen, [Var(1)]), Op(Widen, [Var(1)]), Var(2), Var(2)])"),
+    ("{i: s}", "Build(DictOf, [Var(1), Var(3)])"),
+    ("{r, i}", "Build(SetOf, [Var(2), Op(Widen, [Var(1)])])"),
+    ("{r: s}[i]", "Op(Lookup, [Build(DictOf, [Var(2), Var(3)]), Op(Widen, [Var(1)])])"),
+    ("(i, r)", "Build(TupleOf, [Var(1), Var(2)])"),
+    ("<real>[]", "Build(ListOf, [])"),
+    ("<int: real>{}", "Build(DictOf, [])"),
+    ("is[i]", "Op(Index, [Var(6), Var(1)])"),
+    ("d[i]", "Op(Lookup, [Var(10), Var(1)])"),
+    ("is[i:]", "Op(Slice(true, false, false), [Var(6), Var(1)])"),
+    ("is[::i]", "Op(Slice(false, false, true), [Var(6), Var(1)])"),
+    ("w.a.y", "Part(Part(Var(15), 0), 1)"),
+    ("f(i)", "Call(0, [Op(Widen, [Var(1)])])"),
+    ("f(i + i)", "Call(0, [Op(Widen, [Op(Add, [Var(1), Var(1)])])])"),
+    ("count()", "Call(3, [])"),
+    ("insert(rs, i, below)", "InsertBy(Var(7), Op(Widen, [Var(1)]), 2)"),
+    ("min(i, r, i)", "Op(Min, [Op(Widen, [Var(1)]), Var(2), Op(Widen, [Var(1)])])"),
+    ("floor(i)", "Op(Floor, [Op(Widen, [Var(1)])])"),
+    ("uniform(i, r)", "Op(Uniform, [Op(Widen, [Var(1)]), Var(2)])"),
+    ("binomial(i, i)", "Op(Binomial, [Var(1), Op(Widen, [Var(1)])])"),
+    ("constant(i)", "Op(Constant, [Var(1)])"),
+    ("bernoulli(i)", "Op(Bernoulli, [Op(Widen, [Var(1)])])"),
+    ("int(i)", "Op(ToInt, [Var(1)])"),
+    ("timer(i)", "Op(ToTimer, [Op(Widen, [Var(1)])])"),
+    ("real(t) - time", "Op(Sub, [Op(ToReal, [Var(4)]), Op(Time, [])])"),
+    ("time", "Op(Time, [])"),
+    ("sample g", "Op(Sample, [Var(12)])"),
+    ("true", "Lit(Bool(true))"),
+    ("17", "Lit(Int(17))"),
 ];
 
 #[test]
@@ -57,38 +69,18 @@ fn what_expressions_become(rt: HostRuntime) -> Result<(), Fail> {
 
 #[test]
 fn the_call_for_an_expression(rt: HostRuntime) -> Result<(), Fail> {
-    let scope = no_names(rt.alloc());
-    let tree = expr_of(rt.alloc(), b"1 + real(2)")?.ok_or("unread")?;
-    let (core, _) = type_expr(rt.alloc(), &tree, &scope, Site::Constant)?;
-    let text = shown(rt.alloc(), &core)?;
-    assert_eq!(rt; text.as_str(), "Add(Widen(Int(1)), ToReal(Int(2)))");
-    Ok(())
-}
-
-#[test]
-fn the_call_for_a_broken_expression(rt: HostRuntime) -> Result<(), Fail> {
-    let scope = no_names(rt.alloc());
-    let tree = expr_of(rt.alloc(), b"1 + true")?.ok_or("unread")?;
-    let fault = type_expr(rt.alloc(), &tree, &scope, Site::Constant).err();
-    assert!(rt; matches!(fault, Some(TypeFault::Broken { rule: 34, place }) if place.column == 3));
+    let core = expr_call(rt.alloc(), "1 + real(2)")?;
+    assert_eq!(rt; core.as_str(), "Op(Add, [Op(Widen, [Lit(Int(1))]), Op(ToReal, [Lit(Int(2))])])");
+    let told = expr_call(rt.alloc(), "1 + true")?;
+    assert_eq!(rt; told.as_str(), "34 at 1:3");
     Ok(())
 }
 
 #[test]
 fn the_call_for_a_type(rt: HostRuntime) -> Result<(), Fail> {
-    let scope = no_names(rt.alloc());
-    let tree = type_of(rt.alloc(), b"list(2) list(3) int")?.ok_or("unread")?;
-    let (_, default) = type_tree(rt.alloc(), &tree, &scope, Site::Process, true)?;
-    let text = shown(rt.alloc(), &default)?;
-    assert_eq!(rt; text.as_str(), "Repeat(Int(2), Repeat(Int(3), Int))");
-    Ok(())
-}
-
-#[test]
-fn the_call_for_a_broken_type(rt: HostRuntime) -> Result<(), Fail> {
-    let scope = no_names(rt.alloc());
-    let tree = type_of(rt.alloc(), b"list(2) int")?.ok_or("unread")?;
-    let fault = type_tree(rt.alloc(), &tree, &scope, Site::Process, false).err();
-    assert!(rt; matches!(fault, Some(TypeFault::Broken { rule: 7, place }) if place.column == 1));
+    let default = type_call(rt.alloc(), "list(2) list(3) int")?;
+    assert_eq!(rt; default.as_str(), "Repeat(Lit(Int(2)), Repeat(Lit(Int(3)), Default(Int)))");
+    let told = type_call(rt.alloc(), "list(2) list(true) int")?;
+    assert_eq!(rt; told.as_str(), "7 at 1:9");
     Ok(())
 }

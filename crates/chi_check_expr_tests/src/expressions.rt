@@ -65,7 +65,7 @@ fn literals_of_numbers(rt: HostRuntime) -> Result<(), Fail> {
     expect_exprs(&rt, rt.alloc(), &NUMBERS)
 }
 
-const PARTS: [(&str, &str); 23] = [
+const PARTS: [(&str, &str); 28] = [
     ("is[0.5]", "37 at 1:3"),
     ("is[1:true]", "37 at 1:3"),
     ("is[0.5:]", "37 at 1:3"),
@@ -89,6 +89,11 @@ const PARTS: [(&str, &str); 23] = [
     ("less(1, 2.5)", "35 at 1:1"),
     ("f(1)", "typed"),
     ("less(1, count())", "typed"),
+    ("sender(c)", "typed"),
+    ("sender(o)", "typed"),
+    ("receiver(c)", "typed"),
+    ("receiver(o)", "35 at 1:1"),
+    ("i + f(true)", "35 at 1:5"),
 ];
 
 #[test]
@@ -96,13 +101,16 @@ fn parts_and_calls(rt: HostRuntime) -> Result<(), Fail> {
     expect_exprs(&rt, rt.alloc(), &PARTS)
 }
 
-const LITERALS: [(&str, &str); 14] = [
+const LITERALS: [(&str, &str); 17] = [
     ("[1, s]", "39 at 1:1"),
     ("i + [1, s][0]", "39 at 1:5"),
     ("{1, true}", "39 at 1:1"),
     ("{1: i, s: i}", "39 at 1:1"),
     ("{1: i, 2: s}", "39 at 1:1"),
     ("[is, rs]", "39 at 1:1"),
+    ("[c, o]", "39 at 1:1"),
+    ("[(1, 2.5), (1, 2)]", "39 at 1:1"),
+    ("[e, small]", "39 at 1:1"),
     ("[1, 2.5]", "typed"),
     ("{1: i, 2.5: r}", "typed"),
     ("(1, s, true, [i])", "typed"),
@@ -118,15 +126,22 @@ fn literals_of_parts(rt: HostRuntime) -> Result<(), Fail> {
     expect_exprs(&rt, rt.alloc(), &LITERALS)
 }
 
-const EMPTY_LITERALS: [(&str, &str); 22] = [
+const EMPTY_LITERALS: [(&str, &str); 34] = [
     ("<int>[] == is", "typed"),
     ("<int>{} == ks", "typed"),
     ("<int: real>{} == d", "typed"),
     ("<timer>[]", "typed"),
     ("<int: timer>{}", "typed"),
     ("[<int>[], is]", "typed"),
+    ("[<int>{}, ks]", "typed"),
+    ("[<int: real>{}, d]", "typed"),
     ("{<int>[]}", "typed"),
+    ("{<int>{}}", "typed"),
+    ("{<int: real>{}, d}", "typed"),
+    ("{<int>[]: <int: int>{}}", "typed"),
     ("{<int>{}: <timer>[]}", "typed"),
+    ("{<int: int>{}: <int>{}}", "typed"),
+    ("[<timer>[]]", "typed"),
     ("(<int>[], <int>{}, <int: int>{})", "typed"),
     ("<real>[] == is", "34 at 1:10"),
     ("[<real>[], is]", "39 at 1:1"),
@@ -134,6 +149,11 @@ const EMPTY_LITERALS: [(&str, &str); 22] = [
     ("<timer>{}", "6 at 1:1"),
     ("<timer: int>{}", "6 at 1:1"),
     ("{<timer>[]}", "6 at 1:1"),
+    ("{<int: timer>{}}", "6 at 1:1"),
+    ("{<timer>[]: 1}", "6 at 1:1"),
+    ("[<timer>{}]", "6 at 1:2"),
+    ("(1, <chan int: int>{})", "6 at 1:5"),
+    ("<set dist int>[]", "6 at 1:2"),
     ("<nobody>[]", "2 at 1:2"),
     ("<int: nobody>{}", "2 at 1:7"),
     ("<i>{}", "3 at 1:2"),
@@ -149,7 +169,7 @@ fn empty_literals(rt: HostRuntime) -> Result<(), Fail> {
 }
 
 /// Expressions, each with what it comes to in a constant and in a function.
-const SITES: [(&str, &str, &str); 18] = [
+const SITES: [(&str, &str, &str); 25] = [
     ("f(1)", "11 at 1:1", "typed"),
     ("i + count()", "11 at 1:5", "typed"),
     ("no_function(1)", "11 at 1:1", "untyped"),
@@ -162,6 +182,13 @@ const SITES: [(&str, &str, &str); 18] = [
     ("real(t)", "11 at 1:1", "12 at 1:1"),
     ("timer(s)", "11 at 1:1", "12 at 1:1"),
     ("sample i", "11 at 1:1", "12 at 1:1"),
+    ("ready(i)", "11 at 1:1", "12 at 1:1"),
+    ("size(time)", "11 at 1:6", "12 at 1:6"),
+    ("s + f(1)", "11 at 1:5", "34 at 1:3"),
+    ("f(nobody)", "11 at 1:1", "2 at 1:3"),
+    ("nobody(time)", "2 at 1:1", "2 at 1:1"),
+    ("insert(is, 1, nobody)", "11 at 1:1", "36 at 1:1"),
+    ("{timer(1)}", "11 at 1:2", "12 at 1:2"),
     ("int(s) + size(is)", "typed", "typed"),
     ("real(1) * real(s)", "typed", "typed"),
     ("uniform(0, 1)", "typed", "typed"),
@@ -175,7 +202,7 @@ fn the_site_of_an_expression(rt: HostRuntime) -> Result<(), Fail> {
     expect_sites(&rt, rt.alloc(), &SITES)
 }
 
-const FIRST_BROKEN: [(&str, &str); 17] = [
+const FIRST_BROKEN: [(&str, &str); 23] = [
     ("nobody + (i + s)", "2 at 1:1"),
     ("(i + s) + nobody", "34 at 1:4"),
     ("(i + s) + (s + i)", "34 at 1:4"),
@@ -192,6 +219,12 @@ const FIRST_BROKEN: [(&str, &str); 17] = [
     ("nobody.x[f]", "2 at 1:1"),
     ("size(nobody, f)", "36 at 1:1"),
     ("size(nobody)", "2 at 1:6"),
+    ("size(time)", "36 at 1:1"),
+    ("(i + s).x", "34 at 1:4"),
+    ("nobody(i + s)", "2 at 1:1"),
+    ("i(nobody)", "3 at 1:1"),
+    ("-(i + s)", "34 at 1:5"),
+    ("real(i + s)", "34 at 1:8"),
     ("(i\n+ s) + nobody", "34 at 2:1"),
 ];
 

@@ -7,7 +7,8 @@ use chi_base::Items;
 use chi_check_expr::mean_in;
 use chi_token::Bytes;
 use chi_types::{Ty, same};
-use chi_typing::{Known, NameKind, Scope, Site};
+use chi_tree::TypeTree;
+use chi_typing::{Known, Meant, NameKind, Scope, Site};
 use std::alloc::Global;
 use std::test::Fail;
 
@@ -31,11 +32,13 @@ pub const VARIABLES: [(&str, u32, &str); 15] = [
 ];
 
 /// Functions with their numbers, the types of their parameters, and those of their results.
-const FUNCTIONS: [(&str, u32, &str, &str); 4] = [
+const FUNCTIONS: [(&str, u32, &str, &str); 6] = [
     ("f", 0, "real", "bool"),
     ("less", 1, "int int", "bool"),
     ("below", 2, "real real", "bool"),
     ("count", 3, "", "int"),
+    ("sender", 4, "chan!int", "bool"),
+    ("receiver", 5, "chan?int", "bool"),
 ];
 
 fn declare(alloc: Global, scope: &mut Scope, name: &'static str, known: Known) -> Result<(), Fail> {
@@ -46,14 +49,18 @@ fn declare(alloc: Global, scope: &mut Scope, name: &'static str, known: Known) -
     Ok(scope.declare(&name, known)?)
 }
 
+fn tree_meant(alloc: Global, scope: &Scope, tree: &TypeTree) -> Result<Ty, Fail> {
+    let mut kept = None;
+    match mean_in(alloc, tree, scope, Site::Process, false, &mut kept)? {
+        Some(Meant { ty, sizes: _ }) => Ok(ty),
+        None => Ok(Ty::Void),
+    }
+}
+
 /// The type that a source means, and `Void` where it means none.
 fn meant(alloc: Global, scope: &Scope, source: &str) -> Result<Ty, Fail> {
-    let Some(tree) = type_of(alloc, source.as_bytes())? else {
-        return Ok(Ty::Void);
-    };
-    let mut kept = None;
-    match mean_in(alloc, &tree, scope, Site::Process, false, &mut kept)? {
-        Some(meant) => Ok(meant.ty),
+    match type_of(alloc, source.as_bytes())? {
+        Some(tree) => tree_meant(alloc, scope, &tree),
         None => Ok(Ty::Void),
     }
 }
@@ -68,12 +75,15 @@ fn all_meant(alloc: Global, scope: &Scope, sources: &'static str) -> Result<Item
 
 fn declare_others(alloc: Global, scope: &mut Scope) -> Result<(), Fail> {
     let pair = meant(alloc, scope, "tuple(tuple(int x; real y) a; int b)")?;
-    let none = Items::of(alloc, Vec::new(alloc))?;
     declare(alloc, scope, "w", Known::Fixed(15, pair))?;
+    let way = meant(alloc, scope, "chan! int")?;
+    declare(alloc, scope, "o", Known::Var(16, way))?;
+    let none = Items::of(alloc, Vec::new(alloc))?;
+    declare(alloc, scope, "work", Known::Proc(0, none, None))?;
     declare(alloc, scope, "n", Known::Const(0, Ty::Int))?;
     declare(alloc, scope, "red", Known::Value(0, 0))?;
+    declare(alloc, scope, "small", Known::Value(1, 0))?;
     declare(alloc, scope, "measure", Known::Kind(Ty::Real))?;
-    declare(alloc, scope, "work", Known::Proc(0, none, None))?;
     declare(alloc, scope, "plant", Known::Model(1))?;
     declare(alloc, scope, "trial", Known::Xper(2))
 }
@@ -138,14 +148,18 @@ fn declare_functions(alloc: Global, scope: &mut Scope) -> Result<(), Fail> {
     Ok(())
 }
 
+fn declare_all(alloc: Global, scope: &mut Scope) -> Result<(), Fail> {
+    declare(alloc, scope, "colour", Known::Kind(Ty::Choice(0)))?;
+    declare_variables(alloc, scope)?;
+    declare_functions(alloc, scope)?;
+    declare_others(alloc, scope)?;
+    declare_untyped(alloc, scope)
+}
+
 /// What is known of the names.
 pub fn names(alloc: Global) -> Result<Scope, Fail> {
     let mut scope = Scope::new(alloc);
-    declare(alloc, &mut scope, "colour", Known::Kind(Ty::Choice(0)))?;
-    declare_variables(alloc, &mut scope)?;
-    declare_functions(alloc, &mut scope)?;
-    declare_others(alloc, &mut scope)?;
-    declare_untyped(alloc, &mut scope)?;
+    declare_all(alloc, &mut scope)?;
     Ok(scope)
 }
 

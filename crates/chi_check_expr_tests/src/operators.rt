@@ -1,7 +1,7 @@
 //! The operators, casts, indexes, slices and literals of two, each with all kinds of operands.
 
 use crate::names::names;
-use crate::rows::Rows;
+use crate::rows::{Rows, expect_exprs};
 use crate::tables::{expect_ones, expect_pairs};
 use std::alloc::Global;
 use std::process::Abort;
@@ -53,6 +53,41 @@ fn expect_between(rt: &impl Abort, alloc: Global, rows: Rows) -> Result<(), Fail
 #[test]
 fn operators_between_two(rt: HostRuntime) -> Result<(), Fail> {
     expect_between(&rt, rt.alloc(), &BETWEEN_TWO)
+}
+
+/// Operands of further types.
+const FURTHER: [(&str, &str); 26] = [
+    ("e == small", "34 at 1:3"),
+    ("red < small", "34 at 1:5"),
+    ("[e] + [small]", "34 at 1:5"),
+    ("t in [t]", "34 at 1:3"),
+    ("[t] == [t]", "34 at 1:5"),
+    ("[t] + [t]", "typed"),
+    ("(i, t) != (i, t)", "34 at 1:8"),
+    ("(i, s) == (i, s)", "typed"),
+    ("(i, s) < (i, s)", "34 at 1:8"),
+    ("(i, r) == (i, i)", "34 at 1:8"),
+    ("(i, r) == u", "typed"),
+    ("[i] == [r]", "34 at 1:5"),
+    ("is in [is]", "typed"),
+    ("is in [rs]", "34 at 1:4"),
+    ("i in {r: t}", "typed"),
+    ("{r: t}[i]", "typed"),
+    ("{r: s}[true]", "37 at 1:7"),
+    ("{r: s} - ks", "34 at 1:8"),
+    ("{r: s} - qs", "typed"),
+    ("{i: s} + d", "34 at 1:8"),
+    ("{u} * {(1, 2.5)}", "typed"),
+    ("{u} sub {(1, 2)}", "34 at 1:5"),
+    ("[c] + [o]", "34 at 1:5"),
+    ("i - i - s", "34 at 1:7"),
+    ("i ^ i ^ r", "34 at 1:7"),
+    ("- -s", "34 at 1:3"),
+];
+
+#[test]
+fn operators_of_further_types(rt: HostRuntime) -> Result<(), Fail> {
+    expect_exprs(&rt, rt.alloc(), &FURTHER)
 }
 
 const BEFORE_ONE: [(&str, &str); 4] = [

@@ -1,6 +1,6 @@
 //! Rows of sources, each with what it comes to.
 
-use crate::answers::{core_answer, expr_answer, type_answer};
+use crate::answers::{Asked, expr_answer, type_answer};
 use crate::names::names;
 use chi_typing::{Scope, Site};
 use std::alloc::Global;
@@ -19,7 +19,7 @@ pub fn expect_expr(
     source: &str,
     want: &'static str,
 ) -> Result<(), Fail> {
-    let told = expr_answer(alloc, source.as_bytes(), scope, site)?;
+    let told = expr_answer(alloc, source.as_bytes(), scope, site, Asked::Whether)?;
     assert_eq!(rt; told.as_str(), want, "for {source}");
     Ok(())
 }
@@ -54,7 +54,7 @@ fn expect_core(
     source: &'static str,
     want: &'static str,
 ) -> Result<(), Fail> {
-    let told = core_answer(alloc, source.as_bytes(), scope)?;
+    let told = expr_answer(alloc, source.as_bytes(), scope, Site::Process, Asked::Core)?;
     assert_eq!(rt; told.as_str(), want, "for {source}");
     Ok(())
 }

@@ -2,13 +2,20 @@
 //! are typed, each with its result. Where the operands break another rule than that of the table, or
 //! break it elsewhere, the list has that in place of the result.
 
-use crate::answers::kind_answer;
+use crate::answers::{Asked, expr_answer};
 use crate::names::VARIABLES;
-use crate::shown::put;
-use chi_typing::Scope;
+use chi_typing::{Scope, Site};
 use std::alloc::Global;
 use std::process::Abort;
 use std::test::Fail;
+
+/// One more entry of a list.
+fn put(list: &mut String, entry: &str) -> Result<(), Fail> {
+    if !list.is_empty() {
+        list.push_str(", ")?;
+    }
+    Ok(list.push_str(entry)?)
+}
 
 /// One more source with its operands, where it isn't just refused as the table's are.
 fn add_told(
@@ -19,7 +26,7 @@ fn add_told(
     operands: &str,
     refused: &str,
 ) -> Result<(), Fail> {
-    let told = kind_answer(alloc, source, scope)?;
+    let told = expr_answer(alloc, source, scope, Site::Process, Asked::Kind)?;
     if told.as_str() == refused {
         return Ok(());
     }

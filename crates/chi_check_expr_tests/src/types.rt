@@ -29,13 +29,16 @@ fn names_of_types(rt: HostRuntime) -> Result<(), Fail> {
     expect_types(&rt, rt.alloc(), false, &NAMES)
 }
 
-const PARTS: [(&str, &str); 22] = [
+const PARTS: [(&str, &str); 25] = [
     ("set timer", "6 at 1:1"),
     ("list set dist int", "6 at 1:6"),
     ("dict(inst: int)", "6 at 1:1"),
     ("dict(chan int: nobody)", "6 at 1:1"),
     ("set tuple(int a; chan void b)", "6 at 1:1"),
+    ("set chan! int", "6 at 1:1"),
+    ("dict(dist int: int)", "6 at 1:1"),
     ("set tuple(int a; list real b)", "typed"),
+    ("dict(tuple(int a; colour b): chan void)", "typed"),
     ("dict(int: inst)", "typed"),
     ("list(3) int", "7 at 1:1"),
     ("set list(i) int", "7 at 1:5"),
@@ -59,7 +62,7 @@ fn parts_of_types(rt: HostRuntime) -> Result<(), Fail> {
     expect_types(&rt, rt.alloc(), false, &PARTS)
 }
 
-const SIZES: [(&str, &str); 14] = [
+const SIZES: [(&str, &str); 15] = [
     ("list(3) int", "typed"),
     ("list(i + n) list(size(is)) int", "typed"),
     ("list(count()) list int", "typed"),
@@ -72,6 +75,7 @@ const SIZES: [(&str, &str); 14] = [
     ("tuple(list(2) int a; int b)", "7 at 1:7"),
     ("list(nobody) int", "2 at 1:6"),
     ("list(no_variable) int", "untyped"),
+    ("list(size) int", "3 at 1:6"),
     ("list(i + s) nobody", "34 at 1:8"),
     ("list(2) nobody", "2 at 1:9"),
 ];
