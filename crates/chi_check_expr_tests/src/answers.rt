@@ -76,11 +76,7 @@ fn meaning(alloc: Global, tree: &TypeTree, scope: &Scope, sizes: bool) -> Result
     if let Some(Fault { rule, place }) = kept {
         return broken(alloc, rule, place);
     }
-    let told = if meant.is_some() {
-        "typed"
-    } else {
-        "untyped"
-    };
+    let told = if meant.is_some() { "typed" } else { "untyped" };
     Ok(told.to_string(alloc)?)
 }
 

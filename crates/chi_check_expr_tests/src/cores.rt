@@ -12,29 +12,65 @@ const CORES: [(&str, &str); 55] = [
     ("red", "Lit(Choice(0, 0))"),
     ("i + n", "Op(Add, [Var(1), Const(0)])"),
     ("i + r", "Op(Add, [Op(Widen, [Var(1)]), Var(2)])"),
-    ("i - i + r", "Op(Add, [Op(Widen, [Op(Sub, [Var(1), Var(1)])]), Var(2)])"),
-    ("r + i * i", "Op(Add, [Var(2), Op(Widen, [Op(Mul, [Var(1), Var(1)])])])"),
+    (
+        "i - i + r",
+        "Op(Add, [Op(Widen, [Op(Sub, [Var(1), Var(1)])]), Var(2)])",
+    ),
+    (
+        "r + i * i",
+        "Op(Add, [Var(2), Op(Widen, [Op(Mul, [Var(1), Var(1)])])])",
+    ),
     ("real(i) + r", "Op(Add, [Op(ToReal, [Var(1)]), Var(2)])"),
-    ("real(i) + i", "Op(Add, [Op(ToReal, [Var(1)]), Op(Widen, [Var(1)])])"),
-    ("i / i", "Op(Divide, [Op(Widen, [Var(1)]), Op(Widen, [Var(1)])])"),
-    ("i ^ i ^ i", "Op(Power, [Var(1), Op(Power, [Var(1), Var(1)])])"),
+    (
+        "real(i) + i",
+        "Op(Add, [Op(ToReal, [Var(1)]), Op(Widen, [Var(1)])])",
+    ),
+    (
+        "i / i",
+        "Op(Divide, [Op(Widen, [Var(1)]), Op(Widen, [Var(1)])])",
+    ),
+    (
+        "i ^ i ^ i",
+        "Op(Power, [Var(1), Op(Power, [Var(1), Var(1)])])",
+    ),
     ("i < r", "Op(Less, [Op(Widen, [Var(1)]), Var(2)])"),
-    ("i == i and b or b", "Or(And(Op(Equal, [Var(1), Var(1)]), Var(0)), Var(0))"),
+    (
+        "i == i and b or b",
+        "Or(And(Op(Equal, [Var(1), Var(1)]), Var(0)), Var(0))",
+    ),
     ("i - i - i", "Op(Sub, [Op(Sub, [Var(1), Var(1)]), Var(1)])"),
-    ("i - (i - i)", "Op(Sub, [Var(1), Op(Sub, [Var(1), Var(1)])])"),
-    ("r / i / i", "Op(Divide, [Op(Divide, [Var(2), Op(Widen, [Var(1)])]), Op(Widen, [Var(1)])])"),
+    (
+        "i - (i - i)",
+        "Op(Sub, [Var(1), Op(Sub, [Var(1), Var(1)])])",
+    ),
+    (
+        "r / i / i",
+        "Op(Divide, [Op(Divide, [Var(2), Op(Widen, [Var(1)])]), Op(Widen, [Var(1)])])",
+    ),
     ("b and b and b", "And(And(Var(0), Var(0)), Var(0))"),
     ("not b == b", "Op(Not, [Op(Equal, [Var(0), Var(0)])])"),
     ("-i ^ i", "Op(Neg, [Op(Power, [Var(1), Var(1)])])"),
     ("i ^ -i", "Op(Power, [Var(1), Op(Neg, [Var(1)])])"),
-    ("i ^ i * r", "Op(Mul, [Op(Widen, [Op(Power, [Var(1), Var(1)])]), Var(2)])"),
-    ("sample g + r", "Op(Add, [Op(Widen, [Op(Sample, [Var(12)])]), Var(2)])"),
+    (
+        "i ^ i * r",
+        "Op(Mul, [Op(Widen, [Op(Power, [Var(1), Var(1)])]), Var(2)])",
+    ),
+    (
+        "sample g + r",
+        "Op(Add, [Op(Widen, [Op(Sample, [Var(12)])]), Var(2)])",
+    ),
     ("i in qs", "Op(In, [Op(Widen, [Var(1)]), Var(9)])"),
     ("[i, r]", "Build(ListOf, [Op(Widen, [Var(1)]), Var(2)])"),
-    ("{i: i, r: r}", "Build(DictOf, [Op(Widen, [Var(1)]), Op(Widen, [Var(1)]), Var(2), Var(2)])"),
+    (
+        "{i: i, r: r}",
+        "Build(DictOf, [Op(Widen, [Var(1)]), Op(Widen, [Var(1)]), Var(2), Var(2)])",
+    ),
     ("{i: s}", "Build(DictOf, [Var(1), Var(3)])"),
     ("{r, i}", "Build(SetOf, [Var(2), Op(Widen, [Var(1)])])"),
-    ("{r: s}[i]", "Op(Lookup, [Build(DictOf, [Var(2), Var(3)]), Op(Widen, [Var(1)])])"),
+    (
+        "{r: s}[i]",
+        "Op(Lookup, [Build(DictOf, [Var(2), Var(3)]), Op(Widen, [Var(1)])])",
+    ),
     ("(i, r)", "Build(TupleOf, [Var(1), Var(2)])"),
     ("<real>[]", "Build(ListOf, [])"),
     ("<int: real>{}", "Build(DictOf, [])"),
@@ -44,18 +80,36 @@ const CORES: [(&str, &str); 55] = [
     ("is[::i]", "Op(Slice(false, false, true), [Var(6), Var(1)])"),
     ("w.a.y", "Part(Part(Var(15), 0), 1)"),
     ("f(i)", "Call(0, [Op(Widen, [Var(1)])])"),
-    ("f(i + i)", "Call(0, [Op(Widen, [Op(Add, [Var(1), Var(1)])])])"),
+    (
+        "f(i + i)",
+        "Call(0, [Op(Widen, [Op(Add, [Var(1), Var(1)])])])",
+    ),
     ("count()", "Call(3, [])"),
-    ("insert(rs, i, below)", "InsertBy(Var(7), Op(Widen, [Var(1)]), 2)"),
-    ("min(i, r, i)", "Op(Min, [Op(Widen, [Var(1)]), Var(2), Op(Widen, [Var(1)])])"),
+    (
+        "insert(rs, i, below)",
+        "InsertBy(Var(7), Op(Widen, [Var(1)]), 2)",
+    ),
+    (
+        "min(i, r, i)",
+        "Op(Min, [Op(Widen, [Var(1)]), Var(2), Op(Widen, [Var(1)])])",
+    ),
     ("floor(i)", "Op(Floor, [Op(Widen, [Var(1)])])"),
-    ("uniform(i, r)", "Op(Uniform, [Op(Widen, [Var(1)]), Var(2)])"),
-    ("binomial(i, i)", "Op(Binomial, [Var(1), Op(Widen, [Var(1)])])"),
+    (
+        "uniform(i, r)",
+        "Op(Uniform, [Op(Widen, [Var(1)]), Var(2)])",
+    ),
+    (
+        "binomial(i, i)",
+        "Op(Binomial, [Var(1), Op(Widen, [Var(1)])])",
+    ),
     ("constant(i)", "Op(Constant, [Var(1)])"),
     ("bernoulli(i)", "Op(Bernoulli, [Op(Widen, [Var(1)])])"),
     ("int(i)", "Op(ToInt, [Var(1)])"),
     ("timer(i)", "Op(ToTimer, [Op(Widen, [Var(1)])])"),
-    ("real(t) - time", "Op(Sub, [Op(ToReal, [Var(4)]), Op(Time, [])])"),
+    (
+        "real(t) - time",
+        "Op(Sub, [Op(ToReal, [Var(4)]), Op(Time, [])])",
+    ),
     ("time", "Op(Time, [])"),
     ("sample g", "Op(Sample, [Var(12)])"),
     ("true", "Lit(Bool(true))"),
@@ -70,7 +124,10 @@ fn what_expressions_become(rt: HostRuntime) -> Result<(), Fail> {
 #[test]
 fn the_call_for_an_expression(rt: HostRuntime) -> Result<(), Fail> {
     let core = expr_call(rt.alloc(), "1 + real(2)")?;
-    assert_eq!(rt; core.as_str(), "Op(Add, [Op(Widen, [Lit(Int(1))]), Op(ToReal, [Lit(Int(2))])])");
+    assert_eq!(rt;
+        core.as_str(),
+        "Op(Add, [Op(Widen, [Lit(Int(1))]), Op(ToReal, [Lit(Int(2))])])"
+    );
     let told = expr_call(rt.alloc(), "1 + true")?;
     assert_eq!(rt; told.as_str(), "34 at 1:3");
     Ok(())
@@ -79,7 +136,10 @@ fn the_call_for_an_expression(rt: HostRuntime) -> Result<(), Fail> {
 #[test]
 fn the_call_for_a_type(rt: HostRuntime) -> Result<(), Fail> {
     let default = type_call(rt.alloc(), "list(2) list(3) int")?;
-    assert_eq!(rt; default.as_str(), "Repeat(Lit(Int(2)), Repeat(Lit(Int(3)), Default(Int)))");
+    assert_eq!(rt;
+        default.as_str(),
+        "Repeat(Lit(Int(2)), Repeat(Lit(Int(3)), Default(Int)))"
+    );
     let told = type_call(rt.alloc(), "list(2) list(true) int")?;
     assert_eq!(rt; told.as_str(), "7 at 1:9");
     Ok(())
