@@ -2,10 +2,14 @@
 
 #![tactic(auto, using(chi_typing::proofs::Firsts::first_of_none, chi_typing::proofs::Firsts::first_of_append))]
 
-ghost use Rattle.std.specs.Prelude.{◌≡◌, map, IfOk, OnOk};
+ghost use Rattle.std.specs.Prelude.{◌≡◌, ◌+◌, ◌++◌, map, IfOk, OnOk};
 ghost use Rattle.std.specs.Option.{option_copied};
 ghost use Rattle.chi_typing.specs.Faults.{first_of};
 ghost use Rattle.chi_stat_parts.specs.Stated.{in_turn};
+ghost use Rattle.chi_typing.specs.declared.known.NameKind.TheVariants as kinds;
+ghost use Rattle.chi_typing.specs.declared.site.Site.TheVariants as site;
+ghost use Rattle.chi_check_expr.specs.Typing.{typing};
+ghost use Rattle.chi_stat_rules.specs.Values as values;
 ghost use Rattle.chi_headers.specs.Definitions as spec;
 
 use crate::headers::type_in;
@@ -54,10 +58,12 @@ pub(crate) fn add_definition(
 ) -> Result<(), NoMemory>
     ensures { OnOk result (scope.new ≡ spec.with_definition all.now kind scope.old name.now known) }
 {
-    if !means(kind, all.known(&name.text)) {
-        return Ok(());
+    if means(kind, all.known(&name.text)) {
+        add_name(scope, &name.text, known)
+    } else {
+        drop(known);
+        Ok(())
     }
-    add_name(scope, &name.text, known)
 }
 
 fn constant_known(number: u32, ty: Option<Ty>) -> Known
@@ -87,12 +93,66 @@ fn constant(
     ensures { IfOk result (λ c. c ≡ spec.constant_made line ty value) }
 {
     let Some(ty) = ty else {
+        drop(value);
         return Ok(None);
     };
     let Some(value) = value else {
+        drop(ty);
         return Ok(None);
     };
     one(alloc, Some(ConstDef { line, ty, value }))
+}
+
+/// Adds a constant of the type, if it has one.
+fn add_constant(
+    alloc: Global,
+    all: &Scope,
+    name: &Name,
+    ty: Option<&Ty>,
+    early: &mut Early,
+) -> Result<(), NoMemory>
+    ensures next { let known = spec.constant_known early.old.constants (option_copied ty.entry) in
+        OnOk result (early.new ≡ record {
+          names = spec.with_definition all.now kinds.Constant early.old.names name.now known;
+          constants = early.old.constants + 1;
+        }) }
+{
+    let known = constant_known(early.constants, copied(alloc, ty)?);
+    add_definition(all, NameKind::Constant, &mut early.names, name, known)?;
+    early.constants = after(early.constants)?;
+    Ok(())
+}
+
+/// What a constant's value comes to at its type. The constant is visible after it.
+fn define_value(
+    alloc: Global,
+    all: &Scope,
+    name: &Name,
+    equals: Place,
+    value: &Expr,
+    ty: Option<&Ty>,
+    early: &mut Early,
+    kept: &mut Option<Fault>,
+) -> Result<Option<CExpr>, NoMemory>
+    ensures next { let known = spec.constant_known early.old.constants (option_copied ty.entry) in
+        OnOk result (early.new ≡ record {
+          names = spec.with_definition all.now kinds.Constant early.old.names name.now known;
+          constants = early.old.constants + 1;
+        }) }
+    ensures made { let v = typing site.Constant early.old.names value.now in
+        IfOk result (λ e. e ≡ (values.constant_value equals v.made (option_copied ty.entry)).made) }
+    ensures noted { let v = typing site.Constant early.old.names value.now in
+        OnOk result (kept.new ≡ first_of kept.old (v.faults ++ (values.constant_value equals v.made (option_copied ty.entry)).faults)) }
+{
+    let made = type_value(alloc, value, &early.names, Site::Constant, kept)?;
+    let value = constant_value(alloc, equals, made, ty, kept)?;
+    match add_constant(alloc, all, name, ty, early) {
+        Ok(()) => Ok(value),
+        Err(refusal) => {
+            drop(value);
+            Err(refusal)
+        }
+    }
 }
 
 fn define_constant(
@@ -111,12 +171,13 @@ fn define_constant(
     ensures noted { OnOk result (kept.new ≡ first_of kept.old (spec.constant_defined all.now place tree.now name.now equals value.now early.old).faults) }
 {
     let ty = type_in(alloc, Site::Constant, &early.names, tree, kept)?;
-    let made = type_value(alloc, value, &early.names, Site::Constant, kept)?;
-    let value = constant_value(alloc, equals, made, ty.as_ref(), kept)?;
-    let known = constant_known(early.constants, copied(alloc, ty.as_ref())?);
-    add_definition(all, NameKind::Constant, &mut early.names, name, known)?;
-    early.constants = after(early.constants)?;
-    constant(alloc, place.line, ty, value)
+    match define_value(alloc, all, name, equals, value, ty.as_ref(), early, kept) {
+        Ok(value) => constant(alloc, place.line, ty, value),
+        Err(refusal) => {
+            drop(ty);
+            Err(refusal)
+        }
+    }
 }
 
 fn define_type(

@@ -17,12 +17,19 @@ use chi_types::Ty;
 use chi_typing::{Fault, Known, Meant, NameKind, Scope, Site};
 use std::alloc::Global;
 
+fn type_meant(meant: Meant) -> Ty
+    ensures { result ≡ meant.ty }
+{
+    let Meant { ty, sizes: _sizes } = meant;
+    ty
+}
+
 fn type_of(meant: Option<Meant>) -> Option<Ty>
     ensures { result ≡ spec.type_of meant }
 {
     match meant {
         None => None,
-        Some(meant) => Some(meant.ty),
+        Some(meant) => Some(type_meant(meant)),
     }
 }
 
@@ -107,9 +114,16 @@ fn function_header(
     ensures noted { OnOk result (kept.new ≡ first_of kept.old (spec.function_header scope.now tree.now formals.now).faults) }
 {
     let outcome = type_in(alloc, Site::Function, scope, tree, kept)?;
-    let formals = formal_types(alloc, Site::Function, scope, formals, kept)?;
-    let home = Home::Function(outcome);
-    Ok(Header { formals, home })
+    match formal_types(alloc, Site::Function, scope, formals, kept) {
+        Ok(formals) => {
+            let home = Home::Function(outcome);
+            Ok(Header { formals, home })
+        }
+        Err(refusal) => {
+            drop(outcome);
+            Err(refusal)
+        }
+    }
 }
 
 fn process_header(
@@ -123,9 +137,16 @@ fn process_header(
     ensures noted { OnOk result (kept.new ≡ first_of kept.old (spec.process_header scope.now tree.now formals.now).faults) }
 {
     let exit = exit_type_in(alloc, scope, tree, kept)?;
-    let formals = formal_types(alloc, Site::Process, scope, formals, kept)?;
-    let home = Home::Process(exit);
-    Ok(Header { formals, home })
+    match formal_types(alloc, Site::Process, scope, formals, kept) {
+        Ok(formals) => {
+            let home = Home::Process(exit);
+            Ok(Header { formals, home })
+        }
+        Err(refusal) => {
+            drop(exit);
+            Err(refusal)
+        }
+    }
 }
 
 /// The header of what has one, where these names are visible.
@@ -174,6 +195,7 @@ pub fn all_types(alloc: Global, types: &[Option<Ty>]) -> Result<Option<Items<Ty>
     let mut all = Vec::new(alloc);
     for ty in types {
         let Some(ty) = ty else {
+            drop(all);
             return Ok(None);
         };
         all.push(ty.copy(alloc)?)?;
@@ -193,9 +215,16 @@ fn function_known(
         return Ok(Known::Untyped(NameKind::Function));
     };
     let Some(outcome) = outcome else {
+        drop(params);
         return Ok(Known::Untyped(NameKind::Function));
     };
-    Ok(Known::Func(number, params, outcome.copy(alloc)?))
+    match outcome.copy(alloc) {
+        Ok(outcome) => Ok(Known::Func(number, params, outcome)),
+        Err(refusal) => {
+            drop(params);
+            Err(refusal)
+        }
+    }
 }
 
 fn process_known(
@@ -211,8 +240,17 @@ fn process_known(
     };
     match exit {
         ExitType::Nothing => Ok(Known::Proc(number, params, None)),
-        ExitType::Untyped => Ok(Known::Untyped(NameKind::Process)),
-        ExitType::Given(ty) => Ok(Known::Proc(number, params, Some(ty.copy(alloc)?))),
+        ExitType::Untyped => {
+            drop(params);
+            Ok(Known::Untyped(NameKind::Process))
+        }
+        ExitType::Given(ty) => match ty.copy(alloc) {
+            Ok(ty) => Ok(Known::Proc(number, params, Some(ty))),
+            Err(refusal) => {
+                drop(params);
+                Err(refusal)
+            }
+        },
     }
 }
 
