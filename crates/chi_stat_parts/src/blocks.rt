@@ -1,4 +1,5 @@
-//! Statements made of what their parts come to.
+//! Statements made of what their parts come to. Parts of which nothing is made are dropped by calls of `drop`:
+//! what goes out of scope where a function returns is laid out part by part in its proof, on each way out.
 
 ghost use Rattle.std.specs.Prelude.{◌≡◌, Some, None, not, if◌then◌else◌, IfOk, OnOk};
 ghost use Rattle.chi_typing.specs.Faults.{are_none, first_of};
@@ -27,6 +28,7 @@ pub fn loop_word(
     ensures noted { OnOk result (kept.new ≡ first_of kept.old (loop_rule loops place)) }
 {
     if note_loop_word(loops, place, kept) {
+        drop(statement);
         return Ok(None);
     }
     one(alloc, Some(statement))
@@ -45,6 +47,7 @@ pub fn selected(
         return Ok(None);
     };
     if barred {
+        drop(inner);
         return Ok(None);
     }
     one(alloc, Some(CStat::Select(line, inner)))
@@ -63,6 +66,7 @@ pub fn ran(
         return Ok(None);
     };
     if barred {
+        drop(inner);
         return Ok(None);
     }
     one(alloc, Some(CStat::Run(line, inner)))
@@ -81,6 +85,7 @@ pub fn started(
         return Ok(None);
     };
     if barred {
+        drop(inner);
         return Ok(None);
     }
     one(alloc, Some(CStat::Start(line, inner)))
@@ -96,9 +101,11 @@ pub fn chosen(
     ensures { IfOk result (λ s. s ≡ spec.chosen line branches otherwise) }
 {
     let Some(branches) = branches else {
+        drop(otherwise);
         return Ok(None);
     };
     let Some(otherwise) = otherwise else {
+        drop(branches);
         return Ok(None);
     };
     one(alloc, Some(CStat::If(line, branches, otherwise)))
@@ -114,9 +121,11 @@ pub fn looped(
     ensures { IfOk result (λ s. s ≡ spec.looped line test inner) }
 {
     let Some(test) = test else {
+        drop(inner);
         return Ok(None);
     };
     let Some(inner) = inner else {
+        drop(test);
         return Ok(None);
     };
     one(alloc, Some(CStat::While(line, test, inner)))
@@ -131,12 +140,15 @@ pub fn walked(
 ) -> Result<Option<Items<CStat>>, NoMemory>
     ensures { IfOk result (λ s. s ≡ spec.walked line opened inner) }
 {
-    let Some(Opened { container, slots }) = opened else {
+    let Some(opened) = opened else {
+        drop(inner);
         return Ok(None);
     };
     let Some(inner) = inner else {
+        drop(opened);
         return Ok(None);
     };
+    let Opened { container, slots } = opened;
     one(alloc, Some(CStat::For(line, slots, container, inner)))
 }
 
@@ -149,12 +161,36 @@ pub fn branched(
     ensures { IfOk result (λ b. b ≡ spec.branched test inner) }
 {
     let Some(test) = test else {
+        drop(inner);
         return Ok(None);
     };
     let Some(block) = inner else {
+        drop(test);
         return Ok(None);
     };
     one(alloc, Some(Branch { test, block }))
+}
+
+/// An alternative with this guard, or with none.
+fn guarded_by(
+    alloc: Global,
+    guard: Option<CExpr>,
+    offer: Option<CComm>,
+    inner: Option<Items<CStat>>,
+) -> Result<Option<Items<CAlt>>, NoMemory>
+    ensures { IfOk result (λ a. a ≡ spec.guarded (Some guard) offer inner) }
+{
+    let Some(offer) = offer else {
+        drop(guard);
+        drop(inner);
+        return Ok(None);
+    };
+    let Some(inner) = inner else {
+        drop(guard);
+        drop(offer);
+        return Ok(None);
+    };
+    one(alloc, Some(CAlt::Guarded(guard, offer, inner)))
 }
 
 /// An alternative of what its guard, its communication and its block come to.
@@ -167,15 +203,11 @@ pub fn guarded(
     ensures { IfOk result (λ a. a ≡ spec.guarded guard offer inner) }
 {
     let Some(guard) = guard else {
+        drop(offer);
+        drop(inner);
         return Ok(None);
     };
-    let Some(offer) = offer else {
-        return Ok(None);
-    };
-    let Some(inner) = inner else {
-        return Ok(None);
-    };
-    one(alloc, Some(CAlt::Guarded(guard, offer, inner)))
+    guarded_by(alloc, guard, offer, inner)
 }
 
 /// An unwind of what its walk and its alternatives come to.
@@ -186,11 +218,14 @@ pub fn offered(
 ) -> Result<Option<Items<CAlt>>, NoMemory>
     ensures { IfOk result (λ a. a ≡ spec.offered opened inner) }
 {
-    let Some(Opened { container, slots }) = opened else {
+    let Some(opened) = opened else {
+        drop(inner);
         return Ok(None);
     };
     let Some(inner) = inner else {
+        drop(opened);
         return Ok(None);
     };
+    let Opened { container, slots } = opened;
     one(alloc, Some(CAlt::Unwind(slots, container, inner)))
 }

@@ -5,8 +5,11 @@
 ghost use Rattle.std.specs.Prelude.{◌≡◌, map, option_map, not, length, if◌then◌else◌, None, IfOk, OnOk};
 ghost use Rattle.std.specs.Option.{option_copied};
 ghost use Rattle.chi_typing.specs.Faults.{first_of, are_none};
-ghost use Rattle.chi_stat_parts.specs.Stated.{in_turn};
-ghost use Rattle.chi_stat_parts.specs.States.{is_taken};
+ghost use Rattle.chi_stat_rules.specs.Homes.{channel_rule};
+ghost use Rattle.chi_stat_parts.specs.Stated.{held_by, in_turn};
+ghost use Rattle.chi_stat_parts.specs.declared.state.Binder.TheVariants as binder;
+ghost use Rattle.chi_stat_parts.specs.States.{is_taken, with_variable};
+ghost use Rattle.chi_stat_parts.specs.States as states;
 ghost use Rattle.chi_stat_parts.specs.Declarations as spec;
 
 use crate::copies::expr_copies;
@@ -75,9 +78,25 @@ fn declaration(
         return Ok(None);
     };
     if taken {
+        drop(value);
         return Ok(None);
     }
     one(alloc, Some(CStat::Declare(line, slot, value)))
+}
+
+/// Adds a variable, and tells its slot.
+fn add_declared(
+    alloc: Global,
+    name: &Name,
+    ty: Option<&Ty>,
+    state: &mut State,
+) -> Result<u32, NoMemory>
+    ensures next { OnOk result (state.new ≡ with_variable binder.Variable name.now (option_copied ty.entry) state.old) }
+    ensures slot { IfOk result (λ slot. slot ≡ states.next_slot state.old) }
+{
+    let slot = next_slot(state)?;
+    add_variable(alloc, Binder::Variable, name, ty, state)?;
+    Ok(slot)
 }
 
 #[tactic(auto, using(chi_typing::proofs::Firsts::first_of_append, crate::proofs::Held::held_if))]
@@ -96,15 +115,13 @@ fn declare_one(
 {
     let taken = note_new_name(&state.names, &variable.name, kept);
     let value = initial_in(alloc, home, &state.names, meant, &variable.initial, kept)?;
-    let slot = next_slot(state)?;
-    add_variable(
-        alloc,
-        Binder::Variable,
-        &variable.name,
-        type_of(meant),
-        state,
-    )?;
-    declaration(alloc, taken, line, slot, value)
+    match add_declared(alloc, &variable.name, type_of(meant), state) {
+        Ok(slot) => declaration(alloc, taken, line, slot, value),
+        Err(refusal) => {
+            drop(value);
+            Err(refusal)
+        }
+    }
 }
 
 fn declare_all(
@@ -132,11 +149,40 @@ fn declare_all(
 pub(crate) fn unless<T: Drop>(barred: bool, made: Option<T>) -> Option<T>
     ensures { result ≡ (if barred then None else made) }
 {
-    if barred { None } else { made }
+    if barred {
+        drop(made);
+        None
+    } else {
+        made
+    }
+}
+
+/// A declaration of variables of the type that was meant.
+#[tactic(auto, using(chi_typing::proofs::Firsts::first_of_append, crate::proofs::Held::held_made))]
+fn declare_meant(
+    alloc: Global,
+    home: &Home,
+    place: Place,
+    meant: &Option<Meant>,
+    variables: &[Variable],
+    state: &mut State,
+    kept: &mut Option<Fault>,
+) -> Result<Option<Items<CStat>>, NoMemory>
+    ensures next { let declared = in_turn (map (spec.declared home.now place.line meant.now) variables.now) state.old in
+        OnOk result (state.new ≡ declared.next) }
+    ensures made { let declared = in_turn (map (spec.declared home.now place.line meant.now) variables.now) state.old in
+        let rule = channel_rule home.now place (option_map (λ m. m.ty) meant.now) in
+        IfOk result (λ s. s ≡ (held_by rule declared).made) }
+    ensures noted { let declared = in_turn (map (spec.declared home.now place.line meant.now) variables.now) state.old in
+        let rule = channel_rule home.now place (option_map (λ m. m.ty) meant.now) in
+        OnOk result (kept.new ≡ first_of kept.old (held_by rule declared).faults) }
+{
+    let barred = chi_stat_rules::note_channel(home, place, type_of(meant), kept);
+    let made = declare_all(alloc, home, place.line, meant, variables, state, kept)?;
+    Ok(unless(barred, made))
 }
 
 /// A declaration of variables of one type.
-#[tactic(auto, using(chi_typing::proofs::Firsts::first_of_append, crate::proofs::Held::held_made))]
 pub fn declare(
     alloc: Global,
     home: &Home,
@@ -151,9 +197,9 @@ pub fn declare(
 {
     let place = type_place(ty);
     let meant = mean_in(alloc, ty, &state.names, site_of(home), true, kept)?;
-    let barred = chi_stat_rules::note_channel(home, place, type_of(&meant), kept);
-    let made = declare_all(alloc, home, place.line, &meant, variables, state, kept)?;
-    Ok(unless(barred, made))
+    let made = declare_meant(alloc, home, place, &meant, variables, state, kept);
+    drop(meant);
+    made
 }
 
 fn walk_place(names: &[Name], container: Place) -> Place
@@ -174,15 +220,28 @@ fn types_of(walked: &Option<Walked>) -> &[Ty]
     }
 }
 
+fn container_of(walked: Walked) -> CExpr
+    ensures { result ≡ walked.container }
+{
+    let Walked {
+        container,
+        types: _types,
+    } = walked;
+    container
+}
+
 fn opened(walked: Option<Walked>, slots: Option<Items<u32>>) -> Option<Opened>
     ensures { result ≡ spec.opening walked slots }
 {
-    let Some(Walked { container, .. }) = walked else {
+    let Some(walked) = walked else {
+        drop(slots);
         return None;
     };
     let Some(slots) = slots else {
+        drop(walked);
         return None;
     };
+    let container = container_of(walked);
     Some(Opened { container, slots })
 }
 
@@ -204,6 +263,11 @@ pub fn open_walk(
     let first = walk_place(names, place);
     let made = value_in(alloc, home, &state.names, &walk.container, kept)?;
     let walked = chi_target_rules::walk_of(alloc, place, first, names.len(), made, kept)?;
-    let slots = bind_all(alloc, binder, names, types_of(&walked), state, kept)?;
-    Ok(opened(walked, slots))
+    match bind_all(alloc, binder, names, types_of(&walked), state, kept) {
+        Ok(slots) => Ok(opened(walked, slots)),
+        Err(refusal) => {
+            drop(walked);
+            Err(refusal)
+        }
+    }
 }

@@ -2,23 +2,27 @@
 
 #![tactic(auto, using(chi_typing::proofs::Firsts::first_of_none, chi_typing::proofs::Firsts::first_of_append, chi_expr_rules::proofs::Barred::made_barred, chi_expr_rules::proofs::Barred::faults_barred))]
 
-ghost use Rattle.std.specs.Prelude.{◌≡◌, None, map, option_map, if◌then◌else◌, IfOk, OnOk};
+ghost use Rattle.std.specs.Prelude.{◌≡◌, ◌++◌, None, map, option_map, if◌then◌else◌, IfOk, OnOk};
 ghost use Rattle.chi_tree.specs.declared.statement.Communication.TheVariants as communication;
 ghost use Rattle.chi_core.specs.declared.statement.CStat.TheVariants as statement;
 ghost use Rattle.chi_typing.specs.Faults.{first_of};
 ghost use Rattle.chi_stat_parts.specs.Stated as stated;
-ghost use Rattle.chi_stat_parts.specs.Values.{faults_if, made_if};
+ghost use Rattle.chi_stat_rules.specs.Elements.{start_of};
+ghost use Rattle.chi_stat_rules.specs.Writes.{write_of};
+ghost use Rattle.chi_stat_parts.specs.Values.{all_faults, faults_if, made_if, made_of};
+ghost use Rattle.chi_stat_parts.specs.Values as expressions;
 ghost use Rattle.chi_stat_parts.specs.Lines as spec;
 
 use crate::declarations::unless;
-use crate::lists::one;
+use crate::lists::{one, only};
 use crate::values::{goal_in, instances_in, some_value_in, target_in, value_in, values_in};
 use chi_base::{Items, NoMemory};
 use chi_core::{CAlt, CComm, CElem, CExpr, CStat};
-use chi_stat_rules::{Home, Receiver, expr_place, note_running};
+use chi_stat_rules::{Home, Receiver, Started, expr_place, note_running};
 use chi_token::{Bytes, Place};
 use chi_tree::{Communication, Expr, Name, Target};
 use chi_typing::{Fault, Made, Scope};
+use chi_value::Piece;
 use std::alloc::Global;
 
 pub(crate) fn communication_place(c: &Communication) -> Place
@@ -62,8 +66,13 @@ fn send_in(
     ensures noted { OnOk result (kept.new ≡ first_of kept.old (spec.parts_in home.now scope.now (communication.Send target.now place value.now)).faults) }
 {
     let to = target_in(alloc, home, scope, target, kept)?;
-    let value = some_value_in(alloc, home, scope, value, kept)?;
-    chi_channel_rules::send_of(alloc, place, to, value, kept)
+    match some_value_in(alloc, home, scope, value, kept) {
+        Ok(value) => chi_channel_rules::send_of(alloc, place, to, value, kept),
+        Err(refusal) => {
+            drop(to);
+            Err(refusal)
+        }
+    }
 }
 
 fn receive_in(
@@ -79,8 +88,13 @@ fn receive_in(
     ensures noted { OnOk result (kept.new ≡ first_of kept.old (spec.parts_in home.now scope.now (communication.Receive target.now place name.now)).faults) }
 {
     let from = target_in(alloc, home, scope, target, kept)?;
-    let receiver = receiver_in(alloc, place, scope, name, kept)?;
-    chi_channel_rules::receive_of(alloc, place, from, receiver, kept)
+    match receiver_in(alloc, place, scope, name, kept) {
+        Ok(receiver) => chi_channel_rules::receive_of(alloc, place, from, receiver, kept),
+        Err(refusal) => {
+            drop(from);
+            Err(refusal)
+        }
+    }
 }
 
 fn delay_in(
@@ -145,10 +159,13 @@ pub fn communication_in(
 fn selected(alloc: Global, line: u32, c: CComm) -> Result<CStat, NoMemory>
     ensures { IfOk result (λ s. s ≡ spec.selected line c) }
 {
-    let block = Items::of(alloc, Vec::new(alloc))?;
-    let mut alternatives = Vec::new(alloc);
-    alternatives.push(CAlt::Guarded(None, c, block))?;
-    Ok(CStat::Select(line, Items::of(alloc, alternatives)?))
+    match Items::of(alloc, Vec::new(alloc)) {
+        Ok(block) => Ok(CStat::Select(line, only(alloc, CAlt::Guarded(None, c, block))?)),
+        Err(refusal) => {
+            drop(c);
+            Err(refusal)
+        }
+    }
 }
 
 /// A communication that stands alone.
@@ -163,10 +180,28 @@ pub fn communicating(
     ensures noted { OnOk result (kept.new ≡ first_of kept.old (spec.communicating home.now scope.now c.now).faults) }
 {
     let line = communication_place(c).line;
-    let Some(made) = communication_in(alloc, home, scope, c, kept)? else {
-        return Ok(None);
-    };
-    one(alloc, Some(selected(alloc, line, made)?))
+    match communication_in(alloc, home, scope, c, kept)? {
+        Some(made) => one(alloc, Some(selected(alloc, line, made)?)),
+        None => Ok(None),
+    }
+}
+
+/// A name with arguments, which is run or started.
+fn started_in(
+    alloc: Global,
+    home: &Home,
+    scope: &Scope,
+    name: &Name,
+    arguments: &[Expr],
+    kept: &mut Option<Fault>,
+) -> Result<Option<Started>, NoMemory>
+    ensures made { let given = expressions.values_in home.now scope.now arguments.now in
+        IfOk result (λ s. s ≡ (start_of home.now scope.now name.now (map made_of given)).made) }
+    ensures noted { let given = expressions.values_in home.now scope.now arguments.now in
+        OnOk result (kept.new ≡ first_of kept.old (all_faults given ++ (start_of home.now scope.now name.now (map made_of given)).faults)) }
+{
+    let arguments = values_in(alloc, home, scope, arguments, kept)?;
+    chi_channel_rules::start_of(alloc, home, scope, name, arguments, kept)
 }
 
 /// What is run or started: a name with arguments, and where the new instance goes, if it goes anywhere.
@@ -183,9 +218,13 @@ pub fn element_in(
     ensures noted { OnOk result (kept.new ≡ first_of kept.old (spec.element_in home.now scope.now target.now name.now arguments.now).faults) }
 {
     let target = goal_in(alloc, home, scope, target, kept)?;
-    let arguments = values_in(alloc, home, scope, arguments, kept)?;
-    let started = chi_channel_rules::start_of(alloc, home, scope, name, arguments, kept)?;
-    one(alloc, chi_channel_rules::element_made(target, started))
+    match started_in(alloc, home, scope, name, arguments, kept) {
+        Ok(started) => one(alloc, chi_channel_rules::element_made(target, started)),
+        Err(refusal) => {
+            drop(target);
+            Err(refusal)
+        }
+    }
 }
 
 /// Each value with its place.
@@ -208,6 +247,38 @@ fn placed(
     Ok(Items::of(alloc, all)?)
 }
 
+/// The values of a write, each with its place.
+fn written_in(
+    alloc: Global,
+    home: &Home,
+    scope: &Scope,
+    values: &[Expr],
+    kept: &mut Option<Fault>,
+) -> Result<Items<(Place, Option<Made>)>, NoMemory>
+    ensures made { IfOk result (λ ws. ws ≡ spec.placed values.now (map made_of (expressions.values_in home.now scope.now values.now))) }
+    ensures noted { OnOk result (kept.new ≡ first_of kept.old (all_faults (expressions.values_in home.now scope.now values.now))) }
+{
+    let made = values_in(alloc, home, scope, values, kept)?;
+    placed(alloc, values, made)
+}
+
+/// A write of the pieces of its format, unless a rule of the whole is broken.
+fn written_by(
+    alloc: Global,
+    barred: bool,
+    line: u32,
+    format_place: Place,
+    pieces: Option<Items<Piece>>,
+    written: Items<(Place, Option<Made>)>,
+    kept: &mut Option<Fault>,
+) -> Result<Option<Items<CStat>>, NoMemory>
+    ensures made { IfOk result (λ s. s ≡ stated.one (if barred then None else (write_of line format_place pieces written).made)) }
+    ensures noted { OnOk result (kept.new ≡ first_of kept.old (write_of line format_place pieces written).faults) }
+{
+    let made = chi_write_rules::write_of(alloc, line, format_place, pieces, written, kept)?;
+    one(alloc, unless(barred, made))
+}
+
 /// A write of values, whose word and whose format stand at the places.
 pub fn write_in(
     alloc: Global,
@@ -224,11 +295,22 @@ pub fn write_in(
     ensures noted { OnOk result (kept.new ≡ first_of kept.old (spec.write_in home.now scope.now place ends_line format.now format_place values.now).faults) }
 {
     let barred = note_running(home, place, kept);
-    let made = values_in(alloc, home, scope, values, kept)?;
-    let pieces = chi_write_rules::format_pieces(alloc, ends_line, format)?;
-    let written = placed(alloc, values, made)?;
-    let made = chi_write_rules::write_of(alloc, place.line, format_place, pieces, written, kept)?;
-    one(alloc, unless(barred, made))
+    let written = written_in(alloc, home, scope, values, kept)?;
+    match chi_write_rules::format_pieces(alloc, ends_line, format) {
+        Ok(pieces) => written_by(
+            alloc,
+            barred,
+            place.line,
+            format_place,
+            pieces,
+            written,
+            kept,
+        ),
+        Err(refusal) => {
+            drop(written);
+            Err(refusal)
+        }
+    }
 }
 
 /// A return, whose word stands at the place.
@@ -273,10 +355,10 @@ fn finished(
 ) -> Result<Option<Items<CStat>>, NoMemory>
     ensures { IfOk result (λ s. s ≡ stated.one (if barred then None else option_map (statement.Finish line) instances)) }
 {
-    let Some(instances) = instances else {
-        return Ok(None);
-    };
-    one(alloc, unless(barred, Some(CStat::Finish(line, instances))))
+    match instances {
+        Some(instances) => one(alloc, unless(barred, Some(CStat::Finish(line, instances)))),
+        None => Ok(None),
+    }
 }
 
 /// A `finish`, whose word stands at the place, of instances.

@@ -41,9 +41,11 @@ pub fn add_name(scope: &mut Scope, name: &Bytes, known: Known) -> Result<(), NoM
     ensures { OnOk result (scope.new ≡ spec.with_name scope.old name.now known) }
 {
     if is_taken(scope, name) {
+        drop(known);
         return Ok(());
     }
     if scope.count() == u32::MAX {
+        drop(known);
         return Err(NoMemory);
     }
     scope.declare(name, known)

@@ -8,7 +8,7 @@ ghost use Rattle.chi_typing.specs.Faults.{first_of};
 ghost use Rattle.chi_stat_parts.specs.Stated as stated;
 ghost use Rattle.chi_stat_parts.specs.Values as spec;
 
-use crate::lists::one;
+use crate::lists::{more, one};
 use chi_base::{Items, NoMemory};
 use chi_check_expr::type_in;
 use chi_core::{CExpr, CStat, CTarget};
@@ -123,14 +123,14 @@ fn with_last(
     ensures { IfOk result (λ es. es ≡ spec.with_last all e) }
 {
     let Some(all) = all else {
+        drop(e);
         return Ok(None);
     };
     let Some(e) = e else {
+        drop(all);
         return Ok(None);
     };
-    let mut all = all.into_vec(alloc)?;
-    all.push(e)?;
-    Ok(Some(Items::of(alloc, all)?))
+    Ok(Some(more(alloc, all, e)?))
 }
 
 #[tactic(auto, using(chi_typing::proofs::Firsts::first_of_none, chi_typing::proofs::Firsts::first_of_append, crate::proofs::Turns::joined_more, crate::proofs::Turns::joined_end, crate::proofs::Parts::grown_by))]
