@@ -2,16 +2,17 @@
 
 #![tactic(auto, using(chi_typing::proofs::Firsts::first_of_none))]
 
-ghost use Rattle.std.specs.Prelude.{◌≡◌, IfOk, OnOk};
+ghost use Rattle.std.specs.Prelude.{◌≡◌, Some, IfOk, OnOk};
 ghost use Rattle.std.specs.Option.{option_copied};
 ghost use Rattle.chi_types.specs.declared.ty.Ty.{out-Ty};
 ghost use Rattle.chi_core.specs.Kinds.{is_void};
 ghost use Rattle.chi_typing.specs.Faults.{first_of};
 ghost use Rattle.chi_stat_rules.specs.Channels as spec;
 
+use crate::taking::{refused, target_of};
 use chi_base::NoMemory;
 use chi_core::CComm;
-use chi_expr_rules::{converted, settle};
+use chi_expr_rules::{converted, core_of, settle};
 use chi_stat_rules::{Aim, Receiver, fitted};
 use chi_token::Place;
 use chi_tree::Name;
@@ -60,10 +61,11 @@ fn send_void(
     ensures noted { kept.new ≡ first_of kept.old (spec.send_void place aim value).faults }
 {
     match value {
-        None => Some(CComm::Send(aim.target, None)),
-        Some(_) => {
+        None => Some(CComm::Send(target_of(aim), None)),
+        Some(value) => {
             note(kept, rules::SENT_VALUE, place);
-            None
+            drop(value);
+            refused(aim)
         }
     }
 }
@@ -71,10 +73,14 @@ fn send_void(
 fn sending(alloc: Global, aim: Aim, ty: &Ty, made: Made) -> Result<Option<CComm>, NoMemory>
     ensures { IfOk result (λ c. c ≡ spec.sending aim ty.now made) }
 {
-    let Some(value) = fitted(alloc, made, ty)? else {
-        return Ok(None);
-    };
-    Ok(Some(CComm::Send(aim.target, Some(value))))
+    match fitted(alloc, made, ty) {
+        Ok(Some(value)) => Ok(Some(CComm::Send(target_of(aim), Some(value)))),
+        Ok(None) => Ok(refused(aim)),
+        Err(refusal) => {
+            drop(aim);
+            Err(refusal)
+        }
+    }
 }
 
 fn send_value(
@@ -90,10 +96,10 @@ fn send_value(
 {
     let Some(value) = value else {
         note(kept, rules::SENT_VALUE, place);
-        return Ok(None);
+        return Ok(refused(aim));
     };
     let Some(made) = value else {
-        return Ok(None);
+        return Ok(refused(aim));
     };
     Ok(settle(
         sending(alloc, aim, ty, made)?,
@@ -101,6 +107,25 @@ fn send_value(
         place,
         kept,
     ))
+}
+
+/// A send on a channel of values of this type.
+fn send_typed(
+    alloc: Global,
+    place: Place,
+    aim: Aim,
+    ty: &Ty,
+    value: Option<Option<Made>>,
+    kept: &mut Option<Fault>,
+) -> Result<Option<CComm>, NoMemory>
+    ensures made { IfOk result (λ c. c ≡ (spec.send_on place aim (Some ty.now) value).made) }
+    ensures noted { OnOk result (kept.new ≡ first_of kept.old (spec.send_on place aim (Some ty.now) value).faults) }
+{
+    if is_void(ty) {
+        Ok(send_void(place, aim, value, kept))
+    } else {
+        send_value(alloc, place, aim, ty, value, kept)
+    }
 }
 
 /// A send, of a value where one stands there; that may have no type.
@@ -115,16 +140,22 @@ pub fn send_of(
     ensures noted { OnOk result (kept.new ≡ first_of kept.old (spec.send_of place aim value).faults) }
 {
     let Some(aim) = aim else {
+        drop(value);
         return Ok(None);
     };
-    let Some(ty) = sent_type(alloc, &aim.ty)? else {
-        note(kept, rules::SEND, place);
-        return Ok(None);
-    };
-    if is_void(&ty) {
-        return Ok(send_void(place, aim, value, kept));
+    match sent_type(alloc, &aim.ty) {
+        Ok(Some(ty)) => send_typed(alloc, place, aim, &ty, value, kept),
+        Ok(None) => {
+            note(kept, rules::SEND, place);
+            drop(value);
+            Ok(refused(aim))
+        }
+        Err(refusal) => {
+            drop(value);
+            drop(aim);
+            Err(refusal)
+        }
     }
-    send_value(alloc, place, aim, &ty, value, kept)
 }
 
 fn untyped_receiver(place: Place, kind: NameKind, kept: &mut Option<Fault>) -> Option<Receiver>
@@ -209,10 +240,11 @@ fn receive_void(
     ensures noted { kept.new ≡ first_of kept.old (spec.receive_void place aim receiver).faults }
 {
     match receiver {
-        None => Some(CComm::Receive(aim.target, None)),
-        Some(_) => {
+        None => Some(CComm::Receive(target_of(aim), None)),
+        Some(receiver) => {
             note(kept, rules::RECEIVING_NAME, place);
-            None
+            drop(receiver);
+            refused(aim)
         }
     }
 }
@@ -220,10 +252,13 @@ fn receive_void(
 fn receiving(aim: Aim, ty: &Ty, receiver: Receiver) -> Option<CComm>
     ensures { result ≡ spec.receiving aim ty.now receiver }
 {
-    if same(&receiver.ty, ty) {
-        Some(CComm::Receive(aim.target, Some(receiver.slot)))
+    let slot = receiver.slot;
+    let fits = same(&receiver.ty, ty);
+    drop(receiver);
+    if fits {
+        Some(CComm::Receive(target_of(aim), Some(slot)))
     } else {
-        None
+        refused(aim)
     }
 }
 
@@ -239,10 +274,10 @@ fn receive_value(
 {
     let Some(receiver) = receiver else {
         note(kept, rules::RECEIVING_NAME, place);
-        return None;
+        return refused(aim);
     };
     let Some(receiver) = receiver else {
-        return None;
+        return refused(aim);
     };
     settle(
         receiving(aim, ty, receiver),
@@ -250,6 +285,24 @@ fn receive_value(
         place,
         kept,
     )
+}
+
+/// A receive on a channel of values of this type.
+fn receive_typed(
+    place: Place,
+    aim: Aim,
+    ty: &Ty,
+    receiver: Option<Option<Receiver>>,
+    kept: &mut Option<Fault>,
+) -> Option<CComm>
+    ensures made { result ≡ (spec.receive_on place aim (Some ty.now) receiver).made }
+    ensures noted { kept.new ≡ first_of kept.old (spec.receive_on place aim (Some ty.now) receiver).faults }
+{
+    if is_void(ty) {
+        receive_void(place, aim, receiver, kept)
+    } else {
+        receive_value(place, aim, ty, receiver, kept)
+    }
 }
 
 /// A receive, into a variable where one stands there; that may have no type.
@@ -264,16 +317,22 @@ pub fn receive_of(
     ensures noted { OnOk result (kept.new ≡ first_of kept.old (spec.receive_of place aim receiver).faults) }
 {
     let Some(aim) = aim else {
+        drop(receiver);
         return Ok(None);
     };
-    let Some(ty) = received_type(alloc, &aim.ty)? else {
-        note(kept, rules::RECEIVE, place);
-        return Ok(None);
-    };
-    if is_void(&ty) {
-        return Ok(receive_void(place, aim, receiver, kept));
+    match received_type(alloc, &aim.ty) {
+        Ok(Some(ty)) => Ok(receive_typed(place, aim, &ty, receiver, kept)),
+        Ok(None) => {
+            note(kept, rules::RECEIVE, place);
+            drop(receiver);
+            Ok(refused(aim))
+        }
+        Err(refusal) => {
+            drop(receiver);
+            drop(aim);
+            Err(refusal)
+        }
     }
-    Ok(receive_value(place, aim, &ty, receiver, kept))
 }
 
 fn delaying(alloc: Global, made: Made) -> Result<Option<CComm>, NoMemory>
@@ -281,9 +340,12 @@ fn delaying(alloc: Global, made: Made) -> Result<Option<CComm>, NoMemory>
 {
     match &made.ty {
         Ty::Int => Ok(Some(CComm::Delay(converted(alloc, made, &Ty::Real)?))),
-        Ty::Real => Ok(Some(CComm::Delay(made.core))),
-        Ty::Timer => Ok(Some(CComm::Timer(made.core))),
-        _ => Ok(None),
+        Ty::Real => Ok(Some(CComm::Delay(core_of(made)))),
+        Ty::Timer => Ok(Some(CComm::Timer(core_of(made)))),
+        _ => {
+            drop(made);
+            Ok(None)
+        }
     }
 }
 

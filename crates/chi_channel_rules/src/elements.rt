@@ -8,6 +8,7 @@ ghost use Rattle.chi_types.specs.declared.ty.Ty.{out-Ty};
 ghost use Rattle.chi_typing.specs.Faults.{first_of, are_none};
 ghost use Rattle.chi_stat_rules.specs.Elements as spec;
 
+use crate::taking::target_of;
 use chi_base::{Items, NoMemory};
 use chi_core::{CElem, CTarget};
 use chi_expr_rules::{all_made, passed, settle};
@@ -22,8 +23,9 @@ fn as_instance_target(aim: Aim) -> Option<CTarget>
     ensures { result ≡ spec.as_instance_target aim }
 {
     if is_inst(&aim.ty) {
-        Some(aim.target)
+        Some(target_of(aim))
     } else {
+        drop(aim);
         None
     }
 }

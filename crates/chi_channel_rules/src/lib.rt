@@ -3,6 +3,7 @@
 
 mod channels;
 mod elements;
+mod taking;
 
 pub use channels::{delay_of, named_receiver, receive_of, send_of};
 pub use elements::{element_made, instance_target, start_of};
