@@ -1,4 +1,5 @@
-//! Literals of several parts, and empty ones.
+//! Literals of several parts, and empty ones. Types and parts of which nothing is made are dropped by calls of
+//! `drop`: what goes out of scope where a function returns is laid out part by part in its proof, on each way out.
 
 #![tactic(auto, using(chi_typing::proofs::Firsts::first_of_none, chi_typing::proofs::Firsts::first_of_append, chi_typing::proofs::Ruled::faults_unless, chi_typing::proofs::Ruled::made_unless, chi_typing::proofs::Ruled::made_deep))]
 
@@ -30,7 +31,9 @@ pub(crate) fn joined_all(alloc: Global, parts: &[Made]) -> Result<Option<Ty>, No
     };
     let mut ty = first.ty.copy(alloc)?;
     for other in others {
-        match joined(alloc, &ty, &other.ty)? {
+        let common = joined(alloc, &ty, &other.ty);
+        drop(ty);
+        match common? {
             None => return Ok(None),
             Some(common) => ty = common,
         }
@@ -106,6 +109,26 @@ pub fn tuple_of(
     Ok(literal_of(place, true, Kind::TupleOf, cores, Ty::TupleOf(types), kept))
 }
 
+/// The elements as they stand in the core, and their type.
+fn cores_and_type(
+    alloc: Global,
+    elements: Items<Made>,
+    element: Ty,
+) -> Result<(Items<CExpr>, Boxed<Ty>), NoMemory>
+    ensures { IfOk result (λ r. r ≡ (spec.all_converted element elements, element)) }
+{
+    match all_converted(alloc, elements, &element) {
+        Ok(cores) => {
+            let element = Boxed::new(alloc, element)?;
+            Ok((cores, element))
+        }
+        Err(refusal) => {
+            drop(element);
+            Err(refusal)
+        }
+    }
+}
+
 /// A list of elements, one at least.
 pub fn list_of(
     alloc: Global,
@@ -123,9 +146,8 @@ pub fn list_of(
         note(kept, rules::JOINED_PARTS, place);
         return Ok(None);
     };
-    let cores = all_converted(alloc, elements, &element)?;
-    let ty = Ty::ListOf(Boxed::new(alloc, element)?);
-    Ok(literal_of(place, true, Kind::ListOf, cores, ty, kept))
+    let (cores, element) = cores_and_type(alloc, elements, element)?;
+    Ok(literal_of(place, true, Kind::ListOf, cores, Ty::ListOf(element), kept))
 }
 
 /// A set of elements, one at least.
@@ -146,15 +168,29 @@ pub fn set_of(
         return Ok(None);
     };
     let plain = note_unplain(place, &element, kept);
-    let cores = all_converted(alloc, elements, &element)?;
-    let ty = Ty::SetOf(Boxed::new(alloc, element)?);
-    Ok(literal_of(place, plain, Kind::SetOf, cores, ty, kept))
+    let (cores, element) = cores_and_type(alloc, elements, element)?;
+    Ok(literal_of(place, plain, Kind::SetOf, cores, Ty::SetOf(element), kept))
 }
 
-pub(crate) fn no_cores(alloc: Global) -> Result<Items<CExpr>, NoMemory>
-    ensures { IfOk result (λ cores. cores ≡ []) }
+/// The literal without parts, under the same rules.
+pub(crate) fn empty_literal(
+    alloc: Global,
+    place: Place,
+    holds: bool,
+    kind: Kind,
+    ty: Ty,
+    kept: &mut Option<Fault>,
+) -> Result<Option<Made>, NoMemory>
+    ensures made { IfOk result (λ m. m ≡ (if holds then (unless (depth_rule place ty) (made (expression.Build kind []) ty)).made else None)) }
+    ensures noted { OnOk result (kept.new ≡ first_of kept.old (depth_rule place ty)) }
 {
-    Ok(Items::of(alloc, Vec::new(alloc))?)
+    match Items::of(alloc, Vec::new(alloc)) {
+        Ok(parts) => Ok(literal_of(place, holds, kind, parts, ty, kept)),
+        Err(refusal) => {
+            drop(ty);
+            Err(refusal)
+        }
+    }
 }
 
 /// An empty list of elements of a type that is written.
@@ -171,7 +207,7 @@ pub fn empty_list(
         return Ok(None);
     };
     let ty = Ty::ListOf(Boxed::new(alloc, type_meant(element))?);
-    Ok(literal_of(place, true, Kind::ListOf, no_cores(alloc)?, ty, kept))
+    empty_literal(alloc, place, true, Kind::ListOf, ty, kept)
 }
 
 /// An empty set of elements of a type that is written.
@@ -189,5 +225,5 @@ pub fn empty_set(
     };
     let plain = note_unplain(place, &element.ty, kept);
     let ty = Ty::SetOf(Boxed::new(alloc, type_meant(element))?);
-    Ok(literal_of(place, plain, Kind::SetOf, no_cores(alloc)?, ty, kept))
+    empty_literal(alloc, place, plain, Kind::SetOf, ty, kept)
 }

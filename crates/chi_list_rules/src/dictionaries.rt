@@ -1,4 +1,5 @@
-//! Literals of dictionaries.
+//! Literals of dictionaries. Types and parts of which nothing is made are dropped by calls of `drop`, as those of
+//! lists are.
 
 #![tactic(auto, using(chi_typing::proofs::Firsts::first_of_none, chi_typing::proofs::Firsts::first_of_append, chi_typing::proofs::Ruled::faults_unless, chi_typing::proofs::Ruled::made_unless, chi_typing::proofs::Ruled::made_deep))]
 
@@ -8,7 +9,7 @@ ghost use Rattle.chi_typing.specs.Faults.{first_of, are_none};
 ghost use Rattle.chi_expr_rules.specs.Containers as spec;
 ghost use Rattle.chi_expr_rules.specs.Conversions as made;
 
-use crate::containers::{joined_all, literal_of, no_cores, note_unplain};
+use crate::containers::{empty_literal, joined_all, literal_of, note_unplain};
 use chi_base::{Boxed, Items, NoMemory};
 use chi_core::CExpr;
 use chi_expr_rules::{all_made, converted, type_meant};
@@ -17,6 +18,21 @@ use chi_types::Ty;
 use chi_typing::{Fault, Made, Meant, note, rules};
 use chi_value::Kind;
 use std::alloc::Global;
+
+/// One more key, or what one has.
+fn with_part(
+    alloc: Global,
+    entries: Vec<CExpr>,
+    ty: &Ty,
+    part: Made,
+) -> Result<Vec<CExpr>, NoMemory>
+    ensures { IfOk result (λ more. more.items ≡ entries.items ++ made.converted part ty.now ∷ []) }
+{
+    let core = converted(alloc, part, ty)?;
+    let mut entries = entries;
+    entries.push(core)?;
+    Ok(entries)
+}
 
 /// One more entry: a key and what it has.
 fn with_entry(
@@ -29,10 +45,13 @@ fn with_entry(
 ) -> Result<Vec<CExpr>, NoMemory>
     ensures { IfOk result (λ more. more.items ≡ entries.items ++ made.converted key key_type.now ∷ made.converted value value_type.now ∷ []) }
 {
-    let mut entries = entries;
-    entries.push(converted(alloc, key, key_type)?)?;
-    entries.push(converted(alloc, value, value_type)?)?;
-    Ok(entries)
+    match with_part(alloc, entries, key_type, key) {
+        Ok(entries) => with_part(alloc, entries, value_type, value),
+        Err(refusal) => {
+            drop(value);
+            Err(refusal)
+        }
+    }
 }
 
 /// Each key and what it has, in turn.
@@ -50,6 +69,7 @@ fn entries(
     let mut rest = values.into_vec(alloc)?.into_iter();
     for key in keys.into_vec(alloc)? {
         let Some(value) = rest.next() else {
+            drop(key);
             return Ok(Items::of(alloc, cores)?);
         };
         cores = with_entry(alloc, cores, key_type, value_type, key, value)?;
@@ -83,8 +103,19 @@ fn note_values(place: Place, value: &Option<Ty>, kept: &mut Option<Fault>)
 fn dict_type(alloc: Global, key: Ty, value: Ty) -> Result<Ty, NoMemory>
     ensures { IfOk result (λ t. t ≡ ty.DictOf key value) }
 {
-    let key = Boxed::new(alloc, key)?;
-    Ok(Ty::DictOf(key, Boxed::new(alloc, value)?))
+    match Boxed::new(alloc, key) {
+        Ok(key) => match Boxed::new(alloc, value) {
+            Ok(value) => Ok(Ty::DictOf(key, value)),
+            Err(refusal) => {
+                drop(key);
+                Err(refusal)
+            }
+        },
+        Err(refusal) => {
+            drop(value);
+            Err(refusal)
+        }
+    }
 }
 
 /// A dictionary of keys that have a type in common, and of values that do.
@@ -101,9 +132,17 @@ fn dict_literal(
     ensures noted { OnOk result (kept.new ≡ first_of kept.old (spec.dict_joined place keys values (Some key) (Some value)).faults) }
 {
     let plain = note_unplain(place, &key, kept);
-    let cores = entries(alloc, &key, &value, keys, values)?;
-    let ty = dict_type(alloc, key, value)?;
-    Ok(literal_of(place, plain, Kind::DictOf, cores, ty, kept))
+    match entries(alloc, &key, &value, keys, values) {
+        Ok(cores) => {
+            let ty = dict_type(alloc, key, value)?;
+            Ok(literal_of(place, plain, Kind::DictOf, cores, ty, kept))
+        }
+        Err(refusal) => {
+            drop(key);
+            drop(value);
+            Err(refusal)
+        }
+    }
 }
 
 fn dict_joined(
@@ -122,16 +161,36 @@ fn dict_joined(
         None => {
             note(kept, rules::JOINED_PARTS, place);
             note_values(place, &value, kept);
+            drop(value);
             Ok(None)
         }
         Some(key) => match value {
             None => {
                 note_unplain(place, &key, kept);
                 note(kept, rules::JOINED_PARTS, place);
+                drop(key);
                 Ok(None)
             }
             Some(value) => dict_literal(alloc, place, keys, values, key, value, kept),
         },
+    }
+}
+
+/// The types that the keys and the values have in common.
+fn joined_types(
+    alloc: Global,
+    keys: &[Made],
+    values: &[Made],
+) -> Result<(Option<Ty>, Option<Ty>), NoMemory>
+    ensures { IfOk result (λ types. types ≡ (spec.joined_all keys.now, spec.joined_all values.now)) }
+{
+    let key = joined_all(alloc, keys)?;
+    match joined_all(alloc, values) {
+        Ok(value) => Ok((key, value)),
+        Err(refusal) => {
+            drop(key);
+            Err(refusal)
+        }
     }
 }
 
@@ -151,6 +210,7 @@ fn dict_parts(
             Some(values) => {
                 let value = joined_all(alloc, values.as_slice())?;
                 note_values(place, &value, kept);
+                drop(value);
                 Ok(None)
             }
         },
@@ -158,11 +218,11 @@ fn dict_parts(
             None => {
                 let key = joined_all(alloc, keys.as_slice())?;
                 note_keys(place, &key, kept);
+                drop(key);
                 Ok(None)
             }
             Some(values) => {
-                let key = joined_all(alloc, keys.as_slice())?;
-                let value = joined_all(alloc, values.as_slice())?;
+                let (key, value) = joined_types(alloc, keys.as_slice(), values.as_slice())?;
                 dict_joined(alloc, place, keys, values, key, value, kept)
             }
         },
@@ -197,12 +257,14 @@ pub fn empty_dict(
     ensures noted { OnOk result (kept.new ≡ first_of kept.old (spec.empty_dict place key value).faults) }
 {
     let Some(key) = key else {
+        drop(value);
         return Ok(None);
     };
     let plain = note_unplain(place, &key.ty, kept);
     let Some(value) = value else {
+        drop(key);
         return Ok(None);
     };
     let ty = dict_type(alloc, type_meant(key), type_meant(value))?;
-    Ok(literal_of(place, plain, Kind::DictOf, no_cores(alloc)?, ty, kept))
+    empty_literal(alloc, place, plain, Kind::DictOf, ty, kept)
 }
