@@ -1,6 +1,8 @@
-//! Targets, communications and elements with their streams.
+//! Targets, communications and elements with their streams. Where memory is refused, what is at hand is let go by
+//! calls of `drop`: what goes out of scope where a function returns is laid out part by part in its proof.
 
 ghost use Rattle.std.specs.Prelude.{◌≡◌, map, IfOk, OnOk};
+ghost use Rattle.chi_core.specs.declared.communication.CComm.TheVariants as comm;
 ghost use Rattle.chi_core.specs.declared.statement.CAlt.TheVariants as alternative;
 ghost use Rattle.chi_streams.specs.Streams as spec;
 
@@ -82,15 +84,36 @@ fn some_target(
     }
 }
 
+fn sending(
+    alloc: Global,
+    to: CTarget,
+    value: Option<CExpr>,
+    count: &mut u64,
+) -> Result<CComm, NoMemory>
+    ensures part { IfOk result (λ c. c ≡ comm.Send to (spec.some spec.of_expression value count.old).part) }
+    ensures next { OnOk result (count.new ≡ (spec.some spec.of_expression value count.old).next) }
+{
+    match some_expression(alloc, value, count) {
+        Ok(value) => Ok(CComm::Send(to, value)),
+        Err(refusal) => {
+            drop(to);
+            Err(refusal)
+        }
+    }
+}
+
 fn communication(alloc: Global, c: CComm, count: &mut u64) -> Result<CComm, NoMemory>
     ensures part { IfOk result (λ r. r ≡ (spec.of_communication c count.old).part) }
     ensures next { OnOk result (count.new ≡ (spec.of_communication c count.old).next) }
 {
     match c {
-        CComm::Send(to, value) => {
-            let to = target(alloc, to, count)?;
-            Ok(CComm::Send(to, some_expression(alloc, value, count)?))
-        }
+        CComm::Send(to, value) => match target(alloc, to, count) {
+            Ok(to) => sending(alloc, to, value, count),
+            Err(refusal) => {
+                drop(value);
+                Err(refusal)
+            }
+        },
         CComm::Receive(from, slot) => Ok(CComm::Receive(target(alloc, from, count)?, slot)),
         CComm::Delay(length) => Ok(CComm::Delay(expression(alloc, length, count)?)),
         CComm::Timer(timer) => Ok(CComm::Timer(expression(alloc, timer, count)?)),
@@ -104,6 +127,25 @@ pub(crate) struct Offer {
     comm: CComm,
 }
 
+fn offering(
+    alloc: Global,
+    guard: Option<CExpr>,
+    comm: CComm,
+    count: &mut u64,
+) -> Result<Offer, NoMemory>
+    ensures guard { IfOk result (λ o. o.guard ≡ guard) }
+    ensures comm { IfOk result (λ o. o.comm ≡ (spec.of_communication comm count.old).part) }
+    ensures next { OnOk result (count.new ≡ (spec.of_communication comm count.old).next) }
+{
+    match communication(alloc, comm, count) {
+        Ok(comm) => Ok(Offer { guard, comm }),
+        Err(refusal) => {
+            drop(guard);
+            Err(refusal)
+        }
+    }
+}
+
 pub(crate) fn offered(
     alloc: Global,
     guard: Option<CExpr>,
@@ -114,9 +156,13 @@ pub(crate) fn offered(
     ensures comm { IfOk result (λ o. o.comm ≡ (spec.of_communication comm (spec.some spec.of_expression guard count.old).next).part) }
     ensures next { OnOk result (count.new ≡ (spec.of_communication comm (spec.some spec.of_expression guard count.old).next).next) }
 {
-    let guard = some_expression(alloc, guard, count)?;
-    let comm = communication(alloc, comm, count)?;
-    Ok(Offer { guard, comm })
+    match some_expression(alloc, guard, count) {
+        Ok(guard) => offering(alloc, guard, comm, count),
+        Err(refusal) => {
+            drop(comm);
+            Err(refusal)
+        }
+    }
 }
 
 /// The alternative of an offer that is followed by this block.
@@ -136,11 +182,23 @@ fn element(alloc: Global, e: CElem, count: &mut u64) -> Result<CElem, NoMemory>
     match e {
         CElem::Make(t, process, arguments) => {
             let t = some_target(alloc, t, count)?;
-            Ok(CElem::Make(t, process, expressions(alloc, arguments, count)?))
+            match expressions(alloc, arguments, count) {
+                Ok(arguments) => Ok(CElem::Make(t, process, arguments)),
+                Err(refusal) => {
+                    drop(t);
+                    Err(refusal)
+                }
+            }
         }
         CElem::Unwind(slots, container, inner) => {
             let container = expression(alloc, container, count)?;
-            Ok(CElem::Unwind(slots, container, elements(alloc, inner, count)?))
+            match elements(alloc, inner, count) {
+                Ok(inner) => Ok(CElem::Unwind(slots, container, inner)),
+                Err(refusal) => {
+                    drop(container);
+                    Err(refusal)
+                }
+            }
         }
     }
 }

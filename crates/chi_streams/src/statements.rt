@@ -1,14 +1,54 @@
-//! Statements with their streams.
+//! Statements with their streams. Where memory is refused, expressions at hand are let go by calls of `drop`: what
+//! goes out of scope where a function returns is laid out part by part in its proof.
 
-ghost use Rattle.std.specs.Prelude.{◌≡◌, map, IfOk, OnOk};
+ghost use Rattle.std.specs.Prelude.{◌≡◌, Err, map, IfOk, OnOk};
 ghost use Rattle.chi_core.specs.declared.statement.CAlt.{CAlt-F};
+ghost use Rattle.chi_core.specs.declared.statement.CStat.{CStat-F};
 ghost use Rattle.chi_streams.specs.Streams as spec;
 
 use crate::expressions::{expression, expressions};
 use crate::parts::{elements, followed, offered, some_expression, targets};
 use chi_base::{Items, NoMemory};
-use chi_core::{Branch, CAlt, CComm, CExpr, CStat};
+use chi_core::{Branch, CAlt, CComm, CExpr, CStat, CTarget};
+use chi_value::Piece;
 use std::alloc::Global;
+
+fn assignment(
+    alloc: Global,
+    line: u32,
+    to: Items<CTarget>,
+    values: Items<CExpr>,
+    count: &mut u64,
+) -> Result<CStat, NoMemory>
+    ensures part { IfOk result (λ r. r ≡ (spec.statement_step (CStat-F.Assign line to values) count.old).part) }
+    ensures next { OnOk result (count.new ≡ (spec.statement_step (CStat-F.Assign line to values) count.old).next) }
+{
+    let to = targets(alloc, to, count)?;
+    let values = expressions(alloc, values, count)?;
+    Ok(CStat::Assign(line, to, values))
+}
+
+fn write(
+    alloc: Global,
+    line: u32,
+    pieces: Items<Piece>,
+    values: Items<CExpr>,
+    count: &mut u64,
+) -> Result<CStat, NoMemory>
+    ensures part { IfOk result (λ r. r ≡ (spec.statement_step (CStat-F.Write line pieces values) count.old).part) }
+    ensures next { OnOk result (count.new ≡ (spec.statement_step (CStat-F.Write line pieces values) count.old).next) }
+{
+    let values = expressions(alloc, values, count)?;
+    Ok(CStat::Write(line, pieces, values))
+}
+
+/// No memory: the expression that was made is let go.
+fn refused(made: CExpr, refusal: NoMemory) -> Result<CStat, NoMemory>
+    ensures { result ≡ Err refusal }
+{
+    drop(made);
+    Err(refusal)
+}
 
 #[cycle(statement)]
 #[tactic(auto, using(crate::proofs::Equations::part_declare, crate::proofs::Equations::next_declare, crate::proofs::Equations::part_assign, crate::proofs::Equations::next_assign, crate::proofs::Equations::part_if, crate::proofs::Equations::next_if, crate::proofs::Equations::part_while, crate::proofs::Equations::next_while, crate::proofs::Equations::part_for, crate::proofs::Equations::next_for, crate::proofs::Equations::part_break, crate::proofs::Equations::next_break, crate::proofs::Equations::part_continue, crate::proofs::Equations::next_continue, crate::proofs::Equations::part_pass, crate::proofs::Equations::next_pass, crate::proofs::Equations::part_return, crate::proofs::Equations::next_return, crate::proofs::Equations::part_exit, crate::proofs::Equations::next_exit, crate::proofs::Equations::part_write, crate::proofs::Equations::next_write, crate::proofs::Equations::part_select, crate::proofs::Equations::next_select, crate::proofs::Equations::part_run, crate::proofs::Equations::next_run, crate::proofs::Equations::part_start, crate::proofs::Equations::next_start, crate::proofs::Equations::part_finish, crate::proofs::Equations::next_finish))]
@@ -20,30 +60,31 @@ fn statement(alloc: Global, s: CStat, count: &mut u64) -> Result<CStat, NoMemory
         CStat::Declare(line, slot, value) => {
             Ok(CStat::Declare(line, slot, expression(alloc, value, count)?))
         }
-        CStat::Assign(line, to, values) => {
-            let to = targets(alloc, to, count)?;
-            Ok(CStat::Assign(line, to, expressions(alloc, values, count)?))
-        }
+        CStat::Assign(line, to, values) => assignment(alloc, line, to, values, count),
         CStat::If(line, each, otherwise) => {
             let each = branches(alloc, each, count)?;
             Ok(CStat::If(line, each, statements(alloc, otherwise, count)?))
         }
         CStat::While(line, test, block) => {
             let test = expression(alloc, test, count)?;
-            Ok(CStat::While(line, test, statements(alloc, block, count)?))
+            match statements(alloc, block, count) {
+                Ok(block) => Ok(CStat::While(line, test, block)),
+                Err(refusal) => refused(test, refusal),
+            }
         }
         CStat::For(line, slots, container, block) => {
             let container = expression(alloc, container, count)?;
-            Ok(CStat::For(line, slots, container, statements(alloc, block, count)?))
+            match statements(alloc, block, count) {
+                Ok(block) => Ok(CStat::For(line, slots, container, block)),
+                Err(refusal) => refused(container, refusal),
+            }
         }
         CStat::Break(line) => Ok(CStat::Break(line)),
         CStat::Continue(line) => Ok(CStat::Continue(line)),
         CStat::Pass(line) => Ok(CStat::Pass(line)),
         CStat::Return(line, value) => Ok(CStat::Return(line, expression(alloc, value, count)?)),
         CStat::Exit(line, value) => Ok(CStat::Exit(line, some_expression(alloc, value, count)?)),
-        CStat::Write(line, pieces, values) => {
-            Ok(CStat::Write(line, pieces, expressions(alloc, values, count)?))
-        }
+        CStat::Write(line, pieces, values) => write(alloc, line, pieces, values, count),
         CStat::Select(line, each) => Ok(CStat::Select(line, alternatives(alloc, each, count)?)),
         CStat::Run(line, each) => Ok(CStat::Run(line, elements(alloc, each, count)?)),
         CStat::Start(line, each) => Ok(CStat::Start(line, elements(alloc, each, count)?)),
@@ -75,8 +116,13 @@ fn branch(alloc: Global, b: Branch, count: &mut u64) -> Result<Branch, NoMemory>
 {
     let Branch { test, block } = b;
     let test = expression(alloc, test, count)?;
-    let block = statements(alloc, block, count)?;
-    Ok(Branch { test, block })
+    match statements(alloc, block, count) {
+        Ok(block) => Ok(Branch { test, block }),
+        Err(refusal) => {
+            drop(test);
+            Err(refusal)
+        }
+    }
 }
 
 #[cycle(statement)]
@@ -103,8 +149,13 @@ fn guarded(
     ensures next { OnOk result (count.new ≡ (spec.alternative_step (CAlt-F.Guarded guard comm (map spec.of_statement block)) count.old).next) }
 {
     let offer = offered(alloc, guard, comm, count)?;
-    let block = statements(alloc, block, count)?;
-    Ok(followed(offer, block))
+    match statements(alloc, block, count) {
+        Ok(block) => Ok(followed(offer, block)),
+        Err(refusal) => {
+            drop(offer);
+            Err(refusal)
+        }
+    }
 }
 
 #[cycle(statement)]
@@ -117,7 +168,13 @@ fn alternative(alloc: Global, a: CAlt, count: &mut u64) -> Result<CAlt, NoMemory
         CAlt::Guarded(guard, offer, block) => guarded(alloc, guard, offer, block, count),
         CAlt::Unwind(slots, container, inner) => {
             let container = expression(alloc, container, count)?;
-            Ok(CAlt::Unwind(slots, container, alternatives(alloc, inner, count)?))
+            match alternatives(alloc, inner, count) {
+                Ok(inner) => Ok(CAlt::Unwind(slots, container, inner)),
+                Err(refusal) => {
+                    drop(container);
+                    Err(refusal)
+                }
+            }
         }
     }
 }
