@@ -1,4 +1,6 @@
-//! What ends a function or a run, and what ends a turn of a loop.
+//! What ends a function or a run, and what ends a turn of a loop. Values that are refused are dropped by calls
+//! of `drop`: what goes out of scope where a function returns is laid out part by part in its proof, on each
+//! way out.
 
 #![tactic(auto, using(chi_typing::proofs::Firsts::first_of_none))]
 
@@ -36,6 +38,7 @@ fn return_as(
     ensures noted { OnOk result (kept.new ≡ first_of kept.old (spec.return_as place ty.now made).faults) }
 {
     let Some(ty) = ty else {
+        drop(made);
         return Ok(None);
     };
     let Some(made) = made else {
@@ -64,6 +67,7 @@ pub fn return_of(
         Home::Function(ty) => return_as(alloc, place, ty, made, kept),
         Home::Process(_) => {
             note(kept, rules::RETURN, place);
+            drop(made);
             Ok(None)
         }
     }
@@ -73,6 +77,7 @@ fn exiting(alloc: Global, line: u32, ty: &Ty, made: Made) -> Result<Option<CStat
     ensures { IfOk result (λ s. s ≡ spec.exiting line ty.now made) }
 {
     if !is_plain(&made.ty) {
+        drop(made);
         return Ok(None);
     }
     let Some(value) = fitted(alloc, made, ty)? else {
@@ -87,7 +92,9 @@ fn plain_exit(place: Place, made: Option<Made>, kept: &mut Option<Fault>)
     let Some(made) = made else {
         return;
     };
-    if !is_plain(&made.ty) {
+    let plain = is_plain(&made.ty);
+    drop(made);
+    if !plain {
         note(kept, rules::EXIT, place);
     }
 }
@@ -105,6 +112,7 @@ fn exit_value(
     match own {
         ExitType::Nothing => {
             note(kept, rules::EXIT, place);
+            drop(made);
             Ok(None)
         }
         ExitType::Untyped => {
@@ -151,6 +159,7 @@ pub fn exit_of(
 {
     let Home::Process(own) = home else {
         note(kept, rules::IN_FUNCTION, place);
+        drop(value);
         return Ok(None);
     };
     match value {

@@ -1,4 +1,5 @@
 //! Values where a type is wanted: initial values, values of constants, conditions, and instances that are waited for.
+//! Those that are refused are dropped by calls of `drop`, as endings drop theirs.
 
 #![tactic(auto, using(chi_typing::proofs::Firsts::first_of_none, chi_typing::proofs::Firsts::first_of_append, chi_expr_rules::proofs::Barred::made_barred, chi_expr_rules::proofs::Barred::faults_barred))]
 
@@ -13,7 +14,7 @@ ghost use Rattle.chi_stat_rules.specs.Values as spec;
 
 use chi_base::NoMemory;
 use chi_core::CExpr;
-use chi_expr_rules::{converted, settle};
+use chi_expr_rules::{converted, core_of, settle};
 use chi_token::{Bytes, Place};
 use chi_types::{Ty, fits};
 use chi_typing::{Fault, Made, note, rules};
@@ -24,6 +25,7 @@ pub fn fitted(alloc: Global, made: Made, wanted: &Ty) -> Result<Option<CExpr>, N
     ensures { IfOk result (λ e. e ≡ spec.fitted made wanted.now) }
 {
     if !fits(&made.ty, wanted) {
+        drop(made);
         return Ok(None);
     }
     Ok(Some(converted(alloc, made, wanted)?))
@@ -44,6 +46,7 @@ pub fn initial_value(
         return Ok(None);
     };
     let Some(ty) = ty else {
+        drop(made);
         return Ok(None);
     };
     Ok(settle(fitted(alloc, made, ty)?, rules::INITIAL_VALUE, equals, kept))
@@ -107,10 +110,12 @@ pub fn constant_value(
 fn as_bool(made: Made) -> Option<CExpr>
     ensures { result ≡ spec.as_bool made }
 {
-    let Made { core, ty } = made;
-    match &ty {
-        Ty::Bool => Some(core),
-        _ => None,
+    match &made.ty {
+        Ty::Bool => Some(core_of(made)),
+        _ => {
+            drop(made);
+            None
+        }
     }
 }
 
@@ -139,8 +144,9 @@ fn as_instance(made: Made) -> Option<CExpr>
     ensures { result ≡ spec.as_instance made }
 {
     if is_inst(&made.ty) {
-        Some(made.core)
+        Some(core_of(made))
     } else {
+        drop(made);
         None
     }
 }
