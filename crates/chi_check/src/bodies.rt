@@ -2,19 +2,19 @@
 
 #![tactic(auto, using(chi_typing::proofs::Firsts::first_of_none, chi_typing::proofs::Firsts::first_of_append))]
 
-ghost use Rattle.std.specs.Prelude.{◌≡◌, map, IfOk, OnOk};
+ghost use Rattle.std.specs.Prelude.{◌≡◌, ◌++◌, false, map, take, IfOk, OnOk};
 ghost use Rattle.chi_typing.specs.Faults.{first_of};
 ghost use Rattle.chi_stat_parts.specs.Stated.{in_turn};
+ghost use Rattle.chi_statements.specs.Statements.{stating_all};
 ghost use Rattle.chi_headers.specs.Headers as header;
 ghost use Rattle.chi_check.specs.Bodies as spec;
 
+use crate::definitions::{function_made, process_made};
 use chi_base::{Items, NoMemory};
 use chi_core::{CStat, FuncDef, ProcDef};
-use chi_headers::{Header, all_types};
-use chi_stat_parts::{Binder, Growing, State, bind, joined, nothing, one};
-use chi_stat_rules::{ExitType, Home};
+use chi_headers::Header;
+use chi_stat_parts::{Binder, Growing, State, bind, joined, nothing};
 use chi_statements::check_all;
-use chi_token::Bytes;
 use chi_tree::{Definition, Formal, Item, Name, Step};
 use chi_types::Ty;
 use chi_typing::{Fault, Scope};
@@ -60,13 +60,70 @@ fn body_made(
 ) -> Option<(Items<CStat>, Items<Ty>)>
     ensures { result ≡ spec.body_made bound body slots }
 {
-    let Some(_) = bound else {
+    let Some(bound) = bound else {
+        drop(body);
+        drop(slots);
         return None;
     };
+    drop(bound);
     let Some(body) = body else {
+        drop(slots);
         return None;
     };
     Some((body, slots))
+}
+
+/// The slots of the formals, and the statements of a body.
+fn bound_and_body(
+    alloc: Global,
+    header: &Header,
+    formals: &[Formal],
+    steps: &[Step],
+    state: &mut State,
+    kept: &mut Option<Fault>,
+) -> Result<(Option<Items<u32>>, Option<Items<CStat>>), NoMemory>
+    ensures next { let fs = in_turn (spec.formals_bound formals.now header.now.formals) state.old in
+        OnOk result (state.new ≡ (stating_all header.now.home false steps.now fs.next).next) }
+    ensures bound { let fs = in_turn (spec.formals_bound formals.now header.now.formals) state.old in
+        IfOk result (λ r. r.0 ≡ fs.made) }
+    ensures body { let fs = in_turn (spec.formals_bound formals.now header.now.formals) state.old in
+        IfOk result (λ r. r.1 ≡ (stating_all header.now.home false steps.now fs.next).made) }
+    ensures noted { let fs = in_turn (spec.formals_bound formals.now header.now.formals) state.old in
+        OnOk result (kept.new ≡ first_of kept.old (fs.faults ++ (stating_all header.now.home false steps.now fs.next).faults)) }
+{
+    let bound = bind_formals(alloc, formals, header.formals.as_slice(), state, kept)?;
+    match check_all(alloc, &header.home, steps, false, state, kept) {
+        Ok(body) => Ok((bound, body)),
+        Err(refusal) => {
+            drop(bound);
+            Err(refusal)
+        }
+    }
+}
+
+/// The first names after a body, and what is made of it.
+fn closed(
+    alloc: Global,
+    count: u32,
+    state: State,
+    bound: Option<Items<u32>>,
+    body: Option<Items<CStat>>,
+) -> Result<(Scope, Option<(Items<CStat>, Items<Ty>)>), NoMemory>
+    ensures next { IfOk result (λ r. r.0 ≡ take count state.names) }
+    ensures made { IfOk result (λ r. r.1 ≡ spec.body_made bound body state.slots) }
+{
+    let State { names, slots } = state;
+    let mut names = names;
+    names.cut(count);
+    match slots.into_items(alloc) {
+        Ok(slots) => Ok((names, body_made(bound, body, slots))),
+        Err(refusal) => {
+            drop(names);
+            drop(bound);
+            drop(body);
+            Err(refusal)
+        }
+    }
 }
 
 /// A body, and the names that are visible after it as they were before.
@@ -85,91 +142,13 @@ fn check_body(
     let count = names.count();
     let slots = Growing::new(alloc);
     let mut state = State { names, slots };
-    let bound = bind_formals(alloc, formals, header.formals.as_slice(), &mut state, kept)?;
-    let body = check_all(alloc, &header.home, steps, false, &mut state, kept)?;
-    let State { names, slots } = state;
-    let mut names = names;
-    names.cut(count);
-    let slots = slots.into_items(alloc)?;
-    Ok((names, body_made(bound, body, slots)))
-}
-
-fn result_of(alloc: Global, home: &Home) -> Result<Option<Ty>, NoMemory>
-    ensures { IfOk result (λ t. t ≡ spec.result_of home.now) }
-{
-    match home {
-        Home::Function(Some(outcome)) => Ok(Some(outcome.copy(alloc)?)),
-        Home::Function(None) | Home::Process(_) => Ok(None),
+    match bound_and_body(alloc, header, formals, steps, &mut state, kept) {
+        Ok((bound, body)) => closed(alloc, count, state, bound, body),
+        Err(refusal) => {
+            drop(state);
+            Err(refusal)
+        }
     }
-}
-
-fn exit_of(alloc: Global, home: &Home) -> Result<Option<Option<Ty>>, NoMemory>
-    ensures { IfOk result (λ e. e ≡ spec.exit_of home.now) }
-{
-    match home {
-        Home::Process(ExitType::Nothing) => Ok(Some(None)),
-        Home::Process(ExitType::Given(ty)) => Ok(Some(Some(ty.copy(alloc)?))),
-        Home::Process(ExitType::Untyped) | Home::Function(_) => Ok(None),
-    }
-}
-
-fn function_made(
-    alloc: Global,
-    name: &Bytes,
-    header: &Header,
-    body: Option<(Items<CStat>, Items<Ty>)>,
-) -> Result<Option<Items<FuncDef>>, NoMemory>
-    ensures { IfOk result (λ f. f ≡ spec.function_made name.now header.now body) }
-{
-    let Some(params) = all_types(alloc, header.formals.as_slice())? else {
-        return Ok(None);
-    };
-    let Some(outcome) = result_of(alloc, &header.home)? else {
-        return Ok(None);
-    };
-    let Some((body, slots)) = body else {
-        return Ok(None);
-    };
-    let Ok(arity) = u32::try_from(params.as_slice().len()) else {
-        return Err(NoMemory);
-    };
-    let name = Bytes::copy_of(alloc, name.as_slice())?;
-    let made = FuncDef {
-        name,
-        arity,
-        result: outcome,
-        slots,
-        body,
-    };
-    one(alloc, Some(made))
-}
-
-fn process_made(
-    alloc: Global,
-    name: &Bytes,
-    header: &Header,
-    body: Option<(Items<CStat>, Items<Ty>)>,
-) -> Result<Option<Items<ProcDef>>, NoMemory>
-    ensures { IfOk result (λ p. p ≡ spec.process_made name.now header.now body) }
-{
-    let Some(params) = all_types(alloc, header.formals.as_slice())? else {
-        return Ok(None);
-    };
-    let Some(exit) = exit_of(alloc, &header.home)? else {
-        return Ok(None);
-    };
-    let Some((body, slots)) = body else {
-        return Ok(None);
-    };
-    let name = Bytes::copy_of(alloc, name.as_slice())?;
-    let made = ProcDef {
-        name,
-        params,
-        exit,
-        slots,
-        body,
-    };
-    one(alloc, Some(made))
 }
 
 fn define_function(
@@ -196,10 +175,21 @@ fn define_function(
             let formals = formals.as_slice();
             let steps = block.as_slice();
             let (names, body) = check_body(alloc, header, formals, steps, names, kept)?;
-            let made = function_made(alloc, &name.text, header, body)?;
-            Ok((names, made))
+            match function_made(alloc, &name.text, header, body) {
+                Ok(made) => Ok((names, made)),
+                Err(refusal) => {
+                    drop(names);
+                    Err(refusal)
+                }
+            }
         }
-        (_, _) => Ok((names, nothing(alloc)?)),
+        (_, _) => match nothing(alloc) {
+            Ok(none) => Ok((names, none)),
+            Err(refusal) => {
+                drop(names);
+                Err(refusal)
+            }
+        },
     }
 }
 
@@ -233,10 +223,21 @@ fn define_process(
             let formals = formals.as_slice();
             let steps = block.as_slice();
             let (names, body) = check_body(alloc, header, formals, steps, names, kept)?;
-            let made = process_made(alloc, &name.text, header, body)?;
-            Ok((names, made))
+            match process_made(alloc, &name.text, header, body) {
+                Ok(made) => Ok((names, made)),
+                Err(refusal) => {
+                    drop(names);
+                    Err(refusal)
+                }
+            }
         }
-        (_, _) => Ok((names, nothing(alloc)?)),
+        (_, _) => match nothing(alloc) {
+            Ok(none) => Ok((names, none)),
+            Err(refusal) => {
+                drop(names);
+                Err(refusal)
+            }
+        },
     }
 }
 

@@ -2,6 +2,7 @@
 #![tactic(auto)]
 
 mod bodies;
+mod definitions;
 mod programs;
 
 pub use programs::check;

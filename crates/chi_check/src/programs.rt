@@ -60,11 +60,37 @@ fn core_of(
 ) -> Option<Core>
     ensures { result ≡ spec.core_of enumerations consts funcs procs model }
 {
-    let kinds = enumerations?;
-    let consts = consts?;
-    let funcs = funcs?;
-    let procs = procs?;
-    let model = model?;
+    let Some(kinds) = enumerations else {
+        drop(consts);
+        drop(funcs);
+        drop(procs);
+        return None;
+    };
+    let Some(consts) = consts else {
+        drop(kinds);
+        drop(funcs);
+        drop(procs);
+        return None;
+    };
+    let Some(funcs) = funcs else {
+        drop(kinds);
+        drop(consts);
+        drop(procs);
+        return None;
+    };
+    let Some(procs) = procs else {
+        drop(kinds);
+        drop(consts);
+        drop(funcs);
+        return None;
+    };
+    let Some(model) = model else {
+        drop(kinds);
+        drop(consts);
+        drop(funcs);
+        drop(procs);
+        return None;
+    };
     let names = Names { kinds };
     Some(Core {
         consts,
@@ -96,8 +122,16 @@ fn define_bodies(
         OnOk result (kept.new ≡ first_of (first_of kept.old funcs.faults) procs.faults) }
 {
     let (scope, funcs) = define_functions(alloc, items, headers, names, kept)?;
-    let (_scope, procs) = define_processes(alloc, items, headers, scope, kept)?;
-    Ok((funcs, procs))
+    match define_processes(alloc, items, headers, scope, kept) {
+        Ok((scope, procs)) => {
+            drop(scope);
+            Ok((funcs, procs))
+        }
+        Err(refusal) => {
+            drop(funcs);
+            Err(refusal)
+        }
+    }
 }
 
 /// The headers of all definitions, where the names of types and constants are visible, and nothing more after it.
@@ -153,9 +187,13 @@ fn define_headed(
         functions: 0,
         processes: 0,
     };
-    add_all_headed(alloc, all, items, headers, &mut named)?;
-    let (funcs, procs) = define_bodies(alloc, items, headers, named.names, kept)?;
-    Ok((funcs, procs))
+    match add_all_headed(alloc, all, items, headers, &mut named) {
+        Ok(()) => define_bodies(alloc, items, headers, named.names, kept),
+        Err(refusal) => {
+            drop(named);
+            Err(refusal)
+        }
+    }
 }
 
 /// All functions, processes and models, where the names of types and constants are visible.
@@ -188,10 +226,17 @@ fn define_late(
         OnOk result (kept.new ≡ first_of (first_of (first_of kept.old (header_faults (map (header_in late) ds))) funcs.faults) procs.faults) }
 {
     let mut names = early;
-    let headers = late_headers(alloc, all, items, &mut names, kept)?;
-    let given = headers.as_slice();
-    let (funcs, procs) = define_headed(alloc, all, items, given, names, kept)?;
-    Ok((funcs, procs))
+    match late_headers(alloc, all, items, &mut names, kept) {
+        Ok(headers) => {
+            let defined = define_headed(alloc, all, items, headers.as_slice(), names, kept);
+            drop(headers);
+            defined
+        }
+        Err(refusal) => {
+            drop(names);
+            Err(refusal)
+        }
+    }
 }
 
 fn check_definitions(
