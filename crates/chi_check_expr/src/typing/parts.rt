@@ -1,4 +1,5 @@
-//! Indexes, slices and fields.
+//! Indexes, slices and fields. Where memory is refused, typed parts at hand are let go by calls of `drop`: what goes
+//! out of scope where a function returns is laid out part by part in its proof.
 
 ghost use Rattle.std.specs.Prelude.{◌≡◌, [], map, IfOk, OnOk, option_map};
 ghost use Rattle.chi_typing.specs.Faults.{first_of};
@@ -80,8 +81,13 @@ fn type_index(
     ensures made { IfOk result (λ m. m ≡ (parts.index_of place whole (spec.typing site scope.now index.now).made).made) }
     ensures noted { OnOk result (kept.new ≡ first_of (first_of kept.old (spec.typing site scope.now index.now).faults) (parts.index_of place whole (spec.typing site scope.now index.now).made).faults) }
 {
-    let index = type_in(alloc, index, scope, site, kept)?;
-    rule::index_of(alloc, place, whole, index, kept)
+    match type_in(alloc, index, scope, site, kept) {
+        Ok(index) => rule::index_of(alloc, place, whole, index, kept),
+        Err(refusal) => {
+            drop(whole);
+            Err(refusal)
+        }
+    }
 }
 
 /// A slice, with its last bound.
@@ -100,8 +106,15 @@ fn type_slice(
     ensures made { IfOk result (λ m. m ≡ (parts.slice_of place whole (record { from = from; upto = upto; by = option_map reads.made_of (option_map (spec.typing site scope.now) by.now) })).made) }
     ensures noted { OnOk result (kept.new ≡ first_of (first_of kept.old (reads.all_faults (parts.if_given (option_map (spec.typing site scope.now) by.now) []))) (parts.slice_of place whole (record { from = from; upto = upto; by = option_map reads.made_of (option_map (spec.typing site scope.now) by.now) })).faults) }
 {
-    let by = type_bound(alloc, by, scope, site, kept)?;
-    rule::slice_of(alloc, place, whole, from, upto, by, kept)
+    match type_bound(alloc, by, scope, site, kept) {
+        Ok(by) => rule::slice_of(alloc, place, whole, from, upto, by, kept),
+        Err(refusal) => {
+            drop(whole);
+            drop(from);
+            drop(upto);
+            Err(refusal)
+        }
+    }
 }
 
 /// A bound of a slice, where one is written.

@@ -457,21 +457,21 @@ pub type_trees::mean_tuple-returns-clause-noted : goal.type_trees::mean_tuple-re
 type_trees::mean_tuple-returns-clause-noted t c =
     on_ok_weaker c.tuple_of.result (λ h. cc (c.in_ok-parts.ensures.made, c.in_ok-parts.ensures.noted, h)) c.tuple_of.ensures.noted
 
-pub parts::type_index-returns-clause-made : goal.parts::type_index-returns-clause-made
-parts::type_index-returns-clause-made t c =
-    IfOk-weaker c.index_of.result _ _ (λ m h. cc (c.in_ok-index.ensures.made, h)) c.index_of.ensures.made
+pub parts::type_index-returns-in-Ok-clause-made : goal.parts::type_index-returns-in-Ok-clause-made
+parts::type_index-returns-in-Ok-clause-made t c =
+    IfOk-weaker c.index_of.result _ _ (λ m h. cc (c.in-Ok.ensures.made, h)) c.index_of.ensures.made
 
-pub parts::type_index-returns-clause-noted : goal.parts::type_index-returns-clause-noted
-parts::type_index-returns-clause-noted t c =
-    on_ok_weaker c.index_of.result (λ h. cc (c.in_ok-index.ensures.made, c.in_ok-index.ensures.noted, h)) c.index_of.ensures.noted
+pub parts::type_index-returns-in-Ok-clause-noted : goal.parts::type_index-returns-in-Ok-clause-noted
+parts::type_index-returns-in-Ok-clause-noted t c =
+    on_ok_weaker c.index_of.result (λ h. cc (c.in-Ok.ensures.made, c.in-Ok.ensures.noted, h)) c.index_of.ensures.noted
 
-pub parts::type_slice-returns-clause-made : goal.parts::type_slice-returns-clause-made
-parts::type_slice-returns-clause-made t c =
-    IfOk-weaker c.slice_of.result _ _ (λ m h. cc (c.in_ok-by.ensures.made, h)) c.slice_of.ensures.made
+pub parts::type_slice-returns-in-Ok-clause-made : goal.parts::type_slice-returns-in-Ok-clause-made
+parts::type_slice-returns-in-Ok-clause-made t c =
+    IfOk-weaker c.slice_of.result _ _ (λ m h. cc (c.in-Ok.ensures.made, h)) c.slice_of.ensures.made
 
-pub parts::type_slice-returns-clause-noted : goal.parts::type_slice-returns-clause-noted
-parts::type_slice-returns-clause-noted t c =
-    on_ok_weaker c.slice_of.result (λ h. cc (c.in_ok-by.ensures.made, c.in_ok-by.ensures.noted, h)) c.slice_of.ensures.noted
+pub parts::type_slice-returns-in-Ok-clause-noted : goal.parts::type_slice-returns-in-Ok-clause-noted
+parts::type_slice-returns-in-Ok-clause-noted t c =
+    on_ok_weaker c.slice_of.result (λ h. cc (c.in-Ok.ensures.made, c.in-Ok.ensures.noted, h)) c.slice_of.ensures.noted
 
 pub containers::type_dict-returns-clause-made : goal.containers::type_dict-returns-clause-made
 containers::type_dict-returns-clause-made t c =
