@@ -3,6 +3,7 @@
 
 mod arguments;
 mod insertions;
+mod outcomes;
 mod predefined;
 mod predefined_nodes;
 

@@ -1,7 +1,7 @@
 //! What predefined names make of their arguments, by the types of these. Distributions that draw
 //! get their streams later, when all of a program is known.
 
-ghost use Rattle.std.specs.Prelude.{◌≡◌, ◌++◌, [], ◌∷◌, Some, IfOk};
+ghost use Rattle.std.specs.Prelude.{◌≡◌, Some, IfOk};
 ghost use Rattle.chi_types.specs.declared.ty.Ty.{out-Ty};
 ghost use Rattle.chi_types.specs.declared.ty.Ty.TheVariants as ty;
 ghost use Rattle.chi_core.specs.declared.expression.CExpr.TheVariants as expression;
@@ -11,50 +11,16 @@ ghost use Rattle.chi_expr_rules.specs.Conversions as conversion;
 ghost use Rattle.chi_expr_rules.specs.PredefinedCalls as spec;
 
 use crate::arguments::{only, pair};
+use crate::outcomes::{dist_of, enumerated_type, keys_type, popped_type, values_type};
 use chi_base::{Boxed, Items, NoMemory};
 use chi_core::{CExpr, OpName};
 use chi_expr_rules::{
     all_converted, are_ints, both_as, both_refused, core_and_type, core_of, is_int, number_of,
     on_it, on_two, refused, wanting, with_cores,
 };
-use chi_token::Bytes;
 use chi_types::Ty;
 use chi_typing::{Made, Predefined};
 use std::alloc::Global;
-
-/// A part of a tuple, which has no name.
-fn nameless(alloc: Global, ty: &Ty) -> Result<(Bytes, Ty), NoMemory>
-    ensures { IfOk result (λ part. part ≡ ([], ty.now)) }
-{
-    let name = Bytes::copy_of(alloc, b"")?;
-    Ok((name, ty.copy(alloc)?))
-}
-
-/// One more part of a tuple.
-fn with_part(alloc: Global, parts: Vec<(Bytes, Ty)>, ty: &Ty) -> Result<Vec<(Bytes, Ty)>, NoMemory>
-    ensures { IfOk result (λ more. more.items ≡ parts.items ++ ([], ty.now) ∷ []) }
-{
-    let mut parts = parts;
-    parts.push(nameless(alloc, ty)?)?;
-    Ok(parts)
-}
-
-fn tuple_of_two(alloc: Global, a: &Ty, b: &Ty) -> Result<Ty, NoMemory>
-    ensures { IfOk result (λ t. t ≡ spec.tuple (a.now ∷ b.now ∷ [])) }
-{
-    let parts = with_part(alloc, Vec::new(alloc), a)?;
-    let parts = with_part(alloc, parts, b)?;
-    Ok(Ty::TupleOf(Items::of(alloc, parts)?))
-}
-
-fn tuple_of_three(alloc: Global, a: &Ty, b: &Ty, c: &Ty) -> Result<Ty, NoMemory>
-    ensures { IfOk result (λ t. t ≡ spec.tuple (a.now ∷ b.now ∷ c.now ∷ [])) }
-{
-    let parts = with_part(alloc, Vec::new(alloc), a)?;
-    let parts = with_part(alloc, parts, b)?;
-    let parts = with_part(alloc, parts, c)?;
-    Ok(Ty::TupleOf(Items::of(alloc, parts)?))
-}
 
 fn absolute(alloc: Global, m: Made) -> Result<Option<Made>, NoMemory>
     ensures { IfOk result (λ n. n ≡ spec.absolute m) }
@@ -93,58 +59,6 @@ fn counted(alloc: Global, name: OpName, outcome: Ty, m: Made) -> Result<Option<M
     } else {
         drop(outcome);
         Ok(refused(m))
-    }
-}
-
-/// The type of a pop: the first or the least, and the rest.
-fn popped_type(alloc: Global, whole: &Ty) -> Result<Option<Ty>, NoMemory>
-    ensures { IfOk result (λ t. t ≡ spec.popped_type whole.now (out-Ty whole.now)) }
-{
-    match whole {
-        Ty::ListOf(element) | Ty::SetOf(element) => {
-            Ok(Some(tuple_of_two(alloc, element.get(), whole)?))
-        }
-        Ty::DictOf(key, value) => {
-            Ok(Some(tuple_of_three(alloc, key.get(), value.get(), whole)?))
-        }
-        _ => Ok(None),
-    }
-}
-
-/// The type of the pairs of an index and an element of a list, in a list.
-fn enumerated_type(alloc: Global, whole: &Ty) -> Result<Option<Ty>, NoMemory>
-    ensures { IfOk result (λ t. t ≡ spec.enumerated_type (out-Ty whole.now)) }
-{
-    match whole {
-        Ty::ListOf(element) => {
-            let pair = tuple_of_two(alloc, &Ty::Int, element.get())?;
-            Ok(Some(Ty::ListOf(Boxed::new(alloc, pair)?)))
-        }
-        _ => Ok(None),
-    }
-}
-
-fn keys_type(alloc: Global, whole: &Ty) -> Result<Option<Ty>, NoMemory>
-    ensures { IfOk result (λ t. t ≡ spec.keys_type (out-Ty whole.now)) }
-{
-    match whole {
-        Ty::DictOf(key, _) => {
-            let key = key.get().copy(alloc)?;
-            Ok(Some(Ty::ListOf(Boxed::new(alloc, key)?)))
-        }
-        _ => Ok(None),
-    }
-}
-
-fn values_type(alloc: Global, whole: &Ty) -> Result<Option<Ty>, NoMemory>
-    ensures { IfOk result (λ t. t ≡ spec.values_type (out-Ty whole.now)) }
-{
-    match whole {
-        Ty::DictOf(_, value) => {
-            let value = value.get().copy(alloc)?;
-            Ok(Some(Ty::ListOf(Boxed::new(alloc, value)?)))
-        }
-        _ => Ok(None),
     }
 }
 
@@ -252,13 +166,6 @@ fn deleted(alloc: Global, list: Made, index: Made) -> Result<Option<Made>, NoMem
     }
     let (list, ty) = core_and_type(list);
     Ok(Some(on_two(alloc, OpName::Del, list, core_of(index), ty)?))
-}
-
-fn dist_of(alloc: Global, drawn: &Ty) -> Result<Ty, NoMemory>
-    ensures { IfOk result (λ t. t ≡ ty.Dist drawn.now) }
-{
-    let drawn = drawn.copy(alloc)?;
-    Ok(Ty::Dist(Boxed::new(alloc, drawn)?))
 }
 
 fn between_as(alloc: Global, number: &Ty, a: Made, b: Made) -> Result<Option<Made>, NoMemory>
