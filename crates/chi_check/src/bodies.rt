@@ -2,7 +2,7 @@
 
 #![tactic(auto, using(chi_typing::proofs::Firsts::first_of_none, chi_typing::proofs::Firsts::first_of_append))]
 
-ghost use Rattle.std.specs.Prelude.{◌≡◌, ◌++◌, false, map, take, IfOk, OnOk};
+ghost use Rattle.std.specs.Prelude.{◌≡◌, ◌++◌, Some, [], false, map, take, IfOk, OnOk};
 ghost use Rattle.chi_typing.specs.Faults.{first_of};
 ghost use Rattle.chi_stat_parts.specs.Stated.{in_turn};
 ghost use Rattle.chi_statements.specs.Statements.{stating_all};
@@ -151,6 +151,43 @@ fn check_body(
     }
 }
 
+/// The names as they are, with no definition.
+fn none_in<T: Drop>(alloc: Global, names: Scope) -> Result<(Scope, Option<Items<T>>), NoMemory>
+    ensures next { IfOk result (λ r. r.0 ≡ names) }
+    ensures made { IfOk result (λ r. r.1 ≡ Some []) }
+{
+    match nothing(alloc) {
+        Ok(none) => Ok((names, none)),
+        Err(refusal) => {
+            drop(names);
+            Err(refusal)
+        }
+    }
+}
+
+fn function_in(
+    alloc: Global,
+    name: &Name,
+    header: &Header,
+    formals: &[Formal],
+    steps: &[Step],
+    names: Scope,
+    kept: &mut Option<Fault>,
+) -> Result<(Scope, Option<Items<FuncDef>>), NoMemory>
+    ensures next { IfOk result (λ r. r.0 ≡ (spec.function_defined name.now header.now formals.now steps.now names).next) }
+    ensures made { IfOk result (λ r. r.1 ≡ (spec.function_defined name.now header.now formals.now steps.now names).made) }
+    ensures noted { OnOk result (kept.new ≡ first_of kept.old (spec.function_defined name.now header.now formals.now steps.now names).faults) }
+{
+    let (names, body) = check_body(alloc, header, formals, steps, names, kept)?;
+    match function_made(alloc, &name.text, header, body) {
+        Ok(made) => Ok((names, made)),
+        Err(refusal) => {
+            drop(names);
+            Err(refusal)
+        }
+    }
+}
+
 fn define_function(
     alloc: Global,
     definition: &Definition,
@@ -174,22 +211,32 @@ fn define_function(
         ) => {
             let formals = formals.as_slice();
             let steps = block.as_slice();
-            let (names, body) = check_body(alloc, header, formals, steps, names, kept)?;
-            match function_made(alloc, &name.text, header, body) {
-                Ok(made) => Ok((names, made)),
-                Err(refusal) => {
-                    drop(names);
-                    Err(refusal)
-                }
-            }
+            function_in(alloc, name, header, formals, steps, names, kept)
         }
-        (_, _) => match nothing(alloc) {
-            Ok(none) => Ok((names, none)),
-            Err(refusal) => {
-                drop(names);
-                Err(refusal)
-            }
-        },
+        (_, _) => none_in(alloc, names),
+    }
+}
+
+fn process_in(
+    alloc: Global,
+    name: &Name,
+    header: &Header,
+    formals: &[Formal],
+    steps: &[Step],
+    names: Scope,
+    kept: &mut Option<Fault>,
+) -> Result<(Scope, Option<Items<ProcDef>>), NoMemory>
+    ensures next { IfOk result (λ r. r.0 ≡ (spec.process_defined name.now header.now formals.now steps.now names).next) }
+    ensures made { IfOk result (λ r. r.1 ≡ (spec.process_defined name.now header.now formals.now steps.now names).made) }
+    ensures noted { OnOk result (kept.new ≡ first_of kept.old (spec.process_defined name.now header.now formals.now steps.now names).faults) }
+{
+    let (names, body) = check_body(alloc, header, formals, steps, names, kept)?;
+    match process_made(alloc, &name.text, header, body) {
+        Ok(made) => Ok((names, made)),
+        Err(refusal) => {
+            drop(names);
+            Err(refusal)
+        }
     }
 }
 
@@ -222,22 +269,9 @@ fn define_process(
         ) => {
             let formals = formals.as_slice();
             let steps = block.as_slice();
-            let (names, body) = check_body(alloc, header, formals, steps, names, kept)?;
-            match process_made(alloc, &name.text, header, body) {
-                Ok(made) => Ok((names, made)),
-                Err(refusal) => {
-                    drop(names);
-                    Err(refusal)
-                }
-            }
+            process_in(alloc, name, header, formals, steps, names, kept)
         }
-        (_, _) => match nothing(alloc) {
-            Ok(none) => Ok((names, none)),
-            Err(refusal) => {
-                drop(names);
-                Err(refusal)
-            }
-        },
+        (_, _) => none_in(alloc, names),
     }
 }
 

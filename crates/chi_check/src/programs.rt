@@ -2,7 +2,7 @@
 
 #![tactic(auto, using(chi_typing::proofs::Firsts::first_of_none, chi_typing::proofs::Firsts::first_of_append))]
 
-ghost use Rattle.std.specs.Prelude.{◌≡◌, length, map, take, IfOk, OnOk};
+ghost use Rattle.std.specs.Prelude.{◌≡◌, Some, length, map, take, IfOk, OnOk};
 ghost use Rattle.chi_typing.specs.Faults.{first_of};
 ghost use Rattle.chi_stat_parts.specs.Stated.{in_turn};
 ghost use Rattle.chi_headers.specs.Headers.{header_in, header_faults};
@@ -72,6 +72,18 @@ fn core_of(
         drop(procs);
         return None;
     };
+    core_with(kinds, consts, funcs, procs, model)
+}
+
+fn core_with(
+    kinds: Items<Items<Bytes>>,
+    consts: Items<ConstDef>,
+    funcs: Option<Items<FuncDef>>,
+    procs: Option<Items<ProcDef>>,
+    model: Option<u32>,
+) -> Option<Core>
+    ensures { result ≡ spec.core_of (Some kinds) (Some consts) funcs procs model }
+{
     let Some(funcs) = funcs else {
         drop(kinds);
         drop(consts);
