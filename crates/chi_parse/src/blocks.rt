@@ -1,12 +1,15 @@
 ghost use Rattle.std.specs.Prelude.{◌^◌, ◌<◌, ◌≤◌, ◌∷◌, length};
-ghost use Rattle.chi_grammar.specs.Rules.{many, maybe, part};
+ghost use Rattle.chi_grammar.specs.Rules.{many, maybe, part, ◌▸◌};
+ghost use Rattle.chi_token.specs.declared.sign.Sign.TheVariants.{Colon};
 ghost use Rattle.chi_grammar.specs.Reads.{Reads};
 ghost use Rattle.chi_tree.specs.Parts as s;
-ghost use Rattle.chi_tree.specs.Rules.{grammar};
+ghost use Rattle.chi_tree.specs.Rules.{grammar, sign};
 ghost use Rattle.chi_tree.specs.Tables.{table};
 ghost use Rattle.chi_tree.specs.Statements.{block_of, body_of, branch_of, elifs_of, else_of, inner_of, statement_of};
 ghost use Rattle.chi_parse.specs.Heads.{shown, statement};
+ghost use Rattle.chi_parse.specs.Branches.{opened_of};
 
+use crate::joined::joined;
 use crate::launches::launch;
 use crate::selects::select;
 use crate::semicolon::optional_semicolon;
@@ -138,9 +141,24 @@ fn branch(
     ensures { Reads grammar table tokens.now branch_of room (part s.Branch) at result }
 {
     let (condition, middle) = expr(alloc, tokens, at, room)?;
-    let (_, start) = take(tokens, middle, Class::Sign(Sign::Colon))?;
-    let (block, end) = inner(alloc, tokens, start, room)?;
+    let ((condition, block), end) = joined(condition, after_colon(alloc, tokens, middle, room))?;
     Ok((Branch { condition, block }, end))
+}
+
+/// A block after a `:`.
+#[cycle(blocks)]
+fn after_colon(
+    alloc: Global,
+    tokens: &[Spanned],
+    at: u32,
+    room: Room,
+) -> Result<(Block, u32), ParseFault>
+    requires short { length tokens.now < 2 ^ 32 }
+    requires inside { at ≤ length tokens.now }
+    ensures { Reads grammar table tokens.now opened_of room (sign Colon ▸ part s.Inner) at result }
+{
+    let (_, start) = take(tokens, at, Class::Sign(Sign::Colon))?;
+    inner(alloc, tokens, start, room)
 }
 
 /// The branches after a first one.
@@ -227,7 +245,7 @@ fn repetition(
 {
     let (word, start) = take(tokens, at, Class::Word(Keyword::WhileWord))?;
     let (condition, middle) = expr(alloc, tokens, start, room)?;
-    let (block, end) = body(alloc, tokens, middle, room)?;
+    let ((condition, block), end) = joined(condition, body(alloc, tokens, middle, room))?;
     Ok((
         Statement::While {
             place: word.place,
@@ -251,7 +269,7 @@ fn walking(
 {
     let (word, start) = take(tokens, at, Class::Word(Keyword::ForWord))?;
     let (walk, middle) = walk(alloc, tokens, start, room)?;
-    let (block, end) = body(alloc, tokens, middle, room)?;
+    let ((walk, block), end) = joined(walk, body(alloc, tokens, middle, room))?;
     Ok((
         Statement::For {
             place: word.place,

@@ -11,6 +11,7 @@ ghost use Rattle.chi_parse.specs.Rests.{callable_of, values_of};
 use crate::blocks::body;
 use crate::declared::assigned;
 use crate::formal::{head, parameters};
+use crate::joined::joined;
 use crate::semicolon::optional_semicolon;
 use crate::walks::names;
 use chi_base::Items;
@@ -84,8 +85,11 @@ fn constant(
 {
     let (word, start) = take(tokens, at, Class::Word(Keyword::ConstWord))?;
     let (ty, middle) = any_type(alloc, tokens, start, room)?;
-    let (name, next) = take_name(alloc, tokens, middle)?;
-    let (Initial { equals, value }, end) = assigned(alloc, tokens, next, room)?;
+    let (named, next) = joined(ty, take_name(alloc, tokens, middle))?;
+    let (((ty, name), Initial { equals, value }), end) = joined(
+        named,
+        assigned(alloc, tokens, next, room),
+    )?;
     Ok((
         Definition::Const {
             place: word.place,
@@ -150,8 +154,8 @@ fn function(
 {
     let (word, start) = take(tokens, at, Class::Word(Keyword::FuncWord))?;
     let (ty, middle) = any_type(alloc, tokens, start, room)?;
-    let (name, next) = take_name(alloc, tokens, middle)?;
-    let ((formals, block), end) = callable(alloc, tokens, next, room)?;
+    let (named, next) = joined(ty, take_name(alloc, tokens, middle))?;
+    let (((ty, name), (formals, block)), end) = joined(named, callable(alloc, tokens, next, room))?;
     Ok((
         Definition::Func {
             place: word.place,
@@ -175,8 +179,11 @@ fn process(
     ensures { Reads grammar table tokens.now definition_of room (part s.ProcDef) at result }
 {
     let (word, start) = take(tokens, at, Class::Word(Keyword::ProcWord))?;
-    let ((ty, name), middle) = head(alloc, tokens, start, room)?;
-    let ((formals, block), end) = callable(alloc, tokens, middle, room)?;
+    let (head, middle) = head(alloc, tokens, start, room)?;
+    let (((ty, name), (formals, block)), end) = joined(
+        head,
+        callable(alloc, tokens, middle, room),
+    )?;
     Ok((
         Definition::Proc {
             place: word.place,
@@ -200,8 +207,11 @@ fn model(
     ensures { Reads grammar table tokens.now definition_of room (part s.ModelDef) at result }
 {
     let (word, start) = take(tokens, at, Class::Word(Keyword::ModelWord))?;
-    let ((ty, name), middle) = head(alloc, tokens, start, room)?;
-    let ((formals, block), end) = callable(alloc, tokens, middle, room)?;
+    let (head, middle) = head(alloc, tokens, start, room)?;
+    let (((ty, name), (formals, block)), end) = joined(
+        head,
+        callable(alloc, tokens, middle, room),
+    )?;
     Ok((
         Definition::Model {
             place: word.place,

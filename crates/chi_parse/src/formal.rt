@@ -7,6 +7,7 @@ ghost use Rattle.chi_tree.specs.Tables.{table};
 ghost use Rattle.chi_tree.specs.View.{formal_of, formals_of, more_formals_of};
 ghost use Rattle.chi_tree.specs.Statements.{head_of, parameters_of};
 
+use crate::joined::joined;
 use chi_base::Items;
 use chi_grammar::{Nesting, ParseFault, Room};
 use chi_look::classes::{FIRST_OF_BUILT_TYPE, FIRST_OF_MORE_FORMAL, FIRST_OF_TYPE};
@@ -125,7 +126,7 @@ pub fn head(
 {
     if is_next(tokens, at, &FIRST_OF_BUILT_TYPE) {
         let (ty, middle) = built_type(alloc, tokens, at, room)?;
-        let (name, end) = take_name(alloc, tokens, middle)?;
+        let ((ty, name), end) = joined(ty, take_name(alloc, tokens, middle))?;
         return Ok(((Some(ty), name), end));
     }
     let (first, next) = take_name(alloc, tokens, at)?;

@@ -12,6 +12,7 @@ ghost use Rattle.chi_parse.specs.Heads.{shown};
 ghost use Rattle.chi_parse.specs.Rests.{repeated_elements_of};
 ghost use Rattle.chi_tree.specs.Statements.{element_of, elements_of, ends_element, is_some, last_ends, launched, made, more_elements_of};
 
+use crate::joined::joined;
 use crate::targets::{is_bare, target};
 use crate::walks::walk;
 use chi_base::Items;
@@ -93,7 +94,7 @@ fn unwound_elements(
 {
     let (word, start) = take(tokens, at, Class::Word(Keyword::UnwindWord))?;
     let (walk, middle) = walk(alloc, tokens, start, room)?;
-    let (elements, end) = repeated_elements(alloc, tokens, middle, room)?;
+    let ((walk, elements), end) = joined(walk, repeated_elements(alloc, tokens, middle, room))?;
     Ok((
         Element::Unwind {
             place: word.place,

@@ -7,6 +7,7 @@ mod communications;
 mod declared;
 mod definitions;
 mod formal;
+mod joined;
 mod launches;
 mod offers;
 mod program;

@@ -11,6 +11,7 @@ ghost use Rattle.chi_tree.specs.declared.expr.Postfix.{Postfix, out-Postfix};
 ghost use Rattle.chi_tree.specs.Statements.{as_target, is_some, is_step_in, name_target};
 
 use crate::communications::{communication, communication_end, delay};
+use crate::joined::joined;
 use chi_base::{Items, NoMemory};
 use chi_grammar::{ParseFault, Room};
 use chi_look::{is_next, take};
@@ -95,11 +96,10 @@ fn guarded(
     requires inside { at ≤ length tokens.now }
     ensures { Reads grammar table tokens.now (offered_shown guard) room (part s.Guarded) at result }
 {
-    let (communication, end) = after_guard(alloc, tokens, at, room)?;
-    let guard = Some(guard);
+    let ((guard, communication), end) = joined(guard, after_guard(alloc, tokens, at, room))?;
     Ok((
         GuardedCommunication {
-            guard,
+            guard: Some(guard),
             communication,
         },
         end,

@@ -11,6 +11,7 @@ ghost use Rattle.chi_tree.specs.Statements.{alternative_body_of, alternative_of,
 ghost use Rattle.chi_parse.specs.Rests.{repeated_alternatives_of};
 
 use crate::blocks::inner;
+use crate::joined::joined;
 use crate::offers::{GuardedCommunication, offer};
 use crate::walks::walk;
 use chi_base::Items;
@@ -114,7 +115,10 @@ fn unwound_alternatives(
 {
     let (word, start) = take(tokens, at, Class::Word(Keyword::UnwindWord))?;
     let (walk, middle) = walk(alloc, tokens, start, room)?;
-    let (alternatives, end) = repeated_alternatives(alloc, tokens, middle, room)?;
+    let ((walk, alternatives), end) = joined(
+        walk,
+        repeated_alternatives(alloc, tokens, middle, room),
+    )?;
     Ok((
         Alternative::Unwind {
             place: word.place,
@@ -156,7 +160,7 @@ fn guarded_alternative(
     ensures { Reads grammar table tokens.now alternative_of room (part s.GuardedAlternative) at result }
 {
     let (offer, middle) = offer(alloc, tokens, at, room)?;
-    let (block, end) = alternative_body(alloc, tokens, middle, room)?;
+    let ((offer, block), end) = joined(offer, alternative_body(alloc, tokens, middle, room))?;
     Ok((offered_block(offer, block), end))
 }
 

@@ -10,6 +10,7 @@ ghost use Rattle.chi_tree.specs.Tokens.{ends_line, jump_of};
 
 use crate::communications::{communication_end, delay, optional_expr};
 use crate::declared::variables;
+use crate::joined::joined;
 use crate::targets::{is_bare, more_targets, target};
 use chi_grammar::{Nesting, ParseFault, Room};
 use chi_look::classes::{
@@ -33,7 +34,7 @@ fn declaration(
     ensures { Reads grammar table tokens.now statement_of room (part s.Declaration) at result }
 {
     let (ty, middle) = built_type(alloc, tokens, at, room)?;
-    let (variables, end) = variables(alloc, tokens, middle, room)?;
+    let ((ty, variables), end) = joined(ty, variables(alloc, tokens, middle, room))?;
     Ok((Statement::Declare { ty, variables }, end))
 }
 

@@ -13,7 +13,9 @@ use Rattle.chi_tree.specs.Rules.{grammar, inner_block, keyword, sign}
 use Rattle.chi_tree.specs.Tables.{table}
 use Rattle.chi_tree.specs.Statements.{statement_of, block_of, inner_of, body_of, branch_of, elifs_of, else_of, alternatives_of, more_alternatives_of, alternative_of, alternative_body_of}
 use Rattle.chi_parse.specs.Heads.{shown}
+use Rattle.chi_parse.specs.Branches.{opened_of}
 use Rattle.chi_parse.specs.Rests.{repeated_alternatives_of}
+use Rattle.chi_parse.proofs.Branches.{branch_shows}
 use Rattle.chi_parse.proofs.Shapes.{by_part, reads_as, unwound_alternatives}
 use Rattle.chi_parse.proofs.Stretch.{Before, begun_fails, statement_ahead, turn, stretch_start, stretch_before, stretch_end, smaller}
 use Rattle.chi_parse_expr.proofs.Loops.{gathered_start, gathered_more, gathered_stop, gathered_fails}
@@ -90,18 +92,25 @@ pub blocks::branch-returns-in_err-condition : goal.blocks::branch-returns-in_err
 blocks::branch-returns-in_err-condition t c = failed grammar table _ branch_of _ (part s.Branch) _ _ _ c.from_residual.ensures.1
     (runs.part_fails (runs.first_fails c.in_err-condition.ensures))
 
-pub blocks::branch-returns-in_err-start : goal.blocks::branch-returns-in_err-start
-blocks::branch-returns-in_err-start t c = failed grammar table _ branch_of _ (part s.Branch) _ _ _ c.from_residual-in_err-start.ensures.1
-    (runs.part_fails (runs.next_fails c.in_ok-condition.ensures.runs (runs.first_fails (run_no_word grammar table _ c.in_err-start.ensures))))
-
-pub blocks::branch-returns-in_err-block : goal.blocks::branch-returns-in_err-block
-blocks::branch-returns-in_err-block t c = failed grammar table _ branch_of _ (part s.Branch) _ _ _ c.from_residual-in_err-block.ensures.1
-    (runs.part_fails (runs.next_fails c.in_ok-condition.ensures.runs (runs.next_fails (run_word grammar table _ c.in_ok-start.ensures) c.in_err-block.ensures)))
+pub blocks::branch-returns-in_err-condition-2 : goal.blocks::branch-returns-in_err-condition-2
+blocks::branch-returns-in_err-condition-2 t c = failed grammar table _ branch_of _ (part s.Branch) _ _ _ c.from_residual-in_err-condition-2.ensures.1
+    (runs.part_fails (runs.next_fails c.in_ok-condition.ensures.runs (c.in_err-condition-2.ensures _ _ _ _ _ c.after_colon.ensures)))
 
 pub blocks::branch-returns : goal.blocks::branch-returns
-blocks::branch-returns t c = read grammar table _ (branch_of) c.requires.inside
-    (runs.part (runs.both c.in_ok-condition.ensures.runs (runs.both (run_word grammar table _ c.in_ok-start.ensures) c.in_ok-block.ensures.runs)))
-    (λ i. roll-Branch (record { condition = (c.in_ok-condition.ensures.shows i); block = (c.in_ok-block.ensures.shows i) }))
+blocks::branch-returns t c =
+    let q = c.in_ok-condition-2.ensures _ _ _ _ _ c.after_colon.ensures in
+    read grammar table _ (branch_of) c.requires.inside
+    (runs.part (runs.both c.in_ok-condition.ensures.runs q.runs))
+    (branch_shows q.runs c.in_ok-condition.ensures.tree
+    ∙ (λ i. roll-Branch (record { condition = (c.in_ok-condition.ensures.shows i); block = opened_of q.tree }))
+    ∙ (λ i. roll-Branch (record { condition = (q.shows i).0; block = (q.shows i).1 })))
+
+pub blocks::after_colon-returns-in_err-start : goal.blocks::after_colon-returns-in_err-start
+blocks::after_colon-returns-in_err-start t c = failed grammar table _ opened_of _ (sign Colon ▸ part s.Inner) _ _ _ c.from_residual.ensures.1
+    (runs.first_fails (run_no_word grammar table _ c.in_err-start.ensures))
+
+pub blocks::after_colon-returns : goal.blocks::after_colon-returns
+blocks::after_colon-returns t c = reads_then grammar table _ _ _ _ _ _ _ _ _ (run_word grammar table _ c.in_ok-start.ensures) c.inner.ensures
 
 pub blocks::more_branches-returns-in_err-push : goal.blocks::more_branches-returns-in_err-push
 blocks::more_branches-returns-in_err-push t c = no_memory grammar table _ (λ bs. c.args.first ∷ elifs_of bs) _ (many (part s.Elif)) _ _ c.from_residual.ensures.1
@@ -185,14 +194,17 @@ pub blocks::repetition-returns-in_err-condition : goal.blocks::repetition-return
 blocks::repetition-returns-in_err-condition t c = failed grammar table _ statement_of _ (part s.While) _ _ _ c.from_residual-in_err-condition.ensures.1
     (runs.part_fails (runs.next_fails (run_word grammar table _ c.in_ok-word.ensures) (runs.first_fails c.in_err-condition.ensures)))
 
-pub blocks::repetition-returns-in_err-block : goal.blocks::repetition-returns-in_err-block
-blocks::repetition-returns-in_err-block t c = failed grammar table _ statement_of _ (part s.While) _ _ _ c.from_residual-in_err-block.ensures.1
-    (runs.part_fails (runs.next_fails (run_word grammar table _ c.in_ok-word.ensures) (runs.next_fails c.in_ok-condition.ensures.runs c.in_err-block.ensures)))
+pub blocks::repetition-returns-in_err-condition-2 : goal.blocks::repetition-returns-in_err-condition-2
+blocks::repetition-returns-in_err-condition-2 t c = failed grammar table _ statement_of _ (part s.While) _ _ _ c.from_residual-in_err-condition-2.ensures.1
+    (runs.part_fails (runs.next_fails (run_word grammar table _ c.in_ok-word.ensures) (runs.next_fails c.in_ok-condition.ensures.runs (c.in_err-condition-2.ensures _ _ _ _ _ c.body.ensures))))
 
 pub blocks::repetition-returns : goal.blocks::repetition-returns
-blocks::repetition-returns t c = read grammar table _ (statement_of) c.requires.inside
-    (runs.part (runs.both (run_word grammar table _ c.in_ok-word.ensures) (runs.both c.in_ok-condition.ensures.runs c.in_ok-block.ensures.runs)))
-    (λ i. statement.While c.in_ok-word.word.now.place (c.in_ok-condition.ensures.shows i) (c.in_ok-block.ensures.shows i))
+blocks::repetition-returns t c =
+    let q = c.in_ok-condition-2.ensures _ _ _ _ _ c.body.ensures in
+    read grammar table _ (statement_of) c.requires.inside
+    (runs.part (runs.both (run_word grammar table _ c.in_ok-word.ensures) (runs.both c.in_ok-condition.ensures.runs q.runs)))
+    ((λ i. statement.While c.in_ok-word.word.now.place (c.in_ok-condition.ensures.shows i) (body_of q.tree))
+    ∙ (λ i. statement.While c.in_ok-word.word.now.place (q.shows i).0 (q.shows i).1))
 
 pub blocks::walking-returns-in_err-word : goal.blocks::walking-returns-in_err-word
 blocks::walking-returns-in_err-word t c = failed grammar table _ statement_of _ (part s.For) _ _ _ c.from_residual.ensures.1
@@ -202,14 +214,17 @@ pub blocks::walking-returns-in_err-walk : goal.blocks::walking-returns-in_err-wa
 blocks::walking-returns-in_err-walk t c = failed grammar table _ statement_of _ (part s.For) _ _ _ c.from_residual-in_err-walk.ensures.1
     (runs.part_fails (runs.next_fails (run_word grammar table _ c.in_ok-word.ensures) (runs.first_fails c.in_err-walk.ensures)))
 
-pub blocks::walking-returns-in_err-block : goal.blocks::walking-returns-in_err-block
-blocks::walking-returns-in_err-block t c = failed grammar table _ statement_of _ (part s.For) _ _ _ c.from_residual-in_err-block.ensures.1
-    (runs.part_fails (runs.next_fails (run_word grammar table _ c.in_ok-word.ensures) (runs.next_fails c.in_ok-walk.ensures.runs c.in_err-block.ensures)))
+pub blocks::walking-returns-in_err-walk-2 : goal.blocks::walking-returns-in_err-walk-2
+blocks::walking-returns-in_err-walk-2 t c = failed grammar table _ statement_of _ (part s.For) _ _ _ c.from_residual-in_err-walk-2.ensures.1
+    (runs.part_fails (runs.next_fails (run_word grammar table _ c.in_ok-word.ensures) (runs.next_fails c.in_ok-walk.ensures.runs (c.in_err-walk-2.ensures _ _ _ _ _ c.body.ensures))))
 
 pub blocks::walking-returns : goal.blocks::walking-returns
-blocks::walking-returns t c = read grammar table _ (statement_of) c.requires.inside
-    (runs.part (runs.both (run_word grammar table _ c.in_ok-word.ensures) (runs.both c.in_ok-walk.ensures.runs c.in_ok-block.ensures.runs)))
-    (λ i. statement.For c.in_ok-word.word.now.place (c.in_ok-walk.ensures.shows i) (c.in_ok-block.ensures.shows i))
+blocks::walking-returns t c =
+    let q = c.in_ok-walk-2.ensures _ _ _ _ _ c.body.ensures in
+    read grammar table _ (statement_of) c.requires.inside
+    (runs.part (runs.both (run_word grammar table _ c.in_ok-word.ensures) (runs.both c.in_ok-walk.ensures.runs q.runs)))
+    ((λ i. statement.For c.in_ok-word.word.now.place (c.in_ok-walk.ensures.shows i) (body_of q.tree))
+    ∙ (λ i. statement.For c.in_ok-word.word.now.place (q.shows i).0 (q.shows i).1))
 
 pub selects::select-returns-in_err-word : goal.selects::select-returns-in_err-word
 selects::select-returns-in_err-word t c = failed grammar table _ statement_of _ (part s.Select) _ _ _ c.from_residual.ensures.1
@@ -282,15 +297,18 @@ pub selects::unwound_alternatives-returns-in_err-walk : goal.selects::unwound_al
 selects::unwound_alternatives-returns-in_err-walk t c = failed grammar table _ alternative_of _ (part s.UnwoundAlternatives) _ _ _ c.from_residual-in_err-walk.ensures.1
     (runs.part_fails (runs.next_fails (run_word grammar table _ c.in_ok-word.ensures) (runs.first_fails c.in_err-walk.ensures)))
 
-pub selects::unwound_alternatives-returns-in_err-alternatives : goal.selects::unwound_alternatives-returns-in_err-alternatives
-selects::unwound_alternatives-returns-in_err-alternatives t c = failed grammar table _ alternative_of _ (part s.UnwoundAlternatives) _ _ _ c.from_residual-in_err-alternatives.ensures.1
-    (runs.part_fails (runs.next_fails (run_word grammar table _ c.in_ok-word.ensures) (runs.next_fails c.in_ok-walk.ensures.runs c.in_err-alternatives.ensures)))
+pub selects::unwound_alternatives-returns-in_err-walk-2 : goal.selects::unwound_alternatives-returns-in_err-walk-2
+selects::unwound_alternatives-returns-in_err-walk-2 t c = failed grammar table _ alternative_of _ (part s.UnwoundAlternatives) _ _ _ c.from_residual-in_err-walk-2.ensures.1
+    (runs.part_fails (runs.next_fails (run_word grammar table _ c.in_ok-word.ensures) (runs.next_fails c.in_ok-walk.ensures.runs (c.in_err-walk-2.ensures _ _ _ _ _ c.repeated_alternatives.ensures))))
 
 pub selects::unwound_alternatives-returns : goal.selects::unwound_alternatives-returns
-selects::unwound_alternatives-returns t c = read grammar table _ (alternative_of) c.requires.inside
-    (runs.part (runs.both (run_word grammar table _ c.in_ok-word.ensures) (runs.both c.in_ok-walk.ensures.runs c.in_ok-alternatives.ensures.runs)))
-    (unwound_alternatives c.in_ok-alternatives.ensures.runs (leaf c.in_ok-word.word.now) c.in_ok-walk.ensures.tree
-    ∙ (λ i. alternative.Unwind c.in_ok-word.word.now.place (c.in_ok-walk.ensures.shows i) (c.in_ok-alternatives.ensures.shows i)))
+selects::unwound_alternatives-returns t c =
+    let q = c.in_ok-walk-2.ensures _ _ _ _ _ c.repeated_alternatives.ensures in
+    read grammar table _ (alternative_of) c.requires.inside
+    (runs.part (runs.both (run_word grammar table _ c.in_ok-word.ensures) (runs.both c.in_ok-walk.ensures.runs q.runs)))
+    (unwound_alternatives q.runs (leaf c.in_ok-word.word.now) c.in_ok-walk.ensures.tree
+    ∙ (λ i. alternative.Unwind c.in_ok-word.word.now.place (c.in_ok-walk.ensures.shows i) (repeated_alternatives_of q.tree))
+    ∙ (λ i. alternative.Unwind c.in_ok-word.word.now.place (q.shows i).0 (q.shows i).1))
 
 pub selects::repeated_alternatives-returns-in_err-from : goal.selects::repeated_alternatives-returns-in_err-from
 selects::repeated_alternatives-returns-in_err-from t c = failed grammar table _ repeated_alternatives_of _ (sign Colon ▸ inner_block (part s.Alternatives) ▸ keyword word_of.EndWord) _ _ _ c.from_residual.ensures.1
@@ -317,14 +335,17 @@ pub selects::guarded_alternative-returns-in_err-offer : goal.selects::guarded_al
 selects::guarded_alternative-returns-in_err-offer t c = failed grammar table _ alternative_of _ (part s.GuardedAlternative) _ _ _ c.from_residual.ensures.1
     (runs.part_fails (runs.first_fails c.in_err-offer.ensures))
 
-pub selects::guarded_alternative-returns-in_err-block : goal.selects::guarded_alternative-returns-in_err-block
-selects::guarded_alternative-returns-in_err-block t c = failed grammar table _ alternative_of _ (part s.GuardedAlternative) _ _ _ c.from_residual-in_err-block.ensures.1
-    (runs.part_fails (runs.next_fails c.in_ok-offer.ensures.runs c.in_err-block.ensures))
+pub selects::guarded_alternative-returns-in_err-offer-2 : goal.selects::guarded_alternative-returns-in_err-offer-2
+selects::guarded_alternative-returns-in_err-offer-2 t c = failed grammar table _ alternative_of _ (part s.GuardedAlternative) _ _ _ c.from_residual-in_err-offer-2.ensures.1
+    (runs.part_fails (runs.next_fails c.in_ok-offer.ensures.runs (c.in_err-offer-2.ensures _ _ _ _ _ c.alternative_body.ensures)))
 
 pub selects::guarded_alternative-returns : goal.selects::guarded_alternative-returns
-selects::guarded_alternative-returns t c = read grammar table _ (alternative_of) c.requires.inside
-    (runs.part (runs.both c.in_ok-offer.ensures.runs c.in_ok-block.ensures.runs))
-    ((λ i. alternative.Guarded (c.in_ok-offer.ensures.shows i).guard (c.in_ok-offer.ensures.shows i).communication (c.in_ok-block.ensures.shows i)) ∙ sym c.offered_block.ensures)
+selects::guarded_alternative-returns t c =
+    let q = c.in_ok-offer-2.ensures _ _ _ _ _ c.alternative_body.ensures in
+    read grammar table _ (alternative_of) c.requires.inside
+    (runs.part (runs.both c.in_ok-offer.ensures.runs q.runs))
+    ((λ i. alternative.Guarded (c.in_ok-offer.ensures.shows i).guard (c.in_ok-offer.ensures.shows i).communication (alternative_body_of q.tree))
+    ∙ (λ i. alternative.Guarded (q.shows i).0.guard (q.shows i).0.communication (q.shows i).1) ∙ sym c.offered_block.ensures)
 
 pub selects::alternative_body-returns-in_err-of : goal.selects::alternative_body-returns-in_err-of
 selects::alternative_body-returns-in_err-of t c = no_memory grammar table _ alternative_body_of _ (maybe (part s.AlternativeBody)) _ _ c.from_residual.ensures.1

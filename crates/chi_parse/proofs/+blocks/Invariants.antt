@@ -47,11 +47,14 @@ decreases-selects::alternatives l = 16 * l.room.blocks + 6
 abbrev pub decreases-blocks::body : goal.decreases-blocks::body
 decreases-blocks::body l = 16 * l.room.blocks + 2
 
+abbrev pub decreases-blocks::after_colon : goal.decreases-blocks::after_colon
+decreases-blocks::after_colon l = 16 * l.room.blocks + 2
+
 abbrev pub decreases-blocks::branch : goal.decreases-blocks::branch
-decreases-blocks::branch l = 16 * l.room.blocks + 2
+decreases-blocks::branch l = 16 * l.room.blocks + 3
 
 abbrev pub decreases-blocks::more_branches : goal.decreases-blocks::more_branches
-decreases-blocks::more_branches l = 16 * l.room.blocks + 3
+decreases-blocks::more_branches l = 16 * l.room.blocks + 4
 
 abbrev pub decreases-blocks::otherwise : goal.decreases-blocks::otherwise
 decreases-blocks::otherwise l = 16 * l.room.blocks + 2
@@ -60,7 +63,7 @@ abbrev pub decreases-selects::select : goal.decreases-selects::select
 decreases-selects::select l = 16 * l.room.blocks + 7
 
 abbrev pub decreases-blocks::branching : goal.decreases-blocks::branching
-decreases-blocks::branching l = 16 * l.room.blocks + 4
+decreases-blocks::branching l = 16 * l.room.blocks + 5
 
 abbrev pub decreases-blocks::repetition : goal.decreases-blocks::repetition
 decreases-blocks::repetition l = 16 * l.room.blocks + 3

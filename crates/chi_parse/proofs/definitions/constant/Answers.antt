@@ -7,11 +7,13 @@ use Rattle.chi_tree.specs.Parts as s
 use Rattle.chi_tree.specs.Rules.{grammar}
 use Rattle.chi_tree.specs.Tables.{table}
 use Rattle.chi_tree.specs.Statements.{definition_of}
+use Rattle.chi_tree.specs.View.{name_in}
+use Rattle.chi_parse.specs.Rests.{assigned_of}
 use Rattle.chi_parse.proofs.Shapes.{constant_shows}
 use Rattle.chi_parse.proofs.definitions.constant.Goals as goal
 
 pub assigned-requires-clause-inside : goal.assigned-requires-clause-inside
-assigned-requires-clause-inside c = (c.in_ok-name.ensures c.args.room).inside
+assigned-requires-clause-inside c = (c.in_ok-named.ensures _ _ _ _ _ (c.take_name.ensures c.args.room)).inside
 
 pub returns-in_err-word : goal.returns-in_err-word
 returns-in_err-word c = failed grammar table _ definition_of _ (part s.ConstDef) _ _ _ c.from_residual.ensures.1
@@ -21,17 +23,21 @@ pub returns-in_err-ty : goal.returns-in_err-ty
 returns-in_err-ty c = failed grammar table _ definition_of _ (part s.ConstDef) _ _ _ c.from_residual-in_err-ty.ensures.1
     (runs.part_fails (runs.next_fails (run_word grammar table _ c.in_ok-word.ensures) (runs.first_fails c.in_err-ty.ensures)))
 
-pub returns-in_err-name : goal.returns-in_err-name
-returns-in_err-name c = failed grammar table _ definition_of _ (part s.ConstDef) _ _ _ c.from_residual-in_err-name.ensures.1
-    (runs.part_fails (runs.next_fails (run_word grammar table _ c.in_ok-word.ensures) (runs.next_fails c.in_ok-ty.ensures.runs (runs.first_fails (c.in_err-name.ensures c.args.room)))))
+pub returns-in_err-named : goal.returns-in_err-named
+returns-in_err-named c = failed grammar table _ definition_of _ (part s.ConstDef) _ _ _ c.from_residual-in_err-named.ensures.1
+    (runs.part_fails (runs.next_fails (run_word grammar table _ c.in_ok-word.ensures) (runs.next_fails c.in_ok-ty.ensures.runs (runs.first_fails (c.in_err-named.ensures _ _ _ _ _ (c.take_name.ensures c.args.room))))))
 
-pub returns-in_err-equals : goal.returns-in_err-equals
-returns-in_err-equals c = failed grammar table _ definition_of _ (part s.ConstDef) _ _ _ c.from_residual-in_err-equals.ensures.1
-    (runs.part_fails (runs.next_fails (run_word grammar table _ c.in_ok-word.ensures) (runs.next_fails c.in_ok-ty.ensures.runs (runs.next_fails (c.in_ok-name.ensures c.args.room).runs c.in_err-equals.ensures))))
+pub returns-in_err-ty-2 : goal.returns-in_err-ty-2
+returns-in_err-ty-2 c = failed grammar table _ definition_of _ (part s.ConstDef) _ _ _ c.from_residual-in_err-ty-2.ensures.1
+    (runs.part_fails (runs.next_fails (run_word grammar table _ c.in_ok-word.ensures) (runs.next_fails c.in_ok-ty.ensures.runs (runs.next_fails (c.in_ok-named.ensures _ _ _ _ _ (c.take_name.ensures c.args.room)).runs (c.in_err-ty-2.ensures _ _ _ _ _ c.assigned.ensures)))))
 
 pub returns : goal.returns
-returns c = read grammar table _ (definition_of) c.requires.inside
-    (runs.part (runs.both (run_word grammar table _ c.in_ok-word.ensures) (runs.both c.in_ok-ty.ensures.runs (runs.both (c.in_ok-name.ensures c.args.room).runs c.in_ok-equals.ensures.runs))))
-    (constant_shows c.in_ok-equals.ensures.runs (leaf c.in_ok-word.word.now) c.in_ok-ty.ensures.tree (c.in_ok-name.ensures c.args.room).tree
-    ∙ (λ i. definition.Const c.in_ok-word.word.now.place (c.in_ok-ty.ensures.shows i) ((c.in_ok-name.ensures c.args.room).shows i)
-    (c.in_ok-equals.ensures.shows i).equals (c.in_ok-equals.ensures.shows i).value))
+returns c =
+    let n = c.in_ok-named.ensures _ _ _ _ _ (c.take_name.ensures c.args.room) in
+    let q = c.in_ok-ty-2.ensures _ _ _ _ _ c.assigned.ensures in
+    read grammar table _ (definition_of) c.requires.inside
+    (runs.part (runs.both (run_word grammar table _ c.in_ok-word.ensures) (runs.both c.in_ok-ty.ensures.runs (runs.both n.runs q.runs))))
+    (constant_shows q.runs (leaf c.in_ok-word.word.now) c.in_ok-ty.ensures.tree n.tree
+    ∙ (λ i. definition.Const c.in_ok-word.word.now.place (c.in_ok-ty.ensures.shows i) (name_in n.tree) (assigned_of q.tree).equals (assigned_of q.tree).value)
+    ∙ (λ i. definition.Const c.in_ok-word.word.now.place (n.shows i).0 (n.shows i).1 (assigned_of q.tree).equals (assigned_of q.tree).value)
+    ∙ (λ i. definition.Const c.in_ok-word.word.now.place (q.shows i).0.0 (q.shows i).0.1 (q.shows i).1.equals (q.shows i).1.value))

@@ -15,14 +15,16 @@ pub returns-in_err-ty : goal.returns-in_err-ty
 returns-in_err-ty c = failed grammar table _ head_of _ (part s.Head) _ _ _ c.from_residual.ensures.1
     (runs.part_fails (runs.left (c.is_next.ensures ∙ c.if-is_next.true) (runs.first_fails c.in_err-ty.ensures)))
 
-pub returns-in_err-name : goal.returns-in_err-name
-returns-in_err-name c = failed grammar table _ head_of _ (part s.Head) _ _ _ c.from_residual-in_err-name.ensures.1
-    (runs.part_fails (runs.left (c.is_next.ensures ∙ c.if-is_next.true) (runs.next_fails c.in_ok-ty.ensures.runs (c.in_err-name.ensures c.args.room))))
+pub returns-in_err-ty-2 : goal.returns-in_err-ty-2
+returns-in_err-ty-2 c = failed grammar table _ head_of _ (part s.Head) _ _ _ c.from_residual-in_err-ty-2.ensures.1
+    (runs.part_fails (runs.left (c.is_next.ensures ∙ c.if-is_next.true) (runs.next_fails c.in_ok-ty.ensures.runs (c.in_err-ty-2.ensures _ _ _ _ _ (c.take_name.ensures c.args.room)))))
 
 pub returns-then-is_next : goal.returns-then-is_next
-returns-then-is_next c = read grammar table _ (head_of) c.requires.inside (runs.part (runs.left (c.is_next.ensures ∙ c.if-is_next.true) (runs.both c.in_ok-ty.ensures.runs (c.in_ok-name.ensures c.args.room).runs)))
-    (by_part (λ t. head_of (node s.Head (pair t (c.in_ok-name.ensures c.args.room).tree)) ≡ (Some (type_of t), name_in (c.in_ok-name.ensures c.args.room).tree)) (λ u. refl) c.in_ok-ty.ensures.runs
-    ∙ (λ i. (Some (c.in_ok-ty.ensures.shows i), (c.in_ok-name.ensures c.args.room).shows i)))
+returns-then-is_next c =
+    let q = c.in_ok-ty-2.ensures _ _ _ _ _ (c.take_name.ensures c.args.room) in
+    read grammar table _ (head_of) c.requires.inside (runs.part (runs.left (c.is_next.ensures ∙ c.if-is_next.true) (runs.both c.in_ok-ty.ensures.runs q.runs)))
+    (by_part (λ t. head_of (node s.Head (pair t q.tree)) ≡ (Some (type_of t), name_in q.tree)) (λ u. refl) c.in_ok-ty.ensures.runs
+    ∙ (λ i. (Some (c.in_ok-ty.ensures.shows i), name_in q.tree)) ∙ (λ i. (Some (q.shows i).0, (q.shows i).1)))
 
 pub returns-in_err-first : goal.returns-in_err-first
 returns-in_err-first c = failed grammar table _ head_of _ (part s.Head) _ _ _ c.from_residual-in_err-first.ensures.1

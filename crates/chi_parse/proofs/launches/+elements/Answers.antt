@@ -69,15 +69,18 @@ pub unwound_elements-returns-in_err-walk : goal.unwound_elements-returns-in_err-
 unwound_elements-returns-in_err-walk t c = failed grammar table _ element_of _ (part s.UnwoundElements) _ _ _ c.from_residual-in_err-walk.ensures.1
     (runs.part_fails (runs.next_fails (run_word grammar table _ c.in_ok-word.ensures) (runs.first_fails c.in_err-walk.ensures)))
 
-pub unwound_elements-returns-in_err-elements : goal.unwound_elements-returns-in_err-elements
-unwound_elements-returns-in_err-elements t c = failed grammar table _ element_of _ (part s.UnwoundElements) _ _ _ c.from_residual-in_err-elements.ensures.1
-    (runs.part_fails (runs.next_fails (run_word grammar table _ c.in_ok-word.ensures) (runs.next_fails c.in_ok-walk.ensures.runs c.in_err-elements.ensures)))
+pub unwound_elements-returns-in_err-walk-2 : goal.unwound_elements-returns-in_err-walk-2
+unwound_elements-returns-in_err-walk-2 t c = failed grammar table _ element_of _ (part s.UnwoundElements) _ _ _ c.from_residual-in_err-walk-2.ensures.1
+    (runs.part_fails (runs.next_fails (run_word grammar table _ c.in_ok-word.ensures) (runs.next_fails c.in_ok-walk.ensures.runs (c.in_err-walk-2.ensures _ _ _ _ _ c.repeated_elements.ensures))))
 
 pub unwound_elements-returns : goal.unwound_elements-returns
-unwound_elements-returns t c = read grammar table _ (element_of) c.requires.inside
-    (runs.part (runs.both (run_word grammar table _ c.in_ok-word.ensures) (runs.both c.in_ok-walk.ensures.runs c.in_ok-elements.ensures.runs)))
-    (unwound_elements c.in_ok-elements.ensures.runs (leaf c.in_ok-word.word.now) c.in_ok-walk.ensures.tree
-    ∙ (λ i. element.Unwind c.in_ok-word.word.now.place (c.in_ok-walk.ensures.shows i) (c.in_ok-elements.ensures.shows i)))
+unwound_elements-returns t c =
+    let q = c.in_ok-walk-2.ensures _ _ _ _ _ c.repeated_elements.ensures in
+    read grammar table _ (element_of) c.requires.inside
+    (runs.part (runs.both (run_word grammar table _ c.in_ok-word.ensures) (runs.both c.in_ok-walk.ensures.runs q.runs)))
+    (unwound_elements q.runs (leaf c.in_ok-word.word.now) c.in_ok-walk.ensures.tree
+    ∙ (λ i. element.Unwind c.in_ok-word.word.now.place (c.in_ok-walk.ensures.shows i) (repeated_elements_of q.tree))
+    ∙ (λ i. element.Unwind c.in_ok-word.word.now.place (q.shows i).0 (q.shows i).1))
 
 pub repeated_elements-returns-in_err-from : goal.repeated_elements-returns-in_err-from
 repeated_elements-returns-in_err-from t c = failed grammar table _ repeated_elements_of _ (sign sign_of.Colon ▸ inner_block (part s.Elements) ▸ keyword EndWord) _ _ _ c.from_residual.ensures.1

@@ -9,11 +9,13 @@ use Rattle.chi_parse.specs.Rests.{offered_shown}
 use Rattle.chi_parse.proofs.Shapes.{guarded_shows}
 use Rattle.chi_parse.proofs.offers.guarded.Goals as goal
 
-pub returns-in_err-communication : goal.returns-in_err-communication
-returns-in_err-communication c = failed grammar table _ (offered_shown c.args.guard) _ (part s.Guarded) _ _ _ c.from_residual.ensures.1
-    (runs.part_fails c.in_err-communication.ensures)
+pub returns-in_err-guard : goal.returns-in_err-guard
+returns-in_err-guard c = failed grammar table _ (offered_shown c.args.guard) _ (part s.Guarded) _ _ _ c.from_residual.ensures.1
+    (runs.part_fails (c.in_err-guard.ensures _ _ _ _ _ c.after_guard.ensures))
 
 pub returns : goal.returns
-returns c = read grammar table _ (offered_shown c.args.guard) c.requires.inside
-    (runs.part c.in_ok-communication.ensures.runs)
-    (guarded_shows c.in_ok-communication.ensures.runs c.args.guard ∙ (λ i. record { guard = Some c.args.guard; communication = c.in_ok-communication.ensures.shows i }))
+returns c =
+    let q = c.in_ok-guard.ensures _ _ _ _ _ c.after_guard.ensures in
+    read grammar table _ (offered_shown c.args.guard) c.requires.inside
+    (runs.part q.runs)
+    (guarded_shows q.runs c.args.guard ∙ (λ i. record { guard = Some (q.shows i).0; communication = (q.shows i).1 }))
