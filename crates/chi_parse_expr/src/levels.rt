@@ -8,6 +8,7 @@ ghost use Rattle.chi_tree.specs.View.{expr_of, links_of, link_of, related};
 ghost use Rattle.chi_tree.specs.Parts as s;
 ghost use Rattle.chi_parse_expr.specs.Grouping.{chain_part, link_part, operand_part};
 
+use crate::joined::joined;
 use crate::level::ChainLevel;
 use crate::nodes::{chained, operator_of, relation_of};
 use crate::terms::unary;
@@ -48,7 +49,7 @@ fn chain(
     ensures { Reads grammar table tokens.now expr_of room (part (chain_part level)) at result }
 {
     let (first, middle) = operand(alloc, tokens, at, room, level)?;
-    let (links, end) = links(alloc, tokens, middle, room, level)?;
+    let ((first, links), end) = joined(first, links(alloc, tokens, middle, room, level))?;
     let chain = chained(alloc, first, links)?;
     Ok((chain, end))
 }

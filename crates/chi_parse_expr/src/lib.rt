@@ -4,6 +4,7 @@
 mod blanks;
 mod braces;
 mod compounds;
+mod joined;
 mod level;
 mod levels;
 mod nodes;

@@ -8,6 +8,7 @@ ghost use Rattle.chi_tree.specs.View.{expr_of, postfixes_of, postfix_of, inside,
 ghost use Rattle.chi_grammar.specs.declared.room.Room.{Room};
 ghost use Rattle.chi_tree.specs.Parts as s;
 
+use crate::joined::{followed, joined};
 use crate::levels::expr;
 use crate::nodes::parted;
 use crate::primaries::primary;
@@ -31,7 +32,7 @@ pub fn post(
     ensures { Reads grammar table tokens.now expr_of room (part s.Post) at result }
 {
     let (whole, middle) = primary(alloc, tokens, at, room)?;
-    let (parts, end) = postfixes(alloc, tokens, middle, room)?;
+    let ((whole, parts), end) = joined(whole, postfixes(alloc, tokens, middle, room))?;
     let taken = parted(alloc, whole, parts)?;
     Ok((taken, end))
 }
@@ -100,7 +101,7 @@ fn bracket(
     let inner = enter(tokens, at, room, Nesting::Expression, &[LEFT_BRACKET])?;
     let (word, start) = take(tokens, at, LEFT_BRACKET)?;
     let (postfix, middle) = bracketed(alloc, tokens, start, inner, word.place)?;
-    let (_, end) = take(tokens, middle, RIGHT_BRACKET)?;
+    let (postfix, end) = followed(postfix, tokens, middle, RIGHT_BRACKET)?;
     Ok((postfix, end))
 }
 

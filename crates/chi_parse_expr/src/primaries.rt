@@ -10,6 +10,7 @@ ghost use Rattle.chi_tree.specs.Parts as s;
 
 use crate::blanks::blank;
 use crate::braces::curly;
+use crate::joined::followed;
 use crate::levels::expr;
 use crate::nodes::{cast_of, literal_of};
 use crate::postfixes::boxed_expr;
@@ -118,7 +119,7 @@ fn round(alloc: Global, tokens: &[Spanned], at: u32, room: Room) -> Result<(Expr
     let (word, start) = take(tokens, at, LEFT_PAREN)?;
     let (first, middle) = expr(alloc, tokens, start, inner)?;
     let (value, last) = tuple_or_round(alloc, tokens, middle, inner, word.place, first)?;
-    let (_, end) = take(tokens, last, RIGHT_PAREN)?;
+    let (value, end) = followed(value, tokens, last, RIGHT_PAREN)?;
     Ok((value, end))
 }
 
@@ -136,7 +137,7 @@ fn tuple_or_round(
     ensures { Reads grammar table tokens.now (bracketed place first) room (maybe (part s.Others)) at result }
 {
     if is_next(tokens, at, &[COMMA]) {
-        let (_, start) = take(tokens, at, COMMA)?;
+        let (first, start) = followed(first, tokens, at, COMMA)?;
         let found = vec![in alloc; first]?;
         let (values, end) = exprs_after(alloc, tokens, start, room, found)?;
         return Ok((

@@ -35,12 +35,12 @@ levels::chain-returns-in_err-first t c =
     failed grammar table _ expr_of _ (part (chain_part level)) _ _ _ c.from_residual.ensures.1
     (runs.part_fails (run_by (chain_rule level) (runs.first_fails c.in_err-first.ensures)))
 
-pub levels::chain-returns-in_err-links : goal.levels::chain-returns-in_err-links
-levels::chain-returns-in_err-links t c =
+pub levels::chain-returns-in_err-first-2 : goal.levels::chain-returns-in_err-first-2
+levels::chain-returns-in_err-first-2 t c =
     let level = c.args.level in
     let first = c.in_ok-first.ensures in
-    failed grammar table _ expr_of _ (part (chain_part level)) _ _ _ c.from_residual-in_err-links.ensures.1
-    (runs.part_fails (run_by (chain_rule level) (runs.next_fails first.runs c.in_err-links.ensures)))
+    failed grammar table _ expr_of _ (part (chain_part level)) _ _ _ c.from_residual-in_err-first-2.ensures.1
+    (runs.part_fails (run_by (chain_rule level) (runs.next_fails first.runs (c.in_err-first-2.ensures _ _ _ _ _ c.links.ensures))))
 
 pub levels::chain-returns-in_err-chain : goal.levels::chain-returns-in_err-chain
 levels::chain-returns-in_err-chain t c =
@@ -50,10 +50,10 @@ pub levels::chain-returns : goal.levels::chain-returns
 levels::chain-returns t c =
     let level = c.args.level in
     let first = c.in_ok-first.ensures in
-    let links = c.in_ok-links.ensures in
+    let links = c.in_ok-first-2.ensures _ _ _ _ _ c.links.ensures in
     read grammar table _ expr_of c.requires.inside
     (runs.part (run_by (chain_rule level) (runs.both first.runs links.runs)))
-    (chain_shows level first.tree links.tree ∙ ((λ i. chained (first.shows i) (links.shows i)) ∙ sym c.in_ok-chain.ensures))
+    (chain_shows level first.tree links.tree ∙ ((λ i. chained (first.shows i) (links_of links.tree)) ∙ ((λ i. chained (links.shows i).0 (links.shows i).1) ∙ sym c.in_ok-chain.ensures)))
 
 pub levels::links-turn-init : goal.levels::links-turn-init
 levels::links-turn-init t c =
@@ -291,11 +291,11 @@ postfixes::post-returns-in_err-whole t c =
     failed grammar table _ expr_of _ (part s.Post) _ _ _ c.from_residual.ensures.1
     (runs.part_fails (runs.first_fails c.in_err-whole.ensures))
 
-pub postfixes::post-returns-in_err-parts : goal.postfixes::post-returns-in_err-parts
-postfixes::post-returns-in_err-parts t c =
+pub postfixes::post-returns-in_err-whole-2 : goal.postfixes::post-returns-in_err-whole-2
+postfixes::post-returns-in_err-whole-2 t c =
     let whole = c.in_ok-whole.ensures in
-    failed grammar table _ expr_of _ (part s.Post) _ _ _ c.from_residual-in_err-parts.ensures.1
-    (runs.part_fails (runs.next_fails whole.runs c.in_err-parts.ensures))
+    failed grammar table _ expr_of _ (part s.Post) _ _ _ c.from_residual-in_err-whole-2.ensures.1
+    (runs.part_fails (runs.next_fails whole.runs (c.in_err-whole-2.ensures _ _ _ _ _ c.postfixes.ensures)))
 
 pub postfixes::post-returns-in_err-taken : goal.postfixes::post-returns-in_err-taken
 postfixes::post-returns-in_err-taken t c =
@@ -304,10 +304,10 @@ postfixes::post-returns-in_err-taken t c =
 pub postfixes::post-returns : goal.postfixes::post-returns
 postfixes::post-returns t c =
     let whole = c.in_ok-whole.ensures in
-    let parts = c.in_ok-parts.ensures in
+    let parts = c.in_ok-whole-2.ensures _ _ _ _ _ c.postfixes.ensures in
     read grammar table _ expr_of c.requires.inside
     (runs.part (runs.both whole.runs parts.runs))
-    ((λ i. parted (whole.shows i) (parts.shows i)) ∙ sym c.in_ok-taken.ensures)
+    ((λ i. parted (whole.shows i) (postfixes_of parts.tree)) ∙ ((λ i. parted (parts.shows i).0 (parts.shows i).1) ∙ sym c.in_ok-taken.ensures))
 
 pub postfixes::postfixes-turn-init : goal.postfixes::postfixes-turn-init
 postfixes::postfixes-turn-init t c =
@@ -364,21 +364,21 @@ postfixes::bracket-returns-in_err-postfix t c =
     failed grammar table _ postfix_of _ (nested (part s.Bracket)) _ _ _ c.from_residual-in_err-postfix.ensures.1
     (runs.deeper c.in_ok-inner.ensures (runs.part_fails (runs.next_fails (run_word grammar table _ word) (runs.first_fails c.in_err-postfix.ensures))))
 
-pub postfixes::bracket-returns-in_err-end : goal.postfixes::bracket-returns-in_err-end
-postfixes::bracket-returns-in_err-end t c =
+pub postfixes::bracket-returns-in_err-postfix-2 : goal.postfixes::bracket-returns-in_err-postfix-2
+postfixes::bracket-returns-in_err-postfix-2 t c =
     let word = c.in_ok-word.ensures in
     let postfix = c.in_ok-postfix.ensures in
-    failed grammar table _ postfix_of _ (nested (part s.Bracket)) _ _ _ c.from_residual-in_err-end.ensures.1
-    (runs.deeper c.in_ok-inner.ensures (runs.part_fails (runs.next_fails (run_word grammar table _ word) (runs.next_fails postfix.runs (run_no_word grammar table _ c.in_err-end.ensures)))))
+    failed grammar table _ postfix_of _ (nested (part s.Bracket)) _ _ _ c.from_residual-in_err-postfix-2.ensures.1
+    (runs.deeper c.in_ok-inner.ensures (runs.part_fails (runs.next_fails (run_word grammar table _ word) (runs.next_fails postfix.runs (run_no_word grammar table _ c.in_err-postfix-2.ensures)))))
 
 pub postfixes::bracket-returns : goal.postfixes::bracket-returns
 postfixes::bracket-returns t c =
     let word = c.in_ok-word.ensures in
     let postfix = c.in_ok-postfix.ensures in
-    let end = c.in_ok-end.ensures in
+    let end = c.in_ok-postfix-2.ensures in
     read grammar table _ postfix_of c.requires.inside
-    (runs.deeper c.in_ok-inner.ensures (runs.part (runs.both (run_word grammar table _ word) (runs.both postfix.runs (run_word grammar table _ end)))))
-    postfix.shows
+    (runs.deeper c.in_ok-inner.ensures (runs.part (runs.both (run_word grammar table _ word) (runs.both postfix.runs (run_word grammar table _ end.1.1)))))
+    (postfix.shows ∙ sym end.0)
 
 pub postfixes::bracketed-returns-in_err-from : goal.postfixes::bracketed-returns-in_err-from
 postfixes::bracketed-returns-in_err-from t c =
@@ -602,28 +602,28 @@ primaries::round-returns-in_err-value t c =
     failed grammar table _ expr_of _ (nested (part s.Round)) _ _ _ c.from_residual-in_err-value.ensures.1
     (runs.deeper c.in_ok-inner.ensures (runs.part_fails (runs.next_fails (run_word grammar table _ word) (runs.next_fails first.runs (runs.first_fails c.in_err-value.ensures)))))
 
-pub primaries::round-returns-in_err-end : goal.primaries::round-returns-in_err-end
-primaries::round-returns-in_err-end t c =
+pub primaries::round-returns-in_err-value-2 : goal.primaries::round-returns-in_err-value-2
+primaries::round-returns-in_err-value-2 t c =
     let word = c.in_ok-word.ensures in
     let first = c.in_ok-first.ensures in
     let value = c.in_ok-value.ensures in
-    failed grammar table _ expr_of _ (nested (part s.Round)) _ _ _ c.from_residual-in_err-end.ensures.1
-    (runs.deeper c.in_ok-inner.ensures (runs.part_fails (runs.next_fails (run_word grammar table _ word) (runs.next_fails first.runs (runs.next_fails value.runs (run_no_word grammar table _ c.in_err-end.ensures))))))
+    failed grammar table _ expr_of _ (nested (part s.Round)) _ _ _ c.from_residual-in_err-value-2.ensures.1
+    (runs.deeper c.in_ok-inner.ensures (runs.part_fails (runs.next_fails (run_word grammar table _ word) (runs.next_fails first.runs (runs.next_fails value.runs (run_no_word grammar table _ c.in_err-value-2.ensures))))))
 
 pub primaries::round-returns : goal.primaries::round-returns
 primaries::round-returns t c =
     let word = c.in_ok-word.ensures in
     let first = c.in_ok-first.ensures in
     let value = c.in_ok-value.ensures in
-    let end = c.in_ok-end.ensures in
+    let end = c.in_ok-value-2.ensures in
     read grammar table _ expr_of c.requires.inside
-    (runs.deeper c.in_ok-inner.ensures (runs.part (runs.both (run_word grammar table _ word) (runs.both first.runs (runs.both value.runs (run_word grammar table _ end))))))
-    ((λ i. bracketed c.in_ok-word.word.now.place (first.shows i) value.tree) ∙ value.shows)
+    (runs.deeper c.in_ok-inner.ensures (runs.part (runs.both (run_word grammar table _ word) (runs.both first.runs (runs.both value.runs (run_word grammar table _ end.1.1))))))
+    ((λ i. bracketed c.in_ok-word.word.now.place (first.shows i) value.tree) ∙ (value.shows ∙ sym end.0))
 
-pub primaries::tuple_or_round-returns-in_err-start : goal.primaries::tuple_or_round-returns-in_err-start
-primaries::tuple_or_round-returns-in_err-start t c =
+pub primaries::tuple_or_round-returns-in_err-first : goal.primaries::tuple_or_round-returns-in_err-first
+primaries::tuple_or_round-returns-in_err-first t c =
     failed grammar table _ (bracketed c.args.place c.args.first) _ (maybe (part s.Others)) _ _ _ c.from_residual.ensures.1
-    (runs.once (c.is_next.ensures ∙ c.if-is_next.true) (runs.part_fails (runs.first_fails (run_no_word grammar table _ c.in_err-start.ensures))))
+    (runs.once (c.is_next.ensures ∙ c.if-is_next.true) (runs.part_fails (runs.first_fails (run_no_word grammar table _ c.in_err-first.ensures))))
 
 pub primaries::tuple_or_round-returns-in_err-found : goal.primaries::tuple_or_round-returns-in_err-found
 primaries::tuple_or_round-returns-in_err-found t c =
@@ -631,7 +631,7 @@ primaries::tuple_or_round-returns-in_err-found t c =
 
 pub primaries::tuple_or_round-returns-in_err-values : goal.primaries::tuple_or_round-returns-in_err-values
 primaries::tuple_or_round-returns-in_err-values t c =
-    let start = c.in_ok-start.ensures in
+    let start = c.in_ok-first.ensures.1.1 in
     failed grammar table _ (bracketed c.args.place c.args.first) _ (maybe (part s.Others)) _ _ _ c.from_residual-in_err-values.ensures.1
     (runs.once (c.is_next.ensures ∙ c.if-is_next.true) (runs.part_fails (runs.next_fails (run_word grammar table _ start) c.in_err-values.ensures)))
 
@@ -641,11 +641,12 @@ primaries::tuple_or_round-returns-in_err-boxed t c =
 
 pub primaries::tuple_or_round-returns-then-is_next : goal.primaries::tuple_or_round-returns-then-is_next
 primaries::tuple_or_round-returns-then-is_next t c =
-    let start = c.in_ok-start.ensures in
+    let start = c.in_ok-first.ensures.1.1 in
     let values = c.in_ok-values.ensures in
     read grammar table _ (bracketed c.args.place c.args.first) c.requires.inside
     (runs.once (c.is_next.ensures ∙ c.if-is_next.true) (runs.part (runs.both (run_word grammar table _ start) values.runs)))
-    ((λ i. expr.TupleOf c.args.place (sym c.in_ok-found.ensures.items i ++ exprs_of values.tree)) ∙ (λ i. expr.TupleOf c.args.place (values.shows i)))
+    ((λ i. expr.TupleOf c.args.place (sym c.in_ok-first.ensures.0 i ∷ exprs_of values.tree))
+    ∙ (λ i. expr.TupleOf c.args.place (sym c.in_ok-found.ensures.items i ++ exprs_of values.tree)) ∙ (λ i. expr.TupleOf c.args.place (values.shows i)))
 
 pub primaries::tuple_or_round-returns : goal.primaries::tuple_or_round-returns
 primaries::tuple_or_round-returns t c =
@@ -805,23 +806,23 @@ braces::curly-returns-in_err-value t c =
     failed grammar table _ expr_of _ (nested (part s.Curly)) _ _ _ c.from_residual-in_err-value.ensures.1
     (runs.deeper c.in_ok-inner.ensures (runs.part_fails (runs.next_fails (run_word grammar table _ word) (runs.next_fails first.runs (runs.first_fails c.in_err-value.ensures)))))
 
-pub braces::curly-returns-in_err-end : goal.braces::curly-returns-in_err-end
-braces::curly-returns-in_err-end t c =
+pub braces::curly-returns-in_err-value-2 : goal.braces::curly-returns-in_err-value-2
+braces::curly-returns-in_err-value-2 t c =
     let word = c.in_ok-word.ensures in
     let first = c.in_ok-first.ensures in
     let value = c.in_ok-value.ensures in
-    failed grammar table _ expr_of _ (nested (part s.Curly)) _ _ _ c.from_residual-in_err-end.ensures.1
-    (runs.deeper c.in_ok-inner.ensures (runs.part_fails (runs.next_fails (run_word grammar table _ word) (runs.next_fails first.runs (runs.next_fails value.runs (run_no_word grammar table _ c.in_err-end.ensures))))))
+    failed grammar table _ expr_of _ (nested (part s.Curly)) _ _ _ c.from_residual-in_err-value-2.ensures.1
+    (runs.deeper c.in_ok-inner.ensures (runs.part_fails (runs.next_fails (run_word grammar table _ word) (runs.next_fails first.runs (runs.next_fails value.runs (run_no_word grammar table _ c.in_err-value-2.ensures))))))
 
 pub braces::curly-returns : goal.braces::curly-returns
 braces::curly-returns t c =
     let word = c.in_ok-word.ensures in
     let first = c.in_ok-first.ensures in
     let value = c.in_ok-value.ensures in
-    let end = c.in_ok-end.ensures in
+    let end = c.in_ok-value-2.ensures in
     read grammar table _ expr_of c.requires.inside
-    (runs.deeper c.in_ok-inner.ensures (runs.part (runs.both (run_word grammar table _ word) (runs.both first.runs (runs.both value.runs (run_word grammar table _ end))))))
-    ((λ i. braced c.in_ok-word.word.now.place (first.shows i) value.tree) ∙ value.shows)
+    (runs.deeper c.in_ok-inner.ensures (runs.part (runs.both (run_word grammar table _ word) (runs.both first.runs (runs.both value.runs (run_word grammar table _ end.1.1))))))
+    ((λ i. braced c.in_ok-word.word.now.place (first.shows i) value.tree) ∙ (value.shows ∙ sym end.0))
 
 pub braces::set_or_dict-returns-then-is_next : goal.braces::set_or_dict-returns-then-is_next
 braces::set_or_dict-returns-then-is_next t c =
@@ -841,10 +842,10 @@ braces::set_or_dict-returns t c =
     (runs.never (c.is_next.ensures ∙ c.if-is_next.false))
     (λ i. expr.SetOf c.args.place (sym (c.in_ok-values.ensures.same ∙ c.in_ok-found.ensures.items) i))
 
-pub braces::contents-returns-in_err-start : goal.braces::contents-returns-in_err-start
-braces::contents-returns-in_err-start t c =
+pub braces::contents-returns-in_err-first : goal.braces::contents-returns-in_err-first
+braces::contents-returns-in_err-first t c =
     failed grammar table _ (braced c.args.place c.args.first) _ (part s.Contents) _ _ _ c.from_residual.ensures.1
-    (runs.part_fails (runs.left (c.is_next.ensures ∙ c.if-is_next.true) (runs.part_fails (runs.first_fails (run_no_word grammar table _ c.in_err-start.ensures)))))
+    (runs.part_fails (runs.left (c.is_next.ensures ∙ c.if-is_next.true) (runs.part_fails (runs.first_fails (run_no_word grammar table _ c.in_err-first.ensures)))))
 
 pub braces::contents-returns-in_err-found : goal.braces::contents-returns-in_err-found
 braces::contents-returns-in_err-found t c =
@@ -852,32 +853,33 @@ braces::contents-returns-in_err-found t c =
 
 pub braces::contents-returns-in_err-values : goal.braces::contents-returns-in_err-values
 braces::contents-returns-in_err-values t c =
-    let start = c.in_ok-start.ensures in
+    let start = c.in_ok-first.ensures.1.1 in
     failed grammar table _ (braced c.args.place c.args.first) _ (part s.Contents) _ _ _ c.from_residual-in_err-values.ensures.1
     (runs.part_fails (runs.left (c.is_next.ensures ∙ c.if-is_next.true) (runs.part_fails (runs.next_fails (run_word grammar table _ start) c.in_err-values.ensures))))
 
 pub braces::contents-returns-then-is_next : goal.braces::contents-returns-then-is_next
 braces::contents-returns-then-is_next t c =
-    let start = c.in_ok-start.ensures in
+    let start = c.in_ok-first.ensures.1.1 in
     let values = c.in_ok-values.ensures in
     read grammar table _ (braced c.args.place c.args.first) c.requires.inside
     (runs.part (runs.left (c.is_next.ensures ∙ c.if-is_next.true) (runs.part (runs.both (run_word grammar table _ start) values.runs))))
-    ((λ i. expr.SetOf c.args.place (sym c.in_ok-found.ensures.items i ++ exprs_of values.tree)) ∙ (λ i. expr.SetOf c.args.place (values.shows i)))
+    ((λ i. expr.SetOf c.args.place (sym c.in_ok-first.ensures.0 i ∷ exprs_of values.tree))
+    ∙ (λ i. expr.SetOf c.args.place (sym c.in_ok-found.ensures.items i ++ exprs_of values.tree)) ∙ (λ i. expr.SetOf c.args.place (values.shows i)))
 
 pub braces::contents-returns : goal.braces::contents-returns
 braces::contents-returns t c =
     reads_part grammar table _ _ _ s.Contents _ _ (reads_right grammar table _ _ _ (part s.Others) (part s.Entries) _ _ (c.is_next.ensures ∙ c.if-is_next.false) c.entries.ensures)
 
-pub braces::entries-returns-in_err-start : goal.braces::entries-returns-in_err-start
-braces::entries-returns-in_err-start t c =
+pub braces::entries-returns-in_err-key : goal.braces::entries-returns-in_err-key
+braces::entries-returns-in_err-key t c =
     failed grammar table _ (braced c.args.place c.args.key) _ (part s.Entries) _ _ _ c.from_residual.ensures.1
-    (runs.part_fails (runs.first_fails (run_no_word grammar table _ c.in_err-start.ensures)))
+    (runs.part_fails (runs.first_fails (run_no_word grammar table _ c.in_err-key.ensures)))
 
-pub braces::entries-returns-in_err-value : goal.braces::entries-returns-in_err-value
-braces::entries-returns-in_err-value t c =
-    let start = c.in_ok-start.ensures in
-    failed grammar table _ (braced c.args.place c.args.key) _ (part s.Entries) _ _ _ c.from_residual-in_err-value.ensures.1
-    (runs.part_fails (runs.next_fails (run_word grammar table _ start) (runs.first_fails c.in_err-value.ensures)))
+pub braces::entries-returns-in_err-key-2 : goal.braces::entries-returns-in_err-key-2
+braces::entries-returns-in_err-key-2 t c =
+    let start = c.in_ok-key.ensures.1.1 in
+    failed grammar table _ (braced c.args.place c.args.key) _ (part s.Entries) _ _ _ c.from_residual-in_err-key-2.ensures.1
+    (runs.part_fails (runs.next_fails (run_word grammar table _ start) (runs.first_fails (c.in_err-key-2.ensures _ _ _ _ _ c.expr.ensures))))
 
 pub braces::entries-returns-in_err-found : goal.braces::entries-returns-in_err-found
 braces::entries-returns-in_err-found t c =
@@ -885,19 +887,20 @@ braces::entries-returns-in_err-found t c =
 
 pub braces::entries-returns-in_err-values : goal.braces::entries-returns-in_err-values
 braces::entries-returns-in_err-values t c =
-    let start = c.in_ok-start.ensures in
-    let value = c.in_ok-value.ensures in
+    let start = c.in_ok-key.ensures.1.1 in
+    let value = c.in_ok-key-2.ensures _ _ _ _ _ c.expr.ensures in
     failed grammar table _ (braced c.args.place c.args.key) _ (part s.Entries) _ _ _ c.from_residual-in_err-values.ensures.1
     (runs.part_fails (runs.next_fails (run_word grammar table _ start) (runs.next_fails value.runs c.in_err-values.ensures)))
 
 pub braces::entries-returns : goal.braces::entries-returns
 braces::entries-returns t c =
-    let start = c.in_ok-start.ensures in
-    let value = c.in_ok-value.ensures in
+    let start = c.in_ok-key.ensures.1.1 in
+    let value = c.in_ok-key-2.ensures _ _ _ _ _ c.expr.ensures in
     let values = c.in_ok-values.ensures in
     read grammar table _ (braced c.args.place c.args.key) c.requires.inside
     (runs.part (runs.both (run_word grammar table _ start) (runs.both value.runs values.runs)))
-    ((λ i. expr.DictOf c.args.place (record { key = c.args.key; value = value.shows i } ∷ entries_of values.tree))
+    ((λ i. expr.DictOf c.args.place (record { key = sym c.in_ok-key.ensures.0 i; value = expr_of value.tree } ∷ entries_of values.tree))
+    ∙ (λ i. expr.DictOf c.args.place (record { key = (value.shows i).0; value = (value.shows i).1 } ∷ entries_of values.tree))
     ∙ ((λ i. expr.DictOf c.args.place (sym c.in_ok-found.ensures.items i ++ entries_of values.tree)) ∙ (λ i. expr.DictOf c.args.place (values.shows i))))
 
 pub braces::more_entries-turn-init : goal.braces::more_entries-turn-init
@@ -942,21 +945,21 @@ braces::more_entry-returns-in_err-key t c =
     failed grammar table _ entry_of _ (part s.MoreEntry) _ _ _ c.from_residual-in_err-key.ensures.1
     (runs.part_fails (runs.next_fails (run_word grammar table _ start) (runs.first_fails c.in_err-key.ensures)))
 
-pub braces::more_entry-returns-in_err-value : goal.braces::more_entry-returns-in_err-value
-braces::more_entry-returns-in_err-value t c =
+pub braces::more_entry-returns-in_err-key-2 : goal.braces::more_entry-returns-in_err-key-2
+braces::more_entry-returns-in_err-key-2 t c =
     let start = c.in_ok-start.ensures in
     let key = c.in_ok-key.ensures in
-    failed grammar table _ entry_of _ (part s.MoreEntry) _ _ _ c.from_residual-in_err-value.ensures.1
-    (runs.part_fails (runs.next_fails (run_word grammar table _ start) (runs.next_fails key.runs c.in_err-value.ensures)))
+    failed grammar table _ entry_of _ (part s.MoreEntry) _ _ _ c.from_residual-in_err-key-2.ensures.1
+    (runs.part_fails (runs.next_fails (run_word grammar table _ start) (runs.next_fails key.runs (c.in_err-key-2.ensures _ _ _ _ _ c.entry_value.ensures))))
 
 pub braces::more_entry-returns : goal.braces::more_entry-returns
 braces::more_entry-returns t c =
     let start = c.in_ok-start.ensures in
     let key = c.in_ok-key.ensures in
-    let value = c.in_ok-value.ensures in
+    let value = c.in_ok-key-2.ensures _ _ _ _ _ c.entry_value.ensures in
     read grammar table _ entry_of c.requires.inside
     (runs.part (runs.both (run_word grammar table _ start) (runs.both key.runs value.runs)))
-    (entry_shows (run_word grammar table _ start) value.runs key.tree ∙ (λ i. record { key = key.shows i; value = value.shows i }))
+    (entry_shows (run_word grammar table _ start) value.runs key.tree ∙ ((λ i. record { key = key.shows i; value = value_of value.tree }) ∙ (λ i. record { key = (value.shows i).0; value = (value.shows i).1 })))
 
 pub braces::entry_value-returns-in_err-start : goal.braces::entry_value-returns-in_err-start
 braces::entry_value-returns-in_err-start t c =
