@@ -10,11 +10,12 @@ ghost use Rattle.chi_frame.specs.Stops.{Stops};
 use crate::bodies::call;
 use crate::calls::Calls;
 use crate::expressions::eval;
+use crate::reading::truth_of;
 use crate::surroundings::Surroundings;
 use chi_base::NoMemory;
 use chi_core::{CExpr, View};
 use chi_frame::{Stop, Variables, copied, insertion_of};
-use chi_operate::{items_in, truth_in};
+use chi_operate::items_in;
 use chi_value::Value;
 use std::alloc::Global;
 
@@ -60,7 +61,7 @@ fn place_before(
     for place in 0..items.len() {
         let pair = two_copies(alloc, x, &items[place])?;
         let holds = call(number, pair, alloc, s, calls, view)?;
-        if truth_in(&holds) {
+        if truth_of(holds) {
             return Ok(place);
         }
     }

@@ -11,10 +11,11 @@ ghost use Rattle.chi_eval.specs.Terms.{act_first, came_to};
 use crate::calls::Calls;
 use crate::expressions::{eval, eval_all};
 use crate::places::spots_of;
+use crate::reading::truth_of;
 use crate::surroundings::Surroundings;
 use chi_core::{Branch, CExpr, CStat, CTarget, View};
 use chi_frame::{Head, Stop, Term, Variables, store_all};
-use chi_operate::{elements_in, truth_in};
+use chi_operate::elements_in;
 use chi_value::Value;
 use std::alloc::Global;
 
@@ -183,7 +184,7 @@ fn test_loop<'a>(
 {
     let value = eval(test, alloc, s, calls, variables, view)?;
     term.drop_first();
-    if truth_in(&value) {
+    if truth_of(value) {
         term.put_loop(line, test, block)?;
         term.put_first(block)?;
         Ok(None)
@@ -212,7 +213,7 @@ fn choose<'a>(
 {
     for branch in branches {
         let holds = eval(&branch.test, alloc, s, calls, variables, view)?;
-        if truth_in(&holds) {
+        if truth_of(holds) {
             term.drop_first();
             term.put_first(branch.block.as_slice())?;
             return Ok(None);

@@ -11,6 +11,7 @@ mod items;
 mod literals;
 mod operators;
 mod places;
+mod reading;
 mod surroundings;
 
 pub use chi_operate::{

@@ -10,10 +10,10 @@ ghost use Rattle.chi_frame.specs.Stops.{Stops};
 
 use crate::calls::Calls;
 use crate::expressions::{eval, eval_all};
+use crate::reading::times_of;
 use crate::surroundings::Surroundings;
 use chi_core::{CExpr, FaultKind, View};
 use chi_frame::{Stop, Variables, list_of, literal_of};
-use chi_operate::times_in;
 use chi_value::{Kind, Value};
 use std::alloc::Global;
 
@@ -54,7 +54,7 @@ pub fn repeat_each(
     ensures stops { IfErr result (λ stop. Stops stop (repeated_each (meaning calls s.now variables.now) count.now each.now view.old)) }
 {
     let n = eval(count, alloc, s, calls, variables, view)?;
-    match times_in(&n) {
+    match times_of(n) {
         Some(times) => {
             let values = repeat(each, alloc, s, calls, times, variables, view)?;
             list_of(alloc, values)

@@ -170,8 +170,8 @@ expressions::eval-returns-in-Repeat-clause-stops t c = stops_by c.repeat_each.re
 pub expressions::eval-constant-requires : goal.expressions::eval-constant-requires
 expressions::eval-constant-requires t c = const_there (run_by c.args.calls c.args.s.now) (scene_in c.args.s.now) c.args.variables.now c.args.view.now c.args.e.now c.in-Const.number c.in-Const.is c.requires
 
-pub literals::repeat_each-returns-clause-stops : goal.literals::repeat_each-returns-clause-stops
-literals::repeat_each-returns-clause-stops t c =
+pub literals::repeat_each-returns-in-None-clause-stops : goal.literals::repeat_each-returns-in-None-clause-stops
+literals::repeat_each-returns-in-None-clause-stops t c =
     repeat_many (meaning c.args.calls c.args.s.now c.args.variables.now) c.args.count.now c.args.each.now c.args.view.now c.in_ok-n.n c.eval.new.view c.in_ok-n.ensures.value
     (repeat_count (meaning c.args.calls c.args.s.now c.args.variables.now) c.args.count.now c.args.each.now c.args.view.now c.in_ok-n.n c.eval.new.view c.in_ok-n.ensures.value c.requires) c.in-None.ensures.many
 
