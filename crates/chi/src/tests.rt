@@ -3,6 +3,7 @@
 mod checking;
 mod computing;
 mod costs;
+mod draws;
 mod faults;
 mod functions;
 mod joins;

@@ -65,6 +65,37 @@ fn containers_are_computed(rt: HostRuntime) -> Result<(), Fail> {
     expect_rows(&rt, rt.alloc(), &rows)
 }
 
+#[test]
+fn a_size_is_evaluated_where_a_list_is_made(rt: HostRuntime) -> Result<(), Fail> {
+    let rows = [
+        row(
+            "model M(): list(0) list(1 div 0) int xs; writeln(\"%s\", xs) end",
+            "[]\n",
+            DONE,
+            0,
+        ),
+        row(
+            "model M(): list(1 div 0) int xs = [1]; writeln(\"%s\", xs) end",
+            "[1]\n",
+            DONE,
+            0,
+        ),
+    ];
+    expect_rows(&rt, rt.alloc(), &rows)
+}
+
+#[test]
+fn stores_are_made_from_left_to_right(rt: HostRuntime) -> Result<(), Fail> {
+    let rows = [row(
+        "model M(): list int xs = [1]; xs, xs[0] = [5], 3; write(\"%s \", xs); \
+         xs[0], xs = 4, [6]; writeln(\"%s\", xs) end",
+        "[3] [6]\n",
+        DONE,
+        0,
+    )];
+    expect_rows(&rt, rt.alloc(), &rows)
+}
+
 /// A model of this one statement, and the line of its fault.
 const fn faulty(source: &'static str, log: &'static str) -> (&'static str, Wanted) {
     row(source, "", log, 12)

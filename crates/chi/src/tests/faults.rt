@@ -293,6 +293,27 @@ fn offers_and_elements_have_faults(rt: HostRuntime) -> Result<(), Fail> {
 }
 
 #[test]
+fn steps_and_conversions_come_in_turn(rt: HostRuntime) -> Result<(), Fail> {
+    let rows = [
+        // A channel is read step by step; a store evaluates all its indexes first.
+        fault(
+            "model M(): list(2) list(1) chan int cs; cs[5][1 div 0]!1 end",
+            INDEX,
+        ),
+        fault(
+            "model M(): list list int xs = [[1]]; xs[5][1 div 0] = 1 end",
+            DIVIDE,
+        ),
+        fault("model M(): dict(int : chan int) d; d[1]!1 div 0 end", KEY),
+        fault(
+            "model M(): writeln(\"%s\", 9999999999 / 0) end",
+            "fault RealRange in M line 1 at time 0.0\n",
+        ),
+    ];
+    expect_rows(&rt, rt.alloc(), &rows)
+}
+
+#[test]
 fn faults_have_lines_and_names(rt: HostRuntime) -> Result<(), Fail> {
     let rows = [
         fault(

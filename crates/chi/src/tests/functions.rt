@@ -55,6 +55,38 @@ fn functions_nest(rt: HostRuntime) -> Result<(), Fail> {
     expect_rows(&rt, rt.alloc(), &rows)
 }
 
+/// The calls that an insertion makes are among the 500; where it has no elements to ask of, it makes none.
+#[test]
+fn an_insertion_calls_within_other_calls(rt: HostRuntime) -> Result<(), Fail> {
+    let rows = [
+        row(
+            "func bool b(int x, y): return x < y end func list int f(int n; list int xs): \
+             if n == 0: return insert(xs, 1, b) end return f(n - 1, xs) end \
+             model M(): writeln(\"%s\", f(499, <int>[])) end",
+            "[1]\n",
+            DONE,
+            0,
+        ),
+        row(
+            "func bool b(int x, y): return x < y end func list int f(int n; list int xs): \
+             if n == 0: return insert(xs, 1, b) end return f(n - 1, xs) end \
+             model M(): writeln(\"%s\", f(498, [2])) end",
+            "[1, 2]\n",
+            DONE,
+            0,
+        ),
+        row(
+            "func bool b(int x, y): return x < y end func list int f(int n; list int xs): \
+             if n == 0: return insert(xs, 1, b) end return f(n - 1, xs) end \
+             model M(): writeln(\"%s\", f(499, [2])) end",
+            "",
+            "fault CallDepth in M line 1 at time 0.0\n",
+            12,
+        ),
+    ];
+    expect_rows(&rt, rt.alloc(), &rows)
+}
+
 #[test]
 fn loops_nest(rt: HostRuntime) -> Result<(), Fail> {
     let rows = [
@@ -106,6 +138,17 @@ fn loops_nest(rt: HostRuntime) -> Result<(), Fail> {
             0,
         ),
     ];
+    expect_rows(&rt, rt.alloc(), &rows)
+}
+
+#[test]
+fn a_walk_over_a_dictionary_takes_pairs(rt: HostRuntime) -> Result<(), Fail> {
+    let rows = [row(
+        "model M(): for e in {1: 2}: writeln(\"%s\", e) end end",
+        "(1, 2)\n",
+        DONE,
+        0,
+    )];
     expect_rows(&rt, rt.alloc(), &rows)
 }
 

@@ -71,3 +71,16 @@ fn containers_hold_so_much(rt: HostRuntime) -> Result<(), Fail> {
     ];
     expect_rows(&rt, rt.alloc(), &rows)
 }
+
+/// With the quotes, the commas and the brackets it has four bytes more than a text may have.
+#[test]
+fn what_an_exit_shows_is_so_long(rt: HostRuntime) -> Result<(), Fail> {
+    let rows = [row(
+        "model list string M(): string s = \"a\"; for i in range(20): s = s + s end \
+         s = s[:1048573]; exit [s, s, s, s] end",
+        "",
+        TOO_LARGE,
+        12,
+    )];
+    expect_rows(&rt, rt.alloc(), &rows)
+}

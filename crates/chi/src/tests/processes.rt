@@ -46,6 +46,19 @@ fn processes_meet(rt: HostRuntime) -> Result<(), Fail> {
 }
 
 #[test]
+fn instances_are_made_in_the_order_of_elements(rt: HostRuntime) -> Result<(), Fail> {
+    let rows = [row(
+        "proc P(int k, v): write(\"%d %d \", k, v) end \
+         model M(): run unwind k, v in {2: 20, 1: 10}: P(k, v) end; \
+         run unwind e in {7, 3}: P(e, 0) end end",
+        "1 10 2 20 3 0 7 0 ",
+        DONE,
+        0,
+    )];
+    expect_rows(&rt, rt.alloc(), &rows)
+}
+
+#[test]
 fn time_is_read_and_waited_for(rt: HostRuntime) -> Result<(), Fail> {
     let rows = [
         row(

@@ -64,6 +64,20 @@ fn partners_are_picked(rt: HostRuntime) -> Result<(), Fail> {
 }
 
 #[test]
+fn a_select_without_offers_waits_for_ever(rt: HostRuntime) -> Result<(), Fail> {
+    let rows = [
+        row("model M(): select false, delay 1 end end", "", DEADLOCK, 11),
+        row(
+            "model M(): select unwind i in <int>[]: delay i end end end",
+            "",
+            DEADLOCK,
+            11,
+        ),
+    ];
+    expect_rows(&rt, rt.alloc(), &rows)
+}
+
+#[test]
 fn a_select_has_so_many_offers(rt: HostRuntime) -> Result<(), Fail> {
     let rows = [
         row(

@@ -55,6 +55,22 @@ fn loops_have_the_line_of_their_statement(rt: HostRuntime) -> Result<(), Fail> {
     expect_words(&rt, rt.alloc(), source, &rows)
 }
 
+/// An alternative whose guard is false has no number.
+#[test]
+fn offers_are_numbered(rt: HostRuntime) -> Result<(), Fail> {
+    let source = "proc S(chan! int a): select delay 9.0 alt a!3 end end\n\
+         model M(): chan int a; int x; start S(a);\n\
+         select false, delay 9.0 alt delay 8.0 alt delay 7.0 alt a?x end; select delay 2.0 alt delay 1.0 end end";
+    let rows: [Row; 1] = [(
+        &["sim", "--trace", "m.chi"],
+        "",
+        "trace 2\n0 local 0 M 2\n1 local 0 M 2\n2 local 0 M 2\n3 local 0 M 3\n4 local 1 S 1\n5 pair 1 1 0 2 0 3\n\
+         6 local 0 M 3\n7 advance 1.0\n8 wake 0 1 M\ncompleted at time 1.0\n",
+        0,
+    )];
+    expect_words(&rt, rt.alloc(), source, &rows)
+}
+
 #[test]
 fn values_are_shown(rt: HostRuntime) -> Result<(), Fail> {
     let source = "proc S(chan! void v; chan! string s; chan! list chan int c): \

@@ -94,6 +94,20 @@ fn a_policy_picks(rt: HostRuntime) -> Result<(), Fail> {
 }
 
 #[test]
+fn a_salt_spreads_the_choices(rt: HostRuntime) -> Result<(), Fail> {
+    let rows: [Row; 1] = [(
+        &["sim", "--policy", "spread", "--salt", "7", "m.chi"],
+        "1 0 2 3 4 ",
+        DONE,
+        0,
+    )];
+    let source = "proc A(chan! int c; int n): c!n end \
+         model M(): chan int c; int x; start unwind i in range(5): A(c, i) end; \
+         for i in range(5): c?x; write(\"%d \", x) end end";
+    expect_words(&rt, rt.alloc(), source, &rows)
+}
+
+#[test]
 fn a_run_stops_before_its_time_passes(rt: HostRuntime) -> Result<(), Fail> {
     let source = "model M(): delay 2.0; writeln(\"two\"); delay 2.0; writeln(\"four\") end";
     let rows: [Row; 5] = [
