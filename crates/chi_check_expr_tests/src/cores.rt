@@ -121,6 +121,24 @@ fn what_expressions_become(rt: HostRuntime) -> Result<(), Fail> {
     expect_cores(&rt, rt.alloc(), &CORES)
 }
 
+const FURTHER_CORES: [(&str, &str); 10] = [
+    ("i != i", "Op(NotEqual, [Var(1), Var(1)])"),
+    ("i <= i", "Op(AtMost, [Var(1), Var(1)])"),
+    ("i > i", "Op(Greater, [Var(1), Var(1)])"),
+    ("i >= i", "Op(AtLeast, [Var(1), Var(1)])"),
+    ("i != r", "Op(NotEqual, [Op(Widen, [Var(1)]), Var(2)])"),
+    ("r > i", "Op(Greater, [Var(2), Op(Widen, [Var(1)])])"),
+    ("i div n", "Op(Div, [Var(1), Const(0)])"),
+    ("i mod n", "Op(Mod, [Var(1), Const(0)])"),
+    ("ks sub ks", "Op(Subset, [Var(8), Var(8)])"),
+    ("large", "Lit(Choice(1, 1))"),
+];
+
+#[test]
+fn what_comparisons_and_quotients_become(rt: HostRuntime) -> Result<(), Fail> {
+    expect_cores(&rt, rt.alloc(), &FURTHER_CORES)
+}
+
 #[test]
 fn the_call_for_an_expression(rt: HostRuntime) -> Result<(), Fail> {
     let core = expr_call(rt.alloc(), "1 + real(2)")?;

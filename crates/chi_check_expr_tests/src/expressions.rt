@@ -233,6 +233,24 @@ fn the_first_broken_rule(rt: HostRuntime) -> Result<(), Fail> {
     expect_exprs(&rt, rt.alloc(), &FIRST_BROKEN)
 }
 
+const UNKNOWN_PARTS: [(&str, &str); 10] = [
+    ("nobody == i", "2 at 1:1"),
+    ("i < nobody", "2 at 1:5"),
+    ("(i + s) < nobody", "34 at 1:4"),
+    ("nobody ^ i", "2 at 1:1"),
+    ("is[nobody]", "2 at 1:4"),
+    ("{nobody: 1}", "2 at 1:2"),
+    ("{1: nobody}", "2 at 1:5"),
+    ("<nobody: int>{}", "2 at 1:2"),
+    ("<timer: nobody>{}", "6 at 1:1"),
+    ("<list(2) int: int>{}", "7 at 1:2"),
+];
+
+#[test]
+fn parts_that_break_a_rule(rt: HostRuntime) -> Result<(), Fail> {
+    expect_exprs(&rt, rt.alloc(), &UNKNOWN_PARTS)
+}
+
 const INSERTIONS: [(&str, &str); 20] = [
     ("insert(is, 1, less)", "typed"),
     ("insert(rs, 1, below)", "typed"),

@@ -83,6 +83,7 @@ fn declare_others(alloc: Global, scope: &mut Scope) -> Result<(), Fail> {
     declare(alloc, scope, "n", Known::Const(0, Ty::Int))?;
     declare(alloc, scope, "red", Known::Value(0, 0))?;
     declare(alloc, scope, "small", Known::Value(1, 0))?;
+    declare(alloc, scope, "large", Known::Value(1, 1))?;
     declare(alloc, scope, "measure", Known::Kind(Ty::Real))?;
     declare(alloc, scope, "plant", Known::Model(1))?;
     declare(alloc, scope, "trial", Known::Xper(2))

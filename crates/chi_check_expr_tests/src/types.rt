@@ -29,6 +29,16 @@ fn names_of_types(rt: HostRuntime) -> Result<(), Fail> {
     expect_types(&rt, rt.alloc(), false, &NAMES)
 }
 
+const INNER_NAMES: [(&str, &str); 2] = [
+    ("dist nobody", "2 at 1:6"),
+    ("dict(nobody: int)", "2 at 1:6"),
+];
+
+#[test]
+fn names_within_types(rt: HostRuntime) -> Result<(), Fail> {
+    expect_types(&rt, rt.alloc(), false, &INNER_NAMES)
+}
+
 const PARTS: [(&str, &str); 25] = [
     ("set timer", "6 at 1:1"),
     ("list set dist int", "6 at 1:6"),
