@@ -44,6 +44,24 @@ fn definitions_that_break_no_rule(rt: HostRuntime) -> Result<(), Fail> {
 }
 
 #[test]
+fn further_statements_that_break_no_rule(rt: HostRuntime) -> Result<(), Fail> {
+    accepts(
+        &rt,
+        rt.alloc(),
+        &[
+            "model M(): chan void a; select a! alt a? end end",
+            "model M(): for i in range(2): break end end",
+            "model M(): for i in {1, 2}: pass end end",
+            "model M(): dict(real : int) d; d[1] = 1 end",
+            "model M(): chan int a; for i in range(2): a?i end end",
+            "func int f(chan int a): for c in [a]: pass end; return 1 end model M(): pass end",
+            "proc P(): exit end model int M(): run P() end",
+            "model M(): write(\"%%\") end",
+        ],
+    )
+}
+
+#[test]
 fn a_type_may_be_thirty_two_deep(rt: HostRuntime) -> Result<(), Fail> {
     let alloc = rt.alloc();
     let mut source = Vec::from_slice(alloc, b"model M(): ")?;

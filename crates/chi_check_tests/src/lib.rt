@@ -4,9 +4,15 @@
 #[cfg(test)]
 mod accepted;
 #[cfg(test)]
+mod communications;
+#[cfg(test)]
 mod cores;
 #[cfg(test)]
+mod endings;
+#[cfg(test)]
 mod firsts;
+#[cfg(test)]
+mod headers;
 #[cfg(test)]
 mod parts;
 #[cfg(test)]
@@ -15,3 +21,7 @@ mod places;
 mod rules;
 #[cfg(test)]
 mod sources;
+#[cfg(test)]
+mod streams;
+#[cfg(test)]
+mod untyped;
