@@ -5,10 +5,14 @@
 mod boxed;
 mod items;
 mod no_memory;
+mod row;
+mod shared;
 
 pub use boxed::Boxed;
 pub use items::Items;
 pub use no_memory::NoMemory;
+pub use row::Row;
+pub use shared::{Copied, Shared, copies_of};
 
 #[cfg(test)]
 mod tests;

@@ -8,4 +8,8 @@ pub mod Opened
 pub mod Standings
 pub mod Started
 pub mod Tidied
+pub mod Used
+pub mod UsedByOperators
+pub mod UsedByExpressions
+pub mod UsedByTerms
 pub mod Worlds

@@ -1,6 +1,5 @@
 -- Terms: what is left to do, and how one item of it is done.
 use Rattle.std.specs.Prelude.{ℕ, Option, Some, None, List, [], ◌∷◌, ◌++◌, map}
-use Rattle.std.specs.Option.{option_and_then}
 use Rattle.chi_value.specs.declared.value.Value.{Value}
 use Rattle.chi_core.specs.declared.expression.CExpr.{CExpr}
 use Rattle.chi_core.specs.declared.statement.CStat.{CStat, CStat-F, out-CStat}
@@ -11,7 +10,7 @@ use Rattle.chi_core.specs.Answer.{Gives, Does, then_do, gives, amiss, wanted, gi
 use Rattle.chi_core.specs.Reading.{truth_of, parts_of, elements_of}
 use Rattle.chi_core.specs.Variables.{Variables, with_slot, side_by_side, bound}
 use Rattle.chi_core.specs.Evaluation.{Evaluates, on_truth}
-use Rattle.chi_core.specs.Spots.{Spot, spot_of, store}
+use Rattle.chi_core.specs.Spots.{spot_of, store}
 
 -- One thing that is left to do: a statement; a loop under way, which tests again; or a walk under way, with
 -- the elements that are left. Loops and walks have the line of their statement first.
@@ -63,10 +62,6 @@ abbrev pub spread : List CTarget → List Value → Option (List Value)
 spread (t ∷ t2 ∷ ts) (x ∷ []) = parts_of x
 spread targets values = Some values
 
--- each spot with the value that goes there
-abbrev pub stores_of : List CTarget → List Spot → List Value → Option (List (Spot × Value))
-stores_of targets spots values = option_and_then (side_by_side spots) (spread targets values)
-
 -- with this evaluation of expressions, and these variables
 module _ (value_of : Evaluates) (variables : Variables) where
   -- the block of the first branch whose test is true, or else the last block
@@ -84,13 +79,15 @@ module _ (value_of : Evaluates) (variables : Variables) where
       (gives (On variables (first_the block (Loop line test block ∷ term))))
       (gives (On variables term)))
 
-  -- the values, then the targets' indexes, then the stores, each from left to right
+  -- the values, of which one tuple is taken apart for several targets; then the targets' indexes, then the stores, each
+  -- from left to right
   abbrev pub assigned : List CTarget → List CExpr → Term → Does Did
   assigned targets expressions term view =
-      then_do (in_turn (map value_of expressions) view) (λ values now.
-      then_do (in_turn (map (spot_of value_of) targets) now) (λ spots new.
-      then_do (wanted (stores_of targets spots values) new) (λ stores last.
-      giving (on_with term) (through store stores variables last))))
+      then_do (in_turn (map value_of expressions) view) (λ given now.
+      then_do (wanted (spread targets given) now) (λ values later.
+      then_do (in_turn (map (spot_of value_of) targets) later) (λ spots new.
+      then_do (wanted (side_by_side spots values) new) (λ stores last.
+      giving (on_with term) (through store stores variables last)))))
 
   -- the slot has the value
   abbrev pub declared : ℕ → CExpr → Term → Does Did

@@ -16,9 +16,9 @@ use Rattle.chi_core.specs.declared.statement.CStat.TheVariants as s
 use Rattle.chi_core.specs.Answer.{Answer, Gives, Fails, Spent, Amiss, Does, then_do, gives, wanted, giving, in_turn, through}
 use Rattle.chi_core.specs.Reading.{truth_of, elements_of}
 use Rattle.chi_core.specs.Spots.{spot_of, store}
-use Rattle.chi_core.specs.Variables.{Variables, with_slot, bound}
+use Rattle.chi_core.specs.Variables.{Variables, with_slot, side_by_side, bound}
 use Rattle.chi_core.specs.Evaluation.{Evaluates, on_truth}
-use Rattle.chi_core.specs.Terms.{Item, Term, Do, Loop, Walk, Did, On, Returns, act_stat, tested, chosen, walked, on_with, goes_on, first_the, after_loop, from_loop, stores_of}
+use Rattle.chi_core.specs.Terms.{Item, Term, Do, Loop, Walk, Did, On, Returns, act_stat, tested, chosen, walked, on_with, goes_on, first_the, after_loop, from_loop, spread}
 use Rattle.chi_frame.specs.Terms.{first_of}
 use Rattle.chi_eval.specs.Terms.{act_first}
 use Rattle.chi_eval.specs.Spans.{itself, span, branch_span, span_step, alt_span_step, branch_span_step, target_span, item_span, body_span, reach}
@@ -204,9 +204,10 @@ module _ (m : Evaluates) (variables : Variables) (rest : Term) (view : View) (n 
   stat_sized : (x : CStat) (o : CStat-F CAlt CStat Branch) → out-CStat x ≡ o → span x ≤ n → Sized n (act_stat m variables o rest view)
   stat_sized x (CStat-F.Declare line slot e) is k = then_sized n (m e view) _ (λ v now. on_sized n rest (wanted (with_slot slot v variables) now) h)
   stat_sized x (CStat-F.Assign line targets values) is k =
-      then_sized n (in_turn (map m values) view) _ (λ values now.
-      then_sized n (in_turn (map (spot_of m) targets) now) _ (λ spots new.
-      then_sized n (wanted (stores_of targets spots values) new) _ (λ stores last. on_sized n rest (through store stores variables last) h)))
+      then_sized n (in_turn (map m values) view) _ (λ given now.
+      then_sized n (wanted (spread targets given) now) _ (λ each later.
+      then_sized n (in_turn (map (spot_of m) targets) later) _ (λ spots new.
+      then_sized n (wanted (side_by_side spots each) new) _ (λ stores last. on_sized n rest (through store stores variables last) h))))
   stat_sized x (CStat-F.If line branches otherwise) is k =
       chosen_sized n m variables branches otherwise rest view (omega (arith, at_if x line branches otherwise is)) (omega (arith, at_if x line branches otherwise is)) h
   stat_sized x (CStat-F.While line test block) is k = tested_sized line test block (omega (arith, at_while x line test block is))

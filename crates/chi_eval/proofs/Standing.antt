@@ -1,5 +1,5 @@
 -- What each kind of expression is, and that what it asks for isn't amiss where the whole isn't.
-use Rattle.std.proofs.Common.{◌≡◌, ◌≢◌, ℕ, ◌∙◌, Bool, true, false, List, Option, Some, None, map, ap, sym, refl, slice_get}
+use Rattle.std.proofs.Common.{◌≡◌, ◌≢◌, ℕ, ◌∙◌, Bool, true, false, List, Some, None, map, ap, sym, refl, slice_get}
 use Rattle.std.specs.Prelude.{nat_eq, if◌then◌else◌}
 use Rattle.std.specs.Option.{option_and_then}
 use Rattle.chi_core.specs.declared.program.FuncDef.{FuncDef}

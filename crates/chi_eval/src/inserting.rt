@@ -15,7 +15,7 @@ use crate::surroundings::Surroundings;
 use chi_base::NoMemory;
 use chi_core::{CExpr, View};
 use chi_frame::{Stop, Variables, copied, insertion_of};
-use chi_operate::items_in;
+use chi_operate::elements_in;
 use chi_value::Value;
 use std::alloc::Global;
 
@@ -38,7 +38,8 @@ pub fn insert_by(
 {
     let xs = eval(a, alloc, s, calls, variables, view)?;
     let x = eval(b, alloc, s, calls, variables, view)?;
-    let place = place_before(items_in(&xs), alloc, s, calls, number, &x, view)?;
+    let all = elements_in(alloc, copied(alloc, &xs)?)?;
+    let place = place_before(all.as_slice(), alloc, s, calls, number, &x, view)?;
     insertion_of(alloc, xs, place, x, view)
 }
 

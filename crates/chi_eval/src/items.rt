@@ -14,7 +14,7 @@ use crate::places::spots_of;
 use crate::reading::truth_of;
 use crate::surroundings::Surroundings;
 use chi_core::{Branch, CExpr, CStat, CTarget, View};
-use chi_frame::{Head, Stop, Term, Variables, store_all};
+use chi_frame::{Head, Stop, Term, Variables, spread, store_each};
 use chi_operate::elements_in;
 use chi_value::Value;
 use std::alloc::Global;
@@ -224,7 +224,8 @@ fn choose<'a>(
     Ok(None)
 }
 
-/// An assignment, which stands first: the values, then the targets' indexes, then the stores.
+/// An assignment, which stands first: the values, spread over the targets, then the targets' indexes,
+/// then the stores.
 #[cycle(eval)]
 #[tactic(auto, using(chi_frame::proofs::Stopping::stopping, crate::proofs::Assigned::assigning))]
 fn assign(
@@ -242,9 +243,10 @@ fn assign(
     ensures stops { IfErr result (λ stop. Stops stop (assigned (meaning calls s.now variables.old) variables.old targets.now values.now (drop 1 term.old) view.old)) }
     ensures kept { result ≡ Err Stop.Spent → (variables.new ≡ variables.old) × (term.new ≡ term.old) }
 {
-    let xs = eval_all(values, alloc, s, calls, variables, view)?;
+    let given = eval_all(values, alloc, s, calls, variables, view)?;
+    let each = spread(alloc, targets, given)?;
     let spots = spots_of(targets, alloc, s, calls, variables, view)?;
-    store_all(alloc, targets, spots, xs, variables, view)?;
+    store_each(alloc, spots, each, variables, view)?;
     term.drop_first();
     Ok(None)
 }

@@ -13,9 +13,11 @@ pub fn is_plain(value: &Value) -> bool
         Value::Bool(_) | Value::Int(_) | Value::Real(_) | Value::Text(_) | Value::Choice(_, _) =>
             true,
         Value::TupleOf(parts) => are_plain(parts.as_slice()),
-        Value::ListOf(items) | Value::SetOf(items) | Value::DictOf(items) => are_plain(
-            items.as_slice(),
-        ),
+        Value::SetOf(items) | Value::DictOf(items) => are_plain(items.as_slice()),
+        Value::ListOf(items) => {
+            let (first, second) = items.as_slices();
+            are_plain(first) && are_plain(second)
+        }
         Value::Chan(_) | Value::Dist(_) | Value::Timer(_) | Value::Inst(_) => false,
     }
 }

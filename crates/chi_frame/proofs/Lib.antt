@@ -1,4 +1,5 @@
 pub mod Binding
+pub mod InPlace
 pub mod Slots
 pub mod Spreading
 pub mod Stopping

@@ -1,7 +1,6 @@
 -- Values that go to spots, one after another.
 use Rattle.std.proofs.Common.{◌≡◌, ◌≢◌, ◌<◌, ◌≤◌, List, [], ◌∷◌, ◌++◌, Option, Some, None, length, ap, sym, subst, refl, ◌∙◌, arith}
 use Rattle.std.specs.Prelude.{option_map, reverse}
-use Rattle.std.specs.Option.{option_and_then}
 use Rattle.std.proofs.lemmas.List.{reverse-append, reverse-reverse}
 use Rattle.chi_value.specs.declared.value.Value.{Value}
 use Rattle.chi_core.specs.declared.target.CTarget.{CTarget}
@@ -12,7 +11,7 @@ use Rattle.chi_core.specs.Spots.{Spot, store}
 use Rattle.chi_core.specs.Terms.{spread}
 use Rattle.chi_core.specs.Variables.{Variables, side_by_side}
 use Rattle.chi_frame.specs.declared.stop.Stop.{Stop}
-use Rattle.chi_frame.specs.Assignments.{each_stored, all_stored}
+use Rattle.chi_frame.specs.Assignments.{each_stored}
 use Rattle.chi_frame.specs.Stops.{Stops}
 use Rattle.chi_frame.proofs.Stopping.{then_stops}
 
@@ -39,24 +38,6 @@ spread_tuple (t ∷ u ∷ ts) (y ∷ []) (z ∷ front) x h one e = absurd (longe
     longer : (l : List Value) → [] ≡ l ++ x ∷ [] → ⊥
     longer [] e = absurd (cc)
     longer (a ∷ l) e = absurd (cc)
-
-module _ (targets : List CTarget) (spots : List Spot) (values : List Value) (variables : Variables) (view : View) where
-  pub all_there : all_stored targets spots values variables view ≢ Amiss → spread targets values ≢ None
-  all_there h e = h (ap (λ o. each_stored (option_and_then (side_by_side spots) o) variables view) e)
-
-  pub all_is : (each : List Value) → spread targets values ≡ Some each → all_stored targets spots values variables view ≡ each_stored (side_by_side spots each) variables view
-  all_is each e = ap (λ o. each_stored (option_and_then (side_by_side spots) o) variables view) e
-
-  pub each_there : (each : List Value) → spread targets values ≡ Some each → all_stored targets spots values variables view ≢ Amiss → each_stored (side_by_side spots each) variables view ≢ Amiss
-  each_there each e h a = h (all_is each e ∙ a)
-
-  pub each_gives : (each : List Value) (new : Variables) → spread targets values ≡ Some each → each_stored (side_by_side spots each) variables view ≡ Gives new view
-      → all_stored targets spots values variables view ≡ Gives new view
-  each_gives each new e g = all_is each e ∙ g
-
-  pub each_stops : (each : List Value) (stop : Stop) → spread targets values ≡ Some each → Stops stop (each_stored (side_by_side spots each) variables view)
-      → Stops stop (all_stored targets spots values variables view)
-  each_stops each stop e s = let P : Answer Variables → Type 0 = Stops stop in subst P (sym (all_is each e)) s
 
 -- one after another
 module _ (s : Spot) (x : Value) (others : List Spot) (rest : List Value) (variables : Variables) (view : View) where
@@ -94,7 +75,5 @@ pub back : (values left : List Value) → left ≡ reverse values → reverse le
 back values left e = ap reverse e ∙ reverse-reverse values
 
 pub ruleset spreading = (spread_few, spread_many, spread_tuple)
-
-pub ruleset each = (all_there, each_there, each_gives, each_stops)
 
 pub ruleset storing = (first_there, first_goes, first_stops, none_left, over_is, turned, back)

@@ -1,6 +1,7 @@
 pub mod Assignments
 pub mod Bindings
 pub mod Heads
+pub mod InPlace
 pub mod Spots
 pub mod Stops
 pub mod Terms

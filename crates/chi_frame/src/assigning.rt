@@ -4,7 +4,7 @@ ghost use Rattle.std.specs.Prelude.{◌≡◌, ◌≢◌, Err, None, Some, map, 
 ghost use Rattle.chi_core.specs.Answer.{Gives, Amiss};
 ghost use Rattle.chi_core.specs.Terms.{spread};
 ghost use Rattle.chi_core.specs.Variables.{side_by_side};
-ghost use Rattle.chi_frame.specs.Assignments.{all_stored, each_stored};
+ghost use Rattle.chi_frame.specs.Assignments.{each_stored};
 ghost use Rattle.chi_frame.specs.Spots.{spot_in};
 ghost use Rattle.chi_frame.specs.Stops.{Stops};
 
@@ -17,9 +17,13 @@ use chi_operate::parts_from;
 use chi_value::Value;
 use std::alloc::Global;
 
-/// The values for targets: one for each, or the parts of one tuple for several.
+/// The values that go to targets: one for each, or the parts of one tuple for several.
 #[tactic(auto, using(crate::proofs::Spreading::spreading))]
-fn spread(alloc: Global, targets: &[CTarget], values: Vec<Value>) -> Result<Vec<Value>, NoMemory>
+pub fn spread(
+    alloc: Global,
+    targets: &[CTarget],
+    values: Vec<Value>,
+) -> Result<Vec<Value>, NoMemory>
     requires { spread targets.now values.items ≢ None }
     ensures { IfOk result (λ each. spread targets.now values.items ≡ Some each.items) }
 {
@@ -37,26 +41,8 @@ fn spread(alloc: Global, targets: &[CTarget], values: Vec<Value>) -> Result<Vec<
 }
 
 /// Stores the values into the spots of targets, from left to right.
-#[tactic(auto, using(crate::proofs::Spreading::each))]
-pub fn store_all(
-    alloc: Global,
-    targets: &[CTarget],
-    spots: Vec<Spot>,
-    values: Vec<Value>,
-    variables: &mut Variables,
-    view: &View,
-) -> Result<(), Stop>
-    requires { all_stored targets.now (map spot_in spots.items) values.items variables.old view.now ≢ Amiss }
-    ensures value { OnOk result (all_stored targets.now (map spot_in spots.items) values.items variables.old view.now ≡ Gives variables.new view.now) }
-    ensures stops { IfErr result (λ stop. Stops stop (all_stored targets.now (map spot_in spots.items) values.items variables.old view.now)) }
-    ensures never { result ≢ Err Stop.Spent }
-{
-    let values = spread(alloc, targets, values)?;
-    Ok(store_each(alloc, spots, values, variables, view)?)
-}
-
 #[tactic(auto, using(crate::proofs::Spreading::storing))]
-fn store_each(
+pub fn store_each(
     alloc: Global,
     spots: Vec<Spot>,
     values: Vec<Value>,

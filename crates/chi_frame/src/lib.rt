@@ -4,17 +4,19 @@
 
 mod assigning;
 mod given;
+mod in_place;
 mod scalars;
 mod spots;
 mod stop;
 mod term;
 mod variables;
 
-pub use assigning::store_all;
+pub use assigning::{spread, store_each};
 pub use given::{
     copy_of, fresh_of, insertion_of, list_of, literal_of, operator_of_all, operator_of_one,
     operator_of_two, part_of,
 };
+pub use in_place::{operate_on_one, operate_on_two};
 pub use scalars::copied;
 pub use spots::{Spot, store};
 pub use stop::Stop;

@@ -7,6 +7,7 @@ use chi_value::Value;
 use std::alloc::Global;
 
 /// A copy of a value.
+#[inline(always)]
 pub fn copied(alloc: Global, value: &Value) -> Result<Value, NoMemory>
     ensures { IfOk result (λ copy. copy ≡ value.now) }
 {

@@ -49,6 +49,23 @@ fn copy_all(alloc: Global, variables: &[Option<Value>]) -> Result<Vec<Option<Val
     Ok(copies)
 }
 
+#[inline(never)]
+fn let_all_go(value: Value) {
+    drop(value);
+}
+
+// Lets a value go, at once where it owns no memory.
+#[inline(always)]
+fn let_go(old: Option<Value>) {
+    match old {
+        None => {}
+        Some(Value::Int(_)) => {}
+        Some(Value::Real(_)) => {}
+        Some(Value::Bool(_)) => {}
+        Some(value) => let_all_go(value),
+    }
+}
+
 impl Variables {
     /// The variables at the start: the arguments in the first slots, and no other set.
     #[tactic(auto, using(crate::proofs::Slots::slots))]
@@ -73,6 +90,7 @@ impl Variables {
     }
 
     /// The value of a slot, which is there and set.
+    #[inline(always)]
     pub fn get(&self, slot: u32) -> &Value
         requires { value_at self.now slot ≢ None }
         ensures { value_at self.now slot ≡ Some result.now }
@@ -97,11 +115,13 @@ impl Variables {
         }
     }
 
+    #[inline(always)]
     pub fn set(&mut self, slot: u32, value: Value)
         requires { slot < length self.old }
         ensures { with_slot slot value self.old ≡ Some self.new }
     {
-        self.slots[slot as usize] = Some(value);
+        let old = std::mem::replace(&mut self.slots[slot as usize], Some(value));
+        let_go(old);
     }
 
     /// Binds the names of these slots to an element: one name to itself, several to its parts.

@@ -24,10 +24,10 @@ use Rattle.chi_core.specs.SoundExpressions.{HasKind, HaveKinds, no_expression, o
 use Rattle.chi_core.specs.SoundParts.{Walks, TargetsTake}
 use Rattle.chi_core.specs.SoundStatements as sound
 use Rattle.chi_core.specs.SoundStatements.{SoundStat, SoundBlock, one_statement, SoundBranches, no_branch, one_branch}
-use Rattle.chi_core.specs.Spots.{Spot, spot_of, store}
+use Rattle.chi_core.specs.Spots.{spot_of, store}
 use Rattle.chi_core.specs.Standing.{Frame, Inner, Looping, Walking, term_of, is_within_loop, Standing, next, in_branch, in_else, in_loop, in_walk, at_walk_turn}
-use Rattle.chi_core.specs.Terms.{Term, Did, On, Returns, on_with, after_loop, from_loop, goes_on, walked, stores_of, chosen, tested, assigned, declared, walking, act_stat}
-use Rattle.chi_core.specs.Variables.{Variables, with_slot, bound}
+use Rattle.chi_core.specs.Terms.{Term, Did, On, Returns, on_with, after_loop, from_loop, goes_on, walked, spread, chosen, tested, assigned, declared, walking, act_stat}
+use Rattle.chi_core.specs.Variables.{Variables, with_slot, side_by_side, bound}
 use Rattle.chi_core.proofs.Standings.{sound_at}
 use Rattle.chi_core.proofs.Worlds.{wider_still, are_grow}
 use Rattle.chi_op_kinds.specs.Laws.{WellOf}
@@ -38,7 +38,7 @@ use Rattle.chi_kinded.proofs.Expressions.{Provides, Reads, reads_grow, well_some
 use Rattle.chi_kinded.proofs.Operations.{Laws}
 use Rattle.chi_kinded.proofs.Held.{walks_grow, held_less, held_with, held_bound, elements_fit}
 use Rattle.chi_kinded.proofs.Standings.{Before, past, GoesTo, broken, continued}
-use Rattle.chi_kinded.proofs.Targets.{AreSpots, StoresFit, stores_of_values, stores_of_parts, well_stores, well_spots}
+use Rattle.chi_kinded.proofs.Targets.{AreSpots, StoresFit, stores_beside, spread_values, spread_parts, well_stores, well_spots}
 
 -- the statements that functions and processes share
 abbrev pub Shared : StatLayer → Type 0
@@ -168,24 +168,29 @@ module _ (laws : Laws) (d : Home) (run : Run) (scene : Scene) (provides : Provid
         (well_some v (λ u. Held u d.scope (also slot known)) (with_slot slot y variables) (held_with v d.scope known variables slot T y there of_it (sees w v wider r).held)))
         (value_of e) (well_expression e T h w r)
 
-    -- values are stored into targets, once the stores are known to fit
+    -- values are stored into targets, once what is spread is known to be of the kinds that the targets take
     well_assigned : (line : ℕ) (ts : List CTarget) (es : List CExpr) (Ts Us : List Kind) → out-CStat x ≡ CStat-F.Assign line ts es → HaveKinds d.scope known es Ts → TargetsTake d.scope known ts Us
-        → ((w : World) (spots : List Spot) (xs : List Value) → AreSpots d.scope known w ts Us spots → AreOf w xs Ts → IsSomeAnd (stores_of ts spots xs) (StoresFit d.scope known w ts)) → (w : World) → Sees w
+        → ((w : World) (given : List Value) → AreOf w given Ts → IsSomeAnd (spread ts given) (λ xs. AreOf w xs Us)) → (w : World) → Sees w
         → Walked w → Well w Fits (assigned value_of variables ts es (term_of rest frames))
     well_assigned line ts es Ts Us is h take fit w r walks =
-        well_then w (λ v xs. AreOf v xs Ts) Fits _
-        (λ v wider1 same1 xs are. well_then v (λ u. AreSpots d.scope known u ts Us) Fits _
-        (λ u wider2 same2 spots are_spots.
-        let wu : Wider w u = wider_still w v u wider1 wider2 in
+        well_then w (λ v given. AreOf v given Ts) Fits _
+        (λ v wider1 same1 given are_given. well_then v (λ t xs. AreOf t xs Us) Fits _
+        (λ t wider2 same2 xs are.
+        let wt : Wider w t = wider_still w v t wider1 wider2 in
+        well_then t (λ u. AreSpots d.scope known u ts Us) Fits _
+        (λ u wider3 same3 spots are_spots.
+        let wu : Wider w u = wider_still w t u wt wider3 in
         well_then u (λ z. StoresFit d.scope known z ts) Fits _
-        (λ z wider3 same3 stores stores_fit.
-        let wz : Wider w z = wider_still w u z wu wider3 in
+        (λ z wider4 same4 stores stores_fit.
+        let wz : Wider w z = wider_still w u z wu wider4 in
         well_giving z (λ y. Held y d.scope (also_all (wholes ts) known)) Fits (on_with (term_of rest frames))
-        (λ y wider4 after held. at_place d y after (also_all (wholes ts) known) rest frames (place_after d known x rest frames p (CStat-F.Assign line ts es) is)
-        (walked_on w y (wider_still w z y wz wider4) walks) held)
+        (λ y wider5 after held. at_place d y after (also_all (wholes ts) known) rest frames (place_after d known x rest frames p (CStat-F.Assign line ts es) is)
+        (walked_on w y (wider_still w z y wz wider5) walks) held)
         (through store stores variables) (well_stores laws d.scope known z known variables ts stores (λ k j. j) stores_fit (sees w z wz r).held))
-        (wanted (stores_of ts spots xs)) (well_some u (λ z. StoresFit d.scope known z ts) (stores_of ts spots xs) (fit u spots xs are_spots (are_grow v u wider2 xs Ts are))))
-        (in_turn (map (spot_of value_of) ts)) (well_spots laws d.scope known run scene provides variables ts Us take v (sees w v wider1 r)))
+        (wanted (side_by_side spots xs))
+        (well_some u (λ z. StoresFit d.scope known z ts) (side_by_side spots xs) (stores_beside d.scope known u ts Us spots xs are_spots (are_grow t u wider3 xs Us are))))
+        (in_turn (map (spot_of value_of) ts)) (well_spots laws d.scope known run scene provides variables ts Us take t (sees w t wt r)))
+        (wanted (spread ts given)) (well_some v (λ t xs. AreOf t xs Us) (spread ts given) (fit v given are_given)))
         (in_turn (map value_of es)) (well_values laws d.scope run scene provides known variables es Ts h w r)
 
     well_walking : (line : ℕ) (slots : List ℕ) (container : CExpr) (block : List CStat) → out-CStat x ≡ CStat-F.For line slots container block → Walks d.scope known slots container → (w : World) → Sees w
@@ -204,14 +209,13 @@ module _ (laws : Laws) (d : Home) (run : Run) (scene : Scene) (provides : Provid
         → Well w Fits (act_stat value_of variables s (term_of rest frames))
     well_shared _ _ (sound.declares _ _ line slot e T there may h) f is shared w r walks = well_declared line slot e T is there h w r walks
     well_shared _ _ (sound.assigns _ _ line ts es Ts h take) f is shared w r walks =
-        well_assigned line ts es Ts Ts is h take (λ v spots xs are of_them. stores_of_values d.scope known v ts Ts spots xs are of_them) w r walks
+        well_assigned line ts es Ts Ts is h take (λ v xs are. spread_values d.scope known v ts Ts xs take are) w r walks
     well_shared _ _ (sound.spreads _ _ line t u more e parts h take) f is shared w r walks =
         well_assigned line (t ∷ u ∷ more) (e ∷ []) (Ty-F.TupleOf parts ∷ []) (part_kinds parts) is (one_expression e [] (Ty-F.TupleOf parts) [] h no_expression) take
-        (λ v spots xs are of_them. one_tuple v spots xs are of_them) w r walks
+        (λ v given are. one_tuple v given are) w r walks
       where
-        one_tuple : (v : World) (spots : List Spot) (xs : List Value) → AreSpots d.scope known v (t ∷ u ∷ more) (part_kinds parts) spots → AreOf v xs (Ty-F.TupleOf parts ∷ [])
-            → IsSomeAnd (stores_of (t ∷ u ∷ more) spots xs) (StoresFit d.scope known v (t ∷ u ∷ more))
-        one_tuple v spots _ are (one_of y _ _ _ is none_of) = stores_of_parts d.scope known v (t ∷ u ∷ more) parts spots (out-Value y) are is
+        one_tuple : (v : World) (given : List Value) → AreOf v given (Ty-F.TupleOf parts ∷ []) → IsSomeAnd (spread (t ∷ u ∷ more) given) (λ xs. AreOf v xs (part_kinds parts))
+        one_tuple v _ (one_of y _ _ _ is none_of) = spread_parts v parts (out-Value y) is
     well_shared _ _ (sound.chooses _ _ line bs otherwise h block) f is shared w r walks =
         well_chosen bs otherwise w (subst (λ l. SoundBranches d.scope l known bs) f h) r walks (λ k b e. in_branch known x rest frames line bs otherwise k b p is e)
         (in_else known x rest frames line bs otherwise p is)

@@ -1,7 +1,7 @@
 -- Targets: what is read there is of the kind there, and what is stored there fits.
 use Rattle.std.proofs.Common.{◌≡◌, ℕ, List, [], ◌∷◌, map, Some, refl, sym, subst}
 use Rattle.std.specs.Prelude.{slice_get, IsTrue}
-use Rattle.std.specs.Option.{IsSomeAnd, option_and_then}
+use Rattle.std.specs.Option.{IsSomeAnd}
 use Rattle.chi_types.specs.declared.ty.Ty.{Ty, Ty-F, out-Ty}
 use Rattle.chi_types.specs.declared.ty.Way.TheVariants as way
 use Rattle.chi_value.specs.declared.value.Value.{Value, Value-F}
@@ -24,7 +24,7 @@ use Rattle.chi_core.specs.SoundExpressions.{HasKind}
 use Rattle.chi_core.specs.SoundParts as sound
 use Rattle.chi_core.specs.SoundParts.{StepsLead, TargetTakes, TargetsTake, no_target, one_target, ChannelAt}
 use Rattle.chi_core.specs.Spots.{Spot, step_at, spot_of, read_step, read_at, store_into, store}
-use Rattle.chi_core.specs.Terms.{spread, stores_of}
+use Rattle.chi_core.specs.Terms.{spread}
 use Rattle.chi_core.specs.Variables.{Variables, value_at, with_slot, side_by_side}
 use Rattle.chi_core.proofs.Worlds.{wider_still, value_grows}
 use Rattle.chi_op_kinds.specs.Laws as path
@@ -41,6 +41,14 @@ path_grows w v wider _ _ _ (path.into_list i steps t U is more) = path.into_list
 path_grows w v wider _ _ _ (path.into_dictionary i steps key has U is more) =
     path.into_dictionary i steps key has U (value_grows w v wider i (out-Ty key) is) (path_grows w v wider steps (out-Ty has) U more)
 path_grows w v wider _ _ _ (path.into_tuple number steps parts p U there more) = path.into_tuple number steps parts p U there (path_grows w v wider steps (out-Ty p.1) U more)
+
+parts_are : (w : World) (xs : List Value) (parts : List (List ℕ × Ty)) → PartsOf w xs parts → AreOf w xs (part_kinds parts)
+parts_are w _ _ no_part = none_of
+parts_are w _ _ (one_part x xs p parts is more) = one_of x xs (out-Ty p.1) (part_kinds parts) is (parts_are w xs parts more)
+
+-- one tuple has a part for each kind
+pub spread_parts : (w : World) (parts : List (List ℕ × Ty)) (x : Value-F Value) → Of w x (Ty-F.TupleOf parts) → IsSomeAnd (parts_in x) (λ each. AreOf w each (part_kinds parts))
+spread_parts w parts _ (of_tuple xs _ is) = parts_are w xs parts is
 
 module _ (scope : Scope) (known : Known) where
   -- a spot of a target takes values of a kind: a whole slot, or a part of a slot that counts as set
@@ -83,32 +91,20 @@ module _ (scope : Scope) (known : Known) where
 
   -- as many values as targets
 
-  stores_beside : (w : World) (ts : List CTarget) (Ts : List Kind) (spots : List Spot) (xs : List Value) → AreSpots w ts Ts spots → AreOf w xs Ts
+  pub stores_beside : (w : World) (ts : List CTarget) (Ts : List Kind) (spots : List Spot) (xs : List Value) → AreSpots w ts Ts spots → AreOf w xs Ts
       → IsSomeAnd (side_by_side spots xs) (StoresFit w ts)
   stores_beside w _ _ _ _ no_spot none_of = no_store
   stores_beside w _ _ _ _ (one_spot t ts T Ts spot spots is more) (one_of x xs _ _ of_it are) =
       some_map (StoresFit w ts) (StoresFit w (t ∷ ts)) _ (side_by_side spots xs) (stores_beside w ts Ts spots xs more are)
       (λ stores fit. one_store t ts T spot x stores is of_it fit)
 
-  not_spread : (w : World) (ts : List CTarget) (Ts : List Kind) (spots : List Spot) (xs : List Value) → AreSpots w ts Ts spots → AreOf w xs Ts → spread ts xs ≡ Some xs
-  not_spread w _ _ _ _ no_spot none_of = refl
-  not_spread w _ _ _ _ (one_spot t _ T _ spot _ is no_spot) (one_of x _ _ _ of_it none_of) = refl
-  not_spread w _ _ _ _ (one_spot t _ T _ spot _ is (one_spot t2 ts U Us spot2 spots is2 more)) (one_of x _ _ _ of_it (one_of y xs _ _ of_it2 are)) = refl
-
-  pub stores_of_values : (w : World) (ts : List CTarget) (Ts : List Kind) (spots : List Spot) (xs : List Value) → AreSpots w ts Ts spots → AreOf w xs Ts
-      → IsSomeAnd (stores_of ts spots xs) (StoresFit w ts)
-  stores_of_values w ts Ts spots xs are is =
-      subst (λ o. IsSomeAnd (option_and_then (side_by_side spots) o) (StoresFit w ts)) (sym (not_spread w ts Ts spots xs are is)) (stores_beside w ts Ts spots xs are is)
-
-  -- one tuple with a part for each target
-
-  parts_are : (w : World) (xs : List Value) (parts : List (List ℕ × Ty)) → PartsOf w xs parts → AreOf w xs (part_kinds parts)
-  parts_are w _ _ no_part = none_of
-  parts_are w _ _ (one_part x xs p parts is more) = one_of x xs (out-Ty p.1) (part_kinds parts) is (parts_are w xs parts more)
-
-  pub stores_of_parts : (w : World) (ts : List CTarget) (parts : List (List ℕ × Ty)) (spots : List Spot) (x : Value-F Value) → AreSpots w ts (part_kinds parts) spots → Of w x (Ty-F.TupleOf parts)
-      → IsSomeAnd (option_and_then (side_by_side spots) (parts_in x)) (StoresFit w ts)
-  stores_of_parts w ts parts spots _ are (of_tuple xs _ is) = stores_beside w ts (part_kinds parts) spots xs are (parts_are w xs parts is)
+  -- they go to the targets as they are
+  pub spread_values : (w : World) (ts : List CTarget) (Ts : List Kind) (xs : List Value) → TargetsTake scope known ts Ts → AreOf w xs Ts
+      → IsSomeAnd (spread ts xs) (λ each. AreOf w each Ts)
+  spread_values w _ _ _ no_target none_of = none_of
+  spread_values w _ _ _ (one_target t _ T _ _ no_target) (one_of x _ _ _ of_it none_of) = one_of x [] T [] of_it none_of
+  spread_values w _ _ _ (one_target t _ T _ _ (one_target t2 ts U Us _ _)) (one_of x _ _ _ of_it (one_of y xs _ _ of_it2 are)) =
+      one_of x (y ∷ xs) T (U ∷ Us) of_it (one_of y xs U Us of_it2 are)
 
 module _ (laws : Laws) (scope : Scope) (known : Known) where
   -- a value of the kind of a spot is stored there; more may count as set by now than when the spot was found

@@ -28,6 +28,16 @@ pub fn joined(alloc: Global, a: &Value, b: &Value, view: &View) -> Result<Value,
     Ok(join(alloc, a, b)?)
 }
 
+/// As joined, of a list that is used up, and grows where it isn't shared.
+#[tactic(auto, using(crate::proofs::Operations::operations))]
+pub fn joined_on(alloc: Global, a: Value, b: &Value, view: &View) -> Result<Value, Failure>
+    requires { done (join a b.now) view.now ≢ Amiss }
+    ensures value { IfOk result (λ v. done (join a b.now) view.now ≡ Gives v view.now) }
+    ensures fails { IfErr result (λ failure. IsFailure failure (done (join a b.now) view.now)) }
+{
+    Ok(chi_ops::joined(alloc, a, b)?)
+}
+
 #[tactic(auto, using(crate::proofs::Operations::operations))]
 pub fn united(alloc: Global, a: &Value, b: &Value, view: &View) -> Result<Value, Failure>
     requires { done (union a.now b.now) view.now ≢ Amiss }
@@ -80,6 +90,16 @@ pub fn popped(alloc: Global, a: &Value, view: &View) -> Result<Value, Failure>
     ensures fails { IfErr result (λ failure. IsFailure failure (done (pop a.now) view.now)) }
 {
     Ok(pop(alloc, a)?)
+}
+
+/// As popped, of a container that is used up.
+#[tactic(auto, using(crate::proofs::Operations::operations))]
+pub fn popped_off(alloc: Global, a: Value, view: &View) -> Result<Value, Failure>
+    requires { done (pop a) view.now ≢ Amiss }
+    ensures value { IfOk result (λ v. done (pop a) view.now ≡ Gives v view.now) }
+    ensures fails { IfErr result (λ failure. IsFailure failure (done (pop a) view.now)) }
+{
+    Ok(chi_ops::popped(alloc, a)?)
 }
 
 #[tactic(auto, using(crate::proofs::Operations::operations))]

@@ -13,7 +13,7 @@ use crate::arithmetic::{
 use crate::casts::{is_finished, is_ready, sign_of, to_int, to_real, to_text, to_timer, to_truth};
 use crate::comparing::{above, at_least, at_most, below, different, equal, opposite};
 use crate::containers::{
-    element_at, enumerated, is_empty, is_in, is_within, keys_in, looked_up, popped, range_of,
+    element_at, enumerated, is_empty, is_in, is_within, keys_in, looked_up, popped, popped_off, range_of,
     size_of, values_in, without,
 };
 use crate::distributions::{bernoulli_of, binomial_of, constant_of, sample_of, uniform_of};
@@ -21,8 +21,8 @@ use crate::failure::Failure;
 use crate::least::best_of;
 use crate::operands::{Operands, split_operands};
 use crate::scenery::Scenery;
-use crate::slicing::sliced;
-use crate::summing::{difference, product, sum};
+use crate::slicing::{sliced, sliced_off};
+use crate::summing::{difference, product, sum, sum_on};
 use chi_core::{OpName, View};
 use chi_num::Real;
 use chi_value::Value;
@@ -333,5 +333,47 @@ pub fn apply(
         Operands::More(a, b, c, others) => {
             Ok(of_more(alloc, s, name, a, b, c, others, values, view)?)
         }
+    }
+}
+
+/// As of_one, where the operand is used up.
+pub fn of_one_used(
+    alloc: Global,
+    s: &Scenery<'_>,
+    name: OpName,
+    a: Value,
+    view: &mut View,
+) -> Result<Value, Failure>
+    requires { applied (scene_of s.now) name (a ∷ []) view.old ≢ Amiss }
+    ensures value { IfOk result (λ v. applied (scene_of s.now) name (a ∷ []) view.old ≡ Gives v view.new) }
+    ensures fails { IfErr result (λ failure. IsFailure failure (applied (scene_of s.now) name (a ∷ []) view.old)) }
+{
+    match name {
+        OpName::Pop => Ok(popped_off(alloc, a, view)?),
+        OpName::Slice(first, last, by) => Ok(sliced_off(alloc, (first, last, by), a, &[], view)?),
+        name => Ok(of_one(alloc, s, name, &a, view)?),
+    }
+}
+
+/// As of_two, where the operands are used up.
+pub fn of_two_used(
+    alloc: Global,
+    s: &Scenery<'_>,
+    name: OpName,
+    a: Value,
+    b: Value,
+    view: &mut View,
+) -> Result<Value, Failure>
+    requires { applied (scene_of s.now) name (a ∷ b ∷ []) view.old ≢ Amiss }
+    ensures value { IfOk result (λ v. applied (scene_of s.now) name (a ∷ b ∷ []) view.old ≡ Gives v view.new) }
+    ensures fails { IfErr result (λ failure. IsFailure failure (applied (scene_of s.now) name (a ∷ b ∷ []) view.old)) }
+{
+    match name {
+        OpName::Add => Ok(sum_on(alloc, a, &b, view)?),
+        OpName::Slice(first, last, by) => {
+            let bounds = slice::from_ref(&b);
+            Ok(sliced_off(alloc, (first, last, by), a, bounds, view)?)
+        }
+        name => Ok(of_two(alloc, s, name, &a, &b, view)?),
     }
 }

@@ -168,35 +168,14 @@ pub fn part_in(alloc: Global, value: &Value, number: u32) -> Result<Value, NoMem
     Ok(parts_in(value)[number as usize].copy(alloc)?)
 }
 
-/// The elements of a container in order, as they stand there.
-pub fn items_in(value: &Value) -> &[Value]
-    requires { elements_of value.now ≢ None }
-    ensures { elements_of value.now ≡ Some result.now }
-{
-    match value {
-        Value::ListOf(items) | Value::SetOf(items) | Value::DictOf(items) => items.as_slice(),
-        Value::Bool(_)
-        | Value::Int(_)
-        | Value::Real(_)
-        | Value::Text(_)
-        | Value::Choice(_, _)
-        | Value::TupleOf(_)
-        | Value::Chan(_)
-        | Value::Dist(_)
-        | Value::Timer(_)
-        | Value::Inst(_) => unreachable!(),
-    }
-}
-
 /// The elements of a container in order; those of a dictionary are pairs of a key and what it has.
 pub fn elements_in(alloc: Global, value: Value) -> Result<Vec<Value>, NoMemory>
     requires { elements_of value ≢ None }
     ensures { IfOk result (λ elements. elements_of value ≡ Some elements.items) }
 {
     match value {
-        Value::ListOf(items) | Value::SetOf(items) | Value::DictOf(items) => {
-            Ok(items.into_vec(alloc)?)
-        }
+        Value::ListOf(items) => Ok(items.into_vec(alloc)?),
+        Value::SetOf(items) | Value::DictOf(items) => Ok(items.into_vec(alloc)?),
         Value::Bool(_)
         | Value::Int(_)
         | Value::Real(_)

@@ -63,3 +63,38 @@ pub fn sliced(
     let (by, _) = next_bound(given.2, rest);
     Ok(taken(alloc, a, first, last, by, view)?)
 }
+
+#[tactic(auto, using(crate::proofs::Operations::operations))]
+fn taken_off(
+    alloc: Global,
+    a: Value,
+    first: Option<i64>,
+    last: Option<i64>,
+    by: Option<i64>,
+    view: &View,
+) -> Result<Value, Failure>
+    requires { done (slice a first last by) view.now ≢ Amiss }
+    ensures value { IfOk result (λ v. done (slice a first last by) view.now ≡ Gives v view.now) }
+    ensures fails { IfErr result (λ failure. IsFailure failure (done (slice a first last by) view.now)) }
+{
+    Ok(chi_ops::sliced(alloc, a, first, last, by)?)
+}
+
+/// As sliced, of a list or string that is used up.
+#[tactic(auto, using(crate::proofs::Bounding::slicing))]
+pub fn sliced_off(
+    alloc: Global,
+    given: (bool, bool, bool),
+    a: Value,
+    bounds: &[Value],
+    view: &View,
+) -> Result<Value, Failure>
+    requires { sliced given.0 given.1 given.2 a bounds.now view.now ≢ Amiss }
+    ensures value { IfOk result (λ v. sliced given.0 given.1 given.2 a bounds.now view.now ≡ Gives v view.now) }
+    ensures fails { IfErr result (λ failure. IsFailure failure (sliced given.0 given.1 given.2 a bounds.now view.now)) }
+{
+    let (first, rest) = next_bound(given.0, bounds);
+    let (last, rest) = next_bound(given.1, rest);
+    let (by, _) = next_bound(given.2, rest);
+    Ok(taken_off(alloc, a, first, last, by, view)?)
+}

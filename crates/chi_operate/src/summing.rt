@@ -6,7 +6,7 @@ ghost use Rattle.chi_core.specs.Answer.{Gives, Amiss};
 ghost use Rattle.chi_core.specs.Operators.{sum, difference, product};
 ghost use Rattle.chi_operate.specs.Failures.{IsFailure};
 
-use crate::containers::{in_both, in_first, joined, united, without_keys};
+use crate::containers::{in_both, in_first, joined, joined_on, united, without_keys};
 use crate::exact;
 use crate::failure::Failure;
 use chi_core::{FaultKind, View};
@@ -183,5 +183,17 @@ pub fn product(alloc: Global, a: &Value, b: &Value, view: &View) -> Result<Value
         | Value::Dist(_)
         | Value::Timer(_)
         | Value::Inst(_) => Ok(in_both(alloc, a, b, view)?),
+    }
+}
+
+/// As sum, where the first is used up.
+pub fn sum_on(alloc: Global, a: Value, b: &Value, view: &View) -> Result<Value, Failure>
+    requires { sum a b.now (out-Value a) (out-Value b.now) view.now ≢ Amiss }
+    ensures value { IfOk result (λ v. sum a b.now (out-Value a) (out-Value b.now) view.now ≡ Gives v view.now) }
+    ensures fails { IfErr result (λ failure. IsFailure failure (sum a b.now (out-Value a) (out-Value b.now) view.now)) }
+{
+    match a {
+        Value::ListOf(items) => Ok(joined_on(alloc, Value::ListOf(items), b, view)?),
+        a => Ok(sum(alloc, &a, b, view)?),
     }
 }

@@ -1,5 +1,5 @@
 -- Two slices at one bound are the list in two parts.
-use Rattle.std.proofs.Common.{◌≡◌, ◌≢◌, ℕ, suc, zero, ◌+◌, ◌-◌, Bool, true, false, None, Some, List, [], ◌∷◌, ◌++◌, length, take, drop, slice_get, ℤ, pos, negsuc, ◌+ℤ◌, refl, sym, ap, ◌∙◌, arith}
+use Rattle.std.proofs.Common.{◌≡◌, ◌≢◌, ℕ, suc, zero, ◌+◌, ◌-◌, Bool, true, false, None, Some, List, [], ◌∷◌, ◌++◌, length, take, drop, min, slice_get, ℤ, pos, negsuc, ◌+ℤ◌, refl, sym, ap, ◌∙◌, arith}
 use Rattle.std.proofs.Common.{inl, inr}
 use Rattle.std.proofs.lemmas.Bool.{cases_lt}
 use Rattle.std.proofs.lemmas.Int.{ints}
@@ -76,3 +76,21 @@ halves xs bound =
     let back : slice_of xs (Some bound) None (pos 1) ≡ take b.rest (drop b.place xs) =
     ap (λ z. elements_at xs (progression z (pos size) (pos 1))) b.is ∙ stretch xs b.rest b.place size b.whole in
     (λ i. front i ++ back i) ∙ sym (take-add b.place b.rest xs) ∙ ap (λ n. take n xs) b.whole ∙ take-length xs
+
+not_after : (p d : ℕ) → int_lt (pos (p + d)) (pos p) ≡ false
+not_after p d = grind (arith, ints)
+
+-- a slice by steps of 1, as so many elements from a place on
+pub part_taken : {A : Type 0} (xs : List A) (p q : ℕ) (a b : ℤ) → pos p ≡ a → pos q ≡ b →
+    take (q - p) (drop (min p q) xs) ≡ elements_at xs (progression a b (pos 1))
+part_taken xs p q a b first last =
+    (elim (cases_lt p q) [
+      | inl before ↦
+          let start : min p q ≡ p = omega (arith, before) in
+          ap (λ m. take (q - p) (drop m xs)) start ∙ sym (stretch xs (q - p) p q (omega (arith, before)))
+      | inr after ↦
+          let none : q - p ≡ 0 = omega (arith, after) in
+          let whole : q + (p - q) ≡ p = omega (arith, after) in
+          let behind : comes_before (pos 1) (pos p) (pos q) ≡ false = ap (λ k. int_lt (pos k) (pos q)) (sym whole) ∙ not_after q (p - q) in
+          ap (λ n. take n (drop (min p q) xs)) none ∙ sym (ap (elements_at xs) (progression_done (pos 1) (pos p) (pos q) behind))
+    ]) ∙ (λ i. elements_at xs (progression (first i) (last i) (pos 1)))

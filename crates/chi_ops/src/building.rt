@@ -10,7 +10,7 @@ use crate::made::pair;
 use crate::room::test_room;
 use chi_base::NoMemory;
 use chi_sets::{dictionary_of, set_of};
-use chi_value::{Items, Kind, Value};
+use chi_value::{Items, Kind, Row, Value};
 use std::alloc::Global;
 
 /// What a literal makes of its parts: of a dictionary they are a key, what it has, the next key and so on. A set drops
@@ -27,7 +27,7 @@ pub fn build(alloc: Global, kind: Kind, parts: Vec<Value>) -> Result<Value, OpFa
         }
         Kind::ListOf => {
             test_room(parts.len(), 0)?;
-            Ok(Value::ListOf(Items::of(alloc, parts)?))
+            Ok(Value::ListOf(Row::of(alloc, parts)?))
         }
         Kind::SetOf => {
             let items = set_of(alloc, parts)?;

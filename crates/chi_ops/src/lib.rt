@@ -27,10 +27,10 @@ pub use laws::{
     what_is_stored_is_read,
 };
 pub use path::Path;
-pub use popping::pop;
+pub use popping::{pop, popped};
 pub use ranges::range;
 pub use reading::{has, index, lookup, size};
-pub use sequences::{del, enumerate, insert_at, join};
-pub use slices::slice;
+pub use sequences::{del, deleted, enumerate, insert_at, inserted, join, joined};
+pub use slices::{slice, sliced};
 pub use sorted::{keys, meet, minus, minus_keys, sub, union, values};
 pub use storing::put;

@@ -17,14 +17,23 @@ pub fn pop(alloc: Global, v: &Value) -> Result<Value, OpFault>
     ensures value { IfOk result (λ value. pop v.now ≡ gives value) }
     ensures refused { IfErr result (λ fault. Refuses fault (pop v.now)) }
 {
+    Ok(popped(alloc, v.copy(alloc)?)?)
+}
+
+/// As pop, of a value that is used up: a list that isn't shared keeps the others where they are.
+pub fn popped(alloc: Global, v: Value) -> Result<Value, OpFault>
+    requires fits { IsTrue (may_pop v) }
+    ensures value { IfOk result (λ value. pop v ≡ gives value) }
+    ensures refused { IfErr result (λ fault. Refuses fault (pop v)) }
+{
     match v {
-        Value::ListOf(items) => match items.as_slice().split_first() {
-            Some((first, rest)) => {
-                let rest = Value::ListOf(items_of(alloc, rest)?);
-                Ok(pair(alloc, first.copy(alloc)?, rest)?)
+        Value::ListOf(mut rest) => {
+            if rest.len() == 0 {
+                return Err(OpFault::Empty);
             }
-            None => Err(OpFault::Empty),
-        },
+            let first = rest.take_first(alloc)?;
+            Ok(pair(alloc, first, Value::ListOf(rest))?)
+        }
         Value::SetOf(items) => match items.as_slice().split_first() {
             Some((first, rest)) => {
                 let rest = Value::SetOf(items_of(alloc, rest)?);

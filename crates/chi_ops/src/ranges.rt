@@ -11,7 +11,7 @@ use crate::OpFault;
 use crate::progression::count_from;
 use crate::walk::Walk;
 use chi_base::NoMemory;
-use chi_value::{Items, MOST_ELEMENTS, Value};
+use chi_value::{MOST_ELEMENTS, Row, Value};
 use std::alloc::Global;
 
 /// The list of the ints from one to before another, by a step.
@@ -26,7 +26,7 @@ pub fn range(alloc: Global, from: i64, upto: i64, by: i64) -> Result<Value, OpFa
         return Err(OpFault::Limit);
     }
     let ints = ints(alloc, from, upto, by)?;
-    Ok(Value::ListOf(Items::of(alloc, ints)?))
+    Ok(Value::ListOf(Row::of(alloc, ints)?))
 }
 
 /// The ints from one to before another, by a step.

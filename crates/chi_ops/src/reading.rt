@@ -7,7 +7,7 @@ ghost use Rattle.chi_ops.specs.Refusal.{Refuses};
 ghost use Rattle.chi_ops.specs.Sequences.{index};
 
 use crate::OpFault;
-use crate::place::at_place;
+use crate::place::{at_place, in_row};
 use chi_sets::{has_key, value_at};
 use chi_token::Bytes;
 use chi_value::{Value, compare_any};
@@ -21,7 +21,7 @@ pub fn index(alloc: Global, v: &Value, i: i64) -> Result<Value, OpFault>
     ensures refused { IfErr result (λ fault. Refuses fault (index v.now i)) }
 {
     match v {
-        Value::ListOf(items) => match at_place(items.as_slice(), i) {
+        Value::ListOf(items) => match in_row(items, i) {
             Some(item) => Ok(item.copy(alloc)?),
             None => Err(OpFault::Index),
         },
@@ -54,7 +54,10 @@ pub fn has(v: &Value, x: &Value) -> bool
     ensures value { has v.now x.now ≡ Some result }
 {
     match v {
-        Value::ListOf(items) => is_among(items.as_slice(), x),
+        Value::ListOf(items) => {
+            let (first, second) = items.as_slices();
+            is_among(first, x) || is_among(second, x)
+        }
         Value::SetOf(items) => chi_sets::has(items.as_slice(), x),
         Value::DictOf(entries) => has_key(entries.as_slice(), x),
         _ => unreachable!(),
@@ -76,7 +79,7 @@ pub fn size(v: &Value) -> u32
 {
     match v {
         Value::Text(bytes) => bytes.as_slice().len() as u32,
-        Value::ListOf(items) => items.as_slice().len() as u32,
+        Value::ListOf(items) => items.len() as u32,
         Value::SetOf(items) => items.as_slice().len() as u32,
         Value::DictOf(entries) => entries.as_slice().len() as u32,
         _ => unreachable!(),

@@ -6,13 +6,12 @@ ghost use Rattle.chi_ops.specs.Refusal.{Refuses};
 ghost use Rattle.chi_ops.specs.Sequences.{join, insert_at, del, enumerate, numbered};
 
 use crate::OpFault;
-use crate::copies::{append_copies, copies_of};
 use crate::made::pair;
 use crate::place::place_of;
 use crate::room::test_room;
 use chi_base::NoMemory;
 use chi_token::Bytes;
-use chi_value::{Items, Value};
+use chi_value::{Row, Value};
 use std::alloc::Global;
 
 /// One list or string after another.
@@ -21,18 +20,26 @@ pub fn join(alloc: Global, a: &Value, b: &Value) -> Result<Value, OpFault>
     ensures value { IfOk result (λ value. join a.now b.now ≡ gives value) }
     ensures refused { IfErr result (λ fault. Refuses fault (join a.now b.now)) }
 {
+    Ok(joined(alloc, a.copy(alloc)?, b)?)
+}
+
+/// One list or string after another: the first is used up, and grows where it isn't shared.
+pub fn joined(alloc: Global, a: Value, b: &Value) -> Result<Value, OpFault>
+    requires fits { IsTrue (may_join a b.now) }
+    ensures value { IfOk result (λ value. join a b.now ≡ gives value) }
+    ensures refused { IfErr result (λ fault. Refuses fault (join a b.now)) }
+{
     match (a, b) {
-        (Value::ListOf(a), Value::ListOf(b)) => {
-            test_room(a.as_slice().len(), b.as_slice().len())?;
-            let mut joined = copies_of(alloc, a.as_slice())?;
-            append_copies(alloc, &mut joined, b.as_slice())?;
-            Ok(Value::ListOf(Items::of(alloc, joined)?))
+        (Value::ListOf(mut a), Value::ListOf(b)) => {
+            test_room(a.len(), b.len())?;
+            a.extend(alloc, b)?;
+            Ok(Value::ListOf(a))
         }
         (Value::Text(a), Value::Text(b)) => {
             test_room(a.as_slice().len(), b.as_slice().len())?;
             let mut joined = Vec::from_slice(alloc, a.as_slice())?;
             joined.extend_from_slice(b.as_slice())?;
-            Ok(Value::Text(Bytes::copy_of(alloc, joined.as_slice())?))
+            Ok(Value::Text(Bytes::of(alloc, joined)?))
         }
         (_, _) => unreachable!(),
     }
@@ -44,12 +51,20 @@ pub fn insert_at(alloc: Global, v: &Value, i: u32, x: &Value) -> Result<Value, O
     ensures value { IfOk result (λ value. insert_at v.now i x.now ≡ gives value) }
     ensures refused { IfErr result (λ fault. Refuses fault (insert_at v.now i x.now)) }
 {
+    Ok(inserted(alloc, v.copy(alloc)?, i, x.copy(alloc)?)?)
+}
+
+/// As insert_at, of values that are used up: the list grows where it isn't shared.
+pub fn inserted(alloc: Global, v: Value, i: u32, x: Value) -> Result<Value, OpFault>
+    requires fits { IsTrue (may_insert_at v i x) }
+    ensures value { IfOk result (λ value. insert_at v i x ≡ gives value) }
+    ensures refused { IfErr result (λ fault. Refuses fault (insert_at v i x)) }
+{
     match v {
-        Value::ListOf(items) => {
-            test_room(items.as_slice().len(), 1)?;
-            let mut more = copies_of(alloc, items.as_slice())?;
-            more.insert(i as usize, x.copy(alloc)?)?;
-            Ok(Value::ListOf(Items::of(alloc, more)?))
+        Value::ListOf(mut items) => {
+            test_room(items.len(), 1)?;
+            items.insert(alloc, i as usize, x)?;
+            Ok(Value::ListOf(items))
         }
         _ => unreachable!(),
     }
@@ -61,12 +76,20 @@ pub fn del(alloc: Global, v: &Value, i: i64) -> Result<Value, OpFault>
     ensures value { IfOk result (λ value. del v.now i ≡ gives value) }
     ensures refused { IfErr result (λ fault. Refuses fault (del v.now i)) }
 {
+    Ok(deleted(alloc, v.copy(alloc)?, i)?)
+}
+
+/// As del, of a list that is used up, and shrinks where it isn't shared.
+pub fn deleted(alloc: Global, v: Value, i: i64) -> Result<Value, OpFault>
+    requires fits { IsTrue (may_del v i) }
+    ensures value { IfOk result (λ value. del v i ≡ gives value) }
+    ensures refused { IfErr result (λ fault. Refuses fault (del v i)) }
+{
     match v {
-        Value::ListOf(items) => match place_of(items.as_slice().len(), i) {
+        Value::ListOf(mut items) => match place_of(items.len(), i) {
             Some(place) => {
-                let mut rest = copies_of(alloc, &items.as_slice()[..place])?;
-                append_copies(alloc, &mut rest, &items.as_slice()[place + 1..])?;
-                Ok(Value::ListOf(Items::of(alloc, rest)?))
+                drop(items.remove(alloc, place)?);
+                Ok(Value::ListOf(items))
             }
             None => Err(OpFault::Index),
         },
@@ -82,8 +105,9 @@ pub fn enumerate(alloc: Global, v: &Value) -> Result<Value, OpFault>
 {
     match v {
         Value::ListOf(items) => {
-            let pairs = numbered_all(alloc, items.as_slice())?;
-            Ok(Value::ListOf(Items::of(alloc, pairs)?))
+            let all = items.copy()?.into_vec(alloc)?;
+            let pairs = numbered_all(alloc, all.as_slice())?;
+            Ok(Value::ListOf(Row::of(alloc, pairs)?))
         }
         _ => unreachable!(),
     }

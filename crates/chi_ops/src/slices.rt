@@ -10,7 +10,7 @@ use crate::OpFault;
 use crate::walk::Walk;
 use chi_base::NoMemory;
 use chi_token::Bytes;
-use chi_value::{Items, Value};
+use chi_value::{Row, Value};
 use std::alloc::Global;
 
 /// The elements or bytes from a place to before another, by a step, which is 1 where none is given. A bound below 0
@@ -26,20 +26,92 @@ pub fn slice(
     ensures value { IfOk result (λ value. slice v.now from upto by ≡ gives value) }
     ensures refused { IfErr result (λ fault. Refuses fault (slice v.now from upto by)) }
 {
+    Ok(sliced(alloc, v.copy(alloc)?, from, upto, by)?)
+}
+
+/// As slice, of a value that is used up: by steps of 1 a list that isn't shared keeps its elements where they are.
+pub fn sliced(
+    alloc: Global,
+    v: Value,
+    from: Option<i64>,
+    upto: Option<i64>,
+    by: Option<i64>,
+) -> Result<Value, OpFault>
+    requires fits { IsTrue (may_slice v from upto by) }
+    ensures value { IfOk result (λ value. slice v from upto by ≡ gives value) }
+    ensures refused { IfErr result (λ fault. Refuses fault (slice v from upto by)) }
+{
     let by = by.unwrap_or(1);
     if by == 0 {
         return Err(OpFault::SliceStep);
     }
     match v {
-        Value::ListOf(items) => {
-            let taken = taken_values(alloc, items.as_slice(), from, upto, by)?;
-            Ok(Value::ListOf(Items::of(alloc, taken)?))
-        }
+        Value::ListOf(items) => Ok(Value::ListOf(taken_row(alloc, items, from, upto, by)?)),
         Value::Text(bytes) => {
             let taken = taken_bytes(alloc, bytes.as_slice(), from, upto, by)?;
-            Ok(Value::Text(Bytes::copy_of(alloc, taken.as_slice())?))
+            Ok(Value::Text(Bytes::of(alloc, taken)?))
         }
         _ => unreachable!(),
+    }
+}
+
+/// The list of a slice.
+fn taken_row(
+    alloc: Global,
+    items: Row,
+    from: Option<i64>,
+    upto: Option<i64>,
+    by: i64,
+) -> Result<Row, NoMemory>
+    requires { by ≢ pos 0 }
+    ensures value { IfOk result (λ taken. taken ≡ slice_of items from upto by) }
+{
+    if by == 1 {
+        return Ok(part_of(alloc, items, from, upto)?);
+    }
+    let all = items.into_vec(alloc)?;
+    let taken = taken_values(alloc, all.as_slice(), from, upto, by)?;
+    Ok(Row::of(alloc, taken)?)
+}
+
+/// The list of a slice by steps of 1.
+#[tactic(auto, using(crate::proofs::Halves::part_taken))]
+fn part_of(
+    alloc: Global,
+    items: Row,
+    from: Option<i64>,
+    upto: Option<i64>,
+) -> Result<Row, NoMemory>
+    ensures value { IfOk result (λ taken. taken ≡ slice_of items from upto (pos 1)) }
+{
+    let first = place_or(items.len(), from, 0);
+    let last = place_or(items.len(), upto, items.len());
+    let size = last.saturating_sub(first);
+    let start = first.min(last);
+    Ok(items.part(alloc, start, size)?)
+}
+
+/// The place of a bound of a slice by steps of 1.
+fn place_or(size: usize, bound: Option<i64>, otherwise: usize) -> usize
+    requires inside { otherwise ≤ size }
+    ensures place { pos result ≡ bound_or (pos otherwise) (pos 0) (pos size) size bound }
+    ensures inside { result ≤ size }
+{
+    match bound {
+        Some(bound) => place_near(size, bound),
+        None => otherwise,
+    }
+}
+
+fn place_near(size: usize, bound: i64) -> usize
+    ensures place { pos result ≡ clamped (pos 0) (pos size) (from_end size bound) }
+    ensures inside { result ≤ size }
+{
+    let distance = bound.unsigned_abs() as usize;
+    if bound < 0 {
+        size.saturating_sub(distance)
+    } else {
+        distance.min(size)
     }
 }
 

@@ -9,7 +9,7 @@ use crate::OpFault;
 use crate::room::test_room;
 use chi_base::NoMemory;
 use chi_sets::{dictionary_union, is_subset, key_of, set_meet, set_minus, set_union, value_of};
-use chi_value::{Items, Value};
+use chi_value::{Row, Value};
 use std::alloc::Global;
 
 /// What is in either of two sets or dictionaries. Of two dictionaries the right one wins.
@@ -112,7 +112,7 @@ pub fn values(alloc: Global, d: &Value) -> Result<Value, OpFault>
     }
 }
 
-fn all_keys(alloc: Global, entries: &[Value]) -> Result<Items, NoMemory>
+fn all_keys(alloc: Global, entries: &[Value]) -> Result<Row, NoMemory>
     ensures value { IfOk result (λ items. items ≡ keys entries.now) }
 {
     let mut copies = Vec::new(alloc);
@@ -121,10 +121,10 @@ fn all_keys(alloc: Global, entries: &[Value]) -> Result<Items, NoMemory>
             copies.push(key.copy(alloc)?)?;
         }
     }
-    Ok(Items::of(alloc, copies)?)
+    Ok(Row::of(alloc, copies)?)
 }
 
-fn all_values(alloc: Global, entries: &[Value]) -> Result<Items, NoMemory>
+fn all_values(alloc: Global, entries: &[Value]) -> Result<Row, NoMemory>
     ensures value { IfOk result (λ items. items ≡ values entries.now) }
 {
     let mut copies = Vec::new(alloc);
@@ -133,5 +133,5 @@ fn all_values(alloc: Global, entries: &[Value]) -> Result<Items, NoMemory>
             copies.push(has.copy(alloc)?)?;
         }
     }
-    Ok(Items::of(alloc, copies)?)
+    Ok(Row::of(alloc, copies)?)
 }

@@ -1,7 +1,7 @@
-ghost use Rattle.std.specs.Prelude.{◌≡◌, ◌<◌, false, length, slice_get, slice_set, Some, List, IfOk, IfErr, IsTrue};
+ghost use Rattle.std.specs.Prelude.{◌≡◌, ◌<◌, false, length, slice_get, Some, List, IfOk, IfErr, IsTrue};
 ghost use Rattle.std.specs.List.{list_all};
 ghost use Rattle.chi_value.specs.declared.value.Value.{Value};
-ghost use Rattle.chi_value.specs.declared.value.Value.TheVariants.{Bool, DictOf};
+ghost use Rattle.chi_value.specs.declared.value.Value.TheVariants.{DictOf};
 ghost use Rattle.chi_sets.specs.Dictionaries.{ascending_by_key, values};
 ghost use Rattle.chi_ops.specs.Outcome.{gives};
 ghost use Rattle.chi_ops.specs.Paths.{steps_of};
@@ -15,9 +15,8 @@ use crate::path::{Path, index_of, key_of};
 use crate::place::place_of;
 use crate::room::test_room;
 use chi_sets::{value_at, with_entry};
-use chi_value::{Items, Value};
+use chi_value::{Items, Row, Value};
 use std::alloc::Global;
-use std::mem;
 
 /// A value with another stored where a path leads. The first fault along the path decides. A last step to a key that
 /// isn't there adds it.
@@ -40,8 +39,8 @@ fn stored(path: &[Path], alloc: Global, v: Value, x: Value) -> Result<Value, OpF
         return Ok(x);
     };
     match v {
-        Value::ListOf(items) => match place_of(items.as_slice().len(), index_of(step)) {
-            Some(place) => Ok(Value::ListOf(stored_at(rest, alloc, items, place, x)?)),
+        Value::ListOf(items) => match place_of(items.len(), index_of(step)) {
+            Some(place) => Ok(Value::ListOf(stored_in(rest, alloc, items, place, x)?)),
             None => Err(OpFault::Index),
         },
         Value::DictOf(entries) => {
@@ -73,15 +72,40 @@ fn stored_at(
     ensures refused { IfErr result (λ fault. (made : List Value → Value) →
         Refuses fault (changed_at made items (stored (steps_of path.now) x) place (slice_get items place))) }
 {
-    let mut items = items.into_vec(alloc)?;
-    let old = taken_out(&mut items, place);
+    let mut items = items;
+    let old = items.replace(alloc, place, Value::Bool(false))?;
     let new = stored(path, alloc, old, x)?;
-    set_at(&mut items, place, new);
-    Ok(Items::of(alloc, items)?)
+    drop(items.replace(alloc, place, new)?);
+    Ok(items)
+}
+
+/// As stored_at, in a list.
+#[cycle(stored)]
+fn stored_in(
+    path: &[Path],
+    alloc: Global,
+    items: Row,
+    place: usize,
+    x: Value,
+) -> Result<Row, OpFault>
+    requires inside { place < length items }
+    requires tidy { (item : Value) → slice_get items place ≡ Some item → IsTrue (tidy item) }
+    requires fits { (item : Value) → slice_get items place ≡ Some item → IsTrue (fits_along (steps_of path.now) x item) }
+    ensures value { IfOk result (λ changed. (made : List Value → Value) →
+        changed_at made items (stored (steps_of path.now) x) place (slice_get items place) ≡ gives (made changed)) }
+    ensures refused { IfErr result (λ fault. (made : List Value → Value) →
+        Refuses fault (changed_at made items (stored (steps_of path.now) x) place (slice_get items place))) }
+{
+    let mut items = items;
+    let old = items.replace(alloc, place, Value::Bool(false))?;
+    let new = stored(path, alloc, old, x)?;
+    drop(items.replace(alloc, place, new)?);
+    Ok(items)
 }
 
 /// A dictionary with what a key has changed by a store into it, or with a key that is stored itself.
 #[cycle(stored)]
+#[tactic(auto, using(crate::proofs::Entries::with_entry_twice, chi_sets::proofs::DictionaryLaws::with_entry_ascends))]
 fn stored_key(
     path: &[Path],
     alloc: Global,
@@ -102,6 +126,8 @@ fn stored_key(
         return Err(OpFault::Key);
     };
     let old = has.copy(alloc)?;
+    let filler = pair(alloc, key.copy(alloc)?, Value::Bool(false))?;
+    let entries = with_entry(alloc, entries, filler)?;
     let new = stored(path, alloc, old, x)?;
     Ok(with_entry(alloc, entries, pair(alloc, key, new)?)?)
 }
@@ -116,19 +142,4 @@ fn put_key(alloc: Global, entries: Items, key: Value, x: Value) -> Result<Items,
         test_room(entries.as_slice().len(), 1)?;
     }
     Ok(with_entry(alloc, entries, pair(alloc, key, x)?)?)
-}
-
-fn taken_out(items: &mut Vec<Value>, place: usize) -> Value
-    requires { place < length items.old.items }
-    ensures taken { slice_get items.old.items place ≡ Some result }
-    ensures rest { items.new.items ≡ slice_set items.old.items place (Bool false) }
-{
-    mem::replace(&mut items[place], Value::Bool(false))
-}
-
-fn set_at(items: &mut Vec<Value>, place: usize, value: Value)
-    requires { place < length items.old.items }
-    ensures { items.new.items ≡ slice_set items.old.items place value }
-{
-    items[place] = value;
 }

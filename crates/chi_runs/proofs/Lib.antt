@@ -1,10 +1,6 @@
 pub mod Lists
 pub mod Options
 pub mod Enabled
-pub mod Used
-pub mod UsedByOperators
-pub mod UsedByExpressions
-pub mod UsedByTerms
 pub mod UsedByOpenings
 pub mod Steps
 pub mod Time

@@ -32,9 +32,9 @@ use Rattle.chi_core.specs.Step as outcome
 use Rattle.chi_core.specs.Step.{Outcome, Next, Over, line_of, name_of, fault_in, after_step, first_done, local_in, local, no_fault, taken, step}
 use Rattle.chi_core.specs.Terms.{Item, Do, Loop, Walk, Term, Did, On, Returns, act_stat, act}
 use Rattle.chi_core.specs.Variables.{Variables, bind}
-use Rattle.chi_runs.proofs.Used.{Within, Uses, within-then, within-giving, within-if, uses-wanted}
-use Rattle.chi_runs.proofs.UsedByExpressions.{uses-eval}
-use Rattle.chi_runs.proofs.UsedByTerms.{uses-run_at, uses-values, uses-act_stat, uses-act}
+use Rattle.chi_core.proofs.Used.{Within, Uses, within-then, within-giving, within-if, uses-wanted}
+use Rattle.chi_core.proofs.UsedByExpressions.{uses-eval}
+use Rattle.chi_core.proofs.UsedByTerms.{uses-run_at, uses-values, uses-act_stat, uses-act}
 use Rattle.chi_runs.proofs.UsedByOpenings.{uses-opened, uses-all_started}
 
 -- what is given is so, and so much is left at most

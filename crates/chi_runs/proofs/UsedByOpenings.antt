@@ -26,9 +26,9 @@ use Rattle.chi_core.specs.Reading.{truth_of, channel_of, elements_of, real_of, d
 use Rattle.chi_core.specs.Spots.{Spot, store}
 use Rattle.chi_core.specs.Starting.{Started, started_by, numbered, told, made_by, Starts, told_at, makes, unwound, starts_step, starts, all_started}
 use Rattle.chi_core.specs.Variables.{Variables, bound, bindings_at}
-use Rattle.chi_runs.proofs.Used.{Uses, within-then, within-giving, within-if, uses-gives, uses-wanted, uses-through}
-use Rattle.chi_runs.proofs.UsedByExpressions.{uses-on_truth}
-use Rattle.chi_runs.proofs.UsedByTerms.{uses-store, uses-spot_of, uses-read_at, uses-values}
+use Rattle.chi_core.proofs.Used.{Uses, within-then, within-giving, within-if, uses-gives, uses-wanted, uses-through}
+use Rattle.chi_core.proofs.UsedByExpressions.{uses-on_truth}
+use Rattle.chi_core.proofs.UsedByTerms.{uses-store, uses-spot_of, uses-read_at, uses-values}
 
 uses-delayed_by : (clock delay : ℤ) → Uses (delayed_by clock delay)
 uses-delayed_by clock delay view =

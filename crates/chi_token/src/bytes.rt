@@ -3,11 +3,12 @@ ghost use Rattle.std.specs.Prelude.{◌≡◌, IfOk};
 use chi_base::NoMemory;
 use std::alloc::Global;
 use std::marker::Model;
+use std::rc::Rc;
 
-/// A text of the language: any bytes, which contracts see as their list.
+/// A text of the language: any bytes, which contracts see as their list. Copies of it share them.
 #[derive(Debug, Drop)]
 pub struct Bytes {
-    bytes: Vec<u8>,
+    bytes: Rc<Vec<u8>>,
 }
 
 impl Model for Bytes {
@@ -15,20 +16,35 @@ impl Model for Bytes {
 
     ghost Value = { List ℕ };
 
-    ghost view = { λ b. b.bytes.items };
+    ghost view = { λ b. b.bytes.value.items };
 }
 
 impl Bytes {
+    pub fn of(alloc: Global, text: Vec<u8>) -> Result<Bytes, NoMemory>
+        ensures same { IfOk result (λ b. b ≡ text.items) }
+    {
+        let bytes = Rc::new(alloc, text)?;
+        Ok(Bytes { bytes })
+    }
+
     pub fn copy_of(alloc: Global, text: &[u8]) -> Result<Bytes, NoMemory>
         ensures copied { IfOk result (λ b. b ≡ text.now) }
     {
-        let bytes = Vec::from_slice(alloc, text)?;
+        let text = Vec::from_slice(alloc, text)?;
+        Ok(Bytes::of(alloc, text)?)
+    }
+
+    /// The same text. It counts one more owner, and copies no byte.
+    pub fn copy(&self) -> Result<Bytes, NoMemory>
+        ensures same { IfOk result (λ b. b ≡ self.now) }
+    {
+        let bytes = self.bytes.clone()?;
         Ok(Bytes { bytes })
     }
 
     pub fn as_slice(&self) -> &[u8]
         ensures same { result.now ≡ self.now }
     {
-        self.bytes.as_slice()
+        self.bytes.as_ref().as_slice()
     }
 }

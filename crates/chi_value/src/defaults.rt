@@ -1,7 +1,7 @@
 ghost use Rattle.std.specs.Prelude.{◌≡◌, ◌+◌, ◌≤◌, IfOk, IfErr, map};
 ghost use Rattle.chi_value.specs.Default.{default, in_turn, tuple_of, PastChannels};
 
-use crate::{Items, Shape, Value};
+use crate::{Items, Row, Shape, Value};
 use chi_base::NoMemory;
 use chi_num::{Dist, Real};
 use chi_token::Bytes;
@@ -69,7 +69,7 @@ fn make_default(shape: &Shape, alloc: Global, channels: u32) -> Result<(Value, u
         Shape::Text => Value::Text(Bytes::copy_of(alloc, b"")?),
         Shape::Choice(kind) => Value::Choice(*kind, 0),
         Shape::TupleOf(parts) => return Ok(make_tuple(parts.as_slice(), alloc, channels)?),
-        Shape::ListOf => Value::ListOf(Items::of(alloc, Vec::new(alloc))?),
+        Shape::ListOf => Value::ListOf(Row::of(alloc, Vec::new(alloc))?),
         Shape::SetOf => Value::SetOf(Items::of(alloc, Vec::new(alloc))?),
         Shape::DictOf => Value::DictOf(Items::of(alloc, Vec::new(alloc))?),
         Shape::Chan => return Ok(make_channel(channels)?),

@@ -18,4 +18,4 @@ pub use names::Names;
 pub use ordering::{compare, compare_any};
 pub use shape::Shape;
 pub use text::{MOST_TEXT, TextFault, append, quoted_of, text_of};
-pub use value::{Items, MOST_ELEMENTS, Value};
+pub use value::{Items, MOST_ELEMENTS, Row, Value};

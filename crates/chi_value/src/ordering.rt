@@ -4,7 +4,7 @@ ghost use Rattle.chi_value.specs.declared.value.Value.{out-Value};
 ghost use Rattle.chi_value.specs.Alike.{Alike};
 ghost use Rattle.chi_value.specs.Order.{order, against, rank};
 
-use crate::Value;
+use crate::{Row, Value};
 use std::cmp::Ordering;
 
 /// The order of two alike values: false before true, numbers, strings by bytes, enumerations by
@@ -32,9 +32,9 @@ pub fn compare_any(a: &Value, b: &Value) -> Ordering
         (Value::Text(x), Value::Text(y)) => x.as_slice().cmp(y.as_slice()),
         (Value::Choice(k, x), Value::Choice(l, y)) => k.cmp(l).then(x.cmp(y)),
         (Value::TupleOf(xs), Value::TupleOf(ys))
-        | (Value::ListOf(xs), Value::ListOf(ys))
         | (Value::SetOf(xs), Value::SetOf(ys))
         | (Value::DictOf(xs), Value::DictOf(ys)) => compare_all(xs.as_slice(), ys.as_slice()),
+        (Value::ListOf(xs), Value::ListOf(ys)) => compare_rows(xs, ys),
         (_, _) => Ordering::Equal,
     }
 }
@@ -79,5 +79,28 @@ fn compare_all(a: &[Value], b: &[Value]) -> Ordering
         Ordering::Equal
     } else {
         Ordering::Less
+    }
+}
+
+#[cycle(compare_any)]
+fn compare_rows(a: &Row, b: &Row) -> Ordering
+    ensures value { result ≡ slice_cmp against (map order a.now) b.now }
+{
+    for place in 0..a.len() {
+        let Some(value) = a.get(place) else {
+            unreachable!();
+        };
+        let Some(other) = b.get(place) else {
+            return Ordering::Greater;
+        };
+        let found = compare_any(value, other);
+        if found != Ordering::Equal {
+            return found;
+        }
+    }
+    if a.len() < b.len() {
+        Ordering::Less
+    } else {
+        Ordering::Equal
     }
 }

@@ -4,8 +4,11 @@ use chi_token::Bytes;
 /// How many elements a container, or bytes a string, may have.
 pub const MOST_ELEMENTS: usize = 1_048_576;
 
-/// A finished list of values.
-pub type Items = chi_base::Items<Value>;
+/// A list of values, which copies of it share.
+pub type Items = chi_base::Shared<Value>;
+
+/// A list of values that grows at its end and shrinks at its front, which copies of it share.
+pub type Row = chi_base::Row<Value>;
 
 #[derive(Debug, Drop)]
 pub enum Value {
@@ -16,7 +19,7 @@ pub enum Value {
     /// The number of an enumeration, and the position of one of its values.
     Choice(u32, u32),
     TupleOf(Items),
-    ListOf(Items),
+    ListOf(Row),
     /// The elements, ascending.
     SetOf(Items),
     /// The entries as tuples of a key and its value, their keys ascending.

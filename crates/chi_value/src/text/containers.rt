@@ -5,7 +5,7 @@ ghost use Rattle.chi_value.specs.Text.{quoted_text, quoted_texts, entry_text, en
 use super::TextFault;
 use super::limit::append;
 use super::scalars::{put_int, put_name, put_real, put_string, put_truth};
-use crate::{Names, Value};
+use crate::{Names, Row, Value};
 use std::alloc::Global;
 
 /// Appends a value as it stands within another: a string in quotes.
@@ -25,7 +25,7 @@ pub(crate) fn put(
         Value::Text(bytes) => Ok(put_string(bytes.as_slice(), alloc, text)?),
         Value::Choice(kind, position) => Ok(put_name(*kind, *position, names, text)?),
         Value::TupleOf(parts) => Ok(put_within(parts.as_slice(), alloc, names, b"(", b")", text)?),
-        Value::ListOf(items) => Ok(put_within(items.as_slice(), alloc, names, b"[", b"]", text)?),
+        Value::ListOf(items) => Ok(put_list(items, alloc, names, text)?),
         Value::SetOf(items) => Ok(put_within(items.as_slice(), alloc, names, b"{", b"}", text)?),
         Value::DictOf(items) => Ok(put_dictionary(items.as_slice(), alloc, names, text)?),
         Value::Chan(_) | Value::Dist(_) | Value::Timer(_) | Value::Inst(_) => Ok(append(
@@ -50,6 +50,37 @@ fn put_within(
     append(text, opening)?;
     put_all(values, alloc, names, b", ", text)?;
     append(text, closing)?;
+    Ok(())
+}
+
+/// Appends the elements of a list in brackets, with commas between them.
+#[cycle(put)]
+fn put_list(items: &Row, alloc: Global, names: &Names, text: &mut Vec<u8>) -> Result<(), TextFault>
+    ensures grown { Appends result text.old.items text.new.items
+        (bracketed (codes "[") (quoted_texts names.now.kinds items.now) (codes "]")) }
+{
+    append(text, b"[")?;
+    put_row(items, alloc, names, text)?;
+    append(text, b"]")?;
+    Ok(())
+}
+
+#[cycle(put)]
+fn put_row(items: &Row, alloc: Global, names: &Names, text: &mut Vec<u8>) -> Result<(), TextFault>
+    ensures grown { Appends result text.old.items text.new.items
+        (joined_by (codes ", ") (quoted_texts names.now.kinds items.now)) }
+{
+    let Some(first) = items.get(0) else {
+        return Ok(append(text, b"")?);
+    };
+    put(first, alloc, names, text)?;
+    for place in 1..items.len() {
+        let Some(value) = items.get(place) else {
+            unreachable!();
+        };
+        append(text, b", ")?;
+        put(value, alloc, names, text)?;
+    }
     Ok(())
 }
 

@@ -6,7 +6,7 @@ use Rattle.chi_ops.proofs.reading.has.Goals as goal
 
 pub has-requires : goal.has-requires
 has-requires c =
-    let is : c.args.v.now ≡ value.SetOf c.as_slice-in-SetOf.result.now = search rules in
+    let is : c.args.v.now ≡ value.SetOf c.as_slice.result.now = search rules in
     record { ascending = set_ascends c.args.v.now _ is (first_of_three c.args.v.now (is_key c.args.x.now) _ c.requires.fits) }
 
 pub has_key-requires : goal.has_key-requires

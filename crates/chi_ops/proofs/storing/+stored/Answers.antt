@@ -13,8 +13,8 @@ use Rattle.chi_ops.proofs.StoreLaws.{holds_at, list_tidy, tuple_tidy, entries_ti
 use Rattle.chi_ops.proofs.TidyLaws.{dictionary_ascends}
 use Rattle.chi_ops.proofs.storing.+stored.Goals as goal
 
-pub stored-stored_at-requires : goal.stored-stored_at-requires
-stored-stored_at-requires t c =
+pub stored-stored_in-requires : goal.stored-stored_in-requires
+stored-stored_in-requires t c =
     let path : c.args.path.now ≡ c.in-Some.step.now ∷ c.in-Some.rest.now = search rules in
     let is : c.args.v ≡ value.ListOf c.in-ListOf.items = search rules in
     let rest = steps_of c.in-Some.rest.now in
@@ -49,8 +49,8 @@ stored-stored_key-requires t c =
       ),
     )
 
-pub stored-stored_at-requires-in-Part : goal.stored-stored_at-requires-in-Part
-stored-stored_at-requires-in-Part t c =
+pub stored-stored_at-requires : goal.stored-stored_at-requires
+stored-stored_at-requires t c =
     let path : c.args.path.now ≡ c.in-Some.step.now ∷ c.in-Some.rest.now = search rules in
     let is : c.args.v ≡ value.TupleOf c.in-TupleOf.parts = search rules in
     let step : step_of c.in-Some.step.now ≡ part c.in-Part.k = ap step_of c.in-Part.is in
@@ -70,18 +70,18 @@ stored-stored_at-requires-in-Part t c =
       ),
     )
 
-pub stored-returns-in_ok-stored_at-in-Some-place_of-clause-value : goal.stored-returns-in_ok-stored_at-in-Some-place_of-clause-value
-stored-returns-in_ok-stored_at-in-Some-place_of-clause-value t c =
+pub stored-returns-in_ok-stored_in-in-Some-place_of-clause-value : goal.stored-returns-in_ok-stored_in-in-Some-place_of-clause-value
+stored-returns-in_ok-stored_in-in-Some-place_of-clause-value t c =
     let path : c.args.path.now ≡ c.in-Some.step.now ∷ c.in-Some.rest.now = search rules in
     let is : c.args.v ≡ value.ListOf c.in-ListOf.items = search rules in
     let step : step_of c.in-Some.step.now ≡ by (value.Int c.index_of.result) = search rules in
     let place : place_of (length c.in-ListOf.items) c.index_of.result ≡ Some c.in-Some-place_of.place = search rules in
     ap (λ p. stored (steps_of p) c.args.x c.args.v) path ∙
     stored_list (steps_of c.in-Some.rest.now) c.args.x c.args.v c.in-ListOf.items (step_of c.in-Some.step.now) c.index_of.result _ is step place ∙
-    c.in_ok-stored_at-in-Some-place_of.ensures.value value.ListOf
+    c.in_ok-stored_in-in-Some-place_of.ensures.value value.ListOf
 
-pub stored-returns-in_err-stored_at-in-Some-place_of-clause-refused : goal.stored-returns-in_err-stored_at-in-Some-place_of-clause-refused
-stored-returns-in_err-stored_at-in-Some-place_of-clause-refused t c =
+pub stored-returns-in_err-stored_in-in-Some-place_of-clause-refused : goal.stored-returns-in_err-stored_in-in-Some-place_of-clause-refused
+stored-returns-in_err-stored_in-in-Some-place_of-clause-refused t c =
     let path : c.args.path.now ≡ c.in-Some.step.now ∷ c.in-Some.rest.now = search rules in
     let is : c.args.v ≡ value.ListOf c.in-ListOf.items = search rules in
     let step : step_of c.in-Some.step.now ≡ by (value.Int c.index_of.result) = search rules in
@@ -89,8 +89,8 @@ stored-returns-in_err-stored_at-in-Some-place_of-clause-refused t c =
     let comes = ap (λ p. stored (steps_of p) c.args.x c.args.v) path ∙
     stored_list (steps_of c.in-Some.rest.now) c.args.x c.args.v c.in-ListOf.items (step_of c.in-Some.step.now) c.index_of.result _ is step place in
     let p = err_from_is_err_and c.from_residual.result c.from_residual.ensures.1 in
-    rw (p.1, p.2) (subst (Refuses c.in_err-stored_at-in-Some-place_of.field-0.0) (sym comes)
-    (c.in_err-stored_at-in-Some-place_of.ensures.refused value.ListOf))
+    rw (p.1, p.2) (subst (Refuses c.in_err-stored_in-in-Some-place_of.field-0.0) (sym comes)
+    (c.in_err-stored_in-in-Some-place_of.ensures.refused value.ListOf))
 
 pub stored-returns-in_ok-stored_at-in-Part-clause-value : goal.stored-returns-in_ok-stored_at-in-Part-clause-value
 stored-returns-in_ok-stored_at-in-Part-clause-value t c =
@@ -114,10 +114,17 @@ stored-returns-in_err-stored_at-in-Part-clause-refused t c =
 
 pub stored_at-returns-clause-value : goal.stored_at-returns-clause-value
 stored_at-returns-clause-value t c = λ made.
-    let found : slice_get c.args.items c.args.place ≡ Some c.taken_out-old.result = search rules in
-    let is : stored (steps_of c.args.path.now) c.args.x c.taken_out-old.result ≡ gives c.in_ok-new.new = search rules in
-    let changed : c.in_ok-of.field-0 ≡ slice_set (slice_set c.args.items c.args.place (value.Bool false)) c.args.place c.in_ok-new.new = search rules in
-    changed_gives made c.args.items (stored (steps_of c.args.path.now) c.args.x) c.args.place c.taken_out-old.result (value.Bool false) c.in_ok-new.new c.in_ok-of.field-0 found is changed
+    let found : slice_get c.args.items c.args.place ≡ Some c.in_ok-old.old = search rules in
+    let is : stored (steps_of c.args.path.now) c.args.x c.in_ok-old.old ≡ gives c.in_ok-new.new = search rules in
+    let changed : c.replace-2.new.self ≡ slice_set (slice_set c.args.items c.args.place (value.Bool false)) c.args.place c.in_ok-new.new = search rules in
+    changed_gives made c.args.items (stored (steps_of c.args.path.now) c.args.x) c.args.place c.in_ok-old.old (value.Bool false) c.in_ok-new.new c.replace-2.new.self found is changed
+
+pub stored_in-returns-clause-value : goal.stored_in-returns-clause-value
+stored_in-returns-clause-value t c = λ made.
+    let found : slice_get c.args.items c.args.place ≡ Some c.in_ok-old.old = search rules in
+    let is : stored (steps_of c.args.path.now) c.args.x c.in_ok-old.old ≡ gives c.in_ok-new.new = search rules in
+    let changed : c.replace-2.new.self ≡ slice_set (slice_set c.args.items c.args.place (value.Bool false)) c.args.place c.in_ok-new.new = search rules in
+    changed_gives made c.args.items (stored (steps_of c.args.path.now) c.args.x) c.args.place c.in_ok-old.old (value.Bool false) c.in_ok-new.new c.replace-2.new.self found is changed
 
 pub stored_key-stored-requires : goal.stored_key-stored-requires
 stored_key-stored-requires t c =

@@ -9,3 +9,6 @@ decreases-stored_at l = 2 * length l.path.now + 1
 
 abbrev pub decreases-stored_key : goal.decreases-stored_key
 decreases-stored_key l = 2 * length l.path.now + 1
+
+abbrev pub decreases-stored_in : goal.decreases-stored_in
+decreases-stored_in l = 2 * length l.path.now + 1

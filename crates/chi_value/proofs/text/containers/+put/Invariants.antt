@@ -16,3 +16,10 @@ invariant-put_entries-loop-entry l = record {
   rest : l.text.items ++ each_after (codes ", ") (entry_texts l.names.kinds (drop l.entry-index l.rest)) ≡
       l.fn.text.items ++ joined_by (codes ", ") (entry_texts l.names.kinds l.fn.entries);
 }
+
+abbrev pub invariant-put_row-loop-place : goal.invariant-put_row-loop-place
+invariant-put_row-loop-place l = record {
+  within : length l.text.items ≤ 4_194_304;
+  rest : l.text.items ++ each_after (codes ", ") (quoted_texts l.names.kinds (drop l.place l.items)) ≡
+      l.fn.text.items ++ joined_by (codes ", ") (quoted_texts l.names.kinds l.fn.items);
+}

@@ -19,15 +19,15 @@ use Rattle.chi_core.specs.Evaluation.{Run, on_truth, within_channels, fresh, rep
 use Rattle.chi_core.specs.Operators.{applied}
 use Rattle.chi_core.specs.Reading.{truth_of, part_of}
 use Rattle.chi_core.specs.Variables.{Variables, value_at}
-use Rattle.chi_runs.proofs.Used.{Within, Uses, within-then, within-giving, within-if, uses-gives, uses-wanted, EachUses, uses-gathered, uses-times}
-use Rattle.chi_runs.proofs.UsedByOperators.{uses-done, uses-applied}
+use Rattle.chi_core.proofs.Used.{Within, Uses, within-then, within-giving, within-if, uses-gives, uses-wanted, EachUses, uses-gathered, uses-times}
+use Rattle.chi_core.proofs.UsedByOperators.{uses-done, uses-applied}
 
 pub uses-on_truth : {A : Type 0} (o : Option Bool) (m n : Does A) → Uses m → Uses n → Uses (on_truth o m n)
 uses-on_truth (Some true) m n h l = h
 uses-on_truth (Some false) m n h l = l
 uses-on_truth None m n h l = λ view. tt
 
-uses-fresh : (shape : Shape) → Uses (fresh shape)
+pub uses-fresh : (shape : Shape) → Uses (fresh shape)
 uses-fresh shape view = by_count (default shape view.channels)
   where
     by_count : (made : Value × ℕ) → Within view.left (within_channels view made)

@@ -18,11 +18,11 @@ use Rattle.chi_core.specs.Evaluation.{Run, eval, Evaluates, on_truth}
 use Rattle.chi_core.specs.Functions.{did_then, exec, callee, body_run, run_at}
 use Rattle.chi_core.specs.Reading.{truth_of, part_of, elements_of}
 use Rattle.chi_core.specs.Spots.{Spot, step_at, spot_of, element_by, read_step, read_at, store_into, store}
-use Rattle.chi_core.specs.Terms.{Item, Do, Loop, Walk, Term, Did, On, Returns, first_the, after_loop, from_loop, goes_on, walked, stores_of, chosen, tested, assigned, act_stat, act}
-use Rattle.chi_core.specs.Variables.{Variables, variables_of, value_at, with_slot, bound}
-use Rattle.chi_runs.proofs.Used.{Within, Uses, within-then, within-giving, uses-gives, uses-wanted, EachUses, uses-gathered, uses-through, uses-tick}
-use Rattle.chi_runs.proofs.UsedByOperators.{uses-done}
-use Rattle.chi_runs.proofs.UsedByExpressions.{uses-on_truth, RunUses, uses-eval}
+use Rattle.chi_core.specs.Terms.{Item, Do, Loop, Walk, Term, Did, On, Returns, first_the, after_loop, from_loop, goes_on, walked, spread, chosen, tested, assigned, act_stat, act}
+use Rattle.chi_core.specs.Variables.{Variables, variables_of, value_at, with_slot, side_by_side, bound}
+use Rattle.chi_core.proofs.Used.{Within, Uses, within-then, within-giving, uses-gives, uses-wanted, EachUses, uses-gathered, uses-through, uses-tick}
+use Rattle.chi_core.proofs.UsedByOperators.{uses-done}
+use Rattle.chi_core.proofs.UsedByExpressions.{uses-on_truth, RunUses, uses-eval}
 
 pub uses-element_by : (v : Value) (x : Value-F Value) (key : Value) (k : Value-F Value) → Uses (element_by v x key k)
 uses-element_by v (Value-F.DictOf items) key k = uses-done (lookup v key)
@@ -98,10 +98,11 @@ module _ (value_of : Evaluates) (each : (e : CExpr) → Uses (value_of e)) where
 
     uses-assigned : (targets : List CTarget) (expressions : List CExpr) (term : Term) → Uses (assigned value_of variables targets expressions term)
     uses-assigned targets expressions term view =
-        within-then _ _ _ (uses-values expressions view) (λ values now.
-        within-then _ _ _ (uses-gathered [] (map (spot_of value_of) targets) (each_spot targets) now) (λ spots new.
-        within-then _ _ _ (uses-wanted (stores_of targets spots values) new) (λ stores last.
-        within-giving _ _ _ (uses-through store uses-store stores variables last))))
+        within-then _ _ _ (uses-values expressions view) (λ given now.
+        within-then _ _ _ (uses-wanted (spread targets given) now) (λ values later.
+        within-then _ _ _ (uses-gathered [] (map (spot_of value_of) targets) (each_spot targets) later) (λ spots new.
+        within-then _ _ _ (uses-wanted (side_by_side spots values) new) (λ stores last.
+        within-giving _ _ _ (uses-through store uses-store stores variables last)))))
 
     uses-walked : (line : ℕ) (slots : List ℕ) (xs : List Value) (block : List CStat) (term : Term) → Uses (walked variables line slots xs block term)
     uses-walked line slots [] block term view = le_refl view.left

@@ -33,7 +33,7 @@ use Rattle.chi_core.specs.Containers.{done, range_of, bounds, slice_by}
 use Rattle.chi_core.specs.Casts.{as_meant, int_from, real_from, truth_meant, truth_from, string_of, has_finished}
 use Rattle.chi_core.specs.Distributions.{constant_in, stream_in, uniform_in, bernoulli_in, binomial_in, distribution, by_stream, after_drawing, draw_from}
 use Rattle.chi_core.specs.Operators.{sum, difference, product, applied}
-use Rattle.chi_runs.proofs.Used.{Within, Uses, within-then, within-if, uses-gives, uses-wanted}
+use Rattle.chi_core.proofs.Used.{Within, Uses, within-then, within-if, uses-gives, uses-wanted}
 
 pub uses-done : (o : outcome.Outcome) → Uses (done o)
 uses-done (outcome.gives v) view = le_refl view.left
