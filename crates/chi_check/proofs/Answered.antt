@@ -4,11 +4,11 @@ use Rattle.std.specs.Prelude.{Ok, Err, option_map}
 use Rattle.chi_tree.specs.declared.definition.Item.{Item}
 use Rattle.chi_tree.specs.declared.definition.Program.{Program}
 use Rattle.chi_core.specs.declared.program.Core.{Core}
-use Rattle.chi_typing.specs.declared.fault.Fault.{Fault}
-use Rattle.chi_typing.specs.declared.fault.TypeFault.TheVariants.{Broken}
-use Rattle.chi_typing.specs.Faults.{first_of, sooner_of}
-use Rattle.chi_typing.specs.Typed.{Typed}
-use Rattle.chi_streams.specs.Streams.{with_streams}
+use Rattle.chi_check_types.specs.declared.fault.Fault.{Fault}
+use Rattle.chi_check_types.specs.declared.fault.TypeFault.TheVariants.{Broken}
+use Rattle.chi_check_types.specs.Faults.{first_of, sooner_of}
+use Rattle.chi_check_types.specs.Typed.{Typed}
+use Rattle.chi_check_streams.specs.Streams.{with_streams}
 use Rattle.chi_check.specs.Programs.{Answers, checked, definitions_checked}
 
 kept_stays : (k : Fault) (fs : List Fault) → first_of (Some k) fs ≡ None → ⊥

@@ -6,17 +6,17 @@ use Rattle.chi_core.specs.declared.program.ConstDef.{ConstDef}
 use Rattle.chi_core.specs.declared.program.FuncDef.{FuncDef}
 use Rattle.chi_core.specs.declared.program.ProcDef.{ProcDef}
 use Rattle.chi_core.specs.declared.program.Core.{Core}
-use Rattle.chi_typing.specs.declared.fault.Fault.{Fault}
-use Rattle.chi_typing.specs.Faults.{first_of}
-use Rattle.chi_typing.specs.Names.{Names}
-use Rattle.chi_typing.proofs.Firsts.{first_of_append}
-use Rattle.chi_stat_parts.specs.Stated.{Stated, in_turn}
-use Rattle.chi_headers.specs.declared.header.Header.{Header}
-use Rattle.chi_headers.specs.declared.sketch.Sketch.{Sketch}
-use Rattle.chi_headers.specs.declared.sketch.Early.{Early}
-use Rattle.chi_headers.specs.declared.sketch.Named.{Named}
-use Rattle.chi_headers.specs.Headers.{Found, header_in, header_faults}
-use Rattle.chi_headers.specs.Definitions.{sketching, early_defined, with_all_late, with_all_headed}
+use Rattle.chi_check_types.specs.declared.fault.Fault.{Fault}
+use Rattle.chi_check_types.specs.Faults.{first_of}
+use Rattle.chi_check_types.specs.Names.{Names}
+use Rattle.chi_check_types.proofs.Firsts.{first_of_append}
+use Rattle.chi_check_stat_lines.specs.Stated.{Stated, in_turn}
+use Rattle.chi_check_headers.specs.declared.header.Header.{Header}
+use Rattle.chi_check_headers.specs.declared.sketch.Sketch.{Sketch}
+use Rattle.chi_check_headers.specs.declared.sketch.Early.{Early}
+use Rattle.chi_check_headers.specs.declared.sketch.Named.{Named}
+use Rattle.chi_check_headers.specs.Headers.{Found, header_in, header_faults}
+use Rattle.chi_check_headers.specs.Definitions.{sketching, early_defined, with_all_late, with_all_headed}
 use Rattle.chi_check.specs.Bodies.{functions_of, processes_of}
 use Rattle.chi_check.specs.Programs.{no_names, first_early, first_named, first_model, model_rule, core_of, definitions_checked}
 

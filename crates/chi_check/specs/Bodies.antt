@@ -10,18 +10,18 @@ use Rattle.chi_types.specs.declared.ty.Ty.{Ty}
 use Rattle.chi_core.specs.declared.program.FuncDef.{FuncDef}
 use Rattle.chi_core.specs.declared.program.ProcDef.{ProcDef}
 use Rattle.chi_core.specs.declared.statement.CStat.{CStat}
-use Rattle.chi_typing.specs.Names.{Names}
-use Rattle.chi_stat_rules.specs.declared.home.ExitType.{ExitType}
-use Rattle.chi_stat_rules.specs.declared.home.ExitType.TheVariants as exit
-use Rattle.chi_stat_rules.specs.declared.home.Home.{Home}
-use Rattle.chi_stat_rules.specs.declared.home.Home.TheVariants as home
-use Rattle.chi_stat_parts.specs.declared.state.Binder.TheVariants as binder
-use Rattle.chi_stat_parts.specs.declared.state.State.{State}
-use Rattle.chi_stat_parts.specs.Stated.{Stated, Turn, both, done, in_turn}
-use Rattle.chi_stat_parts.specs.States.{binding}
-use Rattle.chi_statements.specs.Statements.{stating_all}
-use Rattle.chi_headers.specs.declared.header.Header.{Header}
-use Rattle.chi_headers.specs.Headers.{all_types}
+use Rattle.chi_check_types.specs.Names.{Names}
+use Rattle.chi_check_stat_rules.specs.declared.home.ExitType.{ExitType}
+use Rattle.chi_check_stat_rules.specs.declared.home.ExitType.TheVariants as exit
+use Rattle.chi_check_stat_rules.specs.declared.home.Home.{Home}
+use Rattle.chi_check_stat_rules.specs.declared.home.Home.TheVariants as home
+use Rattle.chi_check_stat_lines.specs.declared.state.Binder.TheVariants as binder
+use Rattle.chi_check_stat_lines.specs.declared.state.State.{State}
+use Rattle.chi_check_stat_lines.specs.Stated.{Stated, Turn, both, done, in_turn}
+use Rattle.chi_check_stat_lines.specs.States.{binding}
+use Rattle.chi_check_stat.specs.Statements.{stating_all}
+use Rattle.chi_check_headers.specs.declared.header.Header.{Header}
+use Rattle.chi_check_headers.specs.Headers.{all_types}
 
 -- formals in turn, with their types
 abbrev pub formals_bound : List Formal → List (Option Ty) → List (Turn State ℕ)

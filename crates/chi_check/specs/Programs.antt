@@ -9,20 +9,20 @@ use Rattle.chi_core.specs.declared.program.ConstDef.{ConstDef}
 use Rattle.chi_core.specs.declared.program.Core.{Core}
 use Rattle.chi_core.specs.declared.program.FuncDef.{FuncDef}
 use Rattle.chi_core.specs.declared.program.ProcDef.{ProcDef}
-use Rattle.chi_typing.specs.declared.fault.Fault.{Fault}
-use Rattle.chi_typing.specs.declared.fault.TypeFault.{TypeFault}
-use Rattle.chi_typing.specs.declared.fault.TypeFault.TheVariants.{Broken, NoMemory}
-use Rattle.chi_typing.specs.declared.rules.TheConstants.{MODEL}
-use Rattle.chi_typing.specs.Faults.{fault, first}
-use Rattle.chi_typing.specs.Names.{Names}
-use Rattle.chi_typing.specs.Typed.{Typed, unless, refused}
-use Rattle.chi_streams.specs.Streams.{with_streams}
-use Rattle.chi_stat_parts.specs.Stated.{in_turn}
-use Rattle.chi_headers.specs.declared.sketch.Sketch.{Sketch}
-use Rattle.chi_headers.specs.declared.sketch.Early.{Early}
-use Rattle.chi_headers.specs.declared.sketch.Named.{Named}
-use Rattle.chi_headers.specs.Headers.{header_in, header_faults}
-use Rattle.chi_headers.specs.Definitions.{sketching, early_defined, with_all_late, with_all_headed}
+use Rattle.chi_check_types.specs.declared.fault.Fault.{Fault}
+use Rattle.chi_check_types.specs.declared.fault.TypeFault.{TypeFault}
+use Rattle.chi_check_types.specs.declared.fault.TypeFault.TheVariants.{Broken, NoMemory}
+use Rattle.chi_check_types.specs.declared.rules.TheConstants.{MODEL}
+use Rattle.chi_check_types.specs.Faults.{fault, first}
+use Rattle.chi_check_types.specs.Names.{Names}
+use Rattle.chi_check_types.specs.Typed.{Typed, unless, refused}
+use Rattle.chi_check_streams.specs.Streams.{with_streams}
+use Rattle.chi_check_stat_lines.specs.Stated.{in_turn}
+use Rattle.chi_check_headers.specs.declared.sketch.Sketch.{Sketch}
+use Rattle.chi_check_headers.specs.declared.sketch.Early.{Early}
+use Rattle.chi_check_headers.specs.declared.sketch.Named.{Named}
+use Rattle.chi_check_headers.specs.Headers.{header_in, header_faults}
+use Rattle.chi_check_headers.specs.Definitions.{sketching, early_defined, with_all_late, with_all_headed}
 use Rattle.chi_check.specs.Bodies.{functions_of, processes_of}
 
 abbrev pub no_names : Sketch

@@ -1,26 +1,26 @@
 //! The bodies of functions, processes and models.
 
-#![tactic(auto, using(chi_typing::proofs::Firsts::first_of_none, chi_typing::proofs::Firsts::first_of_append))]
+#![tactic(auto, using(chi_check_types::proofs::Firsts::first_of_none, chi_check_types::proofs::Firsts::first_of_append))]
 
 ghost use Rattle.std.specs.Prelude.{◌≡◌, ◌++◌, Some, [], false, map, take, IfOk, OnOk};
-ghost use Rattle.chi_typing.specs.Faults.{first_of};
-ghost use Rattle.chi_stat_parts.specs.Stated.{in_turn};
-ghost use Rattle.chi_statements.specs.Statements.{stating_all};
-ghost use Rattle.chi_headers.specs.Headers as header;
+ghost use Rattle.chi_check_types.specs.Faults.{first_of};
+ghost use Rattle.chi_check_stat_lines.specs.Stated.{in_turn};
+ghost use Rattle.chi_check_stat.specs.Statements.{stating_all};
+ghost use Rattle.chi_check_headers.specs.Headers as header;
 ghost use Rattle.chi_check.specs.Bodies as spec;
 
 use crate::definitions::{function_made, process_made};
 use chi_base::{Items, NoMemory};
+use chi_check_headers::Header;
+use chi_check_stat::check_all;
+use chi_check_stat_lines::{Binder, Growing, State, bind, joined, nothing};
+use chi_check_types::{Fault, Scope};
 use chi_core::{CStat, FuncDef, ProcDef};
-use chi_headers::Header;
-use chi_stat_parts::{Binder, Growing, State, bind, joined, nothing};
-use chi_statements::check_all;
 use chi_tree::{Definition, Formal, Item, Name, Step};
 use chi_types::Ty;
-use chi_typing::{Fault, Scope};
 use std::alloc::Global;
 
-#[tactic(auto, using(chi_typing::proofs::Firsts::first_of_none, chi_typing::proofs::Firsts::first_of_append, chi_stat_parts::proofs::Turns::joined_more, chi_stat_parts::proofs::Turns::joined_end))]
+#[tactic(auto, using(chi_check_types::proofs::Firsts::first_of_none, chi_check_types::proofs::Firsts::first_of_append, chi_check_stat_lines::proofs::Turns::joined_more, chi_check_stat_lines::proofs::Turns::joined_end))]
 fn bind_formals(
     alloc: Global,
     formals: &[Formal],
@@ -276,7 +276,7 @@ fn define_process(
 }
 
 /// All functions.
-#[tactic(auto, using(chi_typing::proofs::Firsts::first_of_none, chi_typing::proofs::Firsts::first_of_append, chi_stat_parts::proofs::Turns::joined_more, chi_stat_parts::proofs::Turns::joined_end))]
+#[tactic(auto, using(chi_check_types::proofs::Firsts::first_of_none, chi_check_types::proofs::Firsts::first_of_append, chi_check_stat_lines::proofs::Turns::joined_more, chi_check_stat_lines::proofs::Turns::joined_end))]
 pub(crate) fn define_functions(
     alloc: Global,
     items: &[Item],
@@ -304,7 +304,7 @@ pub(crate) fn define_functions(
 }
 
 /// All processes and models.
-#[tactic(auto, using(chi_typing::proofs::Firsts::first_of_none, chi_typing::proofs::Firsts::first_of_append, chi_stat_parts::proofs::Turns::joined_more, chi_stat_parts::proofs::Turns::joined_end))]
+#[tactic(auto, using(chi_check_types::proofs::Firsts::first_of_none, chi_check_types::proofs::Firsts::first_of_append, chi_check_stat_lines::proofs::Turns::joined_more, chi_check_stat_lines::proofs::Turns::joined_end))]
 pub(crate) fn define_processes(
     alloc: Global,
     items: &[Item],

@@ -5,10 +5,10 @@ ghost use Rattle.std.specs.Option.{option_and_then};
 ghost use Rattle.chi_check.specs.Bodies as spec;
 
 use chi_base::{Items, NoMemory};
+use chi_check_headers::{Header, all_types};
+use chi_check_stat_lines::one;
+use chi_check_stat_rules::{ExitType, Home};
 use chi_core::{CStat, FuncDef, ProcDef};
-use chi_headers::{Header, all_types};
-use chi_stat_parts::one;
-use chi_stat_rules::{ExitType, Home};
 use chi_token::Bytes;
 use chi_types::Ty;
 use std::alloc::Global;

@@ -1,26 +1,26 @@
 //! Programs: the names of all definitions, then types and constants, then headers, then bodies.
 
-#![tactic(auto, using(chi_typing::proofs::Firsts::first_of_none, chi_typing::proofs::Firsts::first_of_append))]
+#![tactic(auto, using(chi_check_types::proofs::Firsts::first_of_none, chi_check_types::proofs::Firsts::first_of_append))]
 
 ghost use Rattle.std.specs.Prelude.{◌≡◌, Some, length, map, take, IfOk, OnOk};
-ghost use Rattle.chi_typing.specs.Faults.{first_of};
-ghost use Rattle.chi_stat_parts.specs.Stated.{in_turn};
-ghost use Rattle.chi_headers.specs.Headers.{header_in, header_faults};
-ghost use Rattle.chi_headers.specs.Definitions.{with_all_late, with_all_headed};
+ghost use Rattle.chi_check_types.specs.Faults.{first_of};
+ghost use Rattle.chi_check_stat_lines.specs.Stated.{in_turn};
+ghost use Rattle.chi_check_headers.specs.Headers.{header_in, header_faults};
+ghost use Rattle.chi_check_headers.specs.Definitions.{with_all_late, with_all_headed};
 ghost use Rattle.chi_check.specs.Bodies.{functions_of, processes_of};
 ghost use Rattle.chi_check.specs.Programs as spec;
 
 use crate::bodies::{define_functions, define_processes};
 use chi_base::{Items, NoMemory};
-use chi_core::{ConstDef, Core, FuncDef, ProcDef};
-use chi_headers::{
+use chi_check_headers::{
     Early, Header, Named, Sketch, add_all_headed, add_all_late, after, define_all_early,
     headers_in, name_all,
 };
-use chi_streams::with_streams;
+use chi_check_streams::with_streams;
+use chi_check_types::{Fault, Scope, TypeFault, note, rules};
+use chi_core::{ConstDef, Core, FuncDef, ProcDef};
 use chi_token::{Bytes, Place};
 use chi_tree::{Definition, Item, Program};
-use chi_typing::{Fault, Scope, TypeFault, note, rules};
 use chi_value::Names;
 use std::alloc::Global;
 

@@ -4,14 +4,14 @@ use Rattle.std.specs.Prelude.{Ok}
 use Rattle.chi_core.specs.declared.expression.CExpr.{CExpr}
 use Rattle.chi_tree.specs.declared.expr.Expr.{Expr}
 use Rattle.chi_tree.specs.declared.type_tree.TypeTree.{TypeTree}
-use Rattle.chi_typing.specs.declared.fault.Fault.{Fault}
-use Rattle.chi_typing.specs.declared.meant.Made.{Made}
-use Rattle.chi_typing.specs.declared.meant.Meant.{Meant}
-use Rattle.chi_typing.specs.declared.site.Site.{Site}
-use Rattle.chi_typing.specs.Defaults.{default_of}
-use Rattle.chi_typing.specs.Faults.{first_of, sooner_of}
-use Rattle.chi_typing.specs.Names.{Names}
-use Rattle.chi_typing.specs.Typed.{Typed}
+use Rattle.chi_check_types.specs.declared.fault.Fault.{Fault}
+use Rattle.chi_check_types.specs.declared.meant.Made.{Made}
+use Rattle.chi_check_types.specs.declared.meant.Meant.{Meant}
+use Rattle.chi_check_types.specs.declared.site.Site.{Site}
+use Rattle.chi_check_types.specs.Defaults.{default_of}
+use Rattle.chi_check_types.specs.Faults.{first_of, sooner_of}
+use Rattle.chi_check_types.specs.Names.{Names}
+use Rattle.chi_check_types.specs.Typed.{Typed}
 use Rattle.chi_check_expr.specs.Answers.{Answers, CoreAndType, TypeAndDefault}
 use Rattle.chi_check_expr.specs.Clean.{Clean}
 use Rattle.chi_check_expr.specs.Laws.{IsExact}

@@ -8,13 +8,13 @@ use Rattle.chi_tree.specs.declared.expr.Postfix.{Postfix}
 use Rattle.chi_tree.specs.declared.expr.Entry.{Entry}
 use Rattle.chi_tree.specs.declared.expr.Link.{Link}
 use Rattle.chi_tree.specs.declared.expr.Expr.TheVariants as expr
-use Rattle.chi_typing.specs.declared.fault.Fault.{Fault}
-use Rattle.chi_typing.specs.declared.meant.Made.{Made}
-use Rattle.chi_typing.specs.declared.site.Site.{Site}
-use Rattle.chi_typing.specs.Faults.{first_of}
-use Rattle.chi_typing.specs.Names.{Names, known_in}
-use Rattle.chi_typing.specs.Predefined.{predefined_of, is_predefined}
-use Rattle.chi_typing.specs.Typed.{Typed}
+use Rattle.chi_check_types.specs.declared.fault.Fault.{Fault}
+use Rattle.chi_check_types.specs.declared.meant.Made.{Made}
+use Rattle.chi_check_types.specs.declared.site.Site.{Site}
+use Rattle.chi_check_types.specs.Faults.{first_of}
+use Rattle.chi_check_types.specs.Names.{Names, known_in}
+use Rattle.chi_check_types.specs.Predefined.{predefined_of, is_predefined}
+use Rattle.chi_check_types.specs.Typed.{Typed}
 use Rattle.chi_check_expr.specs.Calls as calls
 use Rattle.chi_check_expr.specs.Calls.{is_insertion, function_known, inserted, call_by, called_with, called}
 use Rattle.chi_check_expr.specs.Reads.{Read, Taken, Reading, Paired, Linked, Field, typed_of, made_of, all_faults}

@@ -3,26 +3,26 @@ use Rattle.std.proofs.Common.{ℕ, ◌≡◌, Bool, true, false, cond, nat_eq, l
 use Rattle.chi_token.specs.declared.place.Place.{Place}
 use Rattle.chi_tree.specs.declared.type_tree.Name.{Name}
 use Rattle.chi_types.specs.declared.ty.Ty.{out-Ty}
-use Rattle.chi_typing.specs.declared.fault.Fault.{Fault}
-use Rattle.chi_typing.specs.declared.known.Known.{Known}
-use Rattle.chi_typing.specs.declared.known.Known.TheVariants as known
-use Rattle.chi_typing.specs.declared.known.NameKind.{NameKind}
-use Rattle.chi_typing.specs.declared.meant.Made.{Made}
-use Rattle.chi_typing.specs.declared.meant.Meant.{Meant}
-use Rattle.chi_typing.specs.declared.predefined.Predefined.{Predefined}
-use Rattle.chi_typing.specs.declared.predefined.Predefined.TheVariants as predefined
-use Rattle.chi_typing.specs.declared.rules.TheConstants.{PREDEFINED, CALL_ARGUMENTS, NAME_KIND}
-use Rattle.chi_typing.specs.declared.site.Site.{Site}
-use Rattle.chi_typing.specs.Names.{Names, known_in}
-use Rattle.chi_typing.specs.Predefined.{predefined_of, is_predefined}
-use Rattle.chi_typing.specs.Typed.{Typed, refused, after}
-use Rattle.chi_typing.specs.TypeRules as types
-use Rattle.chi_expr_rules.specs.Nodes.{of_all, barred, all_made}
-use Rattle.chi_expr_rules.specs.Named.{visible_value, named_value}
-use Rattle.chi_expr_rules.specs.Calls.{call_of, called, function_call}
-use Rattle.chi_expr_rules.specs.Sites.{calling_rule}
-use Rattle.chi_expr_rules.specs.PredefinedCalls as rule
-use Rattle.chi_expr_rules.specs.PredefinedCalls.{predefined_call, insertion, insertion_of, inserted_in, is_count}
+use Rattle.chi_check_types.specs.declared.fault.Fault.{Fault}
+use Rattle.chi_check_types.specs.declared.known.Known.{Known}
+use Rattle.chi_check_types.specs.declared.known.Known.TheVariants as known
+use Rattle.chi_check_types.specs.declared.known.NameKind.{NameKind}
+use Rattle.chi_check_types.specs.declared.meant.Made.{Made}
+use Rattle.chi_check_types.specs.declared.meant.Meant.{Meant}
+use Rattle.chi_check_types.specs.declared.predefined.Predefined.{Predefined}
+use Rattle.chi_check_types.specs.declared.predefined.Predefined.TheVariants as predefined
+use Rattle.chi_check_types.specs.declared.rules.TheConstants.{PREDEFINED, CALL_ARGUMENTS, NAME_KIND}
+use Rattle.chi_check_types.specs.declared.site.Site.{Site}
+use Rattle.chi_check_types.specs.Names.{Names, known_in}
+use Rattle.chi_check_types.specs.Predefined.{predefined_of, is_predefined}
+use Rattle.chi_check_types.specs.Typed.{Typed, refused, after}
+use Rattle.chi_check_types.specs.TypeRules as types
+use Rattle.chi_check_expr_rules.specs.Nodes.{of_all, barred, all_made}
+use Rattle.chi_check_expr_rules.specs.Named.{visible_value, named_value}
+use Rattle.chi_check_expr_rules.specs.Calls.{call_of, called, function_call}
+use Rattle.chi_check_expr_rules.specs.Sites.{calling_rule}
+use Rattle.chi_check_expr_rules.specs.PredefinedCalls as rule
+use Rattle.chi_check_expr_rules.specs.PredefinedCalls.{predefined_call, insertion, insertion_of, inserted_in, is_count}
 use Rattle.chi_check_expr.specs.Calls as calls
 use Rattle.chi_check_expr.specs.Calls.{is_insertion, function_known, inserted, call_by, called_with}
 use Rattle.chi_check_expr.specs.Clean.{Clean}

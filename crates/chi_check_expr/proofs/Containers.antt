@@ -5,14 +5,14 @@ use Rattle.std.specs.Option.{option_and_then}
 use Rattle.chi_token.specs.declared.place.Place.{Place}
 use Rattle.chi_tree.specs.declared.type_tree.Name.{Name}
 use Rattle.chi_types.specs.declared.ty.Ty.{Ty}
-use Rattle.chi_typing.specs.declared.fault.Fault.{Fault}
-use Rattle.chi_typing.specs.declared.meant.Made.{Made}
-use Rattle.chi_typing.specs.declared.meant.Meant.{Meant}
-use Rattle.chi_typing.specs.declared.rules.TheConstants.{INDEX}
-use Rattle.chi_typing.specs.Typed.{Typed, after}
-use Rattle.chi_expr_rules.specs.Nodes.{of_two, all_made}
-use Rattle.chi_expr_rules.specs.Parts.{Bounds, given, sliced, slice_of}
-use Rattle.chi_expr_rules.specs.Containers.{tuple_of, tuple_parts, list_of, list_joined, list_parts, set_of, set_joined, set_parts, dict_of, dict_joined, dict_parts, joined_all, keys_rule}
+use Rattle.chi_check_types.specs.declared.fault.Fault.{Fault}
+use Rattle.chi_check_types.specs.declared.meant.Made.{Made}
+use Rattle.chi_check_types.specs.declared.meant.Meant.{Meant}
+use Rattle.chi_check_types.specs.declared.rules.TheConstants.{INDEX}
+use Rattle.chi_check_types.specs.Typed.{Typed, after}
+use Rattle.chi_check_expr_rules.specs.Nodes.{of_two, all_made}
+use Rattle.chi_check_expr_rules.specs.Parts.{Bounds, given, sliced, slice_of}
+use Rattle.chi_check_expr_rules.specs.Containers.{tuple_of, tuple_parts, list_of, list_joined, list_parts, set_of, set_joined, set_parts, dict_of, dict_joined, dict_parts, joined_all, keys_rule}
 use Rattle.chi_check_expr.specs.Reads.{Paired, Field, made_of, all_faults, entry_faults, key_made, value_made, each_bound}
 use Rattle.chi_check_expr.specs.TypeTrees.{faults_of, each_field_faults, field_faults, field_type, parts_from}
 use Rattle.chi_check_expr.proofs.Kept.{Good, GoodTyped, Each, FieldOk, IfGiven, typed_parts}

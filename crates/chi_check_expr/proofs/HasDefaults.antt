@@ -13,18 +13,18 @@ use Rattle.chi_value.specs.declared.shape.Shape.{Shape}
 use Rattle.chi_value.specs.declared.shape.Shape.TheVariants as shape
 use Rattle.chi_core.specs.declared.expression.CExpr.{CExpr}
 use Rattle.chi_core.specs.declared.expression.CExpr.TheVariants as expression
-use Rattle.chi_typing.specs.declared.fault.Fault.{Fault}
-use Rattle.chi_typing.specs.declared.known.Known.{Known}
-use Rattle.chi_typing.specs.declared.known.Known.TheVariants as known
-use Rattle.chi_typing.specs.declared.known.NameKind.TheVariants as kind
-use Rattle.chi_typing.specs.declared.meant.Meant.{Meant}
-use Rattle.chi_typing.specs.declared.site.Site.{Site}
-use Rattle.chi_typing.specs.Defaults.{shape_of, shape_step, part_shapes, tuple_shape, dist_shape, drawn_shape, element_type, within, repeated, default_of}
-use Rattle.chi_typing.specs.Names.{Names}
-use Rattle.chi_typing.specs.Typed.{unless, broken_if}
-use Rattle.chi_typing.specs.TypeRules as types
-use Rattle.chi_typing.specs.TypeRules.{meaning, with_size, is_drawn}
-use Rattle.chi_typing.proofs.Shapes.{shape_of_tuple}
+use Rattle.chi_check_types.specs.declared.fault.Fault.{Fault}
+use Rattle.chi_check_types.specs.declared.known.Known.{Known}
+use Rattle.chi_check_types.specs.declared.known.Known.TheVariants as known
+use Rattle.chi_check_types.specs.declared.known.NameKind.TheVariants as kind
+use Rattle.chi_check_types.specs.declared.meant.Meant.{Meant}
+use Rattle.chi_check_types.specs.declared.site.Site.{Site}
+use Rattle.chi_check_types.specs.Defaults.{shape_of, shape_step, part_shapes, tuple_shape, dist_shape, drawn_shape, element_type, within, repeated, default_of}
+use Rattle.chi_check_types.specs.Names.{Names}
+use Rattle.chi_check_types.specs.Typed.{unless, broken_if}
+use Rattle.chi_check_types.specs.TypeRules as types
+use Rattle.chi_check_types.specs.TypeRules.{meaning, with_size, is_drawn}
+use Rattle.chi_check_types.proofs.Shapes.{shape_of_tuple}
 use Rattle.chi_check_expr.specs.Clean.{Clean, HaveDefaults}
 use Rattle.chi_check_expr.specs.Typing.{reading}
 use Rattle.chi_check_expr.proofs.Kept.{Good, Each, FieldOk, Keeps}

@@ -8,23 +8,23 @@ use Rattle.chi_tree.specs.declared.expr.Expr.{Expr, Expr-F, roll-Expr, map-Expr,
 use Rattle.chi_tree.specs.declared.expr.Postfix.{Postfix, Postfix-F, roll-Postfix, map-Postfix, fold-roll-Postfix}
 use Rattle.chi_tree.specs.declared.expr.Entry.{Entry, Entry-F, roll-Entry, map-Entry, fold-roll-Entry}
 use Rattle.chi_tree.specs.declared.expr.Link.{Link, Link-F, roll-Link, map-Link, fold-roll-Link}
-use Rattle.chi_typing.specs.declared.fault.Fault.{Fault}
-use Rattle.chi_typing.specs.declared.meant.Made.{Made}
-use Rattle.chi_typing.specs.declared.meant.Meant.{Meant}
-use Rattle.chi_typing.specs.declared.rules.TheConstants.{LITERAL_RANGE, OPERATOR, INDEX, FIELD, PREDEFINED}
-use Rattle.chi_typing.specs.declared.site.Site.{Site}
-use Rattle.chi_typing.specs.Names.{Names}
-use Rattle.chi_typing.specs.Typed.{Typed, after}
-use Rattle.chi_typing.specs.TypeRules as types
-use Rattle.chi_expr_rules.specs.Nodes.{all_made}
-use Rattle.chi_expr_rules.specs.Literals.{int_literal, real_literal}
-use Rattle.chi_expr_rules.specs.Named.{time_of}
-use Rattle.chi_expr_rules.specs.Operators.{binary, power, prefixed, prefix_rule, prefix_made, chain_of, power_of, prefix_of}
-use Rattle.chi_expr_rules.specs.Comparisons.{related, relation_of}
-use Rattle.chi_expr_rules.specs.Casts.{cast, timer_rule, cast_made, cast_of}
-use Rattle.chi_expr_rules.specs.Parts.{indexed, index_of, slice_of, field_of}
-use Rattle.chi_expr_rules.specs.Parts as part
-use Rattle.chi_expr_rules.specs.Containers as literals
+use Rattle.chi_check_types.specs.declared.fault.Fault.{Fault}
+use Rattle.chi_check_types.specs.declared.meant.Made.{Made}
+use Rattle.chi_check_types.specs.declared.meant.Meant.{Meant}
+use Rattle.chi_check_types.specs.declared.rules.TheConstants.{LITERAL_RANGE, OPERATOR, INDEX, FIELD, PREDEFINED}
+use Rattle.chi_check_types.specs.declared.site.Site.{Site}
+use Rattle.chi_check_types.specs.Names.{Names}
+use Rattle.chi_check_types.specs.Typed.{Typed, after}
+use Rattle.chi_check_types.specs.TypeRules as types
+use Rattle.chi_check_expr_rules.specs.Nodes.{all_made}
+use Rattle.chi_check_expr_rules.specs.Literals.{int_literal, real_literal}
+use Rattle.chi_check_expr_rules.specs.Named.{time_of}
+use Rattle.chi_check_expr_rules.specs.Operators.{binary, power, prefixed, prefix_rule, prefix_made, chain_of, power_of, prefix_of}
+use Rattle.chi_check_expr_rules.specs.Comparisons.{related, relation_of}
+use Rattle.chi_check_expr_rules.specs.Casts.{cast, timer_rule, cast_made, cast_of}
+use Rattle.chi_check_expr_rules.specs.Parts.{indexed, index_of, slice_of, field_of}
+use Rattle.chi_check_expr_rules.specs.Parts as part
+use Rattle.chi_check_expr_rules.specs.Containers as literals
 use Rattle.chi_check_expr.specs.Clean.{Clean}
 use Rattle.chi_check_expr.specs.Expressions.{expr_step, postfix_step, entry_step, link_step, chained, parted, part_of}
 use Rattle.chi_check_expr.specs.Reads.{Read, Taken, index, slice, field, Reading, Paired, Linked, Field, typed_of, made_of, all_faults}

@@ -11,26 +11,26 @@ use Rattle.chi_tree.specs.declared.type_tree.Name.{Name}
 use Rattle.chi_tree.specs.declared.type_tree.TypeWord.{TypeWord}
 use Rattle.chi_tree.specs.declared.type_tree.Way.{Way}
 use Rattle.chi_types.specs.declared.ty.Ty.{Ty}
-use Rattle.chi_typing.specs.declared.fault.Fault.{Fault}
-use Rattle.chi_typing.specs.declared.known.Known.{Known}
-use Rattle.chi_typing.specs.declared.meant.Made.{Made}
-use Rattle.chi_typing.specs.declared.meant.Meant.{Meant}
-use Rattle.chi_typing.specs.declared.predefined.Predefined.{Predefined}
-use Rattle.chi_typing.specs.declared.predefined.Predefined.TheVariants as predefined
-use Rattle.chi_typing.specs.declared.site.Site.{Site}
-use Rattle.chi_typing.specs.Names.{Names, known_in}
-use Rattle.chi_typing.specs.Typed.{Typed}
-use Rattle.chi_typing.specs.TypeRules as types
-use Rattle.chi_expr_rules.specs.Nodes.{all_made}
-use Rattle.chi_expr_rules.specs.Literals.{int_literal, real_literal, text_literal, bool_literal}
-use Rattle.chi_expr_rules.specs.Named.{visible_value, time_of}
-use Rattle.chi_expr_rules.specs.Operators.{chain_of, power_of, prefix_of}
-use Rattle.chi_expr_rules.specs.Comparisons.{relation_of}
-use Rattle.chi_expr_rules.specs.Casts.{cast_of}
-use Rattle.chi_expr_rules.specs.Calls.{call_of}
-use Rattle.chi_expr_rules.specs.PredefinedCalls.{predefined_call}
-use Rattle.chi_expr_rules.specs.Parts.{Bounds, given, sliced, index_of, field_of}
-use Rattle.chi_expr_rules.specs.Containers as literals
+use Rattle.chi_check_types.specs.declared.fault.Fault.{Fault}
+use Rattle.chi_check_types.specs.declared.known.Known.{Known}
+use Rattle.chi_check_types.specs.declared.meant.Made.{Made}
+use Rattle.chi_check_types.specs.declared.meant.Meant.{Meant}
+use Rattle.chi_check_types.specs.declared.predefined.Predefined.{Predefined}
+use Rattle.chi_check_types.specs.declared.predefined.Predefined.TheVariants as predefined
+use Rattle.chi_check_types.specs.declared.site.Site.{Site}
+use Rattle.chi_check_types.specs.Names.{Names, known_in}
+use Rattle.chi_check_types.specs.Typed.{Typed}
+use Rattle.chi_check_types.specs.TypeRules as types
+use Rattle.chi_check_expr_rules.specs.Nodes.{all_made}
+use Rattle.chi_check_expr_rules.specs.Literals.{int_literal, real_literal, text_literal, bool_literal}
+use Rattle.chi_check_expr_rules.specs.Named.{visible_value, time_of}
+use Rattle.chi_check_expr_rules.specs.Operators.{chain_of, power_of, prefix_of}
+use Rattle.chi_check_expr_rules.specs.Comparisons.{relation_of}
+use Rattle.chi_check_expr_rules.specs.Casts.{cast_of}
+use Rattle.chi_check_expr_rules.specs.Calls.{call_of}
+use Rattle.chi_check_expr_rules.specs.PredefinedCalls.{predefined_call}
+use Rattle.chi_check_expr_rules.specs.Parts.{Bounds, given, sliced, index_of, field_of}
+use Rattle.chi_check_expr_rules.specs.Containers as literals
 
 -- a fact about what was made, where no rule is broken; nothing was made only where one is
 abbrev pub Good : {A : Type 0} → (A → Type 0) → List Fault → Option A → Type 0

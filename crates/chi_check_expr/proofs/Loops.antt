@@ -11,13 +11,13 @@ use Rattle.chi_tree.specs.declared.expr.Postfix.{Postfix}
 use Rattle.chi_tree.specs.declared.expr.Entry.{Entry}
 use Rattle.chi_tree.specs.declared.expr.Link.{Link}
 use Rattle.chi_types.specs.declared.ty.Ty.{Ty}
-use Rattle.chi_typing.specs.declared.fault.Fault.{Fault}
-use Rattle.chi_typing.specs.declared.meant.Made.{Made}
-use Rattle.chi_typing.specs.declared.site.Site.{Site}
-use Rattle.chi_typing.specs.Faults.{first_of}
-use Rattle.chi_typing.specs.Names.{Names}
-use Rattle.chi_typing.proofs.Firsts.{first_of_none}
-use Rattle.chi_expr_rules.specs.Operators.{chain_of}
+use Rattle.chi_check_types.specs.declared.fault.Fault.{Fault}
+use Rattle.chi_check_types.specs.declared.meant.Made.{Made}
+use Rattle.chi_check_types.specs.declared.site.Site.{Site}
+use Rattle.chi_check_types.specs.Faults.{first_of}
+use Rattle.chi_check_types.specs.Names.{Names}
+use Rattle.chi_check_types.proofs.Firsts.{first_of_none}
+use Rattle.chi_check_expr_rules.specs.Operators.{chain_of}
 use Rattle.chi_check_expr.specs.Expressions.{chained, parted, part_of}
 use Rattle.chi_check_expr.specs.Reads.{Linked, Paired, Field, made_of, all_faults, entry_faults, key_made, value_made}
 use Rattle.chi_check_expr.specs.TypeTrees.{faults_of, each_field_faults, field_faults, field_type, parts_from, first_rule, placed_formal, untyped_rule}

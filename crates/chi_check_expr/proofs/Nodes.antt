@@ -3,10 +3,10 @@ use Rattle.std.proofs.Common.{ℕ, ◌≡◌, Bool, true, false, List, [], ◌�
 use Rattle.std.specs.Prelude.{option_map}
 use Rattle.std.specs.Option.{option_and_then}
 use Rattle.chi_token.specs.declared.place.Place.{Place}
-use Rattle.chi_typing.specs.declared.fault.Fault.{Fault}
-use Rattle.chi_typing.specs.declared.meant.Made.{Made}
-use Rattle.chi_typing.specs.Typed.{Typed, unless, refused, after}
-use Rattle.chi_expr_rules.specs.Nodes.{settled, of_all, barred, all_made}
+use Rattle.chi_check_types.specs.declared.fault.Fault.{Fault}
+use Rattle.chi_check_types.specs.declared.meant.Made.{Made}
+use Rattle.chi_check_types.specs.Typed.{Typed, unless, refused, after}
+use Rattle.chi_check_expr_rules.specs.Nodes.{settled, of_all, barred, all_made}
 use Rattle.chi_check_expr.specs.Reads.{made_of, all_faults}
 use Rattle.chi_check_expr.proofs.Kept.{Good, GoodTyped, Each, typed_parts}
 

@@ -8,13 +8,13 @@ use Rattle.chi_tree.specs.declared.expr.Expr.{Expr, Expr-F, out-Expr, map-Expr, 
 use Rattle.chi_tree.specs.declared.expr.Postfix.{Postfix, Postfix-F, out-Postfix, map-Postfix, fold_out-Postfix}
 use Rattle.chi_tree.specs.declared.expr.Entry.{Entry, fold_out-Entry}
 use Rattle.chi_tree.specs.declared.expr.Link.{Link, fold_out-Link}
-use Rattle.chi_typing.specs.declared.fault.Fault.{Fault}
-use Rattle.chi_typing.specs.declared.site.Site.{Site}
-use Rattle.chi_typing.specs.declared.meant.Meant.{Meant}
-use Rattle.chi_typing.specs.Faults.{first_of}
-use Rattle.chi_typing.specs.Names.{Names}
-use Rattle.chi_typing.specs.Typed.{Typed}
-use Rattle.chi_typing.proofs.Firsts.{first_of_append}
+use Rattle.chi_check_types.specs.declared.fault.Fault.{Fault}
+use Rattle.chi_check_types.specs.declared.site.Site.{Site}
+use Rattle.chi_check_types.specs.declared.meant.Meant.{Meant}
+use Rattle.chi_check_types.specs.Faults.{first_of}
+use Rattle.chi_check_types.specs.Names.{Names}
+use Rattle.chi_check_types.specs.Typed.{Typed}
+use Rattle.chi_check_types.proofs.Firsts.{first_of_append}
 use Rattle.chi_check_expr.specs.Reads.{Read, Taken, Reading, Paired, Linked, Field, typed_of}
 use Rattle.chi_check_expr.specs.Expressions.{expr_step, postfix_step, entry_step, link_step}
 use Rattle.chi_check_expr.specs.TypeTrees.{type_step, formal_step}

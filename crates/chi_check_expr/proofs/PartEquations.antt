@@ -11,14 +11,14 @@ use Rattle.chi_tree.specs.declared.expr.Postfix.TheVariants as postfix
 use Rattle.chi_tree.specs.declared.expr.Entry.{Entry}
 use Rattle.chi_tree.specs.declared.expr.Link.{Link}
 use Rattle.chi_types.specs.declared.ty.Ty.{Ty}
-use Rattle.chi_typing.specs.declared.fault.Fault.{Fault}
-use Rattle.chi_typing.specs.declared.meant.Made.{Made}
-use Rattle.chi_typing.specs.declared.site.Site.{Site}
-use Rattle.chi_typing.specs.Faults.{first_of}
-use Rattle.chi_typing.specs.Names.{Names}
-use Rattle.chi_typing.specs.Typed.{Typed}
-use Rattle.chi_typing.proofs.Firsts.{first_of_none, first_of_append}
-use Rattle.chi_expr_rules.specs.Parts.{Bounds, if_given, given, index_of, slice_of, field_of}
+use Rattle.chi_check_types.specs.declared.fault.Fault.{Fault}
+use Rattle.chi_check_types.specs.declared.meant.Made.{Made}
+use Rattle.chi_check_types.specs.declared.site.Site.{Site}
+use Rattle.chi_check_types.specs.Faults.{first_of}
+use Rattle.chi_check_types.specs.Names.{Names}
+use Rattle.chi_check_types.specs.Typed.{Typed}
+use Rattle.chi_check_types.proofs.Firsts.{first_of_none, first_of_append}
+use Rattle.chi_check_expr_rules.specs.Parts.{Bounds, if_given, given, index_of, slice_of, field_of}
 use Rattle.chi_check_expr.specs.Expressions.{postfix_step, part_of}
 use Rattle.chi_check_expr.specs.Reads.{Read, Taken, index, slice, field, Reading, Paired, Linked, Field, made_of, all_faults}
 use Rattle.chi_check_expr.specs.TypeTrees.{faults_of, field_type}

@@ -8,14 +8,14 @@ use Rattle.chi_tree.specs.declared.type_tree.Formal.{Formal}
 use Rattle.chi_tree.specs.declared.type_tree.TypeTree.{TypeTree, TypeTree-F, out-TypeTree}
 use Rattle.chi_tree.specs.declared.type_tree.TypeTree.TheVariants as type
 use Rattle.chi_tree.specs.declared.expr.Expr.{Expr}
-use Rattle.chi_typing.specs.declared.fault.Fault.{Fault}
-use Rattle.chi_typing.specs.declared.meant.Meant.{Meant}
-use Rattle.chi_typing.specs.declared.site.Site.{Site}
-use Rattle.chi_typing.specs.Faults.{first_of}
-use Rattle.chi_typing.specs.Names.{Names}
-use Rattle.chi_typing.specs.Typed.{Typed, after}
-use Rattle.chi_typing.specs.TypeRules as list
-use Rattle.chi_typing.specs.TypeRules.{word_of, named_type, sized_list_of, dist_of, chan_of, void_chan_of}
+use Rattle.chi_check_types.specs.declared.fault.Fault.{Fault}
+use Rattle.chi_check_types.specs.declared.meant.Meant.{Meant}
+use Rattle.chi_check_types.specs.declared.site.Site.{Site}
+use Rattle.chi_check_types.specs.Faults.{first_of}
+use Rattle.chi_check_types.specs.Names.{Names}
+use Rattle.chi_check_types.specs.Typed.{Typed, after}
+use Rattle.chi_check_types.specs.TypeRules as list
+use Rattle.chi_check_types.specs.TypeRules.{word_of, named_type, sized_list_of, dist_of, chan_of, void_chan_of}
 use Rattle.chi_check_expr.specs.Reads.{Reading, Field, made_of}
 use Rattle.chi_check_expr.specs.TypeTrees.{field_faults, parts_from}
 use Rattle.chi_check_expr.specs.Typing.{formal, reading, typing}

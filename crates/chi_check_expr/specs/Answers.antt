@@ -3,13 +3,13 @@ use Rattle.std.specs.Prelude.{◌≡◌, List, [], Option, Some, None, Result, O
 use Rattle.std.specs.Option.{option_and_then}
 use Rattle.chi_core.specs.declared.expression.CExpr.{CExpr}
 use Rattle.chi_types.specs.declared.ty.Ty.{Ty}
-use Rattle.chi_typing.specs.declared.fault.TypeFault.{TypeFault}
-use Rattle.chi_typing.specs.declared.fault.TypeFault.TheVariants.{Broken, NoMemory}
-use Rattle.chi_typing.specs.declared.meant.Made.{Made}
-use Rattle.chi_typing.specs.declared.meant.Meant.{Meant}
-use Rattle.chi_typing.specs.Defaults.{default_of}
-use Rattle.chi_typing.specs.Faults.{fault, first}
-use Rattle.chi_typing.specs.Typed.{Typed}
+use Rattle.chi_check_types.specs.declared.fault.TypeFault.{TypeFault}
+use Rattle.chi_check_types.specs.declared.fault.TypeFault.TheVariants.{Broken, NoMemory}
+use Rattle.chi_check_types.specs.declared.meant.Made.{Made}
+use Rattle.chi_check_types.specs.declared.meant.Meant.{Meant}
+use Rattle.chi_check_types.specs.Defaults.{default_of}
+use Rattle.chi_check_types.specs.Faults.{fault, first}
+use Rattle.chi_check_types.specs.Typed.{Typed}
 
 module _ {A B : Type 0} (Gives : A → B → Type 0) where
   -- of what is made of a tree, or its first broken rule

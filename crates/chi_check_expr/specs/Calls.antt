@@ -1,16 +1,16 @@
 -- Calls, of predefined names and of functions.
 use Rattle.std.specs.Prelude.{ℕ, Bool, true, false, List, [], ◌∷◌, ◌++◌, map, Option, Some, None, if◌then◌else◌}
 use Rattle.chi_tree.specs.declared.type_tree.Name.{Name}
-use Rattle.chi_typing.specs.declared.known.Known.{Known}
-use Rattle.chi_typing.specs.declared.meant.Made.{Made}
-use Rattle.chi_typing.specs.declared.predefined.Predefined.{Predefined}
-use Rattle.chi_typing.specs.declared.predefined.Predefined.TheVariants as predefined
-use Rattle.chi_typing.specs.declared.site.Site.{Site}
-use Rattle.chi_typing.specs.Names.{Names, known_in}
-use Rattle.chi_typing.specs.Predefined.{predefined_of, is_predefined}
-use Rattle.chi_typing.specs.Typed.{Typed, after}
-use Rattle.chi_expr_rules.specs.Calls.{call_of}
-use Rattle.chi_expr_rules.specs.PredefinedCalls.{predefined_call}
+use Rattle.chi_check_types.specs.declared.known.Known.{Known}
+use Rattle.chi_check_types.specs.declared.meant.Made.{Made}
+use Rattle.chi_check_types.specs.declared.predefined.Predefined.{Predefined}
+use Rattle.chi_check_types.specs.declared.predefined.Predefined.TheVariants as predefined
+use Rattle.chi_check_types.specs.declared.site.Site.{Site}
+use Rattle.chi_check_types.specs.Names.{Names, known_in}
+use Rattle.chi_check_types.specs.Predefined.{predefined_of, is_predefined}
+use Rattle.chi_check_types.specs.Typed.{Typed, after}
+use Rattle.chi_check_expr_rules.specs.Calls.{call_of}
+use Rattle.chi_check_expr_rules.specs.PredefinedCalls.{predefined_call}
 use Rattle.chi_check_expr.specs.Reads.{Read, typed_of, made_of, all_faults}
 
 abbrev pub is_insertion : Option Predefined → Bool

@@ -2,10 +2,10 @@
 use Rattle.std.specs.Prelude.{◌≡◌, ℕ, List, Some}
 use Rattle.chi_types.specs.declared.ty.Ty.{Ty}
 use Rattle.chi_value.specs.declared.shape.Shape.{Shape}
-use Rattle.chi_typing.specs.declared.known.NameKind.{NameKind}
-use Rattle.chi_typing.specs.declared.known.Known.TheVariants as known
-use Rattle.chi_typing.specs.Defaults.{shape_of}
-use Rattle.chi_typing.specs.Names.{Names, known_in}
+use Rattle.chi_check_types.specs.declared.known.NameKind.{NameKind}
+use Rattle.chi_check_types.specs.declared.known.Known.TheVariants as known
+use Rattle.chi_check_types.specs.Defaults.{shape_of}
+use Rattle.chi_check_types.specs.Names.{Names, known_in}
 
 -- each visible name that should have a type has one
 abbrev pub Clean : Names → Type 0

@@ -5,19 +5,19 @@ use Rattle.chi_tree.specs.declared.expr.Expr.{Expr-F}
 use Rattle.chi_tree.specs.declared.expr.Postfix.{Postfix-F}
 use Rattle.chi_tree.specs.declared.expr.Entry.{Entry-F}
 use Rattle.chi_tree.specs.declared.expr.Link.{Link-F}
-use Rattle.chi_typing.specs.declared.meant.Made.{Made}
-use Rattle.chi_typing.specs.declared.rules.TheConstants.{LITERAL_RANGE}
-use Rattle.chi_typing.specs.declared.site.Site.{Site}
-use Rattle.chi_typing.specs.Names.{Names}
-use Rattle.chi_typing.specs.Typed.{Typed, unless, untyped, after}
-use Rattle.chi_expr_rules.specs.Nodes.{settled}
-use Rattle.chi_expr_rules.specs.Literals.{int_literal, real_literal, text_literal, bool_literal}
-use Rattle.chi_expr_rules.specs.Named.{named_value, time_of}
-use Rattle.chi_expr_rules.specs.Operators.{chain_of, power_of, prefix_of}
-use Rattle.chi_expr_rules.specs.Comparisons.{relation_of}
-use Rattle.chi_expr_rules.specs.Casts.{cast_of}
-use Rattle.chi_expr_rules.specs.Parts.{given, index_of, slice_of, field_of}
-use Rattle.chi_expr_rules.specs.Containers.{tuple_of, list_of, set_of, dict_of, empty_list, empty_set, empty_dict}
+use Rattle.chi_check_types.specs.declared.meant.Made.{Made}
+use Rattle.chi_check_types.specs.declared.rules.TheConstants.{LITERAL_RANGE}
+use Rattle.chi_check_types.specs.declared.site.Site.{Site}
+use Rattle.chi_check_types.specs.Names.{Names}
+use Rattle.chi_check_types.specs.Typed.{Typed, unless, untyped, after}
+use Rattle.chi_check_expr_rules.specs.Nodes.{settled}
+use Rattle.chi_check_expr_rules.specs.Literals.{int_literal, real_literal, text_literal, bool_literal}
+use Rattle.chi_check_expr_rules.specs.Named.{named_value, time_of}
+use Rattle.chi_check_expr_rules.specs.Operators.{chain_of, power_of, prefix_of}
+use Rattle.chi_check_expr_rules.specs.Comparisons.{relation_of}
+use Rattle.chi_check_expr_rules.specs.Casts.{cast_of}
+use Rattle.chi_check_expr_rules.specs.Parts.{given, index_of, slice_of, field_of}
+use Rattle.chi_check_expr_rules.specs.Containers.{tuple_of, list_of, set_of, dict_of, empty_list, empty_set, empty_dict}
 use Rattle.chi_check_expr.specs.Calls.{call}
 use Rattle.chi_check_expr.specs.Reads.{Read, Taken, index, slice, field, Reading, Paired, Linked, Field, typed_of, made_of, all_faults, entry_faults, key_made, value_made, each_bound}
 

@@ -3,11 +3,11 @@ use Rattle.std.specs.Prelude.{ℕ, Bool, List, [], ◌∷◌, ◌++◌, map, Opt
 use Rattle.chi_token.specs.declared.place.Place.{Place}
 use Rattle.chi_tree.specs.declared.operator.Operator.{Operator}
 use Rattle.chi_tree.specs.declared.type_tree.Name.{Name}
-use Rattle.chi_typing.specs.declared.fault.Fault.{Fault}
-use Rattle.chi_typing.specs.declared.meant.Made.{Made}
-use Rattle.chi_typing.specs.declared.meant.Meant.{Meant}
-use Rattle.chi_typing.specs.Typed.{Typed}
-use Rattle.chi_expr_rules.specs.Parts.{Bounds, if_given, given}
+use Rattle.chi_check_types.specs.declared.fault.Fault.{Fault}
+use Rattle.chi_check_types.specs.declared.meant.Made.{Made}
+use Rattle.chi_check_types.specs.declared.meant.Meant.{Meant}
+use Rattle.chi_check_types.specs.Typed.{Typed}
+use Rattle.chi_check_expr_rules.specs.Parts.{Bounds, if_given, given}
 
 -- an expression, and the name where it is a name alone
 pub record Read : Type 0 where

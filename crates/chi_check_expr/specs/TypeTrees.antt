@@ -5,13 +5,13 @@ use Rattle.chi_token.specs.declared.place.Place.{Place}
 use Rattle.chi_tree.specs.declared.type_tree.TypeTree.{TypeTree, TypeTree-F}
 use Rattle.chi_tree.specs.declared.type_tree.Formal.{Formal, Formal-F}
 use Rattle.chi_types.specs.declared.ty.Ty.{Ty}
-use Rattle.chi_typing.specs.declared.fault.Fault.{Fault}
-use Rattle.chi_typing.specs.declared.meant.Meant.{Meant}
-use Rattle.chi_typing.specs.declared.rules.TheConstants.{VISIBLE_NAME}
-use Rattle.chi_typing.specs.Faults.{fault}
-use Rattle.chi_typing.specs.Names.{Names}
-use Rattle.chi_typing.specs.Typed.{Typed, after}
-use Rattle.chi_typing.specs.TypeRules.{word_of, named_type, list_of, sized_list_of, set_of, dict_of, dist_of, chan_of, void_chan_of, tuple_of}
+use Rattle.chi_check_types.specs.declared.fault.Fault.{Fault}
+use Rattle.chi_check_types.specs.declared.meant.Meant.{Meant}
+use Rattle.chi_check_types.specs.declared.rules.TheConstants.{VISIBLE_NAME}
+use Rattle.chi_check_types.specs.Faults.{fault}
+use Rattle.chi_check_types.specs.Names.{Names}
+use Rattle.chi_check_types.specs.Typed.{Typed, after}
+use Rattle.chi_check_types.specs.TypeRules.{word_of, named_type, list_of, sized_list_of, set_of, dict_of, dist_of, chan_of, void_chan_of, tuple_of}
 use Rattle.chi_check_expr.specs.Reads.{Read, Taken, Reading, Paired, Linked, Field}
 
 abbrev pub faults_of : Option (Typed Meant) → List Fault

@@ -6,10 +6,10 @@ use Rattle.chi_tree.specs.declared.expr.Expr.{Expr, fold-Expr}
 use Rattle.chi_tree.specs.declared.expr.Postfix.{Postfix, fold-Postfix}
 use Rattle.chi_tree.specs.declared.expr.Entry.{Entry, fold-Entry}
 use Rattle.chi_tree.specs.declared.expr.Link.{Link, fold-Link}
-use Rattle.chi_typing.specs.declared.meant.Made.{Made}
-use Rattle.chi_typing.specs.declared.site.Site.{Site}
-use Rattle.chi_typing.specs.Names.{Names}
-use Rattle.chi_typing.specs.Typed.{Typed}
+use Rattle.chi_check_types.specs.declared.meant.Made.{Made}
+use Rattle.chi_check_types.specs.declared.site.Site.{Site}
+use Rattle.chi_check_types.specs.Names.{Names}
+use Rattle.chi_check_types.specs.Typed.{Typed}
 use Rattle.chi_check_expr.specs.Reads.{Read, Taken, Reading, Paired, Linked, Field}
 use Rattle.chi_check_expr.specs.Expressions.{expr_step, postfix_step, entry_step, link_step}
 use Rattle.chi_check_expr.specs.TypeTrees.{type_step, formal_step}

@@ -1,15 +1,15 @@
 //! The answers for one expression and for one type: what it comes to, or the first broken rule.
 
-ghost use Rattle.chi_typing.specs.declared.site.Site.{Site};
+ghost use Rattle.chi_check_types.specs.declared.site.Site.{Site};
 ghost use Rattle.chi_check_expr.specs.Answers.{Answers, CoreAndType, TypeAndDefault};
 ghost use Rattle.chi_check_expr.specs.Clean.{Clean, HaveDefaults};
 ghost use Rattle.chi_check_expr.specs.Typing as spec;
 
 use crate::typing::{mean_in, type_in};
+use chi_check_types::{Fault, Made, Meant, Scope, Site, TypeFault, default_of};
 use chi_core::CExpr;
 use chi_tree::{Expr, TypeTree};
 use chi_types::Ty;
-use chi_typing::{Fault, Made, Meant, Scope, Site, TypeFault, default_of};
 use std::alloc::Global;
 
 /// The core and the type of an expression.

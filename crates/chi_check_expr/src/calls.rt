@@ -2,16 +2,16 @@
 
 ghost use Rattle.std.specs.Prelude.{◌≡◌, true, false, length, [], ◌∷◌, None, IfOk, OnOk};
 ghost use Rattle.std.specs.Option.{option_copied};
-ghost use Rattle.chi_typing.specs.Faults.{first_of};
-ghost use Rattle.chi_typing.specs.Predefined as names;
+ghost use Rattle.chi_check_types.specs.Faults.{first_of};
+ghost use Rattle.chi_check_types.specs.Predefined as names;
 ghost use Rattle.chi_check_expr.specs.Calls as spec;
 ghost use Rattle.chi_check_expr.specs.Typing.{read};
 
 use chi_base::{Items, NoMemory};
-use chi_name_rules::call_of;
-use chi_predefined_rules::predefined_call;
+use chi_check_expr_operators::predefined_call;
+use chi_check_expr_parts::call_of;
+use chi_check_types::{Fault, Known, Made, Predefined, Scope, Site, is_predefined, predefined_of};
 use chi_tree::{Expr, Name};
-use chi_typing::{Fault, Known, Made, Predefined, Scope, Site, is_predefined, predefined_of};
 use std::alloc::Global;
 
 /// Whether the name is that of the insertion by a function.

@@ -2,18 +2,18 @@
 
 ghost use Rattle.std.specs.Prelude.{◌≡◌, [], ◌∷◌, ◌++◌, map, Option, None, IfOk, option_map};
 ghost use Rattle.std.specs.Option.{option_and_then};
-ghost use Rattle.chi_typing.specs.Faults.{first_of};
+ghost use Rattle.chi_check_types.specs.Faults.{first_of};
 ghost use Rattle.chi_check_expr.specs.TypeTrees as spec;
 
 use chi_base::{Items, NoMemory};
+use chi_check_types::{Fault, Meant, note, rules};
 use chi_token::Bytes;
 use chi_tree::{Formal, Name};
 use chi_types::Ty;
-use chi_typing::{Fault, Meant, note, rules};
 use std::alloc::Global;
 
 /// Notes a first field without a type before it, which no tree of a source has.
-#[tactic(auto, using(chi_typing::proofs::Firsts::first_of_none))]
+#[tactic(auto, using(chi_check_types::proofs::Firsts::first_of_none))]
 pub(crate) fn note_first(fields: &[Formal], kept: &mut Option<Fault>)
     ensures { kept.new ≡ first_of kept.old (spec.first_rule (map spec.placed_formal fields.now)) }
 {

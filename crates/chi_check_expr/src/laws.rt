@@ -3,8 +3,8 @@
 ghost use Rattle.std.specs.Prelude.{Bool};
 ghost use Rattle.chi_tree.specs.declared.expr.Expr.{Expr};
 ghost use Rattle.chi_tree.specs.declared.type_tree.TypeTree.{TypeTree};
-ghost use Rattle.chi_typing.specs.declared.site.Site.{Site};
-ghost use Rattle.chi_typing.specs.Names.{Names};
+ghost use Rattle.chi_check_types.specs.declared.site.Site.{Site};
+ghost use Rattle.chi_check_types.specs.Names.{Names};
 ghost use Rattle.chi_check_expr.specs.Clean.{Clean};
 ghost use Rattle.chi_check_expr.specs.Laws.{IsExact};
 ghost use Rattle.chi_check_expr.specs.Typing.{typing, reading};

@@ -8,15 +8,15 @@ mod parts;
 mod type_trees;
 
 ghost use Rattle.std.specs.Prelude.{◌≡◌, IfOk, OnOk};
-ghost use Rattle.chi_typing.specs.Faults.{first_of};
+ghost use Rattle.chi_check_types.specs.Faults.{first_of};
 ghost use Rattle.chi_check_expr.specs.Typing as spec;
 
 use calls::type_call;
 use chi_base::NoMemory;
-use chi_expr_rules::settle;
-use chi_name_rules as name_rule;
+use chi_check_expr_parts as name_rule;
+use chi_check_expr_rules::settle;
+use chi_check_types::{Fault, Made, Scope, Site, rules};
 use chi_tree::Expr;
-use chi_typing::{Fault, Made, Scope, Site, rules};
 use containers::{
     type_dict, type_empty_dict, type_empty_list, type_empty_set, type_list, type_set, type_tuple,
 };

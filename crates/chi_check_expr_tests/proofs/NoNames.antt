@@ -1,6 +1,6 @@
 -- Where no name is visible, none lacks a type and none lacks a default.
 use Rattle.std.proofs.Common.{◌≡◌, [], sym, subst}
-use Rattle.chi_typing.specs.Names.{Names}
+use Rattle.chi_check_types.specs.Names.{Names}
 use Rattle.chi_check_expr.specs.Clean.{Clean, HaveDefaults}
 
 none_clean : Clean []

@@ -5,9 +5,9 @@ use crate::names::{named, no_names};
 use crate::shown::shown;
 use crate::sources::{expr_of, type_of};
 use chi_check_expr::{mean_in, type_expr, type_in, type_tree};
+use chi_check_types::{Fault, Made, Scope, Site, TypeFault};
 use chi_token::Place;
 use chi_tree::{Expr, TypeTree};
-use chi_typing::{Fault, Made, Scope, Site, TypeFault};
 use std::alloc::Global;
 use std::test::Fail;
 

@@ -2,7 +2,7 @@
 
 use crate::names::names;
 use crate::rows::{expect_expr, expect_type};
-use chi_typing::{Scope, Site};
+use chi_check_types::{Scope, Site};
 use std::alloc::Global;
 use std::process::Abort;
 use std::test::Fail;

@@ -3,7 +3,7 @@
 use crate::names::names;
 use crate::rows::{expect_expr, expect_exprs};
 use crate::tables::{expect_ones, expect_pairs};
-use chi_typing::{Scope, Site};
+use chi_check_types::{Scope, Site};
 use std::alloc::Global;
 use std::process::Abort;
 use std::test::Fail;

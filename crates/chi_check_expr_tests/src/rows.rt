@@ -2,7 +2,7 @@
 
 use crate::answers::{Asked, expr_answer, type_answer};
 use crate::names::names;
-use chi_typing::{Scope, Site};
+use chi_check_types::{Scope, Site};
 use std::alloc::Global;
 use std::process::Abort;
 use std::test::Fail;

@@ -4,7 +4,7 @@
 
 use crate::answers::{Asked, expr_answer};
 use crate::names::VARIABLES;
-use chi_typing::{Scope, Site};
+use chi_check_types::{Scope, Site};
 use std::alloc::Global;
 use std::process::Abort;
 use std::test::Fail;

@@ -3,7 +3,7 @@ use Rattle.std.proofs.Common.{◌≡◌, ◌⊎◌, inl, inr, ℕ, zero, suc, tr
 use Rattle.std.specs.Prelude.{slice_get}
 use Rattle.chi_core.specs.Fills.{Fill, Fills, unwound, one_after_another, SetOnce}
 use Rattle.chi_check_expr.proofs.Kept.{Each}
-use Rattle.chi_typing_laws.proofs.Conversions.{some_is}
+use Rattle.chi_check_laws.proofs.Conversions.{some_is}
 
 pub each_map : {A : Type 0} (P Q : A → Type 0) (xs : List A) → ((x : A) → P x → Q x) → Each P xs → Each Q xs
 each_map P Q [] f h = tt

@@ -12,23 +12,23 @@ use Rattle.chi_core.specs.Kinds.{kind_of, kinds_of, erased, part_kinds}
 use Rattle.chi_core.specs.Scopes.{Scope}
 use Rattle.chi_core.specs.SetSlots.{Known as Set}
 use Rattle.chi_core.proofs.Erased.{kind_at, served_kind}
-use Rattle.chi_typing.specs.declared.meant.Made.{Made}
-use Rattle.chi_typing.specs.declared.rules.TheConstants.{ASSIGNED_VALUE, TARGET_COUNT}
-use Rattle.chi_typing.specs.Names.{Names}
-use Rattle.chi_typing.specs.Typed.{refused}
-use Rattle.chi_expr_rules.specs.Conversions.{passed}
-use Rattle.chi_expr_rules.specs.Nodes.{of_one, all_made}
+use Rattle.chi_check_types.specs.declared.meant.Made.{Made}
+use Rattle.chi_check_types.specs.declared.rules.TheConstants.{ASSIGNED_VALUE, TARGET_COUNT}
+use Rattle.chi_check_types.specs.Names.{Names}
+use Rattle.chi_check_types.specs.Typed.{refused}
+use Rattle.chi_check_expr_rules.specs.Conversions.{passed}
+use Rattle.chi_check_expr_rules.specs.Nodes.{of_one, all_made}
 use Rattle.chi_check_expr.proofs.Kept.{Each}
-use Rattle.chi_typing_laws.specs.Standing.{AllStand, Has, SoundMade}
-use Rattle.chi_typing_laws.proofs.Conversions.{some_is, mapped, chained, chosen, passed_have}
-use Rattle.chi_typing_laws.proofs.Has.{Have}
-use Rattle.chi_stat_rules.specs.declared.home.Home.{Home}
-use Rattle.chi_stat_rules.specs.declared.parts.Aim.{Aim}
-use Rattle.chi_stat_rules.specs.Assignments.{all_aims, assign, stored, parts_fit, spread, spread_value, spread_one, only_one, uneven, even}
-use Rattle.chi_stat_laws.specs.Parts.{SoundAim}
-use Rattle.chi_stat_laws.proofs.Targets.{aims_take}
-use Rattle.chi_stat_parts.specs.Stated.{alone}
-use Rattle.chi_stat_parts.specs.Values.{made_of, assignment_place, values_in, target_in, assignment_in}
+use Rattle.chi_check_laws.specs.Standing.{AllStand, Has, SoundMade}
+use Rattle.chi_check_laws.proofs.Conversions.{some_is, mapped, chained, chosen, passed_have}
+use Rattle.chi_check_laws.proofs.Has.{Have}
+use Rattle.chi_check_stat_rules.specs.declared.home.Home.{Home}
+use Rattle.chi_check_stat_rules.specs.declared.parts.Aim.{Aim}
+use Rattle.chi_check_stat_rules.specs.Assignments.{all_aims, assign, stored, parts_fit, spread, spread_value, spread_one, only_one, uneven, even}
+use Rattle.chi_check_laws.specs.Parts.{SoundAim}
+use Rattle.chi_check_laws.proofs.Targets.{aims_take}
+use Rattle.chi_check_stat_lines.specs.Stated.{alone}
+use Rattle.chi_check_stat_lines.specs.Values.{made_of, assignment_place, values_in, target_in, assignment_in}
 use Rattle.chi_check_laws.specs.Bodies.{role_of}
 use Rattle.chi_check_laws.specs.Whole.{has_any}
 use Rattle.chi_check_laws.proofs.Bodies.{SoundOne, StatementKept, statements_by_parts}

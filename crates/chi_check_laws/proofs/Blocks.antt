@@ -25,19 +25,19 @@ use Rattle.chi_core.specs.SoundParts.{SoundElement}
 use Rattle.chi_core.specs.SoundStatements as sound
 use Rattle.chi_core.specs.SoundStatements.{SoundAlternative}
 use Rattle.chi_check_expr.proofs.Kept.{Each}
-use Rattle.chi_typing_laws.specs.Standing.{Has}
-use Rattle.chi_typing_laws.proofs.Conversions.{mapped, chained}
-use Rattle.chi_stat_rules.specs.declared.home.Home.{Home}
-use Rattle.chi_stat_rules.specs.Homes.{running_rule}
-use Rattle.chi_stat_parts.specs.declared.state.Binder.TheVariants as binder
-use Rattle.chi_stat_parts.specs.declared.state.State.{State}
-use Rattle.chi_stat_parts.specs.Stated.{Turn, both, in_turn}
-use Rattle.chi_stat_parts.specs.States.{block}
-use Rattle.chi_stat_parts.specs.Values.{test_in, guard_in}
-use Rattle.chi_stat_parts.specs.Declarations.{walk_in}
-use Rattle.chi_stat_parts.specs.Lines.{communication_in}
-use Rattle.chi_stat_parts.specs.Blocks.{offers, runs, starts}
-use Rattle.chi_statements.specs.Statements.{Going, each_in, starting, element_step, statement_step, branch_step, alternative_step}
+use Rattle.chi_check_laws.specs.Standing.{Has}
+use Rattle.chi_check_laws.proofs.Conversions.{mapped, chained}
+use Rattle.chi_check_stat_rules.specs.declared.home.Home.{Home}
+use Rattle.chi_check_stat_rules.specs.Homes.{running_rule}
+use Rattle.chi_check_stat_lines.specs.declared.state.Binder.TheVariants as binder
+use Rattle.chi_check_stat_lines.specs.declared.state.State.{State}
+use Rattle.chi_check_stat_lines.specs.Stated.{Turn, both, in_turn}
+use Rattle.chi_check_stat_lines.specs.States.{block}
+use Rattle.chi_check_stat_lines.specs.Values.{test_in, guard_in}
+use Rattle.chi_check_stat_lines.specs.Declarations.{walk_in}
+use Rattle.chi_check_stat_lines.specs.Lines.{communication_in}
+use Rattle.chi_check_stat_lines.specs.Blocks.{offers, runs, starts}
+use Rattle.chi_check_stat.specs.Statements.{Going, each_in, starting, element_step, statement_step, branch_step, alternative_step}
 use Rattle.chi_check_laws.specs.Bodies.{Agrees, role_of, set_by}
 use Rattle.chi_check_laws.specs.Whole.{has_any}
 use Rattle.chi_check_laws.proofs.Bodies.{SoundOne, BranchAt, SoundBranch, SoundOffer, SoundMake, AllSound, StatementKept, BranchKept, OfferKept, MakeKept, nothing_more, statements_by_parts, each_by_parts, branch_at, offer_at, make_at, body_sound, offers_sound, makes_sound}

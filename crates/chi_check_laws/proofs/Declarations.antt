@@ -12,26 +12,26 @@ use Rattle.chi_core.specs.declared.statement.CStat.TheVariants as statement
 use Rattle.chi_core.specs.Kinds.{kind_of, holds_channel}
 use Rattle.chi_core.specs.Scopes.{Role, function, process, Scope, may_declare}
 use Rattle.chi_core.specs.SetSlots.{Known as Set, also, sets}
-use Rattle.chi_typing.specs.declared.meant.Meant.{Meant}
-use Rattle.chi_typing.specs.declared.rules.TheConstants.{NEW_NAME, INITIAL_VALUE, CHANNEL_IN_FUNCTION}
-use Rattle.chi_typing.specs.Names.{Names}
+use Rattle.chi_check_types.specs.declared.meant.Meant.{Meant}
+use Rattle.chi_check_types.specs.declared.rules.TheConstants.{NEW_NAME, INITIAL_VALUE, CHANNEL_IN_FUNCTION}
+use Rattle.chi_check_types.specs.Names.{Names}
 use Rattle.chi_check_expr.specs.Typing.{reading}
-use Rattle.chi_typing_laws.specs.Standing.{AllStand, Has, SoundMeant, may_make_default}
-use Rattle.chi_typing_laws.proofs.Conversions.{some_is, mapped}
-use Rattle.chi_typing_laws.proofs.Types.{default_sound}
-use Rattle.chi_stat_rules.specs.declared.home.ExitType.TheVariants as exit
-use Rattle.chi_stat_rules.specs.declared.home.Home.{Home}
-use Rattle.chi_stat_rules.specs.declared.home.Home.TheVariants as home
-use Rattle.chi_stat_rules.specs.Homes.{site_of, has_channel, channel_rule}
-use Rattle.chi_stat_rules.specs.Places.{type_place}
-use Rattle.chi_stat_rules.specs.Values.{fitted}
-use Rattle.chi_stat_laws.proofs.Values.{fitted_has}
-use Rattle.chi_stat_parts.specs.declared.state.Binder.TheVariants as binder
-use Rattle.chi_stat_parts.specs.declared.state.State.{State}
-use Rattle.chi_stat_parts.specs.Stated.{in_turn}
-use Rattle.chi_stat_parts.specs.States.{is_taken, next_slot, new_name_rule}
-use Rattle.chi_stat_parts.specs.Values.{value_in}
-use Rattle.chi_stat_parts.specs.Declarations.{declaration, initial_in, declared, declaration_in}
+use Rattle.chi_check_laws.specs.Standing.{AllStand, Has, SoundMeant, may_make_default}
+use Rattle.chi_check_laws.proofs.Conversions.{some_is, mapped}
+use Rattle.chi_check_laws.proofs.Types.{default_sound}
+use Rattle.chi_check_stat_rules.specs.declared.home.ExitType.TheVariants as exit
+use Rattle.chi_check_stat_rules.specs.declared.home.Home.{Home}
+use Rattle.chi_check_stat_rules.specs.declared.home.Home.TheVariants as home
+use Rattle.chi_check_stat_rules.specs.Homes.{site_of, has_channel, channel_rule}
+use Rattle.chi_check_stat_rules.specs.Places.{type_place}
+use Rattle.chi_check_stat_rules.specs.Values.{fitted}
+use Rattle.chi_check_laws.proofs.SoundValues.{fitted_has}
+use Rattle.chi_check_stat_lines.specs.declared.state.Binder.TheVariants as binder
+use Rattle.chi_check_stat_lines.specs.declared.state.State.{State}
+use Rattle.chi_check_stat_lines.specs.Stated.{in_turn}
+use Rattle.chi_check_stat_lines.specs.States.{is_taken, next_slot, new_name_rule}
+use Rattle.chi_check_stat_lines.specs.Values.{value_in}
+use Rattle.chi_check_stat_lines.specs.Declarations.{declaration, initial_in, declared, declaration_in}
 use Rattle.chi_check_laws.specs.Bodies.{role_of, SlotsHave, set_by, Agrees, Grows}
 use Rattle.chi_check_laws.proofs.Bodies.{AllSound, StatementKept, all_append, set_append}
 use Rattle.chi_check_laws.proofs.Channels.{channel_kind}

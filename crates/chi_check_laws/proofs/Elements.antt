@@ -18,36 +18,36 @@ use Rattle.chi_core.specs.SoundExpressions.{HaveKinds}
 use Rattle.chi_core.specs.SoundParts as part
 use Rattle.chi_core.specs.SoundParts.{MayStart, TakesInstance, SoundElement, TargetTakes}
 use Rattle.chi_core.proofs.Erased.{kind_at, same_kind}
-use Rattle.chi_streams.specs.Streams.{some, of_target, of_expressions}
-use Rattle.chi_typing.specs.declared.known.Known.{Known}
-use Rattle.chi_typing.specs.declared.known.Known.TheVariants as known
-use Rattle.chi_typing.specs.declared.known.NameKind.{NameKind}
-use Rattle.chi_typing.specs.declared.known.NameKind.TheVariants as kind
-use Rattle.chi_typing.specs.declared.meant.Made.{Made}
-use Rattle.chi_typing.specs.declared.rules.TheConstants.{NAME_KIND, STARTED_EXIT, ELEMENT_TARGET, ELEMENT_ARGUMENTS}
-use Rattle.chi_typing.specs.Names.{Names, known_in}
-use Rattle.chi_typing.specs.Predefined.{is_predefined}
-use Rattle.chi_typing.specs.Typed.{refused}
-use Rattle.chi_expr_rules.specs.Conversions.{passed}
-use Rattle.chi_expr_rules.specs.Nodes.{of_all, all_made}
+use Rattle.chi_check_streams.specs.Streams.{some, of_target, of_expressions}
+use Rattle.chi_check_types.specs.declared.known.Known.{Known}
+use Rattle.chi_check_types.specs.declared.known.Known.TheVariants as known
+use Rattle.chi_check_types.specs.declared.known.NameKind.{NameKind}
+use Rattle.chi_check_types.specs.declared.known.NameKind.TheVariants as kind
+use Rattle.chi_check_types.specs.declared.meant.Made.{Made}
+use Rattle.chi_check_types.specs.declared.rules.TheConstants.{NAME_KIND, STARTED_EXIT, ELEMENT_TARGET, ELEMENT_ARGUMENTS}
+use Rattle.chi_check_types.specs.Names.{Names, known_in}
+use Rattle.chi_check_types.specs.Predefined.{is_predefined}
+use Rattle.chi_check_types.specs.Typed.{refused}
+use Rattle.chi_check_expr_rules.specs.Conversions.{passed}
+use Rattle.chi_check_expr_rules.specs.Nodes.{of_all, all_made}
 use Rattle.chi_check_expr.proofs.Kept.{Each}
 use Rattle.chi_check_expr.proofs.Nodes.{barred_made, settled_made}
-use Rattle.chi_typing_laws.specs.Standing.{AllStand, SoundMade, Stands, ProcessStands}
-use Rattle.chi_typing_laws.proofs.Conversions.{some_is, mapped, chosen, passed_have}
-use Rattle.chi_typing_laws.proofs.Has.{Have}
-use Rattle.chi_stat_rules.specs.declared.home.ExitType.{ExitType}
-use Rattle.chi_stat_rules.specs.declared.home.ExitType.TheVariants as exit
-use Rattle.chi_stat_rules.specs.declared.home.Home.{Home}
-use Rattle.chi_stat_rules.specs.declared.home.Home.TheVariants as home
-use Rattle.chi_stat_rules.specs.declared.parts.Aim.{Aim}
-use Rattle.chi_stat_rules.specs.declared.parts.Started.{Started}
-use Rattle.chi_stat_rules.specs.Elements.{as_instance_target, is_other_exit, exit_rule, started, process_start, untyped_start, visible_start, make, element_made}
-use Rattle.chi_stat_rules.specs.Values.{is_inst}
-use Rattle.chi_stat_laws.specs.Parts.{SoundAim}
-use Rattle.chi_stat_laws.proofs.Targets.{aim_takes}
-use Rattle.chi_stat_parts.specs.Stated.{alone}
-use Rattle.chi_stat_parts.specs.Values.{made_of, made_if, values_in, goal_in, target_in}
-use Rattle.chi_stat_parts.specs.Lines.{element_in}
+use Rattle.chi_check_laws.specs.Standing.{AllStand, SoundMade, Stands, ProcessStands}
+use Rattle.chi_check_laws.proofs.Conversions.{some_is, mapped, chosen, passed_have}
+use Rattle.chi_check_laws.proofs.Has.{Have}
+use Rattle.chi_check_stat_rules.specs.declared.home.ExitType.{ExitType}
+use Rattle.chi_check_stat_rules.specs.declared.home.ExitType.TheVariants as exit
+use Rattle.chi_check_stat_rules.specs.declared.home.Home.{Home}
+use Rattle.chi_check_stat_rules.specs.declared.home.Home.TheVariants as home
+use Rattle.chi_check_stat_rules.specs.declared.parts.Aim.{Aim}
+use Rattle.chi_check_stat_rules.specs.declared.parts.Started.{Started}
+use Rattle.chi_check_stat_rules.specs.Elements.{as_instance_target, is_other_exit, exit_rule, started, process_start, untyped_start, visible_start, make, element_made}
+use Rattle.chi_check_stat_rules.specs.Values.{is_inst}
+use Rattle.chi_check_laws.specs.Parts.{SoundAim}
+use Rattle.chi_check_laws.proofs.Targets.{aim_takes}
+use Rattle.chi_check_stat_lines.specs.Stated.{alone}
+use Rattle.chi_check_stat_lines.specs.Values.{made_of, made_if, values_in, goal_in, target_in}
+use Rattle.chi_check_stat_lines.specs.Lines.{element_in}
 use Rattle.chi_check_laws.specs.Bodies.{role_of}
 use Rattle.chi_check_laws.specs.Texts.{target_texts_if}
 use Rattle.chi_check_laws.proofs.Bodies.{SoundMake, MakeKept, make_at, nothing_more, each_by_parts}

@@ -2,14 +2,14 @@
 use Rattle.std.proofs.Common.{◌≡◌, ◌⊎◌, inl, inr, ℕ, ◌<◌, ◌≤◌, Bool, true, false, List, [], ◌∷◌, ◌++◌, map, length, Some, sym, subst, append-nil, arith}
 use Rattle.chi_types.specs.declared.ty.Ty.{Ty}
 use Rattle.chi_core.specs.Fills.{Fill, Fills, one_after_another}
-use Rattle.chi_typing.specs.declared.known.Known.TheVariants as known
-use Rattle.chi_typing.specs.Names.{Names, known_in}
-use Rattle.chi_typing.specs.Typed.{Typed}
+use Rattle.chi_check_types.specs.declared.known.Known.TheVariants as known
+use Rattle.chi_check_types.specs.Names.{Names, known_in}
+use Rattle.chi_check_types.specs.Typed.{Typed}
 use Rattle.chi_check_expr.proofs.Kept.{Each}
-use Rattle.chi_typing_laws.proofs.Conversions.{some_is, mapped}
-use Rattle.chi_stat_parts.specs.declared.state.State.{State}
-use Rattle.chi_stat_parts.specs.Stated.{Turn, in_turn, alone}
-use Rattle.chi_stat_parts.specs.States.{cut, block}
+use Rattle.chi_check_laws.proofs.Conversions.{some_is, mapped}
+use Rattle.chi_check_stat_lines.specs.declared.state.State.{State}
+use Rattle.chi_check_stat_lines.specs.Stated.{Turn, in_turn, alone}
+use Rattle.chi_check_stat_lines.specs.States.{cut, block}
 use Rattle.chi_check_laws.specs.Bodies.{Grows}
 use Rattle.chi_check_laws.proofs.Apart.{each_map, Apart, AllApart, apart_append, crossed, in_two}
 use Rattle.chi_check_laws.proofs.States.{grows_none, grows_on, cut_names, cut_grows}

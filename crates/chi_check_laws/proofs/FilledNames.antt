@@ -13,33 +13,33 @@ use Rattle.chi_tree.specs.declared.type_tree.TypeTree.{TypeTree}
 use Rattle.chi_types.specs.declared.ty.Ty.{Ty, Ty-F, out-Ty}
 use Rattle.chi_types.specs.Fits.{fits}
 use Rattle.chi_core.specs.Fills.{Fill, Fills, filled, unwound, one_after_another}
-use Rattle.chi_typing.specs.declared.known.Known.{Known}
-use Rattle.chi_typing.specs.declared.known.Known.TheVariants as known
-use Rattle.chi_typing.specs.declared.known.NameKind.{NameKind}
-use Rattle.chi_typing.specs.declared.known.NameKind.TheVariants as kind
-use Rattle.chi_typing.specs.declared.meant.Made.{Made}
-use Rattle.chi_typing.specs.declared.rules.TheConstants.{INDEX, FIELD, TARGET, RECEIVING_NAME}
-use Rattle.chi_typing.specs.Names.{Names, known_in}
-use Rattle.chi_typing.specs.Predefined.{is_predefined}
-use Rattle.chi_typing.specs.Typed.{refused}
-use Rattle.chi_typing.specs.TypeRules.{is_int}
-use Rattle.chi_expr_rules.specs.Conversions.{converted}
-use Rattle.chi_expr_rules.specs.Nodes.{of_one}
-use Rattle.chi_expr_rules.specs.Parts.{field_in}
+use Rattle.chi_check_types.specs.declared.known.Known.{Known}
+use Rattle.chi_check_types.specs.declared.known.Known.TheVariants as known
+use Rattle.chi_check_types.specs.declared.known.NameKind.{NameKind}
+use Rattle.chi_check_types.specs.declared.known.NameKind.TheVariants as kind
+use Rattle.chi_check_types.specs.declared.meant.Made.{Made}
+use Rattle.chi_check_types.specs.declared.rules.TheConstants.{INDEX, FIELD, TARGET, RECEIVING_NAME}
+use Rattle.chi_check_types.specs.Names.{Names, known_in}
+use Rattle.chi_check_types.specs.Predefined.{is_predefined}
+use Rattle.chi_check_types.specs.Typed.{refused}
+use Rattle.chi_check_types.specs.TypeRules.{is_int}
+use Rattle.chi_check_expr_rules.specs.Conversions.{converted}
+use Rattle.chi_check_expr_rules.specs.Nodes.{of_one}
+use Rattle.chi_check_expr_rules.specs.Parts.{field_in}
 use Rattle.chi_core.specs.declared.target.CStep.TheVariants as step
 use Rattle.chi_check_expr.proofs.Kept.{Each}
-use Rattle.chi_typing_laws.proofs.Conversions.{some_is, mapped, chosen}
-use Rattle.chi_stat_rules.specs.declared.home.Home.{Home}
-use Rattle.chi_stat_rules.specs.declared.parts.Aim.{Aim}
-use Rattle.chi_stat_rules.specs.declared.parts.Receiver.{Receiver}
-use Rattle.chi_stat_rules.specs.Channels.{receiver, untyped_receiver, visible_receiver}
-use Rattle.chi_stat_rules.specs.Targets.{aim, untyped_target, visible_target, named_target, is_text, stepped, indexed, index_step, to_part, field_of, field_step}
-use Rattle.chi_stat_parts.specs.declared.state.Binder.{Binder}
-use Rattle.chi_stat_parts.specs.declared.state.Binder.TheVariants as binder
-use Rattle.chi_stat_parts.specs.declared.state.State.{State}
-use Rattle.chi_stat_parts.specs.Stated.{in_turn}
-use Rattle.chi_stat_parts.specs.States.{is_taken, bound, with_variable, slot_if, binding, first_type, other_types, bindings}
-use Rattle.chi_stat_parts.specs.Values.{value_in, step_in, steps_in, target_in}
+use Rattle.chi_check_laws.proofs.Conversions.{some_is, mapped, chosen}
+use Rattle.chi_check_stat_rules.specs.declared.home.Home.{Home}
+use Rattle.chi_check_stat_rules.specs.declared.parts.Aim.{Aim}
+use Rattle.chi_check_stat_rules.specs.declared.parts.Receiver.{Receiver}
+use Rattle.chi_check_stat_rules.specs.Channels.{receiver, untyped_receiver, visible_receiver}
+use Rattle.chi_check_stat_rules.specs.Targets.{aim, untyped_target, visible_target, named_target, is_text, stepped, indexed, index_step, to_part, field_of, field_step}
+use Rattle.chi_check_stat_lines.specs.declared.state.Binder.{Binder}
+use Rattle.chi_check_stat_lines.specs.declared.state.Binder.TheVariants as binder
+use Rattle.chi_check_stat_lines.specs.declared.state.State.{State}
+use Rattle.chi_check_stat_lines.specs.Stated.{in_turn}
+use Rattle.chi_check_stat_lines.specs.States.{is_taken, bound, with_variable, slot_if, binding, first_type, other_types, bindings}
+use Rattle.chi_check_stat_lines.specs.Values.{value_in, step_in, steps_in, target_in}
 use Rattle.chi_check_laws.proofs.Communications.{unrefused}
 use Rattle.chi_check_laws.proofs.Filled.{Visible, Filled, Filling, Other, in_turn_filling}
 use Rattle.chi_check_laws.proofs.States.{found_in, variable_grows}

@@ -8,11 +8,11 @@ use Rattle.chi_core.specs.SetSlots.{StatLayer, Known as Set, also, also_all, who
 use Rattle.chi_core.specs.SoundExpressions as sound
 use Rattle.chi_core.specs.SoundExpressions.{HasKind, HaveKinds}
 use Rattle.chi_types.specs.declared.ty.Ty.{Ty}
-use Rattle.chi_typing.specs.declared.known.Known.{Known}
-use Rattle.chi_typing.specs.declared.known.Known.TheVariants as known
-use Rattle.chi_typing.specs.declared.meant.Meant.{Meant}
-use Rattle.chi_typing.specs.Names.{Names}
-use Rattle.chi_typing_laws.specs.Standing.{Has, Sizes, SoundMeant, SlotStands, Stands, AllStand}
+use Rattle.chi_check_types.specs.declared.known.Known.{Known}
+use Rattle.chi_check_types.specs.declared.known.Known.TheVariants as known
+use Rattle.chi_check_types.specs.declared.meant.Meant.{Meant}
+use Rattle.chi_check_types.specs.Names.{Names}
+use Rattle.chi_check_laws.specs.Standing.{Has, Sizes, SoundMeant, SlotStands, Stands, AllStand}
 use Rattle.chi_check_laws.specs.Bodies.{set_by}
 
 -- each slot of one counts in the other

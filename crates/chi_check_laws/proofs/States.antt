@@ -8,13 +8,13 @@ use Rattle.chi_core.specs.Kinds.{Every}
 use Rattle.chi_core.specs.Scopes.{Scope}
 use Rattle.chi_core.specs.SetSlots.{Known as Set}
 use Rattle.chi_core.specs.Sound.{SoundIn}
-use Rattle.chi_typing.specs.declared.known.Known.{Known}
-use Rattle.chi_typing.specs.Names.{Names, known_in}
-use Rattle.chi_typing_laws.specs.Standing.{Stands, AllStand}
-use Rattle.chi_typing_laws.proofs.Conversions.{some_is, chosen}
-use Rattle.chi_stat_parts.specs.declared.state.Binder.{Binder}
-use Rattle.chi_stat_parts.specs.declared.state.State.{State}
-use Rattle.chi_stat_parts.specs.States.{is_taken, bound, with_slot, with_variable, cut}
+use Rattle.chi_check_types.specs.declared.known.Known.{Known}
+use Rattle.chi_check_types.specs.Names.{Names, known_in}
+use Rattle.chi_check_laws.specs.Standing.{Stands, AllStand}
+use Rattle.chi_check_laws.proofs.Conversions.{some_is, chosen}
+use Rattle.chi_check_stat_lines.specs.declared.state.Binder.{Binder}
+use Rattle.chi_check_stat_lines.specs.declared.state.State.{State}
+use Rattle.chi_check_stat_lines.specs.States.{is_taken, bound, with_slot, with_variable, cut}
 use Rattle.chi_check_laws.specs.Bodies.{SlotsHave, Grows, Agrees}
 use Rattle.chi_check_laws.proofs.More.{Within, names_more}
 

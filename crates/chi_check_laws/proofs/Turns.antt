@@ -4,16 +4,16 @@ use Rattle.std.specs.Prelude.{option_map, if◌then◌else◌}
 use Rattle.chi_token.specs.declared.place.Place.{Place}
 use Rattle.chi_core.specs.Scopes.{Scope}
 use Rattle.chi_core.specs.SetSlots.{Known as Set}
-use Rattle.chi_typing.specs.declared.fault.Fault.{Fault}
-use Rattle.chi_typing.specs.Faults.{are_none}
-use Rattle.chi_typing.specs.Names.{Names}
-use Rattle.chi_typing.specs.Typed.{Typed, broken_if}
+use Rattle.chi_check_types.specs.declared.fault.Fault.{Fault}
+use Rattle.chi_check_types.specs.Faults.{are_none}
+use Rattle.chi_check_types.specs.Names.{Names}
+use Rattle.chi_check_types.specs.Typed.{Typed, broken_if}
 use Rattle.chi_check_expr.proofs.Kept.{Each}
-use Rattle.chi_typing_laws.specs.Standing.{AllStand}
-use Rattle.chi_typing_laws.proofs.Conversions.{some_is, mapped, chained}
-use Rattle.chi_stat_parts.specs.declared.state.State.{State}
-use Rattle.chi_stat_parts.specs.Stated.{Turn, both, in_turn, alone}
-use Rattle.chi_stat_parts.specs.States.{block}
+use Rattle.chi_check_laws.specs.Standing.{AllStand}
+use Rattle.chi_check_laws.proofs.Conversions.{some_is, mapped, chained}
+use Rattle.chi_check_stat_lines.specs.declared.state.State.{State}
+use Rattle.chi_check_stat_lines.specs.Stated.{Turn, both, in_turn, alone}
+use Rattle.chi_check_stat_lines.specs.States.{block}
 use Rattle.chi_check_laws.specs.Bodies.{SlotsHave, Grows, Agrees}
 use Rattle.chi_check_laws.proofs.More.{Within}
 use Rattle.chi_check_laws.proofs.States.{grows_none, grows_on, cut_grows, agrees_cut, agrees_more, slots_before}

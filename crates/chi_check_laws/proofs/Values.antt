@@ -9,23 +9,23 @@ use Rattle.chi_core.specs.declared.expression.CExpr.{CExpr}
 use Rattle.chi_core.specs.Kinds.{kind_of}
 use Rattle.chi_core.specs.Scopes.{Role, function, process, Scope}
 use Rattle.chi_core.specs.SetSlots.{Known as Set}
-use Rattle.chi_typing.specs.declared.meant.Made.{Made}
-use Rattle.chi_typing.specs.declared.meant.Meant.{Meant}
-use Rattle.chi_typing.specs.Names.{Names}
-use Rattle.chi_expr_rules.specs.Nodes.{of_one, of_two, all_made}
+use Rattle.chi_check_types.specs.declared.meant.Made.{Made}
+use Rattle.chi_check_types.specs.declared.meant.Meant.{Meant}
+use Rattle.chi_check_types.specs.Names.{Names}
+use Rattle.chi_check_expr_rules.specs.Nodes.{of_one, of_two, all_made}
 use Rattle.chi_check_expr.specs.Typing.{reading}
 use Rattle.chi_check_expr.proofs.Kept.{Each}
 use Rattle.chi_check_expr.proofs.Nodes.{settled_made}
-use Rattle.chi_typing_laws.specs.Standing.{IsSite, AllStand, Has, SoundMade, SoundMeant}
-use Rattle.chi_typing_laws.proofs.Conversions.{some_is, mapped, chained}
-use Rattle.chi_typing_laws.proofs.Whole.{expression_sound, type_sound}
-use Rattle.chi_stat_rules.specs.declared.home.ExitType.TheVariants as exit
-use Rattle.chi_stat_rules.specs.declared.home.Home.{Home}
-use Rattle.chi_stat_rules.specs.declared.home.Home.TheVariants as home
-use Rattle.chi_stat_rules.specs.Homes.{site_of}
-use Rattle.chi_stat_rules.specs.Values.{as_bool, as_instance}
-use Rattle.chi_stat_laws.proofs.Values.{condition_has, instance_has}
-use Rattle.chi_stat_parts.specs.Values.{made_of, value_in, values_in, test_in, instance_in}
+use Rattle.chi_check_laws.specs.Standing.{IsSite, AllStand, Has, SoundMade, SoundMeant}
+use Rattle.chi_check_laws.proofs.Conversions.{some_is, mapped, chained}
+use Rattle.chi_check_laws.proofs.WholeParts.{expression_sound, type_sound}
+use Rattle.chi_check_stat_rules.specs.declared.home.ExitType.TheVariants as exit
+use Rattle.chi_check_stat_rules.specs.declared.home.Home.{Home}
+use Rattle.chi_check_stat_rules.specs.declared.home.Home.TheVariants as home
+use Rattle.chi_check_stat_rules.specs.Homes.{site_of}
+use Rattle.chi_check_stat_rules.specs.Values.{as_bool, as_instance}
+use Rattle.chi_check_laws.proofs.SoundValues.{condition_has, instance_has}
+use Rattle.chi_check_stat_lines.specs.Values.{made_of, value_in, values_in, test_in, instance_in}
 use Rattle.chi_check_laws.specs.Bodies.{role_of}
 
 -- ---- nodes that come to something

@@ -15,28 +15,28 @@ use Rattle.chi_core.specs.SoundParts as part
 use Rattle.chi_core.specs.SoundParts.{SlotsTake, SlotsTakeParts}
 use Rattle.chi_core.specs.SoundTypes.{SoundParts, no_part, one_part}
 use Rattle.chi_core.proofs.Erased.{kind_at}
-use Rattle.chi_typing.specs.declared.known.Known.{Known}
-use Rattle.chi_typing.specs.declared.meant.Made.{Made}
-use Rattle.chi_typing.specs.declared.rules.TheConstants.{WALK_NAMES}
-use Rattle.chi_typing.specs.Names.{Names}
+use Rattle.chi_check_types.specs.declared.known.Known.{Known}
+use Rattle.chi_check_types.specs.declared.meant.Made.{Made}
+use Rattle.chi_check_types.specs.declared.rules.TheConstants.{WALK_NAMES}
+use Rattle.chi_check_types.specs.Names.{Names}
 use Rattle.chi_check_expr.proofs.Kept.{Each}
 use Rattle.chi_check_expr.proofs.Nodes.{settled_made}
-use Rattle.chi_typing_laws.specs.Standing.{AllStand, SlotStands, SoundMade, Stands}
-use Rattle.chi_typing_laws.proofs.Conversions.{some_is, mapped, chosen}
-use Rattle.chi_typing_laws.proofs.TypeKinds.{parts_of_tuple}
-use Rattle.chi_stat_rules.specs.declared.home.Home.{Home}
-use Rattle.chi_stat_rules.specs.declared.parts.Walked.{Walked}
-use Rattle.chi_stat_rules.specs.Walks.{element_type, types_of_parts, name_types, walked, walked_by, walk_over, walk_of}
-use Rattle.chi_stat_laws.proofs.Values.{walked_sound}
-use Rattle.chi_stat_parts.specs.declared.state.Binder.{Binder}
-use Rattle.chi_stat_parts.specs.declared.state.Binder.TheVariants as binder
-use Rattle.chi_stat_parts.specs.declared.state.Opened.{Opened}
-use Rattle.chi_stat_parts.specs.declared.state.State.{State}
-use Rattle.chi_stat_parts.specs.Stated.{in_turn}
-use Rattle.chi_stat_parts.specs.States.{is_taken, bound, with_variable, next_slot, slot_if, first_type, other_types, bindings}
-use Rattle.chi_stat_parts.specs.Values.{value_in}
-use Rattle.chi_stat_parts.specs.Declarations.{opened, opening, types_of, walk_in, walk_place}
-use Rattle.chi_stat_rules.specs.Places.{expr_place}
+use Rattle.chi_check_laws.specs.Standing.{AllStand, SlotStands, SoundMade, Stands}
+use Rattle.chi_check_laws.proofs.Conversions.{some_is, mapped, chosen}
+use Rattle.chi_check_laws.proofs.TypeKinds.{parts_of_tuple}
+use Rattle.chi_check_stat_rules.specs.declared.home.Home.{Home}
+use Rattle.chi_check_stat_rules.specs.declared.parts.Walked.{Walked}
+use Rattle.chi_check_stat_rules.specs.Walks.{element_type, types_of_parts, name_types, walked, walked_by, walk_over, walk_of}
+use Rattle.chi_check_laws.proofs.SoundValues.{walked_sound}
+use Rattle.chi_check_stat_lines.specs.declared.state.Binder.{Binder}
+use Rattle.chi_check_stat_lines.specs.declared.state.Binder.TheVariants as binder
+use Rattle.chi_check_stat_lines.specs.declared.state.Opened.{Opened}
+use Rattle.chi_check_stat_lines.specs.declared.state.State.{State}
+use Rattle.chi_check_stat_lines.specs.Stated.{in_turn}
+use Rattle.chi_check_stat_lines.specs.States.{is_taken, bound, with_variable, next_slot, slot_if, first_type, other_types, bindings}
+use Rattle.chi_check_stat_lines.specs.Values.{value_in}
+use Rattle.chi_check_stat_lines.specs.Declarations.{opened, opening, types_of, walk_in, walk_place}
+use Rattle.chi_check_stat_rules.specs.Places.{expr_place}
 use Rattle.chi_check_laws.specs.Bodies.{role_of, SlotsHave, Agrees, Grows}
 use Rattle.chi_check_laws.specs.Whole.{has_any}
 use Rattle.chi_check_laws.proofs.More.{also_more, also_itself, names_more}

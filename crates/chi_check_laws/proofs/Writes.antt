@@ -22,25 +22,25 @@ use Rattle.chi_core.specs.Scopes.{process, Scope}
 use Rattle.chi_core.specs.SetSlots.{Known as Set}
 use Rattle.chi_core.specs.SoundParts as part
 use Rattle.chi_core.specs.SoundParts.{Shows}
-use Rattle.chi_typing.specs.declared.meant.Made.{Made}
-use Rattle.chi_typing.specs.declared.rules.TheConstants.{FORMAT, FORMAT_VALUE}
-use Rattle.chi_typing.specs.Names.{Names}
-use Rattle.chi_typing.specs.Typed.{Typed, refused}
-use Rattle.chi_typing.specs.TypeRules.{is_int}
+use Rattle.chi_check_types.specs.declared.meant.Made.{Made}
+use Rattle.chi_check_types.specs.declared.rules.TheConstants.{FORMAT, FORMAT_VALUE}
+use Rattle.chi_check_types.specs.Names.{Names}
+use Rattle.chi_check_types.specs.Typed.{Typed, refused}
+use Rattle.chi_check_types.specs.TypeRules.{is_int}
 use Rattle.chi_check_expr.proofs.Kept.{Each}
 use Rattle.chi_check_expr.proofs.Nodes.{barred_made}
-use Rattle.chi_typing_laws.specs.Standing.{AllStand, Has, SoundMade}
-use Rattle.chi_typing_laws.proofs.Conversions.{some_is, mapped, chained, chosen}
-use Rattle.chi_typing_laws.proofs.Has.{Have, have_none, have_one}
-use Rattle.chi_typing_laws.proofs.Parts.{int_kind}
-use Rattle.chi_typing_laws.proofs.TypeKinds.{kind_real, plain_kind}
-use Rattle.chi_stat_rules.specs.declared.home.Home.{Home}
-use Rattle.chi_stat_rules.specs.Homes.{running_rule}
-use Rattle.chi_stat_rules.specs.Writes.{ended, read_pieces, pieces_of, is_shown, shown_count, showing, Written, shown_one, with_first, all_shown, written, write_of}
-use Rattle.chi_stat_laws.proofs.Values.{fitted_has}
-use Rattle.chi_stat_parts.specs.Stated.{alone}
-use Rattle.chi_stat_parts.specs.Values.{values_in, made_of}
-use Rattle.chi_stat_parts.specs.Lines.{placed, write_in}
+use Rattle.chi_check_laws.specs.Standing.{AllStand, Has, SoundMade}
+use Rattle.chi_check_laws.proofs.Conversions.{some_is, mapped, chained, chosen}
+use Rattle.chi_check_laws.proofs.Has.{Have, have_none, have_one}
+use Rattle.chi_check_laws.proofs.Parts.{int_kind}
+use Rattle.chi_check_laws.proofs.TypeKinds.{kind_real, plain_kind}
+use Rattle.chi_check_stat_rules.specs.declared.home.Home.{Home}
+use Rattle.chi_check_stat_rules.specs.Homes.{running_rule}
+use Rattle.chi_check_stat_rules.specs.Writes.{ended, read_pieces, pieces_of, is_shown, shown_count, showing, Written, shown_one, with_first, all_shown, written, write_of}
+use Rattle.chi_check_laws.proofs.SoundValues.{fitted_has}
+use Rattle.chi_check_stat_lines.specs.Stated.{alone}
+use Rattle.chi_check_stat_lines.specs.Values.{values_in, made_of}
+use Rattle.chi_check_stat_lines.specs.Lines.{placed, write_in}
 use Rattle.chi_check_laws.specs.Bodies.{role_of}
 use Rattle.chi_check_laws.proofs.Bodies.{SoundOne, StatementKept, statements_by_parts}
 use Rattle.chi_check_laws.proofs.Endings.{runs_in}

@@ -8,8 +8,8 @@ use Rattle.chi_core.specs.declared.statement.Branch.{Branch, Branch-F, fold-Bran
 use Rattle.chi_core.specs.declared.statement.CAlt.{CAlt, CAlt-F, fold-CAlt}
 use Rattle.chi_core.specs.declared.statement.CStat.{CStat, CStat-F, fold-CStat}
 use Rattle.chi_core.specs.declared.target.CTarget.{CTarget}
-use Rattle.chi_typing_laws.specs.Texts.{texts_are_short}
-use Rattle.chi_stat_laws.specs.Parts.{target_texts, texts_if_any, communication_texts}
+use Rattle.chi_check_laws.specs.TypedTexts.{texts_are_short}
+use Rattle.chi_check_laws.specs.Parts.{target_texts, texts_if_any, communication_texts}
 
 abbrev pub all_texts : List CExpr → Bool
 all_texts es = list_all itself (map texts_are_short es)

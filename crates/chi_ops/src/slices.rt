@@ -76,12 +76,7 @@ fn taken_row(
 
 /// The list of a slice by steps of 1.
 #[tactic(auto, using(crate::proofs::Halves::part_taken))]
-fn part_of(
-    alloc: Global,
-    items: Row,
-    from: Option<i64>,
-    upto: Option<i64>,
-) -> Result<Row, NoMemory>
+fn part_of(alloc: Global, items: Row, from: Option<i64>, upto: Option<i64>) -> Result<Row, NoMemory>
     ensures value { IfOk result (λ taken. taken ≡ slice_of items from upto (pos 1)) }
 {
     let first = place_or(items.len(), from, 0);

@@ -9,9 +9,9 @@ ghost use Rattle.chi_tree.specs.View.{expr_of, name_in, optional};
 
 use crate::targets::target;
 use chi_grammar::{ParseFault, Room};
-use chi_look::classes::FIRST_OF_EXPR;
-use chi_look::{is_next, take, take_name};
 use chi_parse_expr::expr;
+use chi_parse_look::classes::FIRST_OF_EXPR;
+use chi_parse_look::{is_next, take, take_name};
 use chi_token::{Keyword, Sign, Spanned};
 use chi_tree::{Class, Communication, Expr, Name, Target};
 use std::alloc::Global;

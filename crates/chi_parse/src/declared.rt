@@ -10,8 +10,8 @@ ghost use Rattle.chi_tree.specs.Statements.{initial_of, more_variables_of, varia
 
 use chi_base::Items;
 use chi_grammar::{ParseFault, Room};
-use chi_look::{is_next, take, take_name};
 use chi_parse_expr::expr;
+use chi_parse_look::{is_next, take, take_name};
 use chi_token::{Sign, Spanned};
 use chi_tree::{Class, Initial, Variable};
 use std::alloc::Global;

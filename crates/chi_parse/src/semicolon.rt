@@ -7,7 +7,7 @@ ghost use Rattle.chi_tree.specs.Tables.{table};
 ghost use Rattle.chi_token.specs.declared.sign.Sign.TheVariants.{Semicolon};
 ghost use Rattle.chi_parse.specs.Heads.{is_there};
 
-use chi_look::take;
+use chi_parse_look::take;
 use chi_token::{Sign, Spanned};
 use chi_tree::Class;
 

@@ -10,9 +10,9 @@ ghost use Rattle.chi_tree.specs.View.{postfix_of, postfixes_of};
 
 use chi_base::Items;
 use chi_grammar::{Nesting, ParseFault, Room};
-use chi_look::classes::FIRST_OF_POSTFIX;
-use chi_look::{enter, is_next, take, take_name};
 use chi_parse_expr::{boxed_expr, field};
+use chi_parse_look::classes::FIRST_OF_POSTFIX;
+use chi_parse_look::{enter, is_next, take, take_name};
 use chi_token::{Sign, Spanned};
 use chi_tree::{Class, Postfix, Target};
 use std::alloc::Global;

@@ -11,8 +11,8 @@ ghost use Rattle.chi_tree.specs.View.{more_names_in, names_in};
 
 use chi_base::Items;
 use chi_grammar::{ParseFault, Room};
-use chi_look::{is_next, take, take_name};
 use chi_parse_expr::expr;
+use chi_parse_look::{is_next, take, take_name};
 use chi_token::{Keyword, Sign, Spanned};
 use chi_tree::{Class, Name, Walk};
 use std::alloc::Global;

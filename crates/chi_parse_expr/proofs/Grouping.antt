@@ -19,8 +19,8 @@ use Rattle.chi_tree.specs.View.{operator_shown, Built, expr_of, links_of, link_o
 use Rattle.chi_parse_expr.specs.declared.level.ChainLevel.{ChainLevel}
 use Rattle.chi_parse_expr.specs.declared.level.ChainLevel.TheVariants.{Or, And, Sum, Product}
 use Rattle.chi_parse_expr.specs.Grouping.{chain_part, link_part, operand_part}
-use Rattle.chi_look.specs.Taking.{OneAt, NoneAt}
-use Rattle.chi_look.proofs.Words.{run_one_of, run_none_of}
+use Rattle.chi_parse_look.specs.Taking.{OneAt, NoneAt}
+use Rattle.chi_parse_look.proofs.Words.{run_one_of, run_none_of}
 
 -- an operator of the level
 abbrev pub operator_rule : ChainLevel → Rule Spanned Part

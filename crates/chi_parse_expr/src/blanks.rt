@@ -11,10 +11,10 @@ ghost use Rattle.chi_tree.specs.Parts as s;
 use crate::types::boxed_type;
 use chi_base::Boxed;
 use chi_grammar::{Nesting, ParseFault, Room};
-use chi_look::classes::{
+use chi_parse_look::classes::{
     COLON, GREATER, LEFT_BRACE, LEFT_BRACKET, LESS, RIGHT_BRACE, RIGHT_BRACKET,
 };
-use chi_look::{enter, is_next, take};
+use chi_parse_look::{enter, is_next, take};
 use chi_token::{Place, Spanned};
 use chi_tree::{Expr, TypeTree};
 use std::alloc::Global;

@@ -13,10 +13,10 @@ use crate::nodes::way_of;
 use crate::types::nested_type;
 use chi_base::{Boxed, Items};
 use chi_grammar::{Nesting, ParseFault, Room};
-use chi_look::classes::{
+use chi_parse_look::classes::{
     CHAN, COLON, COMMA, DICT, LEFT_PAREN, RIGHT_PAREN, SEMICOLON, TUPLE, VOID, WAY_SIGNS,
 };
-use chi_look::{enter, is_next, take, take_name, take_one_of};
+use chi_parse_look::{enter, is_next, take, take_name, take_one_of};
 use chi_token::Spanned;
 use chi_tree::{Formal, TypeTree, Way};
 use std::alloc::Global;

@@ -3,7 +3,7 @@ ghost use Rattle.std.specs.Prelude.{◌≡◌};
 ghost use Rattle.chi_tree.specs.Begins.{begins};
 ghost use Rattle.chi_parse_expr.specs.Grouping.{link_part};
 
-use chi_look::classes::{AND, OR, PRODUCT_SIGNS, SUM_SIGNS};
+use chi_parse_look::classes::{AND, OR, PRODUCT_SIGNS, SUM_SIGNS};
 use chi_tree::Class;
 
 /// A level of operators that group from the left, from the one that binds least on.

@@ -13,8 +13,10 @@ use crate::nodes::parted;
 use crate::primaries::primary;
 use chi_base::{Boxed, Items};
 use chi_grammar::{Nesting, ParseFault, Room};
-use chi_look::classes::{COLON, DOT, FIRST_OF_EXPR, FIRST_OF_POSTFIX, LEFT_BRACKET, RIGHT_BRACKET};
-use chi_look::{enter, is_next, take, take_name};
+use chi_parse_look::classes::{
+    COLON, DOT, FIRST_OF_EXPR, FIRST_OF_POSTFIX, LEFT_BRACKET, RIGHT_BRACKET,
+};
+use chi_parse_look::{enter, is_next, take, take_name};
 use chi_token::{Place, Spanned};
 use chi_tree::{Expr, Postfix};
 use std::alloc::Global;

@@ -16,11 +16,11 @@ use crate::postfixes::boxed_expr;
 use crate::sequences::{arguments, exprs, exprs_after};
 use chi_base::Boxed;
 use chi_grammar::{Nesting, ParseFault, Room};
-use chi_look::classes::{
+use chi_parse_look::classes::{
     CAST_WORDS, COMMA, LEFT_BRACE, LEFT_BRACKET, LEFT_PAREN, LITERALS, NAME, RIGHT_BRACKET,
     RIGHT_PAREN,
 };
-use chi_look::{enter, is_next, take, take_name, take_one_of};
+use chi_parse_look::{enter, is_next, take, take_name, take_one_of};
 use chi_token::{Place, Spanned};
 use chi_tree::Expr;
 use std::alloc::Global;

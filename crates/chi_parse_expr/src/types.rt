@@ -14,11 +14,11 @@ use crate::nodes::type_word_of;
 use crate::postfixes::boxed_expr;
 use chi_base::Boxed;
 use chi_grammar::{Nesting, ParseFault, Room};
-use chi_look::classes::{
+use chi_parse_look::classes::{
     DICT, DIST, FIRST_OF_BUILT_TYPE, FIRST_OF_TYPE, LEFT_PAREN, LIST, RIGHT_PAREN, SET, TUPLE,
     TYPE_WORDS,
 };
-use chi_look::{enter, is_next, take, take_name, take_one_of};
+use chi_parse_look::{enter, is_next, take, take_name, take_one_of};
 use chi_token::Spanned;
 use chi_tree::{Expr, TypeTree};
 use std::alloc::Global;

@@ -3,9 +3,9 @@ ghost use Rattle.std.specs.Prelude.{◌<◌, ◌^◌, length, IfOk};
 use crate::programs::PRODUCTIONS;
 use chi_lex::{MOST_BYTES, lex};
 use chi_parse::parse;
-use chi_spell::spell;
 use chi_token::{Spanned, Token, spelling};
 use chi_tree::Program;
+use chi_tree_spell::spell;
 use std::alloc::Global;
 use std::test::Fail;
 

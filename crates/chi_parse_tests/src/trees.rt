@@ -1,14 +1,14 @@
 use chi_base::{Boxed, Items, NoMemory};
-use chi_grammar_laws::{
-    answer_law, formed_law, grammar_law, last_token_law, nesting_law, one_program_law,
-    one_tree_law, parsed_law, parsed_part_law,
-};
-use chi_spell::{places_law, spell, spelling_law};
 use chi_token::{Bytes, Keyword, Place, Sign, Token, spelling};
 use chi_tree::{
     Class, Definition, Formal, Item, MOST_BLOCKS, MOST_EXPRESSIONS, Name, Program, TypeTree,
     TypeWord, whole_room,
 };
+use chi_tree_laws::{
+    answer_law, formed_law, grammar_law, last_token_law, nesting_law, one_program_law,
+    one_tree_law, parsed_law, parsed_part_law,
+};
+use chi_tree_spell::{places_law, spell, spelling_law};
 use std::alloc::Global;
 use std::test::Fail;
 

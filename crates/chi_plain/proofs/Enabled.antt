@@ -12,8 +12,8 @@ use Rattle.chi_core.specs.declared.label.Label.TheVariants.{Pair, Wake, Join, Ad
 use Rattle.chi_core.specs.Config.{Config, Instance, Offer, State, Running, Waiting, Joining, Finished, offers_in}
 use Rattle.chi_core.specs.Meeting.{may_reach, next_due}
 use Rattle.chi_core.specs.Options.{numbers, receivers, pairs_with, options_by, options_for, none_under_way, options_in, options_of, options, actors, advance_to, advance, enabled, enabled_of, Ending, at_rest, ending, ending_of}
-use Rattle.chi_runs.proofs.Lists.{kept}
-use Rattle.chi_choices.proofs.Lists.{none-of, lt-true, lt-false}
+use Rattle.chi_core_runs.proofs.Lists.{kept}
+use Rattle.chi_plain_options.proofs.Lists.{none-of, lt-true, lt-false}
 use Rattle.chi_plain.specs.Watching.{is_advance}
 
 none-append : {A : Type 0} (t : A → Bool) (xs ys : List A) → list_any t xs ≡ false → list_any t ys ≡ false → list_any t (xs ++ ys) ≡ false

@@ -11,14 +11,14 @@ use Rattle.chi_core.specs.declared.act.Act.TheVariants.{Send, Receive, Delay}
 use Rattle.chi_core.specs.declared.label.Label.TheVariants.{Wake, Join}
 use Rattle.chi_core.specs.Config.{Config, Instance, Offer, State, Running, Waiting, Joining, Finished, offers_in}
 use Rattle.chi_core.specs.Options.{numbers, receivers, pairs_with, pairs, options_by, options_for, options_in, options_of, options, is_under_way, none_under_way}
-use Rattle.chi_choices.specs.declared.parties.Parties.{Parties}
-use Rattle.chi_choices.specs.Listing.{AllJoiners, AllParties, IsJoiner, IsParty, IsPartyBy, Keeps, is_joining, listed_at}
-use Rattle.chi_choices.specs.Reaching.{Covers, Reaches}
+use Rattle.chi_plain_options.specs.declared.parties.Parties.{Parties}
+use Rattle.chi_plain_options.specs.Listing.{AllJoiners, AllParties, IsJoiner, IsParty, IsPartyBy, Keeps, is_joining, listed_at}
+use Rattle.chi_plain_options.specs.Reaching.{Covers, Reaches}
 use Rattle.chi_plain.specs.Watching.{IsAffected, Others}
-use Rattle.chi_choices.specs.Acting.{acts}
+use Rattle.chi_plain_options.specs.Acting.{acts}
 use Rattle.chi_plain.specs.Led.{Settles}
-use Rattle.chi_choices.proofs.Lists.{eq-cases}
-use Rattle.chi_choices.proofs.Havings.{no-receivers, receives-reaches, pairs_with-none, acts-none}
+use Rattle.chi_plain_options.proofs.Lists.{eq-cases}
+use Rattle.chi_plain_options.proofs.Havings.{no-receivers, receives-reaches, pairs_with-none, acts-none}
 
 -- lists of numbers
 

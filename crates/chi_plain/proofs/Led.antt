@@ -10,19 +10,19 @@ use Rattle.chi_core.specs.declared.program.Core.{Core}
 use Rattle.chi_core.specs.Config.{Config, Instance}
 use Rattle.chi_core.specs.Options.{is_under_way}
 use Rattle.chi_core.specs.Step.{Next, step}
-use Rattle.chi_runs.proofs.Time.{stands_still}
-use Rattle.chi_steps.specs.declared.stepping.Went.{Went}
-use Rattle.chi_steps.specs.declared.stepping.Went.TheVariants as wents
-use Rattle.chi_steps.specs.Takings.{Appends, Takes}
+use Rattle.chi_core_runs.proofs.Time.{stands_still}
+use Rattle.chi_plain_steps.specs.declared.stepping.Went.{Went}
+use Rattle.chi_plain_steps.specs.declared.stepping.Went.TheVariants as wents
+use Rattle.chi_plain_steps.specs.Takings.{Appends, Takes}
 use Rattle.chi_plain.specs.declared.watching.Before.{Before}
-use Rattle.chi_choices.specs.declared.parties.Parties.{Parties}
-use Rattle.chi_choices.specs.Marked.{is_marked}
+use Rattle.chi_plain_options.specs.declared.parties.Parties.{Parties}
+use Rattle.chi_plain_options.specs.Marked.{is_marked}
 use Rattle.chi_plain.specs.Watching.{is_advance, IsAffected, IsWatched, first_named, second_named}
-use Rattle.chi_choices.specs.Listing.{AllJoiners, AllParties, IsJoiner, IsParty, Keeps, KeepsParties}
-use Rattle.chi_choices.specs.Reaching.{Covers, CoversFrom}
+use Rattle.chi_plain_options.specs.Listing.{AllJoiners, AllParties, IsJoiner, IsParty, Keeps, KeepsParties}
+use Rattle.chi_plain_options.specs.Reaching.{Covers, CoversFrom}
 use Rattle.chi_plain.specs.Led.{IsBefore, IsListed, Leads, Led, Settles}
-use Rattle.chi_choices.proofs.Keeping.{keeps-trans}
-use Rattle.chi_choices.proofs.Listings.{covers-kept, party-kept, joiner-kept}
+use Rattle.chi_plain_options.proofs.Keeping.{keeps-trans}
+use Rattle.chi_plain_options.proofs.Listings.{covers-kept, party-kept, joiner-kept}
 use Rattle.chi_plain.proofs.Touched.{touches}
 use Rattle.chi_plain.proofs.Mending.{RightBut, holds_of_all, right-led, settles_still, settles_later}
 

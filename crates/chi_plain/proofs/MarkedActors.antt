@@ -3,9 +3,9 @@ use Rattle.std.proofs.Common.{◌≡◌, ℕ, List, [], ◌∷◌, Bool, cond, l
 use Rattle.std.specs.Prelude.{filter}
 use Rattle.chi_core.specs.Config.{Config}
 use Rattle.chi_core.specs.Options.{numbers, actors}
-use Rattle.chi_choices.specs.Marked.{is_marked, marked_below, marked}
+use Rattle.chi_plain_options.specs.Marked.{is_marked, marked_below, marked}
 use Rattle.chi_plain.specs.Watching.{IsMarked}
-use Rattle.chi_choices.specs.Acting.{acts}
+use Rattle.chi_plain_options.specs.Acting.{acts}
 
 filter-same : (f g : ℕ → Bool) (xs : List ℕ) → ((x : ℕ) → f x ≡ g x) → filter f xs ≡ filter g xs
 filter-same f g [] h = refl

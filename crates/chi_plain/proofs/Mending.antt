@@ -8,15 +8,15 @@ use Rattle.std.proofs.lemmas.Option.{slice_get_past}
 use Rattle.chi_core.specs.declared.label.Label.{Label}
 use Rattle.chi_core.specs.declared.label.Label.TheVariants.{Advance}
 use Rattle.chi_core.specs.Config.{Config, Instance}
-use Rattle.chi_choices.specs.declared.parties.Parties.{Parties}
-use Rattle.chi_choices.specs.Marked.{is_marked}
+use Rattle.chi_plain_options.specs.declared.parties.Parties.{Parties}
+use Rattle.chi_plain_options.specs.Marked.{is_marked}
 use Rattle.chi_plain.specs.Watching.{IsAffected, IsMarked, first_named, second_named}
-use Rattle.chi_choices.specs.Acting.{acts}
+use Rattle.chi_plain_options.specs.Acting.{acts}
 use Rattle.chi_plain.specs.Led.{IsListed, Leads, Settles}
-use Rattle.chi_choices.proofs.Havings.{acts-none}
+use Rattle.chi_plain_options.proofs.Havings.{acts-none}
 use Rattle.chi_plain.proofs.Frames.{settles, settles-all}
-use Rattle.chi_choices.proofs.Lists.{eq-cases, get_or-within}
-use Rattle.chi_choices.proofs.Keeping.{keeps-more, contains-pushed}
+use Rattle.chi_plain_options.proofs.Lists.{eq-cases, get_or-within}
+use Rattle.chi_plain_options.proofs.Keeping.{keeps-more, contains-pushed}
 
 -- marks
 

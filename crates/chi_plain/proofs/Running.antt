@@ -18,19 +18,19 @@ use Rattle.chi_core.specs.Options.{Ending, all_finished, stopped_at, at_rest, en
 use Rattle.chi_core.specs.Meeting.{next_due}
 use Rattle.chi_core.specs.Starting.{started_by}
 use Rattle.chi_core.specs.Step.{Outcome, Next, Over, Spent, Amiss, step}
-use Rattle.chi_kinded.specs.Keeps.{SoundVerdict, GoesKinded, BeginsKinded}
-use Rattle.chi_runs.specs.Time.{EachCosts}
-use Rattle.chi_steps.specs.declared.beginning.Begun.{Begun}
-use Rattle.chi_steps.specs.declared.beginning.Begun.TheVariants as begun
+use Rattle.chi_core_kinds.specs.Keeps.{SoundVerdict, GoesKinded, BeginsKinded}
+use Rattle.chi_core_runs.specs.Time.{EachCosts}
+use Rattle.chi_plain_steps.specs.declared.beginning.Begun.{Begun}
+use Rattle.chi_plain_steps.specs.declared.beginning.Begun.TheVariants as begun
 use Rattle.chi_plain.specs.declared.standing.Standing.{Standing}
 use Rattle.chi_plain.specs.declared.stepped.Stepped.TheVariants as stepped
 use Rattle.chi_plain.specs.declared.taking.Taken.{Taken}
 use Rattle.chi_plain.specs.declared.taking.Taken.TheVariants as taken
-use Rattle.chi_steps.specs.Begun.{begun_of}
+use Rattle.chi_plain_steps.specs.Begun.{begun_of}
 use Rattle.chi_plain.specs.Stage as stage
 use Rattle.chi_plain.specs.Stage.{MayTell}
 use Rattle.chi_plain.specs.Standings.{stage_of, standing_at, Stands}
-use Rattle.chi_steps.specs.Takings.{Appends, IsRight}
+use Rattle.chi_plain_steps.specs.Takings.{Appends, IsRight}
 use Rattle.chi_plain.specs.Taken.{TakesTo}
 use Rattle.std.proofs.lemmas.List.{append-nil}
 use Rattle.std.proofs.Common.{ℤ}

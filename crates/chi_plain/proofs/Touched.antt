@@ -26,7 +26,7 @@ use Rattle.chi_core.specs.Starting.{all_started}
 use Rattle.chi_core.specs.Step as outcome
 use Rattle.chi_core.specs.Step.{Outcome, Next, Over, line_of, name_of, fault_in, after_step, first_done, local_in, local, no_fault, taken, step}
 use Rattle.chi_core.specs.Terms.{Item, Do, Loop, Walk, Term, Did, On, Returns, act_stat, act}
-use Rattle.chi_steps.proofs.Changes.{slice_get-set_other}
+use Rattle.chi_plain_steps.proofs.Changes.{slice_get-set_other}
 use Rattle.chi_plain.specs.Watching.{Others, first_named, second_named}
 
 -- what is given is so

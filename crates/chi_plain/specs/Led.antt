@@ -4,12 +4,12 @@ use Rattle.chi_core.specs.declared.label.Label.{Label}
 use Rattle.chi_core.specs.declared.label.Label.TheVariants.{Advance}
 use Rattle.chi_core.specs.Config.{Config, Instance}
 use Rattle.chi_core.specs.Options.{is_under_way}
-use Rattle.chi_choices.specs.declared.parties.Parties.{Parties}
+use Rattle.chi_plain_options.specs.declared.parties.Parties.{Parties}
 use Rattle.chi_plain.specs.declared.watching.Before.{Before}
-use Rattle.chi_choices.specs.Listing.{AllJoiners, AllParties}
-use Rattle.chi_choices.specs.Reaching.{Covers}
+use Rattle.chi_plain_options.specs.Listing.{AllJoiners, AllParties}
+use Rattle.chi_plain_options.specs.Reaching.{Covers}
 use Rattle.chi_plain.specs.Watching.{IsWatched, Others, first_named, second_named}
-use Rattle.chi_choices.specs.Acting.{acts}
+use Rattle.chi_plain_options.specs.Acting.{acts}
 
 -- what is known before the step of a label
 pub record IsBefore (parties : Parties) (label : Label) (old : List Instance) (b : Before) : Type 0 where

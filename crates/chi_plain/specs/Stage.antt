@@ -11,9 +11,9 @@ use Rattle.chi_core.specs.Options.{Ending, options, actors, enabled, ending, end
 use Rattle.chi_core.specs.Beginning.{Beginning, Begins, Breaks}
 use Rattle.chi_core.specs.Beginning as beginning
 use Rattle.chi_core.specs.VerdictLine.{may_tell, told_length}
-use Rattle.chi_events.specs.Traces.{event_at}
+use Rattle.chi_trace_events.specs.Traces.{event_at}
 use Rattle.chi_trace.specs.declared.event.Event.{Event}
-pub use Rattle.chi_steps.specs.Takings.{Appends}
+pub use Rattle.chi_plain_steps.specs.Takings.{Appends}
 use Rattle.chi_plain.specs.declared.stepped.Stepped.{Stepped}
 use Rattle.chi_plain.specs.declared.stepped.Stepped.TheVariants.{Next, Over, Spent, NoMemory}
 

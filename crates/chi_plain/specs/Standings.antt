@@ -5,8 +5,8 @@ use Rattle.chi_core.specs.Config.{Config}
 use Rattle.chi_core.specs.Kinded.{Kinded}
 use Rattle.chi_core.specs.Options.{Ending, ending}
 use Rattle.chi_core.specs.Sound.{Sound}
-use Rattle.chi_steps.specs.declared.beginning.Begun.{Begun}
-use Rattle.chi_steps.specs.declared.beginning.Begun.TheVariants as begun
+use Rattle.chi_plain_steps.specs.declared.beginning.Begun.{Begun}
+use Rattle.chi_plain_steps.specs.declared.beginning.Begun.TheVariants as begun
 use Rattle.chi_plain.specs.declared.standing.Standing.{Standing}
 use Rattle.chi_plain.specs.declared.standing.Standing.TheVariants.{At, Ended, Lost}
 use Rattle.chi_plain.specs.Stage as stage

@@ -4,11 +4,11 @@ use Rattle.chi_core.specs.declared.label.Label.{Label}
 use Rattle.chi_core.specs.declared.label.Label.TheVariants.{Local, Pair, Wake, Join, Advance}
 use Rattle.chi_core.specs.Config.{Config, Instance}
 use Rattle.chi_core.specs.Options.{is_under_way}
-use Rattle.chi_choices.specs.declared.parties.Parties.{Parties}
-use Rattle.chi_choices.specs.Acting.{acts}
-use Rattle.chi_choices.specs.Listing.{AllJoiners, AllParties, Keeps}
-use Rattle.chi_choices.specs.Marked.{is_marked}
-use Rattle.chi_choices.specs.Reaching.{Covers, CoversFrom}
+use Rattle.chi_plain_options.specs.declared.parties.Parties.{Parties}
+use Rattle.chi_plain_options.specs.Acting.{acts}
+use Rattle.chi_plain_options.specs.Listing.{AllJoiners, AllParties, Keeps}
+use Rattle.chi_plain_options.specs.Marked.{is_marked}
+use Rattle.chi_plain_options.specs.Reaching.{Covers, CoversFrom}
 
 -- for each instance is marked whether it has an option
 pub record IsMarked (config : Config) (marks : List Bool) : Type 0 where

@@ -4,8 +4,8 @@ ghost use Rattle.std.specs.Prelude.{◌≡◌, ◌<◌, length, slice_get, Some}
 ghost use Rattle.chi_core.specs.Options.{actors, options};
 
 use crate::watching::Watched;
-use chi_choices::{option_at, option_count};
 use chi_core::Label;
+use chi_plain_options::{option_at, option_count};
 
 impl<'a> Watched<'a> {
     pub fn clock(&self) -> i64

@@ -7,7 +7,7 @@ ghost use Rattle.chi_core.specs.Options.{actors, advance, all_finished, at_rest,
 
 use crate::watching::Watched;
 use chi_core::Verdict;
-use chi_steps::Ending;
+use chi_plain_steps::Ending;
 
 /// Whether the time may go on to `time`, where the run is stopped at `until`.
 fn may_reach(until: Option<i64>, time: i64) -> bool

@@ -1,4 +1,4 @@
-//! Runs a core by scanning: the options of an instance are found by going over its offers (`chi_choices`). Which instances
+//! Runs a core by scanning: the options of an instance are found by going over its offers (`chi_plain_options`). Which instances
 //! have one is kept, and mended after each step for those that the step may have given or taken one.
 //! It is slow and plain, and keeps to the semantics step by step.
 #![tactic(auto)]

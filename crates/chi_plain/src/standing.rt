@@ -2,7 +2,7 @@ ghost use Rattle.std.specs.Prelude.{◌≡◌, Contains, IfOk};
 ghost use Rattle.chi_core.specs.Options.{enabled};
 ghost use Rattle.chi_core.specs.Sound.{Sound};
 ghost use Rattle.chi_plain.specs.Stage.{At, MayStep, Steps};
-ghost use Rattle.chi_steps.specs.Takings.{Appends};
+ghost use Rattle.chi_plain_steps.specs.Takings.{Appends};
 ghost use Rattle.chi_plain.specs.Standings.{IsAt, Stands, stage_of, standing_at};
 
 use crate::stepped::Stepped;
@@ -10,9 +10,9 @@ use crate::taking::Taken;
 use crate::watching::{Watched, watch};
 use chi_base::NoMemory;
 use chi_core::{Core, Label};
-use chi_kinded::kinded_law;
-use chi_runs::time_law;
-use chi_steps::{Begun, Ending};
+use chi_core_kinds::kinded_law;
+use chi_core_runs::time_law;
+use chi_plain_steps::{Begun, Ending};
 use std::alloc::Global;
 
 /// How a run stands.

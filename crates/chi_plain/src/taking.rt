@@ -2,13 +2,13 @@
 
 ghost use Rattle.std.specs.Prelude.{◌≡◌, IfOk, OnErr};
 ghost use Rattle.chi_core.specs.Step.{step};
-ghost use Rattle.chi_steps.specs.Takings.{Appends, IsRight};
+ghost use Rattle.chi_plain_steps.specs.Takings.{Appends, IsRight};
 ghost use Rattle.chi_plain.specs.Taken.{TakesTo};
 
 use crate::watching::{Watched, mended, noted};
 use chi_base::NoMemory;
 use chi_core::{Core, Label, Verdict};
-use chi_steps::Went;
+use chi_plain_steps::Went;
 use std::alloc::Global;
 
 /// What taking a label did.

@@ -7,18 +7,18 @@ ghost use Rattle.chi_core.specs.declared.label.Label.{Label};
 ghost use Rattle.chi_core.specs.declared.limits.TheConstants.{MOST_INSTANCES};
 ghost use Rattle.chi_core.specs.Config.{Config, Instance};
 ghost use Rattle.chi_core.specs.Options.{is_under_way};
-ghost use Rattle.chi_choices.specs.Marked.{is_marked};
+ghost use Rattle.chi_plain_options.specs.Marked.{is_marked};
 ghost use Rattle.chi_plain.specs.Watching.{is_advance, IsAffected, IsMarked, IsWatched, first_named, second_named};
-ghost use Rattle.chi_choices.specs.Listing.{AllParties};
-ghost use Rattle.chi_choices.specs.Acting.{acts};
+ghost use Rattle.chi_plain_options.specs.Listing.{AllParties};
+ghost use Rattle.chi_plain_options.specs.Acting.{acts};
 ghost use Rattle.chi_plain.specs.Led.{IsBefore, IsListed, Leads, Led, Settles};
 
 use chi_base::NoMemory;
-use chi_choices::{
+use chi_core::Label;
+use chi_plain_options::{
     Listed, Marks, Parties, cover, cover_from, cover_joiners, has_option, relist, relist_from,
 };
-use chi_core::Label;
-use chi_steps::Configuration;
+use chi_plain_steps::Configuration;
 use std::alloc::Global;
 use std::marker::Model;
 

@@ -9,7 +9,7 @@ use Rattle.chi_io.specs.Shelf.{Files}
 use Rattle.chi_token.specs.declared.place.Spanned.{Spanned}
 use Rattle.chi_grammar.specs.declared.fault.ParseFault.{ParseFault}
 use Rattle.chi_tree.specs.declared.definition.Program.{Program}
-use Rattle.chi_grammar_laws.specs.Answers.{IsAnswer, IsProgram}
+use Rattle.chi_tree_laws.specs.Answers.{IsAnswer, IsProgram}
 use Rattle.chi_core.specs.declared.program.Core.{Core}
 use Rattle.chi_core.specs.Kinds.{kinds_of}
 use Rattle.chi_core.specs.Of.{at_start, AreOf}
@@ -17,7 +17,7 @@ use Rattle.chi_core.specs.Sound.{Sound}
 use Rattle.chi_lex.specs.declared.lexer.TheConstants.{MOST_BYTES}
 use Rattle.chi_lex.specs.Reading.{Reads}
 use Rattle.chi_check.specs.Programs.{checked, Answers}
-use Rattle.chi_program_laws.specs.Laws.{IsWhole}
+use Rattle.chi_check_laws.specs.Laws.{IsWhole}
 use Rattle.chi_trace.specs.Logs as logs
 use Rattle.chi_trace.specs.Logs.{IsUp}
 use Rattle.chi_types.specs.declared.ty.Ty.{Ty}

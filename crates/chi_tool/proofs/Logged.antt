@@ -8,10 +8,10 @@ use Rattle.chi_core.specs.Config.{Config}
 use Rattle.chi_core.specs.Options.{Ending}
 use Rattle.chi_core.specs.Step as outcome
 use Rattle.chi_core.specs.Step.{step}
-use Rattle.chi_events.specs.Traces.{event_at, IsTrace}
-use Rattle.chi_events.specs.Tracing.{TracedSoFar, TraceBegins, TraceGoesOn, TraceIsOver, TraceIsWhole, TraceOfNone}
+use Rattle.chi_trace_events.specs.Traces.{event_at, IsTrace}
+use Rattle.chi_trace_events.specs.Tracing.{TracedSoFar, TraceBegins, TraceGoesOn, TraceIsOver, TraceIsWhole, TraceOfNone}
 use Rattle.chi_plain.specs.Stage.{At}
-use Rattle.chi_runs.specs.Turns.{WayBegins, WayGoesOn, WayIsOver, WayIsCutOff, WayRests}
+use Rattle.chi_core_runs.specs.Turns.{WayBegins, WayGoesOn, WayIsOver, WayIsCutOff, WayRests}
 use Rattle.chi_tool.specs.Running.{IsLogged}
 use Rattle.chi_tool.specs.Turns.{first_log, Logs, LoggedSoFar}
 

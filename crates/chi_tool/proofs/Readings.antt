@@ -12,15 +12,15 @@ use Rattle.chi_grammar.specs.declared.fault.ParseFault.{ParseFault}
 use Rattle.chi_grammar.specs.declared.fault.ParseFault.TheVariants.{Syntax, TooDeep}
 use Rattle.chi_grammar.specs.Rules.{part}
 use Rattle.chi_grammar.specs.Exact.{ParsesAll}
-use Rattle.chi_grammar_laws.specs.Answers.{IsFault, IsDepth}
+use Rattle.chi_tree_laws.specs.Answers.{IsFault, IsDepth}
 use Rattle.chi_tree.specs.Limits.{whole_room}
 use Rattle.chi_tree.specs.Parts as s
 use Rattle.chi_tree.specs.Rules.{grammar}
 use Rattle.chi_tree.specs.Statements.{program_of}
 use Rattle.chi_tree.specs.declared.definition.Program as tree
-use Rattle.chi_typing.specs.declared.fault.TypeFault.{TypeFault}
-use Rattle.chi_typing.specs.declared.fault.TypeFault.TheVariants.{Broken}
-use Rattle.chi_typing.specs.Faults.{fault as broken}
+use Rattle.chi_check_types.specs.declared.fault.TypeFault.{TypeFault}
+use Rattle.chi_check_types.specs.declared.fault.TypeFault.TheVariants.{Broken}
+use Rattle.chi_check_types.specs.Faults.{fault as broken}
 use Rattle.chi_check.specs.Programs.{checked, Answers}
 use Rattle.chi_core.specs.declared.program.Core.{Core}
 use Rattle.chi_tool.specs.declared.report.Reported.{Reported}

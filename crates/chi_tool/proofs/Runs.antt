@@ -16,9 +16,9 @@ use Rattle.chi_core.specs.Beginning.{Beginning, start}
 use Rattle.chi_core.specs.Picks.{Pick, IsLawful}
 use Rattle.chi_core.specs.Runs.{Told, Derivation}
 use Rattle.chi_core.specs.Sound.{Sound}
-use Rattle.chi_events.specs.Laws.{EachHasATrace, OneTrace}
+use Rattle.chi_trace_events.specs.Laws.{EachHasATrace, OneTrace}
 use Rattle.chi_plain.specs.Stage.{Stage, Begun}
-use Rattle.chi_runs.specs.Picked.{IsBeginning, PickedIsDerived, PickedOnce, PickedAlways}
+use Rattle.chi_core_runs.specs.Picked.{IsBeginning, PickedIsDerived, PickedOnce, PickedAlways}
 use Rattle.chi_sched.specs.Policies.{Answers}
 use Rattle.chi_tool.specs.declared.report.Reported.{Reported}
 use Rattle.chi_tool.specs.declared.task.Asked.{Asked}

@@ -7,9 +7,9 @@ use Rattle.chi_lex.specs.Reading.{Reads}
 use Rattle.chi_lex.specs.Spans.{SpanFrom}
 use Rattle.chi_lex.proofs.LawLemmas.{Reads-SpanFrom}
 use Rattle.chi_tree.specs.declared.definition.Program.{Program}
-use Rattle.chi_spell.specs.Statements.{spelled}
-use Rattle.chi_spell.specs.Words.{token_of}
-use Rattle.chi_grammar_laws.specs.Answers.{IsProgram}
+use Rattle.chi_tree_spell.specs.Statements.{spelled}
+use Rattle.chi_tree_spell.specs.Words.{token_of}
+use Rattle.chi_tree_laws.specs.Answers.{IsProgram}
 
 span_tokens : (source : List ℕ) (offset : ℕ) (tokens : List Spanned) → SpanFrom source offset tokens → All IsToken (map token_of tokens)
 span_tokens source offset [] spans k d low = absurd (omega arith)

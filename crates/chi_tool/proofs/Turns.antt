@@ -15,11 +15,11 @@ use Rattle.chi_core.specs.Options.{Ending, ending_at, actors, options}
 use Rattle.chi_core.specs.Options as option
 use Rattle.chi_core.specs.Picks.{Pick, MayPick}
 use Rattle.chi_core.specs.Runs.{Told}
-use Rattle.chi_runs.proofs.Lists.{contains-at}
-use Rattle.chi_runs.specs.Choices.{OptionIsPicked, AdvanceIsPicked, PickedMayCome, ActorsHaveOptions}
-use Rattle.chi_runs.specs.Once.{EachMayCome}
-use Rattle.chi_runs.specs.Time.{EachCosts}
-use Rattle.chi_runs.specs.Turns.{UnderWay}
+use Rattle.chi_core_runs.proofs.Lists.{contains-at}
+use Rattle.chi_core_runs.specs.Choices.{OptionIsPicked, AdvanceIsPicked, PickedMayCome, ActorsHaveOptions}
+use Rattle.chi_core_runs.specs.Once.{EachMayCome}
+use Rattle.chi_core_runs.specs.Time.{EachCosts}
+use Rattle.chi_core_runs.specs.Turns.{UnderWay}
 use Rattle.chi_core.specs.Step as outcome
 use Rattle.chi_core.specs.Step.{step}
 use Rattle.chi_plain.specs.declared.stepped.Stepped.{Stepped}

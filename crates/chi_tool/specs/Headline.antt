@@ -7,7 +7,7 @@ use Rattle.chi_lex.specs.declared.fault.LexFault.{LexFault}
 use Rattle.chi_lex.specs.declared.lexer.TheConstants.{MOST_BYTES}
 use Rattle.chi_lex.specs.Reading as lexical
 use Rattle.chi_grammar.specs.declared.fault.ParseFault.{ParseFault}
-use Rattle.chi_typing.specs.declared.fault.Fault.{Fault}
+use Rattle.chi_check_types.specs.declared.fault.Fault.{Fault}
 use Rattle.chi_core.specs.declared.program.Core.{Core}
 use Rattle.chi_core.specs.declared.fault.FaultKind.{FaultKind}
 use Rattle.chi_core.specs.declared.verdict.Verdict.{Verdict}

@@ -7,7 +7,7 @@ use Rattle.chi_token.specs.declared.place.Spanned.{Spanned}
 use Rattle.chi_lex.specs.declared.fault.LexFault.{LexFault}
 use Rattle.chi_lex.specs.declared.fault.LexFault.TheVariants as fault
 use Rattle.chi_grammar.specs.declared.fault.ParseFault.{ParseFault}
-use Rattle.chi_typing.specs.declared.fault.Fault.{Fault}
+use Rattle.chi_check_types.specs.declared.fault.Fault.{Fault}
 use Rattle.chi_tool.specs.Statuses as statuses
 use Rattle.chi_tool.specs.Syntax.{placed, syntax_text}
 

@@ -8,7 +8,7 @@ use Rattle.chi_core.specs.Of.{at_start, AreOf}
 use Rattle.chi_core.specs.Picks.{IsLawful, Pick, Picked}
 use Rattle.chi_core.specs.Runs.{Told}
 use Rattle.chi_core.specs.VerdictLine.{verdict_line_of}
-use Rattle.chi_events.specs.Traces.{IsTrace}
+use Rattle.chi_trace_events.specs.Traces.{IsTrace}
 use Rattle.chi_tool.specs.Refusals.{Report}
 use Rattle.chi_tool.specs.Settings.{Settings}
 use Rattle.chi_tool.specs.Statuses.{status_of}

@@ -6,10 +6,10 @@ use Rattle.chi_lex.specs.Reading.{Reads}
 use Rattle.chi_lex.specs.Reading as lexical
 use Rattle.chi_grammar.specs.declared.fault.ParseFault.{ParseFault}
 use Rattle.chi_tree.specs.declared.definition.Program.{Program}
-use Rattle.chi_typing.specs.declared.fault.Fault.{Fault}
-use Rattle.chi_typing.specs.Faults.{first}
+use Rattle.chi_check_types.specs.declared.fault.Fault.{Fault}
+use Rattle.chi_check_types.specs.Faults.{first}
 use Rattle.chi_check.specs.Programs.{checked}
-use Rattle.chi_streams.specs.Streams.{with_streams}
+use Rattle.chi_check_streams.specs.Streams.{with_streams}
 use Rattle.chi_core.specs.declared.program.Core.{Core}
 use Rattle.chi_tool.specs.Refusals as refusal
 use Rattle.chi_tool.specs.Refusals.{Report}

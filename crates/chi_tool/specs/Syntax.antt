@@ -7,7 +7,7 @@ use Rattle.chi_lex.specs.Places.{place_of}
 use Rattle.chi_grammar.specs.declared.fault.ParseFault.{ParseFault}
 use Rattle.chi_grammar.specs.declared.fault.ParseFault.TheVariants.{Syntax, TooDeep, NoMemory}
 use Rattle.chi_tree.specs.declared.definition.Program.{Program}
-use Rattle.chi_grammar_laws.specs.Answers.{IsProgram, IsFault, IsDepth}
+use Rattle.chi_tree_laws.specs.Answers.{IsProgram, IsFault, IsDepth}
 
 -- the tokens are this program: it is formed within the limits on nesting, and they are its spelling, with its places
 abbrev pub HasTree : List Spanned → Program → Type 0

@@ -9,12 +9,12 @@ use Rattle.chi_core.specs.Beginning.{Beginning}
 use Rattle.chi_core.specs.Options.{ending}
 use Rattle.chi_core.specs.Config.{Config}
 use Rattle.chi_core.specs.Picks.{Pick, MayPick}
-use Rattle.chi_events.specs.Traces.{lines_of}
-use Rattle.chi_events.specs.Tracing.{TracedSoFar}
+use Rattle.chi_trace_events.specs.Traces.{lines_of}
+use Rattle.chi_trace_events.specs.Tracing.{TracedSoFar}
 use Rattle.chi_plain.specs.declared.stepped.Stepped.{Stepped}
 use Rattle.chi_plain.specs.declared.stepped.Stepped.TheVariants.{Next, Over, Spent, NoMemory}
 use Rattle.chi_plain.specs.Stage.{Stage, At, Ended, Lost, Runner, Begun, IsEventAt, verdict_at, clock_at}
-use Rattle.chi_runs.specs.Turns.{UnderWay}
+use Rattle.chi_core_runs.specs.Turns.{UnderWay}
 use Rattle.chi_trace.specs.declared.event.Event.{Event}
 use Rattle.chi_trace.specs.Lines.{event_line}
 use Rattle.chi_tool.specs.declared.run_end.RunEnd.{RunEnd}

@@ -1,10 +1,10 @@
 ghost use Rattle.std.specs.Prelude.{◌≡◌, ◌≤◌, ℕ, All, List, length};
 ghost use Rattle.chi_io.specs.Shelf.{Files};
-ghost use Rattle.chi_grammar_laws.specs.Answers.{IsProgram};
+ghost use Rattle.chi_tree_laws.specs.Answers.{IsProgram};
 ghost use Rattle.chi_core.specs.declared.program.Core.{Core};
 ghost use Rattle.chi_lex.specs.declared.lexer.TheConstants.{MOST_BYTES};
 ghost use Rattle.chi_lex.specs.Reading.{Reads};
-ghost use Rattle.chi_spell.specs.Statements.{spelled};
+ghost use Rattle.chi_tree_spell.specs.Statements.{spelled};
 ghost use Rattle.chi_token.specs.declared.place.Spanned.{Spanned};
 ghost use Rattle.chi_token.specs.Tokens.{IsToken};
 ghost use Rattle.chi_tool.specs.Refusals.{Report};
@@ -14,12 +14,12 @@ ghost use Rattle.chi_tool.specs.Settings.{Aim, MayBeAimed, Settings};
 ghost use Rattle.chi_tool.specs.Sources.{ComesTo};
 ghost use Rattle.chi_tree.specs.declared.definition.Program.{Program};
 
+use chi_check_parsed::parsed_programs_are_sound;
 use chi_cli::{numbers_are_in_range, values_are_of_parameters};
-use chi_events::trace_law;
-use chi_grammar_laws::answer_law;
-use chi_parsed_laws::parsed_programs_are_sound;
-use chi_runs::picked_law;
+use chi_core_runs::picked_law;
 use chi_trace::logs_law;
+use chi_trace_events::trace_law;
+use chi_tree_laws::answer_law;
 
 /// The program that a source within the limit comes to has exactly one run with settings that it may have.
 pub fn one_run_law()

@@ -1,7 +1,7 @@
 ghost use Rattle.std.specs.Prelude.{◌≡◌, IfOk};
 ghost use Rattle.chi_tool.specs.Syntax.{placed};
 ghost use Rattle.chi_tool.specs.Reported.{report_in};
-ghost use Rattle.chi_typing.specs.Faults.{fault};
+ghost use Rattle.chi_check_types.specs.Faults.{fault};
 ghost use Rattle.chi_tool.specs.Refusals.{refused, typing};
 
 use crate::report::Reported;

@@ -19,10 +19,10 @@ use crate::status::status_of;
 use crate::tracing::{Telling, first_log, take};
 use chi_base::NoMemory;
 use chi_core::{Core, Label, Verdict, verdict_line};
-use chi_events::tracing_law;
+use chi_core_runs::{choice_law, options_law, time_law, turn_law};
 use chi_plain::{Plain, Stepped};
-use chi_runs::{choice_law, options_law, time_law, turn_law};
 use chi_sched::Chooser;
+use chi_trace_events::tracing_law;
 use chi_value::TextFault;
 use std::alloc::Global;
 

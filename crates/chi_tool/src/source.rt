@@ -11,15 +11,15 @@ use crate::status::LEXICAL;
 use crate::syntax::refused_token;
 use chi_base::NoMemory;
 use chi_check::check;
+use chi_check_parsed::parsed_programs_are_sound;
+use chi_check_types::TypeFault;
 use chi_core::Core;
 use chi_grammar::ParseFault;
-use chi_grammar_laws::parsed_law;
 use chi_lex::{LexFault, MOST_BYTES, lex};
 use chi_parse::parse;
-use chi_parsed_laws::parsed_programs_are_sound;
 use chi_token::{Place, Spanned};
 use chi_tree::Program;
-use chi_typing::TypeFault;
+use chi_tree_laws::parsed_law;
 use std::alloc::Global;
 
 /// What a source comes to.

@@ -1,7 +1,7 @@
 //! Calls.
 
 ghost use Rattle.std.specs.Prelude.{◌≡◌, true, length, map, IfOk, OnOk};
-ghost use Rattle.chi_typing.specs.Faults.{first_of};
+ghost use Rattle.chi_check_types.specs.Faults.{first_of};
 ghost use Rattle.chi_check_expr.specs.Calls as calls;
 ghost use Rattle.chi_check_expr.specs.Typing as spec;
 
@@ -9,8 +9,8 @@ use crate::calls::{call, insert, takes_function};
 use crate::typing::containers::type_all;
 use crate::typing::type_in;
 use chi_base::NoMemory;
+use chi_check_types::{Fault, Made, Scope, Site};
 use chi_tree::{Expr, Name};
-use chi_typing::{Fault, Made, Scope, Site};
 use std::alloc::Global;
 
 /// A call.

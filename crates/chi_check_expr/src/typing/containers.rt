@@ -1,18 +1,18 @@
 //! Literals of containers, with parts and without.
 
 ghost use Rattle.std.specs.Prelude.{◌≡◌, map, false, IfOk, OnOk};
-ghost use Rattle.chi_typing.specs.Faults.{first_of};
-ghost use Rattle.chi_expr_rules.specs.Containers as literals;
+ghost use Rattle.chi_check_types.specs.Faults.{first_of};
+ghost use Rattle.chi_check_expr_rules.specs.Containers as literals;
 ghost use Rattle.chi_check_expr.specs.Reads as reads;
 ghost use Rattle.chi_check_expr.specs.Typing as spec;
 
 use crate::typing::type_in;
 use crate::typing::type_trees::mean_in;
 use chi_base::{Items, NoMemory};
-use chi_list_rules as rule;
+use chi_check_expr_parts as rule;
+use chi_check_types::{Fault, Made, Meant, Scope, Site};
 use chi_token::Place;
 use chi_tree::{Entry, Expr, TypeTree};
-use chi_typing::{Fault, Made, Meant, Scope, Site};
 use std::alloc::Global;
 
 /// What each expression of a list comes to.

@@ -1,19 +1,19 @@
 //! Operators and casts. The operand that stands first is typed before the call.
 
 ghost use Rattle.std.specs.Prelude.{◌≡◌, map, IfOk, OnOk};
-ghost use Rattle.chi_typing.specs.Faults.{first_of};
-ghost use Rattle.chi_expr_rules.specs.Casts as casts;
-ghost use Rattle.chi_expr_rules.specs.Comparisons as comparisons;
-ghost use Rattle.chi_expr_rules.specs.Operators as operators;
+ghost use Rattle.chi_check_types.specs.Faults.{first_of};
+ghost use Rattle.chi_check_expr_rules.specs.Casts as casts;
+ghost use Rattle.chi_check_expr_rules.specs.Comparisons as comparisons;
+ghost use Rattle.chi_check_expr_rules.specs.Operators as operators;
 ghost use Rattle.chi_check_expr.specs.Expressions as expressions;
 ghost use Rattle.chi_check_expr.specs.Typing as spec;
 
 use crate::typing::type_in;
 use chi_base::NoMemory;
-use chi_operator_rules as rule;
+use chi_check_expr_operators as rule;
+use chi_check_types::{Fault, Made, Scope, Site};
 use chi_token::Place;
 use chi_tree::{CastWord, Expr, Link, PrefixSign, RelationSign};
-use chi_typing::{Fault, Made, Scope, Site};
 use std::alloc::Global;
 
 /// An operator before its operand.

@@ -2,18 +2,18 @@
 //! out of scope where a function returns is laid out part by part in its proof.
 
 ghost use Rattle.std.specs.Prelude.{◌≡◌, [], map, IfOk, OnOk, option_map};
-ghost use Rattle.chi_typing.specs.Faults.{first_of};
-ghost use Rattle.chi_expr_rules.specs.Parts as parts;
+ghost use Rattle.chi_check_types.specs.Faults.{first_of};
+ghost use Rattle.chi_check_expr_rules.specs.Parts as parts;
 ghost use Rattle.chi_check_expr.specs.Expressions as expressions;
 ghost use Rattle.chi_check_expr.specs.Reads as reads;
 ghost use Rattle.chi_check_expr.specs.Typing as spec;
 
 use crate::typing::type_in;
 use chi_base::{Boxed, NoMemory};
-use chi_name_rules as rule;
+use chi_check_expr_parts as rule;
+use chi_check_types::{Fault, Made, Scope, Site};
 use chi_token::Place;
 use chi_tree::{Expr, Postfix};
-use chi_typing::{Fault, Made, Scope, Site};
 use std::alloc::Global;
 
 /// A part of a part, from the left.

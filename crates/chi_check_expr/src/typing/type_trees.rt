@@ -1,18 +1,18 @@
 //! The walk over types, in the same way.
 
 ghost use Rattle.std.specs.Prelude.{◌≡◌, map, false, None, IfOk, OnOk};
-ghost use Rattle.chi_typing.specs.Faults.{first_of};
-ghost use Rattle.chi_typing.specs.TypeRules as rules;
+ghost use Rattle.chi_check_types.specs.Faults.{first_of};
+ghost use Rattle.chi_check_types.specs.TypeRules as rules;
 ghost use Rattle.chi_check_expr.specs.TypeTrees as trees;
 ghost use Rattle.chi_check_expr.specs.Typing as spec;
 
 use crate::fields::{note_first, type_meant, with_field};
 use crate::typing::type_in;
 use chi_base::{Items, NoMemory};
+use chi_check_types::{Fault, Made, Meant, Scope, Site};
 use chi_token::{Bytes, Place};
 use chi_tree::{Formal, TypeTree, Way};
 use chi_types::Ty;
-use chi_typing::{Fault, Made, Meant, Scope, Site};
 use std::alloc::Global;
 
 /// What a type tree means, if it is a type. `sizes` says whether a size may stand there.
@@ -29,8 +29,8 @@ pub fn mean_in(
     ensures noted { OnOk result (kept.new ≡ first_of kept.old (spec.reading site scope.now tree.now sizes).faults) }
 {
     match tree {
-        TypeTree::Word { word, place } => chi_typing::word_of(alloc, *place, *word, kept),
-        TypeTree::Defined(name) => chi_typing::named_type(alloc, scope, name, kept),
+        TypeTree::Word { word, place } => chi_check_types::word_of(alloc, *place, *word, kept),
+        TypeTree::Defined(name) => chi_check_types::named_type(alloc, scope, name, kept),
         TypeTree::List {
             place,
             size,
@@ -60,7 +60,7 @@ pub fn mean_in(
             way,
             carried,
         } => match carried {
-            None => chi_typing::void_chan_of(alloc, *place, *way, kept),
+            None => chi_check_types::void_chan_of(alloc, *place, *way, kept),
             Some(carried) => mean_chan(alloc, *place, *way, carried.get(), scope, site, kept),
         },
     }
@@ -80,7 +80,7 @@ fn mean_list(
     ensures noted { OnOk result (kept.new ≡ first_of (first_of kept.old (spec.reading site scope.now element.now false).faults) (rules.list_of place (spec.reading site scope.now element.now false).made).faults) }
 {
     let element = mean_in(alloc, element, scope, site, false, kept)?;
-    chi_typing::list_of(alloc, place, element, kept)
+    chi_check_types::list_of(alloc, place, element, kept)
 }
 
 /// A set.
@@ -97,7 +97,7 @@ fn mean_set(
     ensures noted { OnOk result (kept.new ≡ first_of (first_of kept.old (spec.reading site scope.now element.now false).faults) (rules.set_of place (spec.reading site scope.now element.now false).made).faults) }
 {
     let element = mean_in(alloc, element, scope, site, false, kept)?;
-    chi_typing::set_of(alloc, place, element, kept)
+    chi_check_types::set_of(alloc, place, element, kept)
 }
 
 /// A distribution.
@@ -114,7 +114,7 @@ fn mean_dist(
     ensures noted { OnOk result (kept.new ≡ first_of (first_of kept.old (spec.reading site scope.now drawn.now false).faults) (rules.dist_of place (spec.reading site scope.now drawn.now false).made).faults) }
 {
     let drawn = mean_in(alloc, drawn, scope, site, false, kept)?;
-    chi_typing::dist_of(alloc, place, drawn, kept)
+    chi_check_types::dist_of(alloc, place, drawn, kept)
 }
 
 /// A list with a size, whose elements may have one too.
@@ -133,7 +133,7 @@ fn mean_sized(
     ensures noted { OnOk result (kept.new ≡ first_of (first_of kept.old (spec.reading site scope.now element.now sizes).faults) (rules.sized_list_of place sizes size (spec.reading site scope.now element.now sizes).made).faults) }
 {
     let element = mean_in(alloc, element, scope, site, sizes, kept)?;
-    chi_typing::sized_list_of(alloc, place, sizes, size, element, kept)
+    chi_check_types::sized_list_of(alloc, place, sizes, size, element, kept)
 }
 
 /// A dictionary, with the type of its values.
@@ -151,7 +151,7 @@ fn mean_dict(
     ensures noted { OnOk result (kept.new ≡ first_of (first_of kept.old (spec.reading site scope.now value.now false).faults) (rules.dict_of place key (spec.reading site scope.now value.now false).made).faults) }
 {
     let value = mean_in(alloc, value, scope, site, false, kept)?;
-    chi_typing::dict_of(alloc, place, key, value, kept)
+    chi_check_types::dict_of(alloc, place, key, value, kept)
 }
 
 /// A tuple.
@@ -168,7 +168,7 @@ fn mean_tuple(
     ensures noted { OnOk result (kept.new ≡ first_of (first_of kept.old (trees.field_faults (map (spec.formal site scope.now) fields.now))) (rules.tuple_of place (map (λ f. f.name) fields.now) (trees.parts_from None (map (spec.formal site scope.now) fields.now))).faults) }
 {
     let parts = mean_fields(alloc, fields, scope, site, kept)?;
-    chi_typing::tuple_of(alloc, place, fields, parts, kept)
+    chi_check_types::tuple_of(alloc, place, fields, parts, kept)
 }
 
 /// A channel that carries values.
@@ -186,7 +186,7 @@ fn mean_chan(
     ensures noted { OnOk result (kept.new ≡ first_of (first_of kept.old (spec.reading site scope.now carried.now false).faults) (rules.chan_of place way (spec.reading site scope.now carried.now false).made).faults) }
 {
     let carried = mean_in(alloc, carried, scope, site, false, kept)?;
-    chi_typing::chan_of(alloc, place, way, carried, kept)
+    chi_check_types::chan_of(alloc, place, way, carried, kept)
 }
 
 /// The names and types of fields, if each has a type.

@@ -21,7 +21,7 @@ use Rattle.chi_tree.specs.Tables.{table}
 use Rattle.chi_tree.specs.Words.{prefix_signs, relation_signs, cast_words}
 use Rattle.chi_tree.specs.View.{given_or, type_of, size_of, carried_of, formals_of, more_formals_of, formal_of, expr_of, links_of, link_of, related, powered, postfixes_of, postfix_of, inside, indexed, sliced, stepped, arguments_of, exprs_of, more_exprs_of, bracketed, braced, entries_of, entry_of, blank, optional, chained, parted}
 use Rattle.chi_parse_expr.specs.Grouping.{chain_part, link_part}
-use Rattle.chi_look.proofs.Words.{run_one_of, run_none_of}
+use Rattle.chi_parse_look.proofs.Words.{run_one_of, run_none_of}
 use Rattle.chi_parse_expr.proofs.Grouping.{chain_rule, chain_shows, link_rule, link_shows, link_next, run_by, run_operator, run_no_operator}
 use Rattle.chi_parse_expr.proofs.Shapes.{entry_shows, optional_part, called_part, carried_type, formal_name, reads_same}
 use Rattle.chi_parse_expr.specs.Values.{value_of}

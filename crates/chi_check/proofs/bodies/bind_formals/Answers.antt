@@ -3,12 +3,12 @@ use Rattle.std.specs.Prelude.{Option}
 use Rattle.std.proofs.lemmas.List.{nil_from_length}
 use Rattle.chi_tree.specs.declared.type_tree.Formal.{Formal}
 use Rattle.chi_types.specs.declared.ty.Ty.{Ty}
-use Rattle.chi_typing.specs.Faults.{first_of}
-use Rattle.chi_stat_parts.specs.declared.state.Binder.TheVariants as binder
-use Rattle.chi_stat_parts.specs.States.{binding}
-use Rattle.chi_stat_parts.specs.Stated.{joined}
+use Rattle.chi_check_types.specs.Faults.{first_of}
+use Rattle.chi_check_stat_lines.specs.declared.state.Binder.TheVariants as binder
+use Rattle.chi_check_stat_lines.specs.States.{binding}
+use Rattle.chi_check_stat_lines.specs.Stated.{joined}
 use Rattle.chi_check.specs.Bodies.{formals_bound}
-use Rattle.chi_stat_parts.proofs.Turns.{step_next, step_made, step_noted, end_noted, short_noted}
+use Rattle.chi_check_stat_lines.proofs.Turns.{step_next, step_made, step_noted, end_noted, short_noted}
 use Rattle.chi_check.proofs.bodies.bind_formals.Goals as goal
 
 pub loop-formal-preserved : goal.loop-formal-preserved

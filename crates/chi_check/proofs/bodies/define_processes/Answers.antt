@@ -2,10 +2,10 @@ use Rattle.std.proofs.Common.{◌≡◌, ◌+◌, List, ◌∷◌, [], map, drop
 use Rattle.std.specs.Prelude.{Option}
 use Rattle.std.proofs.lemmas.List.{nil_from_length}
 use Rattle.chi_tree.specs.declared.definition.Item.{Item}
-use Rattle.chi_stat_parts.specs.Stated.{joined}
-use Rattle.chi_headers.specs.declared.header.Header.{Header}
+use Rattle.chi_check_stat_lines.specs.Stated.{joined}
+use Rattle.chi_check_headers.specs.declared.header.Header.{Header}
 use Rattle.chi_check.specs.Bodies.{processes_of}
-use Rattle.chi_stat_parts.proofs.Turns.{step_next, step_made, step_noted, end_noted, short_noted}
+use Rattle.chi_check_stat_lines.proofs.Turns.{step_next, step_made, step_noted, end_noted, short_noted}
 use Rattle.chi_check.proofs.bodies.define_processes.Goals as goal
 
 pub loop-item-preserved : goal.loop-item-preserved

@@ -1,6 +1,6 @@
 use Rattle.std.proofs.Common.{◌≡◌, drop, map}
-use Rattle.chi_typing.specs.Faults.{first_of}
-use Rattle.chi_stat_parts.specs.Stated.{in_turn, joined}
+use Rattle.chi_check_types.specs.Faults.{first_of}
+use Rattle.chi_check_stat_lines.specs.Stated.{in_turn, joined}
 use Rattle.chi_check.specs.Bodies.{processes_of}
 use Rattle.chi_check.proofs.bodies.define_processes.Given as goal
 

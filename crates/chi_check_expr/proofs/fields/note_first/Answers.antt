@@ -1,7 +1,7 @@
 use Rattle.std.proofs.Common.{[], map, refl, sym, ap, ◌∙◌}
 use Rattle.std.proofs.lemmas.List.{nil_from_length}
-use Rattle.chi_typing.specs.Faults.{first_of}
-use Rattle.chi_typing.proofs.Firsts.{first_of_none}
+use Rattle.chi_check_types.specs.Faults.{first_of}
+use Rattle.chi_check_types.proofs.Firsts.{first_of_none}
 use Rattle.chi_check_expr.specs.TypeTrees.{first_rule, placed_formal}
 use Rattle.chi_check_expr.proofs.fields.note_first.Goals as goal
 

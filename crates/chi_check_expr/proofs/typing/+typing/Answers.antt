@@ -1,9 +1,9 @@
 use Rattle.std.proofs.Common.{[], Some, refl, sym, ◌∙◌, ap, arith}
 use Rattle.std.proofs.lemmas.Result.{IfOk-weaker, on_ok_weaker}
 use Rattle.chi_tree.specs.declared.type_tree.TypeTree.TheVariants as type
-use Rattle.chi_typing.specs.Faults.{first_of}
-use Rattle.chi_typing.proofs.Firsts.{first_of_none}
-use Rattle.chi_expr_rules.specs.Containers.{dict_of}
+use Rattle.chi_check_types.specs.Faults.{first_of}
+use Rattle.chi_check_types.proofs.Firsts.{first_of_none}
+use Rattle.chi_check_expr_rules.specs.Containers.{dict_of}
 use Rattle.chi_check_expr.proofs.ExprEquations.{made_Chain, made_Prefix, noted_Prefix, made_Relation, made_Power, noted_Power, made_Part, made_Int, noted_Int, made_Real, noted_Real, made_Text, noted_Text, made_Bool, noted_Bool, made_Time, noted_Time, made_Named, noted_Named, made_Cast, noted_Cast, made_Round, noted_Round, made_TupleOf, noted_TupleOf, made_ListOf, noted_ListOf, made_SetOf, noted_SetOf, made_DictOf, noted_DictOf, made_EmptyList, noted_EmptyList, made_EmptySet, noted_EmptySet, made_EmptyDict, kept_Chain, kept_Relation, kept_Part, kept_EmptyDict}
 use Rattle.chi_check_expr.proofs.TypeEquations.{made_Word, noted_Word, made_Defined, noted_Defined, made_List_plain, noted_List_plain, made_List_sized, noted_List_sized, made_Set, noted_Set, made_Dist, noted_Dist, made_Dict, noted_Dict, made_Tuple, noted_Tuple, made_Chan_void, noted_Chan_void, made_Chan_of, noted_Chan_of}
 use Rattle.chi_check_expr.proofs.CallEquations.{made_Call, noted_Call, made_three, noted_three, made_inserted, noted_inserted, made_other, noted_other, made_plain, noted_plain, three_items}

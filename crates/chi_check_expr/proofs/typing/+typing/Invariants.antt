@@ -1,5 +1,5 @@
 use Rattle.std.proofs.Common.{◌≡◌, drop, map, ◌++◌, None}
-use Rattle.chi_typing.specs.Faults.{first_of}
+use Rattle.chi_check_types.specs.Faults.{first_of}
 use Rattle.chi_check_expr.specs.Expressions.{chained, parted}
 use Rattle.chi_check_expr.specs.Reads.{made_of, all_faults, key_made, value_made, entry_faults}
 use Rattle.chi_check_expr.specs.TypeTrees.{parts_from, field_faults, each_field_faults}

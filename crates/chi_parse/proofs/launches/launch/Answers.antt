@@ -7,7 +7,7 @@ use Rattle.chi_tree.specs.Rules.{grammar}
 use Rattle.chi_tree.specs.Tables.{table}
 use Rattle.chi_tree.specs.Words.{launch_words}
 use Rattle.chi_tree.specs.Statements.{last_ends, launched}
-use Rattle.chi_look.proofs.Words.{run_one_of, run_none_of}
+use Rattle.chi_parse_look.proofs.Words.{run_one_of, run_none_of}
 use Rattle.chi_parse.specs.Heads.{shown}
 use Rattle.chi_parse.proofs.Rows.{launch_row}
 use Rattle.chi_parse.proofs.launches.launch.Goals as goal

@@ -8,7 +8,7 @@ use Rattle.chi_tree.specs.Rules.{grammar}
 use Rattle.chi_tree.specs.Tables.{table}
 use Rattle.chi_tree.specs.Words.{jumps}
 use Rattle.chi_tree.specs.Statements.{statement_of}
-use Rattle.chi_look.proofs.Words.{run_one_of, run_none_of}
+use Rattle.chi_parse_look.proofs.Words.{run_one_of, run_none_of}
 use Rattle.chi_tree.specs.View.{given_or, nowhere}
 use Rattle.chi_parse.proofs.Rows.{jump_row}
 use Rattle.chi_parse.proofs.simple.jump.Goals as goal

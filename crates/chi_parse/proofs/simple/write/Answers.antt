@@ -10,7 +10,7 @@ use Rattle.chi_tree.specs.Tables.{table}
 use Rattle.chi_tree.specs.Words.{write_words}
 use Rattle.chi_tree.specs.View.{given_or, more_exprs_of}
 use Rattle.chi_tree.specs.Statements.{statement_of}
-use Rattle.chi_look.proofs.Words.{run_one_of, run_none_of}
+use Rattle.chi_parse_look.proofs.Words.{run_one_of, run_none_of}
 use Rattle.chi_parse.proofs.Rows.{write_row}
 use Rattle.chi_parse.proofs.simple.write.Goals as goal
 

@@ -8,7 +8,7 @@ use Rattle.chi_tree.specs.declared.type_tree.Way.TheVariants as way
 use Rattle.chi_tree.specs.Rules.{grammar, sign}
 use Rattle.chi_tree.specs.Tables.{table}
 use Rattle.chi_tree.specs.View.{given_or, way_in}
-use Rattle.chi_look.proofs.Words.{run_one_of, run_none_of}
+use Rattle.chi_parse_look.proofs.Words.{run_one_of, run_none_of}
 use Rattle.chi_parse_expr.proofs.Rows.{way_row}
 use Rattle.chi_parse_expr.proofs.compounds.channel_way.Goals as goal
 

@@ -9,7 +9,7 @@ use Rattle.chi_tree.specs.Rules.{grammar}
 use Rattle.chi_tree.specs.Tables.{table}
 use Rattle.chi_tree.specs.Words.{type_words}
 use Rattle.chi_tree.specs.View.{given_or, type_of}
-use Rattle.chi_look.proofs.Words.{run_one_of, run_none_of}
+use Rattle.chi_parse_look.proofs.Words.{run_one_of, run_none_of}
 use Rattle.chi_parse_expr.proofs.Rows.{type_word_row}
 use Rattle.chi_parse_expr.proofs.types.word_type.Goals as goal
 

@@ -1,5 +1,5 @@
 use Rattle.std.proofs.Common.{◌≡◌, ℕ, length}
-use Rattle.chi_choices.specs.Marked.{is_marked}
+use Rattle.chi_plain_options.specs.Marked.{is_marked}
 use Rattle.chi_plain.proofs.watching.lengthen.Given as goal
 
 abbrev pub invariant-loop-more : goal.invariant-loop-more

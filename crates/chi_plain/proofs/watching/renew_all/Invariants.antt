@@ -1,7 +1,7 @@
 use Rattle.std.proofs.Common.{◌≡◌, ℕ, ◌⊎◌, length, drop}
 use Rattle.std.specs.List.{Contains}
-use Rattle.chi_choices.specs.Marked.{is_marked}
-use Rattle.chi_choices.specs.Acting.{acts}
+use Rattle.chi_plain_options.specs.Marked.{is_marked}
+use Rattle.chi_plain_options.specs.Acting.{acts}
 use Rattle.chi_plain.proofs.watching.renew_all.Given as goal
 
 abbrev pub invariant-loop-pid : goal.invariant-loop-pid

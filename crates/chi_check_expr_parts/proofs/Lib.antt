@@ -1,0 +1,5 @@
+mod Entries
+mod Given
+mod Indexing
+mod Numbers
+mod Unjoined

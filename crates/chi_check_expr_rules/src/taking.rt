@@ -1,0 +1,40 @@
+//! What is made, taken apart.
+
+ghost use Rattle.std.specs.Prelude.{◌≡◌, [], ◌∷◌, Some, IfOk};
+ghost use Rattle.chi_check_expr_rules.specs.Conversions as spec;
+
+use crate::conversions::on_one;
+use chi_base::NoMemory;
+use chi_check_types::{Made, Meant};
+use chi_core::{CExpr, OpName};
+use chi_types::Ty;
+use std::alloc::Global;
+
+pub fn core_of(m: Made) -> CExpr
+    ensures { result ≡ m.core }
+{
+    let Made { core, ty: _ty } = m;
+    core
+}
+
+pub fn core_and_type(m: Made) -> (CExpr, Ty)
+    ensures core { result.0 ≡ m.core }
+    ensures type_of { result.1 ≡ m.ty }
+{
+    let Made { core, ty } = m;
+    (core, ty)
+}
+
+pub fn type_meant(m: Meant) -> Ty
+    ensures { result ≡ m.ty }
+{
+    let Meant { ty, sizes: _sizes } = m;
+    ty
+}
+
+/// An operation on what is made, as it is.
+pub fn on_it(alloc: Global, name: OpName, m: Made, outcome: Ty) -> Result<Option<Made>, NoMemory>
+    ensures { IfOk result (λ n. n ≡ Some (spec.as_they_are name (m ∷ []) outcome)) }
+{
+    Ok(Some(on_one(alloc, name, core_of(m), outcome)?))
+}

@@ -1,0 +1,22 @@
+use Rattle.std.proofs.Common.{◌≡◌, ◌+◌, List, ◌∷◌, [], map, drop, refl, sym, ap, ◌∙◌, arith}
+use Rattle.chi_tree.specs.declared.definition.Item.{Item}
+use Rattle.chi_check_stat_lines.specs.Stated.{joined}
+use Rattle.chi_check_headers.specs.Definitions.{sketching}
+use Rattle.chi_check_stat_lines.proofs.Turns.{step_next, step_made, step_noted, end_noted}
+use Rattle.chi_check_headers.proofs.naming.name_all.Goals as goal
+
+pub loop-item-preserved : goal.loop-item-preserved
+loop-item-preserved c =
+    let l = c.loop-item in
+    let x = c.item-item.result in
+    let r = c.in_ok-made.ensures in
+    record {
+      next = step_next (λ (items : List Item). map sketching (map (λ (item : Item). item.definition) items)) c.args.items.now _ l.item-index l.sketch _ x (sketching x.definition) (map sketching (map (λ (item : Item). item.definition) (drop (l.item-index + 1) c.args.items.now))) l.invariant.next c.loop-item-test.true c.item-item.is (refl) r.next;
+      made = step_made (λ (items : List Item). map sketching (map (λ (item : Item). item.definition) items)) c.args.items.now _ l.item-index l.sketch _ l.all _ x (sketching x.definition) (map sketching (map (λ (item : Item). item.definition) (drop (l.item-index + 1) c.args.items.now))) l.invariant.made c.loop-item-test.true c.item-item.is (refl) r.next (c.in_ok-all-2.ensures ∙ ap (joined l.all) r.made);
+      noted = step_noted (λ (items : List Item). map sketching (map (λ (item : Item). item.definition) items)) c.args.items.now _ l.item-index l.sketch _ l.kept _ x (sketching x.definition) (map sketching (map (λ (item : Item). item.definition) (drop (l.item-index + 1) c.args.items.now))) l.invariant.noted c.loop-item-test.true c.item-item.is (refl) r.next r.noted;
+    }
+
+pub returns-clause-noted : goal.returns-clause-noted
+returns-clause-noted c =
+    let l = c.loop-item in
+    sym (l.invariant.noted ∙ end_noted (λ (items : List Item). map sketching (map (λ (item : Item). item.definition) items)) c.args.items.now l.item-index l.sketch l.kept (omega arith) refl)

@@ -1,0 +1,10 @@
+pub mod Assignments
+pub mod Channels
+pub mod Elements
+pub mod Endings
+pub mod Homes
+pub mod Places
+pub mod Targets
+pub mod Values
+pub mod Walks
+pub mod Writes

@@ -1,0 +1,3 @@
+pub mod Before
+pub mod Twice
+pub mod Unconverted

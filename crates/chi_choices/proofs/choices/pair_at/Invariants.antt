@@ -1,7 +1,0 @@
-use Rattle.std.proofs.Common.{◌≡◌, ◌≤◌, length, take}
-use Rattle.chi_choices.specs.Scanning.{pairs_among}
-use Rattle.chi_choices.proofs.choices.pair_at.Given as goal
-
-abbrev pub invariant-loop-other : goal.invariant-loop-other
-invariant-loop-other l =
-    (l.seen ≡ length (pairs_among l.fn.config l.fn.pid l.fn.alternative l.fn.channel (take l.other-index l.other-items))) × (l.seen ≤ l.fn.i)

@@ -1,6 +1,0 @@
-use Rattle.chi_choices.specs.Listing.{Keeps}
-use Rattle.chi_choices.proofs.Listings.{CoversBelow}
-use Rattle.chi_choices.proofs.listing.cover_from.Given as goal
-
-abbrev pub invariant-loop-pid : goal.invariant-loop-pid
-invariant-loop-pid l = Keeps l.initial.covered.items l.covered.items × CoversBelow l.fn.parties l.fn.config.instances l.fn.from l.pid l.covered.items

@@ -1,6 +1,0 @@
-use Rattle.std.proofs.Common.{◌<◌, length}
-use Rattle.chi_choices.proofs.Keeping.{AllEmpty}
-use Rattle.chi_choices.proofs.parties.Channels.new.Given as goal
-
-abbrev pub invariant-loop-more : goal.invariant-loop-more
-invariant-loop-more l = (0 < length l.lists.items) × AllEmpty l.lists.items

@@ -1,5 +1,0 @@
-use Rattle.chi_tree.proofs.Fine.{grammar_fine}
-use Rattle.chi_grammar_laws.proofs.laws.grammar_law.Goals as goal
-
-pub returns : goal.returns
-returns c = grammar_fine

@@ -1,5 +1,0 @@
-use Rattle.chi_op_kinds.proofs.Stated.{parts}
-use Rattle.chi_op_kinds.proofs.laws.stores_keep_kinds.Goals as goal
-
-pub returns-clause-parts : goal.returns-clause-parts
-returns-clause-parts c = parts

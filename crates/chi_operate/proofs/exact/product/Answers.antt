@@ -1,6 +1,0 @@
-use Rattle.std.proofs.Common.{◌*ℤ◌}
-use Rattle.chi_operate.proofs.Numbers.{given_two}
-use Rattle.chi_operate.proofs.exact.product.Goals as goal
-
-pub returns : goal.returns
-returns c = given_two c.int_mul.result (λ x y. x *ℤ y) c.args.x c.args.y c.ranges.x c.ranges.y c.int_mul.ensures

@@ -1,5 +1,0 @@
-use Rattle.chi_num.proofs.OfResults.{given}
-use Rattle.chi_operate.proofs.exact.real_sum.Goals as goal
-
-pub returns : goal.returns
-returns c = given c.real_add.result _ c.real_add.ensures

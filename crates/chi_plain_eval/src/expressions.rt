@@ -1,0 +1,81 @@
+//! Expressions, with calls of functions.
+
+ghost use Rattle.std.specs.Prelude.{◌≡◌, ◌≢◌, IfOk, IfErr, map};
+ghost use Rattle.chi_core.specs.Answer.{Gives, Amiss, in_turn};
+ghost use Rattle.chi_plain_eval.specs.Calls.{meaning};
+ghost use Rattle.chi_core_frame.specs.Stops.{Stops};
+
+use crate::bodies::call_with;
+use crate::calls::Calls;
+use crate::inserting::insert_by;
+use crate::literals::{build, repeat_each};
+use crate::operators::{operate, part, second_where};
+use crate::surroundings::{Surroundings, constant};
+use chi_core::{CExpr, View};
+use chi_core_frame::{Stop, Variables, copy_of, fresh_of};
+use chi_value::Value;
+use std::alloc::Global;
+
+/// The value of an expression.
+#[cycle(eval)]
+#[tactic(auto, using(crate::proofs::Standing::standing), unfolding(chi_core::specs::Evaluation::eval))]
+pub fn eval(
+    e: &CExpr,
+    alloc: Global,
+    s: &Surroundings<'_>,
+    calls: Calls,
+    variables: &Variables,
+    view: &mut View,
+) -> Result<Value, Stop>
+    requires { meaning calls s.now variables.now e.now view.old ≢ Amiss }
+    ensures value { IfOk result (λ v. meaning calls s.now variables.now e.now view.old ≡ Gives v view.new) }
+    ensures stops { IfErr result (λ stop. Stops stop (meaning calls s.now variables.now e.now view.old)) }
+{
+    match e {
+        CExpr::Lit(value) => copy_of(alloc, value),
+        CExpr::Var(slot) => copy_of(alloc, variables.get(*slot)),
+        CExpr::Const(number) => copy_of(alloc, constant(s, *number)),
+        CExpr::Op(name, parts) => {
+            operate(parts.as_slice(), alloc, s, calls, *name, variables, view)
+        }
+        CExpr::And(a, b) => second_where(a.get(), alloc, s, calls, b.get(), true, variables, view),
+        CExpr::Or(a, b) => second_where(a.get(), alloc, s, calls, b.get(), false, variables, view),
+        CExpr::Build(kind, parts) => {
+            build(parts.as_slice(), alloc, s, calls, *kind, variables, view)
+        }
+        CExpr::Part(a, number) => part(a.get(), alloc, s, calls, *number, variables, view),
+        CExpr::Call(number, parts) => {
+            call_with(parts.as_slice(), alloc, s, calls, *number, variables, view)
+        }
+        CExpr::InsertBy(a, b, number) => {
+            insert_by(a.get(), alloc, s, calls, b.get(), *number, variables, view)
+        }
+        CExpr::Default(shape) => fresh_of(alloc, shape, view),
+        CExpr::Repeat(count, each) => {
+            repeat_each(count.get(), alloc, s, calls, each.get(), variables, view)
+        }
+    }
+}
+
+/// The values of expressions, from left to right.
+#[cycle(eval)]
+#[tactic(auto, using(chi_core_frame::proofs::Stopping::stopping))]
+pub fn eval_all(
+    parts: &[CExpr],
+    alloc: Global,
+    s: &Surroundings<'_>,
+    calls: Calls,
+    variables: &Variables,
+    view: &mut View,
+) -> Result<Vec<Value>, Stop>
+    requires { in_turn (map (meaning calls s.now variables.now) parts.now) view.old ≢ Amiss }
+    ensures values { IfOk result (λ vs. in_turn (map (meaning calls s.now variables.now) parts.now) view.old ≡ Gives vs.items view.new) }
+    ensures stops { IfErr result (λ stop. Stops stop (in_turn (map (meaning calls s.now variables.now) parts.now) view.old)) }
+{
+    let mut values = Vec::new(alloc);
+    for part in parts {
+        let value = eval(part, alloc, s, calls, variables, view)?;
+        values.push(value)?;
+    }
+    Ok(values)
+}

@@ -1,5 +1,0 @@
-use Rattle.chi_program_laws.proofs.Soundness.{program_sound}
-use Rattle.chi_program_laws.proofs.laws.programs_are_sound.Goals as goal
-
-pub returns : goal.returns
-returns c = record { sound = program_sound }

@@ -1,4 +1,0 @@
-pub mod Bodies
-pub mod Formals
-pub mod Laws
-pub mod Spelled

@@ -1,3 +1,0 @@
-pub mod Communications
-pub mod Targets
-pub mod Values

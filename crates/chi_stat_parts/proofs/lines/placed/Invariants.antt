@@ -1,6 +1,0 @@
-use Rattle.std.proofs.Common.{◌≡◌, ◌++◌}
-use Rattle.chi_stat_parts.specs.Lines.{placed}
-use Rattle.chi_stat_parts.proofs.lines.placed.Given as goal
-
-abbrev pub invariant-loop-value : goal.invariant-loop-value
-invariant-loop-value l = placed l.fn.es l.fn.made ≡ l.all.items ++ placed l.others l.value-iterator.rest.items

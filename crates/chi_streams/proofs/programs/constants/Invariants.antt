@@ -1,9 +1,0 @@
-use Rattle.std.proofs.Common.{◌≡◌, ◌++◌, map}
-use Rattle.chi_streams.specs.Streams.{each, of_constant}
-use Rattle.chi_streams.proofs.programs.constants.Given as goal
-
-abbrev pub invariant-loop-part : goal.invariant-loop-part
-invariant-loop-part l = record {
-  part : (each (map of_constant l.fn.all) l.fn.count).part ≡ l.done.items ++ (each (map of_constant l.part-iterator.rest.items) l.count).part;
-  next : (each (map of_constant l.fn.all) l.fn.count).next ≡ (each (map of_constant l.part-iterator.rest.items) l.count).next;
-}
