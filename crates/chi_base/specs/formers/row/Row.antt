@@ -70,7 +70,7 @@ module _ (R S : RattleType) (h : R.Denot → S.Denot) where
       (invariant R.Denot) (invariant S.Denot) (λ u p q. refl) (λ u p q. refl) (λ u e. tt) (λ u e. tt)
       (over (I.the_row R)) (over (I.the_row S))
       (struct_places (I.the_type R) (I.the_type S) ((λ r. with_value r (vec.mapped h r.value)), tt) _ (λ d. refl) refl
-          (laid _ _ _ (rc_places (vec_of R) (vec_of S) (vec.mapped h) (vec.the_places heap.the_row ghosts R S h a)), tt))
+      (laid _ _ _ (rc_places (vec_of R) (vec_of S) (vec.mapped h) (vec.the_places heap.the_row ghosts R S h a)), tt))
 
   pub the_codes_placed : Recodes R S h → Recodes (C.the_row R) (C.the_row S) ((the_former this).map R.Denot S.Denot h)
   the_codes_placed e d = sym (code_map R.coded.code S.coded.code h (λ x. sym (e x)) d)
