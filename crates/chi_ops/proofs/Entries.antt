@@ -22,7 +22,7 @@ module _ (es : List Value) (key f x : Value) where
   with_entry_twice up =
       let first = with_entry_ascends es (entry key f) up in
       one_list by_key by_key_total _ _ (with_entry_ascends (with_entry es (entry key f)) (entry key x) first) (with_entry_ascends es (entry key x) up)
-          (λ z. class_placed by_key by_key_total z (entry key x) (with_entry es (entry key f))
-          ∙ ap (cond (ties_by by_key z (entry key x)) (entry key x ∷ [])) (class_placed by_key by_key_total z (entry key f) es)
-          ∙ merged (ties_by by_key z (entry key f)) (ties_by by_key z (entry key x)) _ _ _ (same_tie z)
-          ∙ sym (class_placed by_key by_key_total z (entry key x) es))
+      (λ z. class_placed by_key by_key_total z (entry key x) (with_entry es (entry key f))
+      ∙ ap (cond (ties_by by_key z (entry key x)) (entry key x ∷ [])) (class_placed by_key by_key_total z (entry key f) es)
+      ∙ merged (ties_by by_key z (entry key f)) (ties_by by_key z (entry key x)) _ _ _ (same_tie z)
+      ∙ sym (class_placed by_key by_key_total z (entry key x) es))
