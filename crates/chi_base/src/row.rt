@@ -35,12 +35,14 @@ impl<T> Row<T> {
         self.shared.as_ref().as_slices()
     }
 
+    /// How many elements there are, in constant time.
     pub fn len(&self) -> usize
         ensures same { result ≡ length self.now }
     {
         self.shared.as_ref().len()
     }
 
+    /// The element at a place, in constant time, if there is one.
     pub fn get(&self, place: usize) -> Option<&T>
         ensures variant { IsSome result ↔ (place < length self.now) }
         ensures lookup { IfSome result (λ x. x.now ≡ slice_index_or self.now place x.now) }

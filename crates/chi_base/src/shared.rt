@@ -9,6 +9,7 @@ use std::rc::Rc;
 /// What can be copied, where memory is found. A copy is as cheap as the type has it: that of a list that is shared
 /// counts one more owner.
 pub trait Copied: Sized {
+    /// A copy, which is the very same to contracts.
     fn copied(&self, alloc: Global) -> Result<Self, NoMemory>
         ensures same { IfOk result (λ copy. copy ≡ self.now) };
 }
@@ -32,6 +33,7 @@ impl<T> Model for Shared<T> {
 }
 
 impl<T> Shared<T> {
+    /// The elements, as they lie in memory.
     pub fn as_slice(&self) -> &[T]
         ensures same { result.now ≡ self.now }
     {

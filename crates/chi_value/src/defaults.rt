@@ -11,6 +11,7 @@ use thiserror::Error;
 /// How many channels there may be.
 pub const MOST_CHANNELS: u32 = 1_000_000;
 
+/// Why there is no default.
 #[derive(Clone, Copy, Debug, PartialEq, Eq, Error)]
 pub enum DefaultFault {
     /// There would be more channels than there may be.

@@ -5,12 +5,14 @@ use chi_token::Bytes;
 /// How many elements a container, or bytes a string, may have.
 pub const MOST_ELEMENTS: usize = 1_048_576;
 
-/// A list of values, which copies of it share.
+/// The parts of a tuple, or what a set or a dictionary has, which copies of it share.
 pub type Items = chi_base::Shared<Value>;
 
 /// A list of values that grows at its end and shrinks at its front, which copies of it share.
 pub type Row = chi_base::Row<Value>;
 
+/// A value of the language. A copy of a string or a container shares what that holds, so that no copy costs more where
+/// there is more in it.
 #[derive(Debug, Drop)]
 pub enum Value {
     Bool(bool),
