@@ -51,24 +51,24 @@ fn expr_copy(alloc: Global, e: &CExpr) -> Result<CExpr, NoMemory>
         CExpr::Const(number) => Ok(CExpr::Const(*number)),
         CExpr::Op(name, es) => Ok(CExpr::Op(*name, expr_copies(alloc, es.as_slice())?)),
         CExpr::And(a, b) => {
-            let a = boxed_copy(alloc, a.get())?;
-            Ok(CExpr::And(a, boxed_copy(alloc, b.get())?))
+            let (a, b) = both_copies(alloc, a.get(), b.get())?;
+            Ok(CExpr::And(a, b))
         }
         CExpr::Or(a, b) => {
-            let a = boxed_copy(alloc, a.get())?;
-            Ok(CExpr::Or(a, boxed_copy(alloc, b.get())?))
+            let (a, b) = both_copies(alloc, a.get(), b.get())?;
+            Ok(CExpr::Or(a, b))
         }
         CExpr::Build(kind, es) => Ok(CExpr::Build(*kind, expr_copies(alloc, es.as_slice())?)),
         CExpr::Part(e, number) => Ok(CExpr::Part(boxed_copy(alloc, e.get())?, *number)),
         CExpr::Call(number, es) => Ok(CExpr::Call(*number, expr_copies(alloc, es.as_slice())?)),
         CExpr::InsertBy(a, b, number) => {
-            let a = boxed_copy(alloc, a.get())?;
-            Ok(CExpr::InsertBy(a, boxed_copy(alloc, b.get())?, *number))
+            let (a, b) = both_copies(alloc, a.get(), b.get())?;
+            Ok(CExpr::InsertBy(a, b, *number))
         }
         CExpr::Default(shape) => Ok(CExpr::Default(shape_copy(alloc, shape)?)),
         CExpr::Repeat(a, b) => {
-            let a = boxed_copy(alloc, a.get())?;
-            Ok(CExpr::Repeat(a, boxed_copy(alloc, b.get())?))
+            let (a, b) = both_copies(alloc, a.get(), b.get())?;
+            Ok(CExpr::Repeat(a, b))
         }
     }
 }
@@ -79,6 +79,26 @@ fn boxed_copy(alloc: Global, e: &CExpr) -> Result<Boxed<CExpr>, NoMemory>
 {
     let copy = expr_copy(alloc, e)?;
     Ok(Boxed::new(alloc, copy)?)
+}
+
+/// Copies of two parts.
+#[cycle(expr_copy)]
+fn both_copies(
+    alloc: Global,
+    a: &CExpr,
+    b: &CExpr,
+) -> Result<(Boxed<CExpr>, Boxed<CExpr>), NoMemory>
+    ensures left { IfOk result (λ copies. copies.0 ≡ a.now) }
+    ensures right { IfOk result (λ copies. copies.1 ≡ b.now) }
+{
+    let left = boxed_copy(alloc, a)?;
+    match boxed_copy(alloc, b) {
+        Ok(right) => Ok((left, right)),
+        Err(refusal) => {
+            drop(left);
+            Err(refusal)
+        }
+    }
 }
 
 #[cycle(expr_copy)]
