@@ -53,6 +53,7 @@ fn a_box_gives_back_its_value(rt: HostRuntime) -> Result<(), Fail> {
 #[test]
 fn what_changes_a_copy_of_a_list_leaves_the_list(rt: HostRuntime) -> Result<(), Fail> {
     let list = Shared::of(rt.alloc(), numbers(rt.alloc(), 1, 3)?)?;
+    assert_eq!(rt; list.as_slice().len(), 3);
     let mut copy = list.copy()?;
     let old = copy.replace(rt.alloc(), 0, Number(9))?;
     assert_eq!(rt; old, Number(1));
@@ -73,6 +74,7 @@ fn what_changes_a_copy_of_a_list_leaves_the_list(rt: HostRuntime) -> Result<(), 
 #[test]
 fn what_changes_a_copy_of_a_row_leaves_the_row(rt: HostRuntime) -> Result<(), Fail> {
     let row = Row::of(rt.alloc(), numbers(rt.alloc(), 1, 3)?)?;
+    assert_eq!(rt; row.len(), 3);
     let mut copy = row.copy()?;
     copy.push(rt.alloc(), Number(4))?;
     assert!(rt; counts_from(&row, 1, 3));
@@ -94,6 +96,7 @@ fn what_changes_a_copy_of_a_row_leaves_the_row(rt: HostRuntime) -> Result<(), Fa
 #[test]
 fn a_part_is_the_same_of_a_row_that_is_shared_or_not(rt: HostRuntime) -> Result<(), Fail> {
     let row = Row::of(rt.alloc(), numbers(rt.alloc(), 1, 5)?)?;
+    assert_eq!(rt; row.len(), 5);
     let shared = row.copy()?.part(rt.alloc(), 1, 3)?;
     assert!(rt; counts_from(&shared, 2, 3));
     assert!(rt; counts_from(&row, 1, 5));
