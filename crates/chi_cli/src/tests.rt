@@ -58,8 +58,8 @@ const WORDS: [(&[&str], &str); 8] = [
     (&["sim", "f"], "sim 0 10000000 None First false|f"),
     (
         &[
-            "sim", "--seed=5", "--steps", "7", "--until", "2.5", "--policy", "spread", "--salt", "9",
-            "--trace", "f", "--", "-3",
+            "sim", "--seed=5", "--steps", "7", "--until", "2.5", "--policy", "spread", "--salt",
+            "9", "--trace", "f", "--", "-3",
         ],
         "sim 5 7 Some(2500000000) Spread(9) true|f|-3",
     ),
@@ -134,7 +134,10 @@ fn values_told(alloc: Global, row: &[&str]) -> Result<String, NoMemory> {
 #[test]
 fn arguments_are_read_by_their_types(rt: HostRuntime) -> Result<(), Fail> {
     let rows: [(&[&str], &str); 4] = [
-        (&["birs", "true", "-5", "2.5", "x y"], "|true|-5|2500000000 units|'x y'"),
+        (
+            &["birs", "true", "-5", "2.5", "x y"],
+            "|true|-5|2500000000 units|'x y'",
+        ),
         (&["i"], "Count"),
         (&["l", "1"], "Kind(1)"),
         (&["ii", "1", "x"], "Text(2)"),

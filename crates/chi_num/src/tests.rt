@@ -33,7 +33,10 @@ fn reals(rt: HostRuntime) {
         (real_add(real(1), real(2)), Ok(real(3))),
         (real_sub(real(1), real(2)), Ok(real(-1))),
         (real_mul(real(500_000_000), real(1)), Ok(real(1))),
-        (real_div(real(2_000_000_000), real(3_000_000_000)), Ok(real(666_666_667))),
+        (
+            real_div(real(2_000_000_000), real(3_000_000_000)),
+            Ok(real(666_666_667)),
+        ),
         (real_of(9223372037), Err(NumFault::Range)),
         (real_div(real(5), real(0)), Err(NumFault::Zero)),
     ] {
