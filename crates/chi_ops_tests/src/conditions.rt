@@ -8,8 +8,8 @@ ghost use Rattle.chi_ops.specs.Conditions.{are_keys_alike, are_peers, is_key, ma
 ghost use Rattle.chi_ops.specs.Kinds.{is_container, is_dictionary, is_int, is_list, is_sequence};
 ghost use Rattle.chi_ops.specs.Tidy.{tidy};
 
-use crate::likeness::{alike, alike_to_all};
-use crate::tidiness::{all_plain, tidy};
+use crate::likeness::{alike, alike_to_all, alike_to_row};
+use crate::tidiness::{is_row_plain, tidy};
 use chi_sets::key_of;
 use chi_value::Value;
 use chi_value_tests::plain;
@@ -54,7 +54,8 @@ pub(crate) fn may_size(v: &Value) -> bool
     tidy(v)
         && match v {
             Value::Text(bytes) => (bytes.as_slice().len() as u64) < 4_294_967_296,
-            Value::ListOf(items) | Value::SetOf(items) | Value::DictOf(items) => {
+            Value::ListOf(items) => (items.len() as u64) < 4_294_967_296,
+            Value::SetOf(items) | Value::DictOf(items) => {
                 (items.as_slice().len() as u64) < 4_294_967_296
             }
             _ => false,
@@ -126,7 +127,7 @@ fn may_hold(v: &Value, x: &Value) -> bool
     ensures { result ≡ may_hold v.now x.now }
 {
     match v {
-        Value::ListOf(items) => all_plain(items.as_slice()) && alike_to_all(x, items.as_slice()),
+        Value::ListOf(items) => is_row_plain(items) && alike_to_row(x, items),
         Value::SetOf(items) => alike_to_all(x, items.as_slice()),
         Value::DictOf(entries) => alike_to_keys(x, entries.as_slice()),
         _ => false,
@@ -139,9 +140,7 @@ pub(crate) fn may_insert_at(v: &Value, i: u32, x: &Value) -> bool
     tidy(v)
         && tidy(x)
         && match v {
-            Value::ListOf(items) => {
-                alike_to_all(x, items.as_slice()) && i as usize <= items.as_slice().len()
-            }
+            Value::ListOf(items) => alike_to_row(x, items) && i as usize <= items.len(),
             _ => false,
         }
 }

@@ -12,7 +12,7 @@ use crate::conditions::is_int;
 use crate::tidiness::is_ascending;
 use chi_base::NoMemory;
 use chi_ops::{Kind, OpFault, build, has, join, slice, union};
-use chi_value::{Items, Value};
+use chi_value::{Items, Row, Value};
 use std::alloc::Global;
 use std::test::Fail;
 
@@ -20,6 +20,20 @@ fn are_ints(values: &[Value]) -> bool
     ensures { result ≡ list_all is_int values.now }
 {
     for value in values {
+        if !is_int(value) {
+            return false;
+        }
+    }
+    true
+}
+
+fn is_row_of_ints(values: &Row) -> bool
+    ensures { result ≡ list_all is_int values.now }
+{
+    for place in 0..values.len() {
+        let Some(value) = values.get(place) else {
+            unreachable!();
+        };
         if !is_int(value) {
             return false;
         }
@@ -64,7 +78,7 @@ fn may_join_ints(a: &Value, b: &Value) -> bool
     ensures { IsTrue result → IsTrue (may_join a.now b.now) }
 {
     match (a, b) {
-        (Value::ListOf(a), Value::ListOf(b)) => are_ints(a.as_slice()) && are_ints(b.as_slice()),
+        (Value::ListOf(a), Value::ListOf(b)) => is_row_of_ints(a) && is_row_of_ints(b),
         (_, _) => false,
     }
 }
@@ -74,7 +88,7 @@ fn is_sequence_of_ints(v: &Value) -> bool
     ensures { IsTrue result → IsTrue (tidy v.now && is_sequence v.now) }
 {
     match v {
-        Value::ListOf(items) => are_ints(items.as_slice()),
+        Value::ListOf(items) => is_row_of_ints(items),
         _ => false,
     }
 }
@@ -134,7 +148,7 @@ fn the_largest_sets_are_united(rt: HostRuntime) -> Result<(), Fail> {
 }
 
 fn list(alloc: Global, count: u32) -> Result<Value, NoMemory> {
-    Ok(Value::ListOf(Items::of(alloc, falling(alloc, count)?)?))
+    Ok(Value::ListOf(Row::of(alloc, falling(alloc, count)?)?))
 }
 
 #[test]
@@ -148,9 +162,9 @@ fn the_largest_lists_are_joined_and_cut(rt: HostRuntime) -> Result<(), Fail> {
     let Value::ListOf(items) = &backwards else {
         return Err(Fail::new("no list"));
     };
-    assert_eq!(rt; items.as_slice().len(), 1_048_576);
-    assert!(rt; matches!(items.as_slice().first(), Some(Value::Int(1))));
-    assert!(rt; matches!(items.as_slice().last(), Some(Value::Int(524_288))));
+    assert_eq!(rt; items.len(), 1_048_576);
+    assert!(rt; matches!(items.get(0), Some(Value::Int(1))));
+    assert!(rt; matches!(items.get(1_048_575), Some(Value::Int(524_288))));
     let one = list(alloc, 1)?;
     assert!(rt; may_join_ints(&whole, &one));
     assert!(rt; matches!(join(alloc, &whole, &one), Err(OpFault::Limit)));

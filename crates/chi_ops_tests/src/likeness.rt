@@ -3,7 +3,7 @@ ghost use Rattle.std.specs.List.{list_all};
 ghost use Rattle.chi_value.specs.Alike.{alike, all_alike, drawn_kind, elements_alike, parts_alike};
 
 use chi_num::Dist;
-use chi_value::Value;
+use chi_value::{Row, Value};
 
 /// Whether two values are of one kind.
 #[cycle(alike)]
@@ -17,11 +17,11 @@ pub fn alike(a: &Value, b: &Value) -> bool
         (Value::Text(_), Value::Text(_)) => true,
         (Value::Choice(k, _), Value::Choice(l, _)) => *k == *l,
         (Value::TupleOf(xs), Value::TupleOf(ys)) => parts_alike(xs.as_slice(), ys.as_slice()),
-        (Value::ListOf(xs), Value::ListOf(ys))
-        | (Value::SetOf(xs), Value::SetOf(ys))
-        | (Value::DictOf(xs), Value::DictOf(ys)) => elements_alike(xs.as_slice(), ys.as_slice()),
+        (Value::ListOf(xs), Value::ListOf(ys)) => rows_alike(xs, ys),
+        (Value::SetOf(xs), Value::SetOf(ys)) | (Value::DictOf(xs), Value::DictOf(ys)) =>
+            elements_alike(xs.as_slice(), ys.as_slice()),
         (Value::Chan(_), Value::Chan(_)) => true,
-        (Value::Dist(x), Value::Dist(y)) => drawn_kind(x) == drawn_kind(y),
+        (Value::Dist(x), Value::Dist(y)) => drawn_kind(x.get()) == drawn_kind(y.get()),
         (Value::Timer(_), Value::Timer(_)) => true,
         (Value::Inst(_), Value::Inst(_)) => true,
         (_, _) => false,
@@ -68,6 +68,37 @@ fn elements_alike(xs: &[Value], ys: &[Value]) -> bool
     true
 }
 
+#[cycle(alike)]
+fn rows_alike(xs: &Row, ys: &Row) -> bool
+    ensures { result ≡ elements_alike (map alike xs.now) ys.now }
+{
+    for place in 0..xs.len() {
+        let Some(x) = xs.get(place) else {
+            unreachable!();
+        };
+        if !alike_to_row(x, ys) {
+            return false;
+        }
+    }
+    true
+}
+
+/// Whether a value is alike to each of a list.
+#[cycle(alike)]
+pub(crate) fn alike_to_row(x: &Value, others: &Row) -> bool
+    ensures { result ≡ list_all (alike x.now) others.now }
+{
+    for place in 0..others.len() {
+        let Some(other) = others.get(place) else {
+            unreachable!();
+        };
+        if !alike(x, other) {
+            return false;
+        }
+    }
+    true
+}
+
 /// Whether a value is alike to each of others.
 #[cycle(alike)]
 pub(crate) fn alike_to_all(x: &Value, others: &[Value]) -> bool
@@ -75,6 +106,21 @@ pub(crate) fn alike_to_all(x: &Value, others: &[Value]) -> bool
 {
     for other in others {
         if !alike(x, other) {
+            return false;
+        }
+    }
+    true
+}
+
+/// Whether every two of a list are alike.
+pub(crate) fn is_row_alike(values: &Row) -> bool
+    ensures { result ≡ all_alike values.now }
+{
+    for place in 0..values.len() {
+        let Some(value) = values.get(place) else {
+            unreachable!();
+        };
+        if !alike_to_row(value, values) {
             return false;
         }
     }

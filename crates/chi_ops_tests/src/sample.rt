@@ -3,7 +3,7 @@ ghost use Rattle.chi_sets.specs.Dictionaries.{entry};
 
 use chi_base::NoMemory;
 use chi_token::Bytes;
-use chi_value::{Items, Value};
+use chi_value::{Items, Row, Value};
 use std::alloc::Global;
 
 /// Values as plain data, for tables.
@@ -23,7 +23,7 @@ impl Sample {
         match self {
             Sample::Int(number) => Ok(Value::Int(*number)),
             Sample::Text(bytes) => Ok(Value::Text(Bytes::copy_of(alloc, bytes)?)),
-            Sample::List(numbers) => Ok(Value::ListOf(Items::of(alloc, ints(alloc, numbers)?)?)),
+            Sample::List(numbers) => Ok(Value::ListOf(Row::of(alloc, ints(alloc, numbers)?)?)),
             Sample::Set(numbers) => Ok(Value::SetOf(Items::of(alloc, ints(alloc, numbers)?)?)),
             Sample::Dict(pairs) => Ok(Value::DictOf(Items::of(alloc, entries(alloc, pairs)?)?)),
         }

@@ -14,7 +14,7 @@ use crate::told::told;
 use chi_base::NoMemory;
 use chi_ops::{Path, put};
 use chi_sets::value_of;
-use chi_value::{Items, Value};
+use chi_value::{Items, Row, Value};
 use std::alloc::Global;
 use std::test::Fail;
 
@@ -43,7 +43,7 @@ fn fits_by(path: &[Path], i: &Value, x: &Value, v: &Value) -> bool
     ensures { result ≡ fits_along (by i.now ∷ steps_of path.now) x.now v.now }
 {
     match v {
-        Value::ListOf(items) => is_int(i) && all_fit(path, x, items.as_slice()),
+        Value::ListOf(items) => is_int(i) && all_fit(path, x, items),
         Value::DictOf(entries) => {
             is_key(i)
                 && alike_to_keys(i, entries.as_slice())
@@ -73,10 +73,13 @@ fn part_at(parts: &[Value], k: usize) -> Option<&Value>
 }
 
 #[cycle(fits_along)]
-fn all_fit(path: &[Path], x: &Value, items: &[Value]) -> bool
+fn all_fit(path: &[Path], x: &Value, items: &Row) -> bool
     ensures { result ≡ list_all (fits_along (steps_of path.now) x.now) items.now }
 {
-    for item in items {
+    for place in 0..items.len() {
+        let Some(item) = items.get(place) else {
+            unreachable!();
+        };
         if !fits_along(path, x, item) {
             return false;
         }
@@ -112,11 +115,7 @@ fn nested(alloc: Global) -> Result<Value, NoMemory> {
     let mut items = Vec::new(alloc);
     items.push(Sample::Dict(&[(1, 10), (2, 20)]).value(alloc)?)?;
     items.push(Sample::Dict(&[(3, 30)]).value(alloc)?)?;
-    pair(
-        alloc,
-        Value::ListOf(Items::of(alloc, items)?),
-        Value::Int(7),
-    )
+    pair(alloc, Value::ListOf(Row::of(alloc, items)?), Value::Int(7))
 }
 
 /// An index and a key within the first part of the nested value, and what it comes to with 5 there.

@@ -6,9 +6,9 @@ ghost use Rattle.chi_sets.specs.Dictionaries.{are_entries, ascending_by_key, by_
 ghost use Rattle.chi_sets.specs.Sets.{is_ascending};
 ghost use Rattle.chi_ops.specs.Tidy.{all_tidy, is_dictionary_list, is_set_list, tidy};
 
-use crate::likeness::all_alike;
+use crate::likeness::{all_alike, is_row_alike};
 use chi_sets::key_of;
-use chi_value::{Value, compare_any};
+use chi_value::{Row, Value, compare_any};
 use chi_value_tests::plain;
 use std::cmp::Ordering;
 
@@ -20,7 +20,7 @@ pub(crate) fn tidy(value: &Value) -> bool
 {
     match value {
         Value::TupleOf(parts) => all_tidy(parts.as_slice()),
-        Value::ListOf(items) => all_tidy(items.as_slice()) && all_alike(items.as_slice()),
+        Value::ListOf(items) => is_row_tidy(items) && is_row_alike(items),
         Value::SetOf(items) => all_tidy(items.as_slice()) && is_alike_set(items.as_slice()),
         Value::DictOf(entries) => {
             all_tidy(entries.as_slice()) && is_alike_dictionary(entries.as_slice())
@@ -34,6 +34,21 @@ pub(crate) fn all_tidy(values: &[Value]) -> bool
     ensures { result ≡ all_tidy values.now }
 {
     for value in values {
+        if !tidy(value) {
+            return false;
+        }
+    }
+    true
+}
+
+#[cycle(tidy)]
+fn is_row_tidy(values: &Row) -> bool
+    ensures { result ≡ all_tidy values.now }
+{
+    for place in 0..values.len() {
+        let Some(value) = values.get(place) else {
+            unreachable!();
+        };
         if !tidy(value) {
             return false;
         }
@@ -57,6 +72,20 @@ pub(crate) fn all_plain(items: &[Value]) -> bool
     ensures { result ≡ list_all is_plain items.now }
 {
     for item in items {
+        if !plain(item) {
+            return false;
+        }
+    }
+    true
+}
+
+pub(crate) fn is_row_plain(items: &Row) -> bool
+    ensures { result ≡ list_all is_plain items.now }
+{
+    for place in 0..items.len() {
+        let Some(item) = items.get(place) else {
+            unreachable!();
+        };
         if !plain(item) {
             return false;
         }

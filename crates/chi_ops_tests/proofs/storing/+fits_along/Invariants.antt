@@ -20,9 +20,9 @@ decreases-all_fit l = 3 * length l.path.now + 1
 abbrev pub decreases-values_fit : goal.decreases-values_fit
 decreases-values_fit l = 3 * length l.path.now + 1
 
-abbrev pub invariant-all_fit-loop-item : goal.invariant-all_fit-loop-item
-invariant-all_fit-loop-item l =
-    list_all (fits_along (steps_of l.path) l.x) l.fn.items ≡ list_all (fits_along (steps_of l.path) l.x) (drop l.item-index l.items)
+abbrev pub invariant-all_fit-loop-place : goal.invariant-all_fit-loop-place
+invariant-all_fit-loop-place l =
+    list_all (fits_along (steps_of l.path) l.x) l.fn.items ≡ list_all (fits_along (steps_of l.path) l.x) (drop l.place l.items)
 
 abbrev pub invariant-values_fit-loop-entry : goal.invariant-values_fit-loop-entry
 invariant-values_fit-loop-entry l =
