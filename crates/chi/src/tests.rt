@@ -2,6 +2,8 @@
 //! program is asked; here are those that a shelf and sinks are asked, and calls that fail.
 
 mod library;
+mod requests;
+mod values;
 mod worked;
 
 use chi_io::{MemShelf, MemSink};

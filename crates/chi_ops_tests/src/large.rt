@@ -1,20 +1,42 @@
-//! Operations at the greatest sizes. Of ints the conditions are tested in linear time.
+//! Operations on ints, at the greatest sizes. Their conditions are tested in linear time.
 
 ghost use Rattle.std.specs.Prelude.{◌≡◌, ◌&&◌, ℤ, IsTrue};
 ghost use Rattle.std.specs.List.{list_all};
+ghost use Rattle.chi_sets.specs.Sets.{is_ascending};
 ghost use Rattle.chi_value.specs.declared.format.Kind.TheVariants.{SetOf};
 ghost use Rattle.chi_value.specs.declared.value.Value.TheVariants.{Int};
 ghost use Rattle.chi_ops.specs.Conditions.{may_build, may_has, may_join, may_union};
 ghost use Rattle.chi_ops.specs.Kinds.{is_int, is_sequence};
 ghost use Rattle.chi_ops.specs.Tidy.{tidy};
 
-use crate::conditions::is_int;
-use crate::tidiness::is_ascending;
 use chi_base::NoMemory;
-use chi_ops::{Kind, OpFault, build, has, join, slice, union};
-use chi_value::{Items, Row, Value};
+use chi_ops::{Kind, OpFault, build, has, index, join, range, slice, union};
+use chi_value::{Items, Row, Value, compare_any};
 use std::alloc::Global;
+use std::cmp::Ordering;
 use std::test::Fail;
+
+fn is_int(v: &Value) -> bool
+    ensures { result ≡ is_int v.now }
+{
+    matches!(v, Value::Int(_))
+}
+
+fn is_ascending(items: &[Value]) -> bool
+    ensures { result ≡ is_ascending items.now }
+{
+    let Some((first, rest)) = items.split_first() else {
+        return true;
+    };
+    let mut before = first;
+    for item in rest {
+        if compare_any(before, item) != Ordering::Less {
+            return false;
+        }
+        before = item;
+    }
+    true
+}
 
 fn are_ints(values: &[Value]) -> bool
     ensures { result ≡ list_all is_int values.now }
@@ -168,5 +190,16 @@ fn the_largest_lists_are_joined_and_cut(rt: HostRuntime) -> Result<(), Fail> {
     let one = list(alloc, 1)?;
     assert!(rt; may_join_ints(&whole, &one));
     assert!(rt; matches!(join(alloc, &whole, &one), Err(OpFault::Limit)));
+    Ok(())
+}
+
+#[test]
+fn ints_are_counted_and_found(rt: HostRuntime) -> Result<(), Fail> {
+    let alloc = rt.alloc();
+    let ints = range(alloc, 0, 3, 1)?;
+    assert!(rt; is_sequence_of_ints(&ints));
+    assert!(rt; matches!(index(alloc, &ints, -1), Ok(Value::Int(2))));
+    assert!(rt; matches!(index(alloc, &ints, 3), Err(OpFault::Index)));
+    assert!(rt; matches!(range(alloc, 0, 3, 0), Err(OpFault::SliceStep)));
     Ok(())
 }
