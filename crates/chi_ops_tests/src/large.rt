@@ -5,12 +5,13 @@ ghost use Rattle.std.specs.List.{list_all};
 ghost use Rattle.chi_sets.specs.Sets.{is_ascending};
 ghost use Rattle.chi_value.specs.declared.format.Kind.TheVariants.{SetOf};
 ghost use Rattle.chi_value.specs.declared.value.Value.TheVariants.{Int};
-ghost use Rattle.chi_ops.specs.Conditions.{may_build, may_has, may_join, may_union};
+ghost use Rattle.chi_ops.specs.Conditions.{may_build, may_has, may_join, may_size, may_union};
 ghost use Rattle.chi_ops.specs.Kinds.{is_int, is_sequence};
 ghost use Rattle.chi_ops.specs.Tidy.{tidy};
 
 use chi_base::NoMemory;
-use chi_ops::{Kind, OpFault, build, has, index, join, range, slice, union};
+use chi_ops::{Kind, OpFault, build, has, index, join, range, size, slice, union};
+use chi_token::Bytes;
 use chi_value::{Items, Row, Value, compare_any};
 use std::alloc::Global;
 use std::cmp::Ordering;
@@ -115,6 +116,16 @@ fn is_sequence_of_ints(v: &Value) -> bool
     }
 }
 
+#[tactic(auto, using(crate::proofs::Ints::text_size))]
+fn may_size_text(v: &Value) -> bool
+    ensures { IsTrue result → IsTrue (may_size v.now) }
+{
+    match v {
+        Value::Text(bytes) => (bytes.as_slice().len() as u64) < 4_294_967_296,
+        _ => false,
+    }
+}
+
 /// So many ints from the greatest down to 1.
 fn falling(alloc: Global, count: u32) -> Result<Vec<Value>, NoMemory> {
     let mut numbers = Vec::new(alloc);
@@ -201,5 +212,14 @@ fn ints_are_counted_and_found(rt: HostRuntime) -> Result<(), Fail> {
     assert!(rt; matches!(index(alloc, &ints, -1), Ok(Value::Int(2))));
     assert!(rt; matches!(index(alloc, &ints, 3), Err(OpFault::Index)));
     assert!(rt; matches!(range(alloc, 0, 3, 0), Err(OpFault::SliceStep)));
+    Ok(())
+}
+
+/// A string with a byte that no source has.
+#[test]
+fn a_string_may_have_any_bytes(rt: HostRuntime) -> Result<(), Fail> {
+    let text = Value::Text(Bytes::copy_of(rt.alloc(), b"a\n\xff")?);
+    assert!(rt; may_size_text(&text));
+    assert_eq!(rt; size(&text), 3);
     Ok(())
 }

@@ -1,5 +1,6 @@
 use crate::{Ty, Way, depth, fits, is_plain, joined, same};
-use chi_base::{Boxed, NoMemory};
+use chi_base::{Boxed, Items, NoMemory};
+use chi_token::Bytes;
 use std::alloc::Global;
 use std::test::Fail;
 
@@ -7,42 +8,84 @@ fn list_of(alloc: Global, element: Ty) -> Result<Ty, NoMemory> {
     Ok(Ty::ListOf(Boxed::new(alloc, element)?))
 }
 
+fn set_of(alloc: Global, element: Ty) -> Result<Ty, NoMemory> {
+    Ok(Ty::SetOf(Boxed::new(alloc, element)?))
+}
+
 fn channel(alloc: Global, way: Way, element: Ty) -> Result<Ty, NoMemory> {
     Ok(Ty::Chan(way, Boxed::new(alloc, element)?))
 }
 
-/// The types that the table names by their position. More pairs are in rows/.
-fn examples(alloc: Global) -> Result<Vec<Ty>, NoMemory> {
-    let mut types = Vec::new(alloc);
-    types.push(Ty::Int)?;
-    types.push(Ty::Real)?;
-    types.push(list_of(alloc, Ty::Int)?)?;
-    types.push(channel(alloc, Way::Both, Ty::Void)?)?;
-    types.push(channel(alloc, Way::Send, Ty::Void)?)?;
-    Ok(types)
+fn dictionary(alloc: Global, key: Ty, value: Ty) -> Result<Ty, NoMemory> {
+    let key = Boxed::new(alloc, key)?;
+    Ok(Ty::DictOf(key, Boxed::new(alloc, value)?))
+}
+
+fn pair(alloc: Global, name: &[u8], first: Ty, second: Ty) -> Result<Ty, NoMemory> {
+    let name = Bytes::copy_of(alloc, name)?;
+    let unnamed = Bytes::copy_of(alloc, b"")?;
+    let mut parts = Vec::new(alloc);
+    parts.push((name, first))?;
+    parts.push((unnamed, second))?;
+    Ok(Ty::TupleOf(Items::of(alloc, parts)?))
+}
+
+/// A type by its number. More types are in rows/.
+fn example(alloc: Global, number: u32) -> Result<Ty, NoMemory> {
+    match number {
+        0 => Ok(Ty::Int),
+        1 => Ok(Ty::Real),
+        2 => list_of(alloc, Ty::Int),
+        3 => channel(alloc, Way::Both, Ty::Void),
+        4 => channel(alloc, Way::Send, Ty::Void),
+        5 => pair(alloc, b"x", Ty::Int, Ty::Text),
+        6 => dictionary(alloc, Ty::Text, set_of(alloc, Ty::Bool)?),
+        7 => Ok(Ty::Dist(Boxed::new(alloc, Ty::Real)?)),
+        _ => Ok(Ty::Choice(3)),
+    }
 }
 
 #[test]
 fn pairs_of_types_fit_and_join(rt: HostRuntime) -> Result<(), Fail> {
-    let types = examples(rt.alloc())?;
-    // given, wanted, fits, are the same, have a type in common; and the depth of the given one, and whether it is plain
+    // given, wanted, fits, are the same, have a type in common
     let rows = [
-        (0, 0, true, true, true, 1, true),
-        (0, 1, true, false, true, 1, true),
-        (2, 2, true, true, true, 2, true),
-        (3, 4, true, false, false, 2, false),
+        (0, 0, true, true, true),
+        (0, 1, true, false, true),
+        (3, 4, true, false, false),
+        (2, 6, false, false, false),
     ];
-    for (given, wanted, fit, alike, common, deep, plain) in rows {
-        let (Some(a), Some(b)) = (types.get(given), types.get(wanted)) else {
-            return Err(Fail::new("no such type"));
-        };
-        assert_eq!(rt; fits(a, b), fit, "{given} fits {wanted}");
-        assert_eq!(rt; same(a, b), alike, "{given} same as {wanted}");
-        let met = joined(rt.alloc(), a, b)?.is_some();
+    for (given, wanted, fit, alike, common) in rows {
+        let a = example(rt.alloc(), given)?;
+        let b = example(rt.alloc(), wanted)?;
+        assert_eq!(rt; fits(&a, &b), fit, "{given} fits {wanted}");
+        assert_eq!(rt; same(&a, &b), alike, "{given} same as {wanted}");
+        let met = joined(rt.alloc(), &a, &b)?.is_some();
         assert_eq!(rt; met, common, "{given} joined with {wanted}");
-        assert_eq!(rt; depth(a), deep, "depth of {given}");
-        assert_eq!(rt; is_plain(a), plain, "{given} is plain");
-        assert!(rt; same(&a.copy(rt.alloc())?, a), "copy of {given}");
+    }
+    Ok(())
+}
+
+#[test]
+fn types_have_a_depth_and_may_be_plain(rt: HostRuntime) -> Result<(), Fail> {
+    // of each type in turn
+    let rows = [
+        (1, true),
+        (1, true),
+        (2, true),
+        (2, false),
+        (2, false),
+        (2, true),
+        (3, true),
+        (2, false),
+        (1, true),
+    ];
+    let mut number = 0;
+    for (deep, plain) in rows {
+        let ty = example(rt.alloc(), number)?;
+        assert_eq!(rt; depth(&ty), deep, "depth of {number}");
+        assert_eq!(rt; is_plain(&ty), plain, "{number} is plain");
+        assert!(rt; same(&ty.copy(rt.alloc())?, &ty), "copy of {number}");
+        number += 1;
     }
     Ok(())
 }

@@ -3,7 +3,7 @@ use chi_token::Bytes;
 use chi_value::{Items, Row, Value};
 use std::alloc::Global;
 
-fn string(alloc: Global, bytes: &[u8]) -> Result<Value, NoMemory> {
+pub(crate) fn string(alloc: Global, bytes: &[u8]) -> Result<Value, NoMemory> {
     Ok(Value::Text(Bytes::copy_of(alloc, bytes)?))
 }
 
@@ -25,6 +25,11 @@ fn ints(alloc: Global, numbers: &[i64]) -> Result<Vec<Value>, NoMemory> {
 
 pub(crate) fn list(alloc: Global, numbers: &[i64]) -> Result<Value, NoMemory> {
     Ok(Value::ListOf(Row::of(alloc, ints(alloc, numbers)?)?))
+}
+
+/// Ints that ascend, as a set.
+pub(crate) fn set(alloc: Global, numbers: &[i64]) -> Result<Value, NoMemory> {
+    Ok(Value::SetOf(Items::of(alloc, ints(alloc, numbers)?)?))
 }
 
 pub(crate) fn entries(alloc: Global) -> Result<Items, NoMemory> {
