@@ -1,5 +1,5 @@
 use Rattle.chi_core_kinds.proofs.Stated.{lists, sets, dictionaries}
-use Rattle.chi_core_kinds.proofs.laws.literals_keep_kinds.Goals as goal
+use Rattle.chi_core_kinds.proofs.operator_laws.literals_keep_kinds.Goals as goal
 
 pub returns-clause-lists : goal.returns-clause-lists
 returns-clause-lists c = lists

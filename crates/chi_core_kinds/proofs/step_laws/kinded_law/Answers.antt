@@ -1,7 +1,7 @@
 use Rattle.chi_core_kinds.proofs.Beginnings.{begins_always}
 use Rattle.chi_core_kinds.proofs.Operations.{Laws}
 use Rattle.chi_core_kinds.proofs.Steps.{steps_keep}
-use Rattle.chi_core_kinds.proofs.laws.kinded_law.Goals as goal
+use Rattle.chi_core_kinds.proofs.step_laws.kinded_law.Goals as goal
 
 pub returns : goal.returns
 returns c =
