@@ -51,23 +51,27 @@ fn expr_copy(alloc: Global, e: &CExpr) -> Result<CExpr, NoMemory>
         CExpr::Const(number) => Ok(CExpr::Const(*number)),
         CExpr::Op(name, es) => Ok(CExpr::Op(*name, expr_copies(alloc, es.as_slice())?)),
         CExpr::And(a, b) => {
-            let (a, b) = both_copies(alloc, a.get(), b.get())?;
+            let a = boxed_copy(alloc, a.get())?;
+            let (a, b) = copy_after(alloc, b.get(), a)?;
             Ok(CExpr::And(a, b))
         }
         CExpr::Or(a, b) => {
-            let (a, b) = both_copies(alloc, a.get(), b.get())?;
+            let a = boxed_copy(alloc, a.get())?;
+            let (a, b) = copy_after(alloc, b.get(), a)?;
             Ok(CExpr::Or(a, b))
         }
         CExpr::Build(kind, es) => Ok(CExpr::Build(*kind, expr_copies(alloc, es.as_slice())?)),
         CExpr::Part(e, number) => Ok(CExpr::Part(boxed_copy(alloc, e.get())?, *number)),
         CExpr::Call(number, es) => Ok(CExpr::Call(*number, expr_copies(alloc, es.as_slice())?)),
         CExpr::InsertBy(a, b, number) => {
-            let (a, b) = both_copies(alloc, a.get(), b.get())?;
+            let a = boxed_copy(alloc, a.get())?;
+            let (a, b) = copy_after(alloc, b.get(), a)?;
             Ok(CExpr::InsertBy(a, b, *number))
         }
         CExpr::Default(shape) => Ok(CExpr::Default(shape_copy(alloc, shape)?)),
         CExpr::Repeat(a, b) => {
-            let (a, b) = both_copies(alloc, a.get(), b.get())?;
+            let a = boxed_copy(alloc, a.get())?;
+            let (a, b) = copy_after(alloc, b.get(), a)?;
             Ok(CExpr::Repeat(a, b))
         }
     }
@@ -81,21 +85,20 @@ fn boxed_copy(alloc: Global, e: &CExpr) -> Result<Boxed<CExpr>, NoMemory>
     Ok(Boxed::new(alloc, copy)?)
 }
 
-/// Copies of two parts.
+/// A copy of a part, after that of one before it.
 #[cycle(expr_copy)]
-fn both_copies(
+fn copy_after(
     alloc: Global,
-    a: &CExpr,
-    b: &CExpr,
+    second: &CExpr,
+    first: Boxed<CExpr>,
 ) -> Result<(Boxed<CExpr>, Boxed<CExpr>), NoMemory>
-    ensures left { IfOk result (λ copies. copies.0 ≡ a.now) }
-    ensures right { IfOk result (λ copies. copies.1 ≡ b.now) }
+    ensures first { IfOk result (λ copies. copies.0 ≡ first) }
+    ensures second { IfOk result (λ copies. copies.1 ≡ second.now) }
 {
-    let left = boxed_copy(alloc, a)?;
-    match boxed_copy(alloc, b) {
-        Ok(right) => Ok((left, right)),
+    match boxed_copy(alloc, second) {
+        Ok(second) => Ok((first, second)),
         Err(refusal) => {
-            drop(left);
+            drop(first);
             Err(refusal)
         }
     }

@@ -133,9 +133,7 @@ fn mean_sized(
     ensures noted { OnOk result (kept.new ≡ first_of (first_of kept.old (spec.reading site scope.now element.now sizes).faults) (rules.sized_list_of place sizes size (spec.reading site scope.now element.now sizes).made).faults) }
 {
     match mean_in(alloc, element, scope, site, sizes, kept) {
-        Ok(element) => {
-            chi_check_types::sized_list_of(alloc, place, sizes, size, element, kept)
-        }
+        Ok(element) => { chi_check_types::sized_list_of(alloc, place, sizes, size, element, kept) }
         Err(refusal) => {
             drop(size);
             Err(refusal)
