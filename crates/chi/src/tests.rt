@@ -1,22 +1,10 @@
-//! The top call over files and sinks in memory: what is written, and the status.
+//! The top call over files and sinks in memory: what is written, and the status. Most whole programs are in rows/, which the
+//! program is asked; here are those that a shelf and sinks are asked, and calls that fail.
 
-mod checking;
-mod computing;
-mod costs;
-mod draws;
-mod faults;
-mod functions;
-mod joins;
 mod library;
-mod limits;
-mod operators;
-mod processes;
-mod refusals;
-mod runs;
-mod selects;
-mod traces;
-mod tutorial;
-mod words;
+mod requests;
+mod values;
+mod worked;
 
 use chi_io::{MemShelf, MemSink};
 use chi_tool::chi;
@@ -26,26 +14,19 @@ use std::test::Fail;
 
 /// What a call writes and answers.
 #[derive(Clone, Copy)]
-struct Wanted {
-    out: &'static str,
-    log: &'static str,
+struct Wanted<'a> {
+    out: &'a str,
+    log: &'a str,
     status: u8,
 }
-
-/// A row of a table: a source, and what its simulation gives.
-const fn row(
-    source: &'static str,
-    out: &'static str,
-    log: &'static str,
-    status: u8,
-) -> (&'static str, Wanted) {
-    (source, Wanted { out, log, status })
-}
-
-/// Words of the command line, and what the call writes and answers.
-type Row = (&'static [&'static str], &'static str, &'static str, u8);
 
 const DONE: &str = "completed at time 0.0\n";
+
+const WORKS: &str = "model M(): write(\"It works!\\n\") end";
+
+const TWO_SENDERS: &str = "proc S(chan! int a; int n): a!n end \
+     proc R(chan? int a): int x; a?x; writeln(\"%d\", x); a?x; writeln(\"%d\", x) end \
+     model M(): chan int a; run S(a, 1), S(a, 2), R(a) end";
 
 /// A source: texts one after another, each so many times.
 fn written(alloc: Global, texts: &[(&str, usize)]) -> Result<Vec<u8>, AllocError> {
@@ -58,22 +39,13 @@ fn written(alloc: Global, texts: &[(&str, usize)]) -> Result<Vec<u8>, AllocError
     Ok(source)
 }
 
-/// A shelf with one file.
-fn shelf_of(
-    alloc: Global,
-    name: &str,
-    source: &[u8],
-    failing: Vec<u64>,
-) -> Result<MemShelf, AllocError> {
-    let name = Vec::from_slice(alloc, name.as_bytes())?;
+/// A shelf with one file, `m.chi`, that fails at the calls of these numbers.
+fn shelf_of(alloc: Global, source: &[u8], failing: Vec<u64>) -> Result<MemShelf, AllocError> {
+    let name = Vec::from_slice(alloc, b"m.chi")?;
     let source = Vec::from_slice(alloc, source)?;
     let mut files = Vec::new(alloc);
     files.push((name, source))?;
     Ok(MemShelf::new(files, failing))
-}
-
-fn numbers(alloc: Global, numbers: &[u64]) -> Result<Vec<u64>, AllocError> {
-    Vec::from_slice(alloc, numbers)
 }
 
 /// Runs the words over the file `m.chi`, and compares what is written and the status.
@@ -85,7 +57,7 @@ fn expect(
     about: &str,
     wanted: Wanted,
 ) -> Result<(), Fail> {
-    let mut shelf = shelf_of(alloc, "m.chi", source, Vec::new(alloc))?;
+    let mut shelf = shelf_of(alloc, source, Vec::new(alloc))?;
     let mut out = MemSink::new(alloc, 65_536, 65_536, Vec::new(alloc))?;
     let mut log = MemSink::new(alloc, 65_536, 65_536, Vec::new(alloc))?;
     let status = chi(alloc, words, &mut shelf, &mut out, &mut log);
@@ -99,91 +71,40 @@ fn expect(
     Ok(())
 }
 
-/// Simulates each source.
-fn expect_rows(
-    rt: &impl Abort,
-    alloc: Global,
-    rows: &[(&'static str, Wanted)],
-) -> Result<(), Fail> {
-    for (source, wanted) in rows {
-        expect(
-            rt,
-            alloc,
-            &["sim", "m.chi"],
-            source.as_bytes(),
-            source,
-            *wanted,
-        )?;
-    }
-    Ok(())
-}
+/// A source that is simulated over objects that fail: the numbers of the calls at which the shelf does, how many bytes a sink
+/// takes at once, the numbers of the puts at which the output and the log fail; and the output, the log and the status.
+type Failing = (
+    &'static str,
+    &'static [u64],
+    usize,
+    &'static [u64],
+    &'static [u64],
+    &'static str,
+    &'static str,
+    u8,
+);
 
-/// Runs each words over the file `m.chi`.
-fn expect_words(rt: &impl Abort, alloc: Global, source: &str, rows: &[Row]) -> Result<(), Fail> {
-    for (words, out, log, status) in rows {
-        let wanted = Wanted {
-            out,
-            log,
-            status: *status,
-        };
-        let about = words.last().copied().unwrap_or("nothing");
-        expect(rt, alloc, words, source.as_bytes(), about, wanted)?;
-    }
-    Ok(())
-}
-
-/// Simulates a source that is made of repeated texts.
-fn expect_written(
-    rt: &impl Abort,
-    alloc: Global,
-    texts: &[(&str, usize)],
-    wanted: Wanted,
-) -> Result<(), Fail> {
-    let source = written(alloc, texts)?;
-    expect(rt, alloc, &["sim", "m.chi"], &source, wanted.log, wanted)
-}
-
-const WORKS: &str = "model M(): write(\"It works!\\n\") end";
-
-/// Runs the first model over objects that fail at the calls of these numbers.
-fn expect_failing(
-    rt: &impl Abort,
-    alloc: Global,
-    fetch: &[u64],
-    most: usize,
-    out_put: &[u64],
-    log_put: &[u64],
-    wanted: Wanted,
-) -> Result<(), Fail> {
-    let mut shelf = shelf_of(alloc, "m.chi", WORKS.as_bytes(), numbers(alloc, fetch)?)?;
-    let most = most.max(1);
-    let mut out = MemSink::new(alloc, 65_536, most, numbers(alloc, out_put)?)?;
-    let mut log = MemSink::new(alloc, 65_536, most, numbers(alloc, log_put)?)?;
-    let status = chi(alloc, &["sim", "m.chi"], &mut shelf, &mut out, &mut log);
-    assert_eq!(rt; out.bytes(), wanted.out.as_bytes());
-    assert_eq!(rt; log.bytes(), wanted.log.as_bytes());
-    assert_eq!(rt; status, wanted.status);
-    Ok(())
-}
+const FAILING: [Failing; 6] = [
+    (WORKS, &[0], 100, &[], &[], "", "", 4),
+    (WORKS, &[], 5, &[1], &[], "It wo", "", 5),
+    (WORKS, &[], 6, &[], &[1], "It works!\n", "comple", 5),
+    (TWO_SENDERS, &[], 1, &[2], &[], "1\n", "", 5),
+    (TWO_SENDERS, &[], 100, &[], &[0], "1\n2\n", "", 5),
+    (TWO_SENDERS, &[], 5, &[], &[1], "1\n2\n", "compl", 5),
+];
 
 #[test]
 fn failures_end_the_writing(rt: HostRuntime) -> Result<(), Fail> {
-    let silent = Wanted {
-        out: "",
-        log: "",
-        status: 4,
-    };
-    expect_failing(&rt, rt.alloc(), &[0], 100, &[], &[], silent)?;
-    let out_breaks = Wanted {
-        out: "It wo",
-        log: "",
-        status: 5,
-    };
-    expect_failing(&rt, rt.alloc(), &[], 5, &[1], &[], out_breaks)?;
-    let log_breaks = Wanted {
-        out: "It works!\n",
-        log: "comple",
-        status: 5,
-    };
-    expect_failing(&rt, rt.alloc(), &[], 6, &[], &[1], log_breaks)
+    let alloc = rt.alloc();
+    for (source, fetch, most, out_put, log_put, wanted_out, wanted_log, wanted) in FAILING {
+        let most = most.max(1);
+        let mut shelf = shelf_of(alloc, source.as_bytes(), Vec::from_slice(alloc, fetch)?)?;
+        let mut out = MemSink::new(alloc, 65_536, most, Vec::from_slice(alloc, out_put)?)?;
+        let mut log = MemSink::new(alloc, 65_536, most, Vec::from_slice(alloc, log_put)?)?;
+        let status = chi(alloc, &["sim", "m.chi"], &mut shelf, &mut out, &mut log);
+        assert_eq!(rt; out.bytes(), wanted_out.as_bytes());
+        assert_eq!(rt; log.bytes(), wanted_log.as_bytes());
+        assert_eq!(rt; status, wanted);
+    }
+    Ok(())
 }

@@ -6,10 +6,10 @@ ghost use Rattle.std.specs.Prelude.{◌≡◌, None, if◌then◌else◌};
 use chi_check_types::Made;
 
 /// Nothing is made of it.
-pub fn refused(m: Made) -> Option<Made>
+pub fn refused<T: Drop, U>(given: T) -> Option<U>
     ensures { result ≡ None }
 {
-    drop(m);
+    drop(given);
     None
 }
 
@@ -23,7 +23,7 @@ pub fn both_refused(a: Made, b: Made) -> Option<Made>
 }
 
 /// What is made, where no further rule bars it.
-pub fn unless(barred: bool, made: Option<Made>) -> Option<Made>
+pub fn unless<T: Drop>(barred: bool, made: Option<T>) -> Option<T>
     ensures { result ≡ (if barred then None else made) }
 {
     if barred {

@@ -1,11 +1,11 @@
 //! What a source comes to, as a text. Where a rule is broken that is the number of the first one with the
 //! line and the column of the place; else `untyped`, where it has no type, and `unread`, where it is no tree.
 
-use crate::names::{named, no_names};
+use crate::names::no_names;
 use crate::shown::shown;
 use crate::sources::{expr_of, type_of};
-use chi_check_expr::{mean_in, type_expr, type_in, type_tree};
-use chi_check_types::{Fault, Made, Scope, Site, TypeFault};
+use chi_check_expr::{type_expr, type_in, type_tree};
+use chi_check_types::{Fault, Scope, Site, TypeFault};
 use chi_token::Place;
 use chi_tree::{Expr, TypeTree};
 use std::alloc::Global;
@@ -20,75 +20,27 @@ fn unread(alloc: Global) -> Result<String, Fail> {
     Ok("unread".to_string(alloc)?)
 }
 
-/// What is told of an expression that has a type.
-#[derive(Clone, Copy, Debug)]
-pub enum Asked {
-    /// That it has one: `typed`.
-    Whether,
-    /// The variable that has the same type.
-    Kind,
-    Core,
-}
-
-fn told(alloc: Global, scope: &Scope, made: &Made, asked: Asked) -> Result<String, Fail> {
-    match asked {
-        Asked::Whether => Ok("typed".to_string(alloc)?),
-        Asked::Kind => named(alloc, scope, &made.ty),
-        Asked::Core => shown(alloc, &made.core),
-    }
-}
-
-fn tree_answer(
-    alloc: Global,
-    tree: &Expr,
-    scope: &Scope,
-    site: Site,
-    asked: Asked,
-) -> Result<String, Fail> {
+fn tree_answer(alloc: Global, tree: &Expr, scope: &Scope, site: Site) -> Result<String, Fail> {
     let mut kept = None;
     let made = type_in(alloc, tree, scope, site, &mut kept)?;
     if let Some(Fault { rule, place }) = kept {
         return broken(alloc, rule, place);
     }
     match made {
-        Some(made) => told(alloc, scope, &made, asked),
+        Some(made) => shown(alloc, &made.core),
         None => Ok("untyped".to_string(alloc)?),
     }
 }
 
-/// Of an expression: what is asked, or what is broken.
+/// Of an expression: its core, or what is broken.
 pub fn expr_answer(
     alloc: Global,
     source: &[u8],
     scope: &Scope,
     site: Site,
-    asked: Asked,
 ) -> Result<String, Fail> {
     match expr_of(alloc, source)? {
-        Some(tree) => tree_answer(alloc, &tree, scope, site, asked),
-        None => unread(alloc),
-    }
-}
-
-fn meaning(alloc: Global, tree: &TypeTree, scope: &Scope, sizes: bool) -> Result<String, Fail> {
-    let mut kept = None;
-    let meant = mean_in(alloc, tree, scope, Site::Process, sizes, &mut kept)?;
-    if let Some(Fault { rule, place }) = kept {
-        return broken(alloc, rule, place);
-    }
-    let told = if meant.is_some() { "typed" } else { "untyped" };
-    Ok(told.to_string(alloc)?)
-}
-
-/// Of a type: `typed`, or what is broken. `sizes` says whether a size may stand there.
-pub fn type_answer(
-    alloc: Global,
-    source: &[u8],
-    scope: &Scope,
-    sizes: bool,
-) -> Result<String, Fail> {
-    match type_of(alloc, source)? {
-        Some(tree) => meaning(alloc, &tree, scope, sizes),
+        Some(tree) => tree_answer(alloc, &tree, scope, site),
         None => unread(alloc),
     }
 }

@@ -1,10 +1,12 @@
-//! The cores of expressions and types.
+//! The cores of expressions and types, which no command shows.
 
-use crate::answers::{expr_call, type_call};
-use crate::rows::expect_cores;
+use crate::answers::{expr_answer, expr_call, type_call};
+use crate::names::names;
+use chi_check_types::Site;
 use std::test::Fail;
 
-const CORES: [(&str, &str); 55] = [
+/// Expressions of a process, each with its core.
+const CORES: [(&str, &str); 65] = [
     ("(i)", "Var(1)"),
     ("+r", "Var(2)"),
     ("-(+i)", "Op(Neg, [Var(1)])"),
@@ -114,14 +116,6 @@ const CORES: [(&str, &str); 55] = [
     ("sample g", "Op(Sample, [Var(12)])"),
     ("true", "Lit(Bool(true))"),
     ("17", "Lit(Int(17))"),
-];
-
-#[test]
-fn what_expressions_become(rt: HostRuntime) -> Result<(), Fail> {
-    expect_cores(&rt, rt.alloc(), &CORES)
-}
-
-const FURTHER_CORES: [(&str, &str); 10] = [
     ("i != i", "Op(NotEqual, [Var(1), Var(1)])"),
     ("i <= i", "Op(AtMost, [Var(1), Var(1)])"),
     ("i > i", "Op(Greater, [Var(1), Var(1)])"),
@@ -135,8 +129,35 @@ const FURTHER_CORES: [(&str, &str); 10] = [
 ];
 
 #[test]
-fn what_comparisons_and_quotients_become(rt: HostRuntime) -> Result<(), Fail> {
-    expect_cores(&rt, rt.alloc(), &FURTHER_CORES)
+fn what_expressions_become(rt: HostRuntime) -> Result<(), Fail> {
+    let scope = names(rt.alloc())?;
+    for (source, want) in CORES {
+        let told = expr_answer(rt.alloc(), source.as_bytes(), &scope, Site::Process)?;
+        assert_eq!(rt; told.as_str(), want, "for {source}");
+    }
+    Ok(())
+}
+
+/// Expressions with names that a constant can't see, each with the rule that it breaks in one.
+const IN_CONSTANTS: [(&str, &str); 8] = [
+    ("f(1)", "11 at 1:1"),
+    ("i + count()", "11 at 1:5"),
+    ("no_function(1)", "11 at 1:1"),
+    ("insert(is, 1, less)", "11 at 1:1"),
+    ("real(t)", "11 at 1:1"),
+    ("s + f(1)", "11 at 1:5"),
+    ("f(nobody)", "11 at 1:1"),
+    ("insert(is, 1, nobody)", "11 at 1:1"),
+];
+
+#[test]
+fn constants_call_no_functions(rt: HostRuntime) -> Result<(), Fail> {
+    let scope = names(rt.alloc())?;
+    for (source, want) in IN_CONSTANTS {
+        let told = expr_answer(rt.alloc(), source.as_bytes(), &scope, Site::Constant)?;
+        assert_eq!(rt; told.as_str(), want, "for {source}");
+    }
+    Ok(())
 }
 
 #[test]

@@ -1,4 +1,4 @@
-//! Tests of the typing of expressions and types, over sources.
+//! Tests of the typing of expressions and types, over sources. Most are in rows/: here is what no command shows.
 #![tactic(auto)]
 
 #[cfg(test)]
@@ -6,22 +6,8 @@ mod answers;
 #[cfg(test)]
 mod cores;
 #[cfg(test)]
-mod depths;
-#[cfg(test)]
-mod expressions;
-#[cfg(test)]
 mod names;
-#[cfg(test)]
-mod operators;
-#[cfg(test)]
-mod predefined;
-#[cfg(test)]
-mod rows;
 #[cfg(test)]
 mod shown;
 #[cfg(test)]
 mod sources;
-#[cfg(test)]
-mod tables;
-#[cfg(test)]
-mod types;

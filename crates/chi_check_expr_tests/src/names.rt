@@ -8,37 +8,31 @@ use chi_check_expr::mean_in;
 use chi_check_types::{Known, Meant, NameKind, Scope, Site};
 use chi_token::Bytes;
 use chi_tree::TypeTree;
-use chi_types::{Ty, same};
+use chi_types::Ty;
 use std::alloc::Global;
 use std::test::Fail;
 
-/// A variable of each kind, with its slot and its type.
-pub const VARIABLES: [(&str, u32, &str); 15] = [
+/// Variables with their slots and their types.
+const VARIABLES: [(&str, u32, &str); 11] = [
     ("b", 0, "bool"),
     ("i", 1, "int"),
     ("r", 2, "real"),
     ("s", 3, "string"),
     ("t", 4, "timer"),
-    ("p", 5, "inst"),
     ("is", 6, "list int"),
     ("rs", 7, "list real"),
     ("ks", 8, "set int"),
     ("qs", 9, "set real"),
     ("d", 10, "dict(int: real)"),
-    ("u", 11, "tuple(int x; real y)"),
     ("g", 12, "dist int"),
-    ("c", 13, "chan int"),
-    ("e", 14, "colour"),
 ];
 
 /// Functions with their numbers, the types of their parameters, and those of their results.
-const FUNCTIONS: [(&str, u32, &str, &str); 6] = [
+const FUNCTIONS: [(&str, u32, &str, &str); 4] = [
     ("f", 0, "real", "bool"),
     ("less", 1, "int int", "bool"),
     ("below", 2, "real real", "bool"),
     ("count", 3, "", "int"),
-    ("sender", 4, "chan!int", "bool"),
-    ("receiver", 5, "chan?int", "bool"),
 ];
 
 fn declare(alloc: Global, scope: &mut Scope, name: &'static str, known: Known) -> Result<(), Fail> {
@@ -76,51 +70,11 @@ fn all_meant(alloc: Global, scope: &Scope, sources: &'static str) -> Result<Item
 fn declare_others(alloc: Global, scope: &mut Scope) -> Result<(), Fail> {
     let pair = meant(alloc, scope, "tuple(tuple(int x; real y) a; int b)")?;
     declare(alloc, scope, "w", Known::Fixed(15, pair))?;
-    let way = meant(alloc, scope, "chan! int")?;
-    declare(alloc, scope, "o", Known::Var(16, way))?;
-    let none = Items::of(alloc, Vec::new(alloc))?;
-    declare(alloc, scope, "work", Known::Proc(0, none, None))?;
     declare(alloc, scope, "n", Known::Const(0, Ty::Int))?;
     declare(alloc, scope, "red", Known::Value(0, 0))?;
-    declare(alloc, scope, "small", Known::Value(1, 0))?;
     declare(alloc, scope, "large", Known::Value(1, 1))?;
-    declare(alloc, scope, "measure", Known::Kind(Ty::Real))?;
-    declare(alloc, scope, "plant", Known::Model(1))?;
-    declare(alloc, scope, "trial", Known::Xper(2))
-}
-
-fn declare_untyped(alloc: Global, scope: &mut Scope) -> Result<(), Fail> {
-    declare(
-        alloc,
-        scope,
-        "no_variable",
-        Known::Untyped(NameKind::Variable),
-    )?;
-    declare(
-        alloc,
-        scope,
-        "no_unwound",
-        Known::Untyped(NameKind::Unwound),
-    )?;
-    declare(
-        alloc,
-        scope,
-        "no_constant",
-        Known::Untyped(NameKind::Constant),
-    )?;
-    declare(alloc, scope, "no_type", Known::Untyped(NameKind::Type))?;
-    declare(
-        alloc,
-        scope,
-        "no_function",
-        Known::Untyped(NameKind::Function),
-    )?;
-    declare(
-        alloc,
-        scope,
-        "no_process",
-        Known::Untyped(NameKind::Process),
-    )
+    let untyped = Known::Untyped(NameKind::Function);
+    declare(alloc, scope, "no_function", untyped)
 }
 
 /// No names.
@@ -149,35 +103,11 @@ fn declare_functions(alloc: Global, scope: &mut Scope) -> Result<(), Fail> {
     Ok(())
 }
 
-fn declare_all(alloc: Global, scope: &mut Scope) -> Result<(), Fail> {
-    declare(alloc, scope, "colour", Known::Kind(Ty::Choice(0)))?;
-    declare_variables(alloc, scope)?;
-    declare_functions(alloc, scope)?;
-    declare_others(alloc, scope)?;
-    declare_untyped(alloc, scope)
-}
-
 /// What is known of the names.
 pub fn names(alloc: Global) -> Result<Scope, Fail> {
     let mut scope = Scope::new(alloc);
-    declare_all(alloc, &mut scope)?;
+    declare_variables(alloc, &mut scope)?;
+    declare_functions(alloc, &mut scope)?;
+    declare_others(alloc, &mut scope)?;
     Ok(scope)
-}
-
-fn has_type(alloc: Global, scope: &Scope, name: &'static str, ty: &Ty) -> Result<bool, Fail> {
-    let name = Bytes::copy_of(alloc, name.as_bytes())?;
-    match scope.known(&name) {
-        Some(Known::Var(_, other)) => Ok(same(other, ty)),
-        _ => Ok(false),
-    }
-}
-
-/// The name of the variable that has the type, and `?` where none has.
-pub fn named(alloc: Global, scope: &Scope, ty: &Ty) -> Result<String, Fail> {
-    for (name, _, _) in VARIABLES {
-        if has_type(alloc, scope, name, ty)? {
-            return Ok(name.to_string(alloc)?);
-        }
-    }
-    Ok("?".to_string(alloc)?)
 }

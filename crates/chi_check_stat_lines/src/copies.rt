@@ -52,23 +52,27 @@ fn expr_copy(alloc: Global, e: &CExpr) -> Result<CExpr, NoMemory>
         CExpr::Op(name, es) => Ok(CExpr::Op(*name, expr_copies(alloc, es.as_slice())?)),
         CExpr::And(a, b) => {
             let a = boxed_copy(alloc, a.get())?;
-            Ok(CExpr::And(a, boxed_copy(alloc, b.get())?))
+            let (a, b) = copy_after(alloc, b.get(), a)?;
+            Ok(CExpr::And(a, b))
         }
         CExpr::Or(a, b) => {
             let a = boxed_copy(alloc, a.get())?;
-            Ok(CExpr::Or(a, boxed_copy(alloc, b.get())?))
+            let (a, b) = copy_after(alloc, b.get(), a)?;
+            Ok(CExpr::Or(a, b))
         }
         CExpr::Build(kind, es) => Ok(CExpr::Build(*kind, expr_copies(alloc, es.as_slice())?)),
         CExpr::Part(e, number) => Ok(CExpr::Part(boxed_copy(alloc, e.get())?, *number)),
         CExpr::Call(number, es) => Ok(CExpr::Call(*number, expr_copies(alloc, es.as_slice())?)),
         CExpr::InsertBy(a, b, number) => {
             let a = boxed_copy(alloc, a.get())?;
-            Ok(CExpr::InsertBy(a, boxed_copy(alloc, b.get())?, *number))
+            let (a, b) = copy_after(alloc, b.get(), a)?;
+            Ok(CExpr::InsertBy(a, b, *number))
         }
         CExpr::Default(shape) => Ok(CExpr::Default(shape_copy(alloc, shape)?)),
         CExpr::Repeat(a, b) => {
             let a = boxed_copy(alloc, a.get())?;
-            Ok(CExpr::Repeat(a, boxed_copy(alloc, b.get())?))
+            let (a, b) = copy_after(alloc, b.get(), a)?;
+            Ok(CExpr::Repeat(a, b))
         }
     }
 }
@@ -79,6 +83,25 @@ fn boxed_copy(alloc: Global, e: &CExpr) -> Result<Boxed<CExpr>, NoMemory>
 {
     let copy = expr_copy(alloc, e)?;
     Ok(Boxed::new(alloc, copy)?)
+}
+
+/// A copy of a part, after that of one before it.
+#[cycle(expr_copy)]
+fn copy_after(
+    alloc: Global,
+    second: &CExpr,
+    first: Boxed<CExpr>,
+) -> Result<(Boxed<CExpr>, Boxed<CExpr>), NoMemory>
+    ensures first { IfOk result (λ copies. copies.0 ≡ first) }
+    ensures second { IfOk result (λ copies. copies.1 ≡ second.now) }
+{
+    match boxed_copy(alloc, second) {
+        Ok(second) => Ok((first, second)),
+        Err(refusal) => {
+            drop(first);
+            Err(refusal)
+        }
+    }
 }
 
 #[cycle(expr_copy)]

@@ -19,6 +19,7 @@ use crate::state::{Binder, Opened, State};
 use crate::values::value_in;
 use chi_base::{Items, NoMemory};
 use chi_check_expr::mean_in;
+use chi_check_expr_rules::unless;
 use chi_check_stat_rules::{Home, Walked, expr_place, site_of, type_place};
 use chi_check_types::{Fault, Meant, Scope, default_of};
 use chi_core::{CExpr, CStat};
@@ -143,18 +144,6 @@ fn declare_all(
         all = joined(alloc, all, made)?;
     }
     Ok(all)
-}
-
-/// What is made, unless a rule of the whole is broken.
-pub(crate) fn unless<T: Drop>(barred: bool, made: Option<T>) -> Option<T>
-    ensures { result ≡ (if barred then None else made) }
-{
-    if barred {
-        drop(made);
-        None
-    } else {
-        made
-    }
 }
 
 /// A declaration of variables of the type that was meant.

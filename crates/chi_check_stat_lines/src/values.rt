@@ -167,10 +167,18 @@ fn step_in(
 {
     match step {
         Postfix::Index { place, index } => {
-            let index = value_in(alloc, home, scope, index.get(), kept)?;
-            Ok(chi_check_stat_targets::index_step(alloc, name, *place, aim, index, kept)?)
+            match value_in(alloc, home, scope, index.get(), kept) {
+                Ok(index) => {
+                    chi_check_stat_targets::index_step(alloc, name, *place, aim, index, kept)
+                }
+                Err(refusal) => {
+                    drop(aim);
+                    Err(refusal)
+                }
+            }
         }
         Postfix::Slice { place, .. } => {
+            drop(aim);
             note(kept, rules::INDEX, *place);
             Ok(None)
         }

@@ -9,9 +9,9 @@ ghost use Rattle.chi_core.specs.Kinds.{is_void};
 ghost use Rattle.chi_check_types.specs.Faults.{first_of};
 ghost use Rattle.chi_check_stat_rules.specs.Channels as spec;
 
-use crate::taking::{refused, target_of};
+use crate::taking::target_of;
 use chi_base::NoMemory;
-use chi_check_expr_rules::{converted, core_of, settle};
+use chi_check_expr_rules::{converted, core_of, refused, settle};
 use chi_check_stat_rules::{Aim, Receiver, fitted};
 use chi_check_types::{Fault, Known, Made, NameKind, Scope, is_predefined, note, rules};
 use chi_core::CComm;

@@ -1,6 +1,6 @@
 //! Expressions with their streams. Each function moves the count of the calls on to what it is at the end.
 
-ghost use Rattle.std.specs.Prelude.{◌≡◌, map, IfOk, OnOk};
+ghost use Rattle.std.specs.Prelude.{◌≡◌, Err, map, IfOk, OnOk};
 ghost use Rattle.chi_core.specs.OperatorKinds.{has_stream};
 ghost use Rattle.chi_check_streams.specs.Streams as spec;
 
@@ -44,6 +44,14 @@ fn operation(
     Ok(CExpr::Op(name, Items::of(alloc, operands)?))
 }
 
+/// No memory: the part that isn't done is let go.
+fn refused(part: Boxed<CExpr>, refusal: NoMemory) -> Result<CExpr, NoMemory>
+    ensures { result ≡ Err refusal }
+{
+    drop(part);
+    Err(refusal)
+}
+
 #[cycle(expression)]
 #[tactic(auto, using(crate::proofs::Equations::part_lit, crate::proofs::Equations::next_lit, crate::proofs::Equations::part_var, crate::proofs::Equations::next_var, crate::proofs::Equations::part_const, crate::proofs::Equations::next_const, crate::proofs::Equations::part_op, crate::proofs::Equations::next_op, crate::proofs::Equations::part_and, crate::proofs::Equations::next_and, crate::proofs::Equations::part_or, crate::proofs::Equations::next_or, crate::proofs::Equations::part_build, crate::proofs::Equations::next_build, crate::proofs::Equations::part_part, crate::proofs::Equations::next_part, crate::proofs::Equations::part_call, crate::proofs::Equations::next_call, crate::proofs::Equations::part_insert_by, crate::proofs::Equations::next_insert_by, crate::proofs::Equations::part_default, crate::proofs::Equations::next_default, crate::proofs::Equations::part_repeat, crate::proofs::Equations::next_repeat))]
 pub(crate) fn expression(alloc: Global, e: CExpr, count: &mut u64) -> Result<CExpr, NoMemory>
@@ -58,28 +66,40 @@ pub(crate) fn expression(alloc: Global, e: CExpr, count: &mut u64) -> Result<CEx
             let operands = expressions(alloc, operands, count)?;
             operation(alloc, name, operands, count)
         }
-        CExpr::And(left, right) => {
-            let left = boxed(alloc, left, count)?;
-            Ok(CExpr::And(left, boxed(alloc, right, count)?))
-        }
-        CExpr::Or(left, right) => {
-            let left = boxed(alloc, left, count)?;
-            Ok(CExpr::Or(left, boxed(alloc, right, count)?))
-        }
+        CExpr::And(left, right) => match boxed(alloc, left, count) {
+            Ok(left) => {
+                let (left, right) = after(alloc, right, left, count)?;
+                Ok(CExpr::And(left, right))
+            }
+            Err(refusal) => refused(right, refusal),
+        },
+        CExpr::Or(left, right) => match boxed(alloc, left, count) {
+            Ok(left) => {
+                let (left, right) = after(alloc, right, left, count)?;
+                Ok(CExpr::Or(left, right))
+            }
+            Err(refusal) => refused(right, refusal),
+        },
         CExpr::Build(kind, parts) => Ok(CExpr::Build(kind, expressions(alloc, parts, count)?)),
         CExpr::Part(whole, number) => Ok(CExpr::Part(boxed(alloc, whole, count)?, number)),
         CExpr::Call(number, arguments) => {
             Ok(CExpr::Call(number, expressions(alloc, arguments, count)?))
         }
-        CExpr::InsertBy(list, new, number) => {
-            let list = boxed(alloc, list, count)?;
-            Ok(CExpr::InsertBy(list, boxed(alloc, new, count)?, number))
-        }
+        CExpr::InsertBy(list, new, number) => match boxed(alloc, list, count) {
+            Ok(list) => {
+                let (list, new) = after(alloc, new, list, count)?;
+                Ok(CExpr::InsertBy(list, new, number))
+            }
+            Err(refusal) => refused(new, refusal),
+        },
         CExpr::Default(shape) => Ok(CExpr::Default(shape)),
-        CExpr::Repeat(size, inner) => {
-            let size = boxed(alloc, size, count)?;
-            Ok(CExpr::Repeat(size, boxed(alloc, inner, count)?))
-        }
+        CExpr::Repeat(size, inner) => match boxed(alloc, size, count) {
+            Ok(size) => {
+                let (size, inner) = after(alloc, inner, size, count)?;
+                Ok(CExpr::Repeat(size, inner))
+            }
+            Err(refusal) => refused(inner, refusal),
+        },
     }
 }
 
@@ -90,6 +110,27 @@ fn boxed(alloc: Global, e: Boxed<CExpr>, count: &mut u64) -> Result<Boxed<CExpr>
 {
     let e = expression(alloc, e.into_inner(), count)?;
     Ok(Boxed::new(alloc, e)?)
+}
+
+/// A part, after one that is done.
+#[cycle(expression)]
+fn after(
+    alloc: Global,
+    second: Boxed<CExpr>,
+    first: Boxed<CExpr>,
+    count: &mut u64,
+) -> Result<(Boxed<CExpr>, Boxed<CExpr>), NoMemory>
+    ensures first { IfOk result (λ r. r.0 ≡ first) }
+    ensures second { IfOk result (λ r. r.1 ≡ (spec.of_expression second count.old).part) }
+    ensures next { OnOk result (count.new ≡ (spec.of_expression second count.old).next) }
+{
+    match boxed(alloc, second, count) {
+        Ok(second) => Ok((first, second)),
+        Err(refusal) => {
+            drop(first);
+            Err(refusal)
+        }
+    }
 }
 
 #[cycle(expression)]

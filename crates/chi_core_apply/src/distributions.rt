@@ -12,20 +12,22 @@ use crate::failure::Failure;
 use crate::making::times_in;
 use crate::reading::{int_in, real_in};
 use crate::scenery::Scenery;
+use chi_base::{Boxed, NoMemory};
 use chi_core::{FaultKind, View};
 use chi_dist::{Drawn, sample_after};
 use chi_num::Dist;
 use chi_value::Value;
+use std::alloc::Global;
 
 /// The distribution that always gives this value.
-pub fn constant_of(a: &Value, view: &View) -> Value
+pub fn constant_of(alloc: Global, a: &Value, view: &View) -> Result<Value, NoMemory>
     requires { constant_of a.now view.now ≢ Amiss }
-    ensures { constant_of a.now view.now ≡ Gives result view.now }
+    ensures { IfOk result (λ v. constant_of a.now view.now ≡ Gives v view.now) }
 {
     match a {
-        Value::Bool(x) => Value::Dist(Dist::ConstBool(*x)),
-        Value::Int(x) => Value::Dist(Dist::ConstInt(*x)),
-        Value::Real(x) => Value::Dist(Dist::ConstReal(*x)),
+        Value::Bool(x) => Ok(Value::Dist(Boxed::new(alloc, Dist::ConstBool(*x))?)),
+        Value::Int(x) => Ok(Value::Dist(Boxed::new(alloc, Dist::ConstInt(*x))?)),
+        Value::Real(x) => Ok(Value::Dist(Boxed::new(alloc, Dist::ConstReal(*x))?)),
         Value::Text(_)
         | Value::Choice(_, _)
         | Value::TupleOf(_)
@@ -52,13 +54,25 @@ fn stream_in(stream: &Value) -> u32
 }
 
 #[tactic(auto, using(crate::proofs::Drawing::uniforms))]
-fn uniform_from(a: &Value, b: &Value, stream: u32, view: &View) -> Value
+fn uniform_from(
+    alloc: Global,
+    a: &Value,
+    b: &Value,
+    stream: u32,
+    view: &View,
+) -> Result<Value, NoMemory>
     requires { distribution (uniform_in (out-Value a.now) (out-Value b.now) stream) view.now ≢ Amiss }
-    ensures { distribution (uniform_in (out-Value a.now) (out-Value b.now) stream) view.now ≡ Gives result view.now }
+    ensures { IfOk result (λ v. distribution (uniform_in (out-Value a.now) (out-Value b.now) stream) view.now ≡ Gives v view.now) }
 {
     match a {
-        Value::Int(from) => Value::Dist(Dist::UniformInt(*from, int_in(b), stream)),
-        Value::Real(from) => Value::Dist(Dist::UniformReal(*from, real_in(b), stream)),
+        Value::Int(from) => {
+            let dist = Dist::UniformInt(*from, int_in(b), stream);
+            Ok(Value::Dist(Boxed::new(alloc, dist)?))
+        }
+        Value::Real(from) => {
+            let dist = Dist::UniformReal(*from, real_in(b), stream);
+            Ok(Value::Dist(Boxed::new(alloc, dist)?))
+        }
         Value::Bool(_)
         | Value::Text(_)
         | Value::Choice(_, _)
@@ -75,45 +89,75 @@ fn uniform_from(a: &Value, b: &Value, stream: u32, view: &View) -> Value
 
 /// The numbers from one to before another, each as likely as the others.
 #[tactic(auto, using(crate::proofs::Drawing::by_streams))]
-pub fn uniform_of(a: &Value, b: &Value, stream: &Value, view: &View) -> Value
+pub fn uniform_of(
+    alloc: Global,
+    a: &Value,
+    b: &Value,
+    stream: &Value,
+    view: &View,
+) -> Result<Value, NoMemory>
     requires { uniform_of a.now b.now stream.now view.now ≢ Amiss }
-    ensures { uniform_of a.now b.now stream.now view.now ≡ Gives result view.now }
+    ensures { IfOk result (λ v. uniform_of a.now b.now stream.now view.now ≡ Gives v view.now) }
 {
-    uniform_from(a, b, stream_in(stream), view)
+    uniform_from(alloc, a, b, stream_in(stream), view)
 }
 
 #[tactic(auto, using(crate::proofs::Drawing::trials))]
-fn bernoulli_from(chance: &Value, stream: u32, view: &View) -> Value
+fn bernoulli_from(
+    alloc: Global,
+    chance: &Value,
+    stream: u32,
+    view: &View,
+) -> Result<Value, NoMemory>
     requires { distribution (bernoulli_in (out-Value chance.now) stream) view.now ≢ Amiss }
-    ensures { distribution (bernoulli_in (out-Value chance.now) stream) view.now ≡ Gives result view.now }
+    ensures { IfOk result (λ v. distribution (bernoulli_in (out-Value chance.now) stream) view.now ≡ Gives v view.now) }
 {
-    Value::Dist(Dist::Bernoulli(real_in(chance), stream))
+    let dist = Dist::Bernoulli(real_in(chance), stream);
+    Ok(Value::Dist(Boxed::new(alloc, dist)?))
 }
 
 /// A trial that succeeds by a chance.
 #[tactic(auto, using(crate::proofs::Drawing::by_streams))]
-pub fn bernoulli_of(chance: &Value, stream: &Value, view: &View) -> Value
+pub fn bernoulli_of(
+    alloc: Global,
+    chance: &Value,
+    stream: &Value,
+    view: &View,
+) -> Result<Value, NoMemory>
     requires { bernoulli_of chance.now stream.now view.now ≢ Amiss }
-    ensures { bernoulli_of chance.now stream.now view.now ≡ Gives result view.now }
+    ensures { IfOk result (λ v. bernoulli_of chance.now stream.now view.now ≡ Gives v view.now) }
 {
-    bernoulli_from(chance, stream_in(stream), view)
+    bernoulli_from(alloc, chance, stream_in(stream), view)
 }
 
 #[tactic(auto, using(crate::proofs::Drawing::trials))]
-fn binomial_from(trials: &Value, chance: &Value, stream: u32, view: &View) -> Value
+fn binomial_from(
+    alloc: Global,
+    trials: &Value,
+    chance: &Value,
+    stream: u32,
+    view: &View,
+) -> Result<Value, NoMemory>
     requires { distribution (binomial_in (out-Value trials.now) (out-Value chance.now) stream) view.now ≢ Amiss }
-    ensures { distribution (binomial_in (out-Value trials.now) (out-Value chance.now) stream) view.now ≡ Gives result view.now }
+    ensures { IfOk result (λ v. distribution (binomial_in (out-Value trials.now) (out-Value chance.now) stream) view.now ≡ Gives v view.now) }
 {
-    Value::Dist(Dist::Binomial(int_in(trials), real_in(chance), stream))
+    let dist = Dist::Binomial(int_in(trials), real_in(chance), stream);
+    Ok(Value::Dist(Boxed::new(alloc, dist)?))
 }
 
 /// How many of so many trials succeed by a chance.
 #[tactic(auto, using(crate::proofs::Drawing::by_streams))]
-pub fn binomial_of(trials: &Value, chance: &Value, stream: &Value, view: &View) -> Value
+pub fn binomial_of(
+    alloc: Global,
+    trials: &Value,
+    chance: &Value,
+    stream: &Value,
+    view: &View,
+) -> Result<Value, NoMemory>
     requires { binomial_of trials.now chance.now stream.now view.now ≢ Amiss }
-    ensures { binomial_of trials.now chance.now stream.now view.now ≡ Gives result view.now }
+    ensures { IfOk result (λ v. binomial_of trials.now chance.now stream.now view.now ≡ Gives v view.now) }
 {
-    binomial_from(trials, chance, stream_in(stream), view)
+    binomial_from(alloc, trials, chance, stream_in(stream), view)
 }
 
 fn value_drawn(drawn: Drawn) -> Value
@@ -146,7 +190,7 @@ pub fn sample_of(s: &Scenery<'_>, a: &Value, view: &mut View) -> Result<Value, F
     ensures fails { IfErr result (λ failure. IsFailure failure (sample_of (scene_of s.now) a.now view.old)) }
 {
     match a {
-        Value::Dist(dist) => Ok(sample_from(s.seed, dist, view)?),
+        Value::Dist(dist) => Ok(sample_from(s.seed, dist.get(), view)?),
         Value::Bool(_)
         | Value::Int(_)
         | Value::Real(_)

@@ -118,7 +118,7 @@ pub fn of_one(
         OpName::Slice(first, last, by) => Ok(sliced(alloc, (first, last, by), a, &[], view)?),
         OpName::Sign => Ok(sign_of(a, view)),
         OpName::Range => Ok(range_of(alloc, &Value::Int(0), a, &Value::Int(1), view)?),
-        OpName::Constant => Ok(constant_of(a, view)),
+        OpName::Constant => Ok(constant_of(alloc, a, view)?),
         OpName::Ready => Ok(is_ready(s, a, view)),
         OpName::Finished => Ok(is_finished(s, a, view)),
         OpName::ToInt => Ok(to_int(a, view)?),
@@ -188,7 +188,7 @@ pub fn of_two(
         OpName::Min => Ok(best_of(false, a, b, &[], view)),
         OpName::Max => Ok(best_of(true, a, b, &[], view)),
         OpName::Range => Ok(range_of(alloc, a, b, &Value::Int(1), view)?),
-        OpName::Bernoulli => Ok(bernoulli_of(a, b, view)),
+        OpName::Bernoulli => Ok(bernoulli_of(alloc, a, b, view)?),
         OpName::Slice(first, last, by) => {
             let bounds = slice::from_ref(b);
             Ok(sliced(alloc, (first, last, by), a, bounds, view)?)
@@ -252,14 +252,14 @@ fn of_more(
         }
         OpName::Uniform => {
             if others.is_empty() {
-                Ok(uniform_of(a, b, c, view))
+                Ok(uniform_of(alloc, a, b, c, view)?)
             } else {
                 unreachable!()
             }
         }
         OpName::Binomial => {
             if others.is_empty() {
-                Ok(binomial_of(a, b, c, view))
+                Ok(binomial_of(alloc, a, b, c, view)?)
             } else {
                 unreachable!()
             }

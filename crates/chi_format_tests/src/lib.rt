@@ -4,8 +4,8 @@
 #[cfg(test)]
 mod conditions;
 #[cfg(test)]
+mod names;
+#[cfg(test)]
 mod reading;
 #[cfg(test)]
 mod rendering;
-#[cfg(test)]
-mod sample;

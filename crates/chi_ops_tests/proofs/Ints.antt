@@ -1,5 +1,5 @@
 -- What holds of containers of ints, which is tested in linear time.
-use Rattle.std.proofs.Common.{◌≡◌, Bool, true, false, ◌&&◌, ℤ, List, [], ◌∷◌, map, refl, sym, ap, ◌∙◌}
+use Rattle.std.proofs.Common.{◌≡◌, Bool, true, false, ◌&&◌, ℕ, ◌^◌, nat_lt, length, ℤ, List, [], ◌∷◌, map, refl, sym, ap, ◌∙◌}
 use Rattle.std.proofs.lemmas.Bool.{false≢true, and_parts, and_from}
 use Rattle.std.specs.List.{list_all}
 use Rattle.chi_value.specs.declared.format.Kind.TheVariants as kind
@@ -8,7 +8,7 @@ use Rattle.chi_value.specs.declared.value.Value.TheVariants as value
 use Rattle.chi_value.specs.Alike.{alike, alike_step, all_alike, elements_alike}
 use Rattle.chi_value.specs.Plain.{is_plain, plain_step}
 use Rattle.chi_sets.specs.Sets.{is_ascending}
-use Rattle.chi_ops.specs.Conditions.{is_key, may_build, may_has, may_hold, may_join, may_union}
+use Rattle.chi_ops.specs.Conditions.{has_size, is_key, may_build, may_has, may_hold, may_join, may_size, may_union}
 use Rattle.chi_ops.specs.Kinds.{is_int, is_sequence, is_sorted}
 use Rattle.chi_ops.specs.Tidy.{tidy, all_tidy}
 use Rattle.chi_ops_tests.proofs.Layers.{tidy_at}
@@ -106,3 +106,8 @@ pub sequence_ints : (xs : List Value) → are_ints xs ≡ true → (tidy (value.
 sequence_ints xs h =
     let sequence : is_sequence (value.ListOf xs) ≡ true = rw (value.outs-ListOf xs, is_sequence) refl in
     and_from _ _ (list_tidy xs h) sequence
+
+pub text_size : (bytes : List ℕ) → nat_lt (length bytes) (2 ^ 32) ≡ true → may_size (value.Text bytes) ≡ true
+text_size bytes h =
+    let sized : has_size (value.Text bytes) ≡ true = rw (value.outs-Text bytes, has_size) h in
+    and_from _ _ (tidy_at (value.Text bytes) (Value-F.Text bytes) (value.outs-Text bytes)) sized

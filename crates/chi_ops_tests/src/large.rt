@@ -1,25 +1,62 @@
-//! Operations at the greatest sizes. Of ints the conditions are tested in linear time.
+//! Operations on ints, at the greatest sizes. Their conditions are tested in linear time.
 
 ghost use Rattle.std.specs.Prelude.{◌≡◌, ◌&&◌, ℤ, IsTrue};
 ghost use Rattle.std.specs.List.{list_all};
+ghost use Rattle.chi_sets.specs.Sets.{is_ascending};
 ghost use Rattle.chi_value.specs.declared.format.Kind.TheVariants.{SetOf};
 ghost use Rattle.chi_value.specs.declared.value.Value.TheVariants.{Int};
-ghost use Rattle.chi_ops.specs.Conditions.{may_build, may_has, may_join, may_union};
+ghost use Rattle.chi_ops.specs.Conditions.{may_build, may_has, may_join, may_size, may_union};
 ghost use Rattle.chi_ops.specs.Kinds.{is_int, is_sequence};
 ghost use Rattle.chi_ops.specs.Tidy.{tidy};
 
-use crate::conditions::is_int;
-use crate::tidiness::is_ascending;
 use chi_base::NoMemory;
-use chi_ops::{Kind, OpFault, build, has, join, slice, union};
-use chi_value::{Items, Value};
+use chi_ops::{Kind, OpFault, build, has, index, join, range, size, slice, union};
+use chi_token::Bytes;
+use chi_value::{Items, Row, Value, compare_any};
 use std::alloc::Global;
+use std::cmp::Ordering;
 use std::test::Fail;
+
+fn is_int(v: &Value) -> bool
+    ensures { result ≡ is_int v.now }
+{
+    matches!(v, Value::Int(_))
+}
+
+fn is_ascending(items: &[Value]) -> bool
+    ensures { result ≡ is_ascending items.now }
+{
+    let Some((first, rest)) = items.split_first() else {
+        return true;
+    };
+    let mut before = first;
+    for item in rest {
+        if compare_any(before, item) != Ordering::Less {
+            return false;
+        }
+        before = item;
+    }
+    true
+}
 
 fn are_ints(values: &[Value]) -> bool
     ensures { result ≡ list_all is_int values.now }
 {
     for value in values {
+        if !is_int(value) {
+            return false;
+        }
+    }
+    true
+}
+
+fn is_row_of_ints(values: &Row) -> bool
+    ensures { result ≡ list_all is_int values.now }
+{
+    for place in 0..values.len() {
+        let Some(value) = values.get(place) else {
+            unreachable!();
+        };
         if !is_int(value) {
             return false;
         }
@@ -64,7 +101,7 @@ fn may_join_ints(a: &Value, b: &Value) -> bool
     ensures { IsTrue result → IsTrue (may_join a.now b.now) }
 {
     match (a, b) {
-        (Value::ListOf(a), Value::ListOf(b)) => are_ints(a.as_slice()) && are_ints(b.as_slice()),
+        (Value::ListOf(a), Value::ListOf(b)) => is_row_of_ints(a) && is_row_of_ints(b),
         (_, _) => false,
     }
 }
@@ -74,7 +111,17 @@ fn is_sequence_of_ints(v: &Value) -> bool
     ensures { IsTrue result → IsTrue (tidy v.now && is_sequence v.now) }
 {
     match v {
-        Value::ListOf(items) => are_ints(items.as_slice()),
+        Value::ListOf(items) => is_row_of_ints(items),
+        _ => false,
+    }
+}
+
+#[tactic(auto, using(crate::proofs::Ints::text_size))]
+fn may_size_text(v: &Value) -> bool
+    ensures { IsTrue result → IsTrue (may_size v.now) }
+{
+    match v {
+        Value::Text(bytes) => (bytes.as_slice().len() as u64) < 4_294_967_296,
         _ => false,
     }
 }
@@ -134,7 +181,7 @@ fn the_largest_sets_are_united(rt: HostRuntime) -> Result<(), Fail> {
 }
 
 fn list(alloc: Global, count: u32) -> Result<Value, NoMemory> {
-    Ok(Value::ListOf(Items::of(alloc, falling(alloc, count)?)?))
+    Ok(Value::ListOf(Row::of(alloc, falling(alloc, count)?)?))
 }
 
 #[test]
@@ -148,11 +195,31 @@ fn the_largest_lists_are_joined_and_cut(rt: HostRuntime) -> Result<(), Fail> {
     let Value::ListOf(items) = &backwards else {
         return Err(Fail::new("no list"));
     };
-    assert_eq!(rt; items.as_slice().len(), 1_048_576);
-    assert!(rt; matches!(items.as_slice().first(), Some(Value::Int(1))));
-    assert!(rt; matches!(items.as_slice().last(), Some(Value::Int(524_288))));
+    assert_eq!(rt; items.len(), 1_048_576);
+    assert!(rt; matches!(items.get(0), Some(Value::Int(1))));
+    assert!(rt; matches!(items.get(1_048_575), Some(Value::Int(524_288))));
     let one = list(alloc, 1)?;
     assert!(rt; may_join_ints(&whole, &one));
     assert!(rt; matches!(join(alloc, &whole, &one), Err(OpFault::Limit)));
+    Ok(())
+}
+
+#[test]
+fn ints_are_counted_and_found(rt: HostRuntime) -> Result<(), Fail> {
+    let alloc = rt.alloc();
+    let ints = range(alloc, 0, 3, 1)?;
+    assert!(rt; is_sequence_of_ints(&ints));
+    assert!(rt; matches!(index(alloc, &ints, -1), Ok(Value::Int(2))));
+    assert!(rt; matches!(index(alloc, &ints, 3), Err(OpFault::Index)));
+    assert!(rt; matches!(range(alloc, 0, 3, 0), Err(OpFault::SliceStep)));
+    Ok(())
+}
+
+/// A string with a byte that no source has.
+#[test]
+fn a_string_may_have_any_bytes(rt: HostRuntime) -> Result<(), Fail> {
+    let text = Value::Text(Bytes::copy_of(rt.alloc(), b"a\n\xff")?);
+    assert!(rt; may_size_text(&text));
+    assert_eq!(rt; size(&text), 3);
     Ok(())
 }

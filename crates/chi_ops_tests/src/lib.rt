@@ -1,29 +1,5 @@
-//! Tests of the operations on containers, in tables, and the conditions of the operations as tests of values.
+//! Tests of the operations on containers of ints, up to the greatest sizes. Most of what operations come to is in rows/.
 #![tactic(auto)]
 
 #[cfg(test)]
-mod calls;
-#[cfg(test)]
-mod combining;
-#[cfg(test)]
-mod conditions;
-#[cfg(test)]
-mod indexing;
-#[cfg(test)]
 mod large;
-#[cfg(test)]
-mod likeness;
-#[cfg(test)]
-mod literals;
-#[cfg(test)]
-mod sample;
-#[cfg(test)]
-mod slicing;
-#[cfg(test)]
-mod storing;
-#[cfg(test)]
-mod taking;
-#[cfg(test)]
-mod tidiness;
-#[cfg(test)]
-mod told;

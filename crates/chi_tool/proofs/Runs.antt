@@ -46,7 +46,7 @@ named_lawful (pick.Spread salt) question count early some few = mod-lt _ some
 
 -- what words ask for is within what is counted, and by a lawful policy
 pub may_be_aimed : (purpose : Purpose) → IsBounded purpose → MayBeAimed (aim_of purpose)
-may_be_aimed (Simulate a) bounded = (bounded, named_lawful a.pick)
+may_be_aimed (Simulate a) bounded = (bounded, named_lawful a.terms.policy)
 may_be_aimed Check bounded = tt
 
 -- settings that are wanted may be had
@@ -120,13 +120,13 @@ formula_given : (pick : Pick) → IsLawful pick → Answers (λ question count a
 formula_given pick lawful question count asked = (lawful question count asked.numbered asked.some asked.counted, refl)
 
 -- the report of a run with the formula that words ask for as its policy
-pub formula_ran : (p : words.Pick) (core : Core) (a : Asked) (result : Result Reported NoMemory) → a.pick ≡ p
+pub formula_ran : (p : words.Pick) (core : Core) (a : Asked) (result : Result Reported NoMemory) → a.terms.policy ≡ p
     → IfOk result (λ r. (pick : Pick) → Answers (λ question count answer. answer ≡ policy_of p question count) pick
-    → IsReportOfRun core (record { seed = a.seed; bound = a.bound; pick = pick; texts = a.texts; until = a.until; trace = a.trace }) (report_in r))
+    → IsReportOfRun core (record { seed = a.terms.seed; bound = a.terms.bound; pick = pick; texts = a.texts; until = a.terms.until; trace = a.terms.trace }) (report_in r))
     → IfOk result (λ r. IsReportOfRun core (wanted_of a) (report_in r))
 formula_ran p core a (Ok r) same is =
     let at : words.Pick → Type 0 = λ q.
-    IsReportOfRun core (record { seed = a.seed; bound = a.bound; pick = policy_of q; texts = a.texts; until = a.until; trace = a.trace }) (report_in r) in
+    IsReportOfRun core (record { seed = a.terms.seed; bound = a.terms.bound; pick = policy_of q; texts = a.texts; until = a.terms.until; trace = a.terms.trace }) (report_in r) in
     subst at (sym same) (is (policy_of p) (formula_given (policy_of p) (named_lawful p)))
 formula_ran p core a (Err lost) same is = tt
 

@@ -42,7 +42,7 @@ policy_of (pick.Spread salt) = spread salt
 
 -- as words ask
 abbrev pub wanted_of : Asked → Wanted
-wanted_of a = record { seed = a.seed; bound = a.bound; pick = policy_of a.pick; texts = a.texts; until = a.until; trace = a.trace }
+wanted_of a = record { seed = a.terms.seed; bound = a.terms.bound; pick = policy_of a.terms.policy; texts = a.texts; until = a.terms.until; trace = a.terms.trace }
 
 abbrev pub aim_of : Purpose → Aim
 aim_of (Simulate a) = simulates (wanted_of a)
@@ -54,11 +54,11 @@ settings_with w arguments = record { seed = w.seed; bound = w.bound; pick = w.pi
 
 -- where the words say nothing of it
 abbrev pub plain : Asked
-plain = record { seed = 0; bound = STEPS; pick = pick.First; texts = []; until = None; trace = false }
+plain = record { terms = record { seed = 0; bound = STEPS; policy = pick.First; until = None; trace = false }; texts = [] }
 
 -- within what is counted
 abbrev pub IsBounded : Purpose → Type 0
-IsBounded (Simulate a) = a.bound < 2 ^ 63
+IsBounded (Simulate a) = a.terms.bound < 2 ^ 63
 IsBounded Check = Unit {0}
 
 -- the same, by a policy that picks one of the choices

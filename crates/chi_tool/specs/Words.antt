@@ -12,7 +12,7 @@ use Rattle.chi_tool.specs.declared.task.Purpose.TheVariants.{Simulate, Check}
 -- a run, a check, a run of a factory, or a log of old that is to be brought up
 abbrev pub task_of : Request → Task
 task_of (request.Sim file texts seed bound until pick trace) =
-    task.OfFile file (Simulate (record { seed = seed; bound = bound; pick = pick; texts = texts; until = until; trace = trace }))
+    task.OfFile file (Simulate (record { terms = record { seed = seed; bound = bound; policy = pick; until = until; trace = trace }; texts = texts }))
 task_of (request.Check file) = task.OfFile file Check
 task_of (request.Load n) = task.OfFactory n
 task_of (request.TraceUp file) = task.OfLog file

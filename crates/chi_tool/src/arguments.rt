@@ -4,7 +4,7 @@ ghost use Rattle.chi_tool.specs.Arguments.{is_misfit};
 ghost use Rattle.chi_tool.specs.Refusals.{arguments_text, unfit_arguments};
 ghost use Rattle.chi_tool.specs.Reported.{report_in};
 
-use crate::refusal::refused;
+use crate::refusal::one_line;
 use crate::report::Reported;
 use crate::status::ARGUMENTS;
 use chi_base::NoMemory;
@@ -61,7 +61,7 @@ pub fn unfit(
     ensures { IfOk result (λ r. report_in r ≡ unfit_arguments wanted given fault) }
 {
     let text = text_of(alloc, wanted as u64, given as u64, fault)?;
-    refused(alloc, ARGUMENTS, &text)
+    one_line(alloc, ARGUMENTS, &text)
 }
 
 /// Whether arguments are refused, where there was memory to read them.

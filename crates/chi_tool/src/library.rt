@@ -30,17 +30,17 @@ use std::alloc::Global;
 fn report_of_terms<P: Chooser + Drop>(
     alloc: Global,
     source: &[u8],
-    args: &[Bytes],
+    texts: &[Bytes],
     terms: Terms<P>,
 ) -> Result<Reported, NoMemory>
     requires within { length source.now ≤ MOST_BYTES }
     requires bound { terms.bound < 2 ^ 63 }
     ensures { IfOk result (λ r. (pick : picks.Pick) → Answers (P.gives terms.policy) pick
-        → IsReportOfSource source.now (simulates (record { seed = terms.seed; bound = terms.bound; pick = pick; texts = args.now; until = terms.until; trace = terms.trace })) (report_in r)) }
+        → IsReportOfSource source.now (simulates (record { seed = terms.seed; bound = terms.bound; pick = pick; texts = texts.now; until = terms.until; trace = terms.trace })) (report_in r)) }
 {
     match read(alloc, source)? {
         Source::Refused(refusal) => Ok(refusal),
-        Source::Program(core) => report_of_run(alloc, &core, args, terms),
+        Source::Program(core) => report_of_run(alloc, &core, texts, terms),
     }
 }
 
@@ -48,7 +48,7 @@ fn report_of_terms<P: Chooser + Drop>(
 fn tell_terms<P: Chooser + Drop, O: Sink, L: Sink>(
     alloc: Global,
     source: &[u8],
-    args: &[Bytes],
+    texts: &[Bytes],
     terms: Terms<P>,
     out: &mut O,
     log: &mut L,
@@ -58,10 +58,10 @@ fn tell_terms<P: Chooser + Drop, O: Sink, L: Sink>(
     requires within { length source.now ≤ MOST_BYTES }
     requires bound { terms.bound < 2 ^ 63 }
     ensures { (pick : picks.Pick) → Answers (P.gives terms.policy) pick
-        → Tells (IsReportOfSource source.now (simulates (record { seed = terms.seed; bound = terms.bound; pick = pick; texts = args.now; until = terms.until; trace = terms.trace }))) result
+        → Tells (IsReportOfSource source.now (simulates (record { seed = terms.seed; bound = terms.bound; pick = pick; texts = texts.now; until = terms.until; trace = terms.trace }))) result
         (sink_use O.taken O.faults O.stopped out.old out.new) (sink_use L.taken L.faults L.stopped log.old log.new) }
 {
-    match report_of_terms(alloc, source, args, terms) {
+    match report_of_terms(alloc, source, texts, terms) {
         Ok(report) => deliver(report.status, out, &report.out, log, &report.log),
         Err(_) => NO_MEMORY,
     }
@@ -73,7 +73,7 @@ fn tell_terms<P: Chooser + Drop, O: Sink, L: Sink>(
 pub fn simulate<P: Chooser + Drop, O: Sink, L: Sink>(
     alloc: Global,
     source: &[u8],
-    args: &[Bytes],
+    texts: &[Bytes],
     seed: u64,
     bound: u64,
     until: Option<Real>,
@@ -90,7 +90,7 @@ pub fn simulate<P: Chooser + Drop, O: Sink, L: Sink>(
     // Whichever function tells what the policy answers: the status and every byte are those of the report.
     ensures headline { (pick : picks.Pick) → Answers (P.gives policy) pick → SimulationHeadline (record {
       source = source.now;
-      wanted = record { seed = seed; bound = bound; pick = pick; texts = args.now; until = until; trace = trace };
+      wanted = record { seed = seed; bound = bound; pick = pick; texts = texts.now; until = until; trace = trace };
       status = result;
       out = sink_use O.taken O.faults O.stopped out.old out.new;
       log = sink_use L.taken L.faults L.stopped log.old log.new;
@@ -98,7 +98,7 @@ pub fn simulate<P: Chooser + Drop, O: Sink, L: Sink>(
     // Each status has its cause.
     ensures causes { (pick : picks.Pick) → Answers (P.gives policy) pick → SimulationCauses (record {
       source = source.now;
-      wanted = record { seed = seed; bound = bound; pick = pick; texts = args.now; until = until; trace = trace };
+      wanted = record { seed = seed; bound = bound; pick = pick; texts = texts.now; until = until; trace = trace };
       status = result;
       out = sink_use O.taken O.faults O.stopped out.old out.new;
       log = sink_use L.taken L.faults L.stopped log.old log.new;
@@ -106,7 +106,7 @@ pub fn simulate<P: Chooser + Drop, O: Sink, L: Sink>(
     // A program is run to its end.
     ensures complete { (pick : picks.Pick) → Answers (P.gives policy) pick → IsSimulatedToItsEnd (record {
       source = source.now;
-      wanted = record { seed = seed; bound = bound; pick = pick; texts = args.now; until = until; trace = trace };
+      wanted = record { seed = seed; bound = bound; pick = pick; texts = texts.now; until = until; trace = trace };
       status = result;
       out = sink_use O.taken O.faults O.stopped out.old out.new;
       log = sink_use L.taken L.faults L.stopped log.old log.new;
@@ -122,5 +122,5 @@ pub fn simulate<P: Chooser + Drop, O: Sink, L: Sink>(
         until,
         trace,
     };
-    tell_terms(alloc, source, args, terms, out, log)
+    tell_terms(alloc, source, texts, terms, out, log)
 }

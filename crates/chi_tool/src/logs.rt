@@ -8,7 +8,7 @@ ghost use Rattle.chi_tool.specs.Report.{IsReportOfLog};
 ghost use Rattle.chi_tool.specs.Reported.{report_in};
 
 use crate::deliver::deliver;
-use crate::refusal::refused;
+use crate::refusal::one_line;
 use crate::report::Reported;
 use crate::status::{BROUGHT_UP, MISFIT, NO_MEMORY, NOT_READ};
 use chi_base::NoMemory;
@@ -24,7 +24,7 @@ fn misfit(alloc: Global, number: u64) -> Result<Reported, NoMemory>
     let digits = format!(in alloc; "{number}")?;
     text.extend_from_slice(digits.as_bytes())?;
     text.extend_from_slice(b": trace form")?;
-    refused(alloc, MISFIT, &text)
+    one_line(alloc, MISFIT, &text)
 }
 
 /// The report of a log: what it is brought up to, or its refusal.

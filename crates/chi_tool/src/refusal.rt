@@ -27,7 +27,7 @@ fn placed(alloc: Global, place: Place, what: &[u8]) -> Result<Vec<u8>, NoMemory>
 }
 
 /// A report that is nothing but one line in the log.
-pub fn refused(alloc: Global, status: u8, text: &[u8]) -> Result<Reported, NoMemory>
+pub fn one_line(alloc: Global, status: u8, text: &[u8]) -> Result<Reported, NoMemory>
     ensures { IfOk result (λ r. report_in r ≡ refused status text.now) }
 {
     let mut log = Vec::from_slice(alloc, text)?;
@@ -46,7 +46,7 @@ pub fn refused_at(
     ensures { IfOk result (λ r. report_in r ≡ refused status (placed place what.now)) }
 {
     let text = placed(alloc, place, what)?;
-    refused(alloc, status, &text)
+    one_line(alloc, status, &text)
 }
 
 /// The report of a program that breaks this rule first, there.

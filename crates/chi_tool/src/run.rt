@@ -14,16 +14,17 @@ ghost use Rattle.chi_tool.specs.Turns.{GoesOn, HasRun, PicksAt, IsThere, RunsTo,
 
 use crate::report::Reported;
 use crate::run_end::RunEnd;
-use crate::settings::Settings;
+use crate::settings::Terms;
 use crate::status::status_of;
-use crate::tracing::{Telling, first_log, take};
+use crate::tracing::{Telling, first_log, take_turn};
 use chi_base::NoMemory;
 use chi_core::{Core, Label, Verdict, verdict_line};
 use chi_core_runs::{choice_law, options_law, time_law, turn_law};
+use chi_num::Real;
 use chi_plain::{Plain, Stepped};
 use chi_sched::Chooser;
 use chi_trace_events::tracing_law;
-use chi_value::TextFault;
+use chi_value::{TextFault, Value};
 use std::alloc::Global;
 
 /// The report of a run with this ending, which wrote and logged so much.
@@ -53,40 +54,40 @@ fn reported(
 }
 
 /// The label that the policy picks at a turn.
-fn picked_label<P: Chooser>(plain: &Plain<'_>, policy: &P, turn: u64) -> Label
-    requires goes_on { GoesOn plain.now.stage }
+fn picked_label<P: Chooser>(runner: &Plain<'_>, policy: &P, turn: u64) -> Label
+    requires goes_on { GoesOn runner.now.stage }
     requires early { turn < 2 ^ 63 }
-    ensures picks { PicksAt (P.gives policy.now) turn plain.now.stage result }
-    ensures may { MayStep plain.now.stage result }
+    ensures picks { PicksAt (P.gives policy.now) turn runner.now.stage result }
+    ensures may { MayStep runner.now.stage result }
 {
     options_law();
     choice_law();
-    let actors = plain.actor_count();
+    let actors = runner.actor_count();
     if actors == 0 {
         return Label::Advance;
     }
-    let actor = plain.actor_at(policy.choose(2 * turn, actors as u64) as u32);
-    let options = plain.option_count(actor);
-    plain.option_at(actor, policy.choose(2 * turn + 1, options))
+    let actor = runner.actor_at(policy.choose(2 * turn, actors as u64) as u32);
+    let options = runner.option_count(actor);
+    runner.option_at(actor, policy.choose(2 * turn + 1, options))
 }
 
 /// Runs from the beginning: a label is picked at each turn, until the run is over or cut off.
 fn run_on<P: Chooser>(
     alloc: Global,
-    plain: &mut Plain<'_>,
+    runner: &mut Plain<'_>,
     policy: &P,
     bound: u64,
     trace: bool,
     told: &mut Telling,
 ) -> Result<RunEnd, NoMemory>
-    requires there { IsThere plain.old.stage }
+    requires there { IsThere runner.old.stage }
     requires bound { bound < 2 ^ 63 }
     requires out { told.old.out.items ≡ [] }
     requires log { told.old.log.items ≡ first_log trace }
-    ensures same_core { plain.new.core ≡ plain.old.core }
-    ensures told { IfOk result (λ end. end ≡ Over → IsSomeAnd (verdict_at plain.new.stage) (MayTell plain.old.core)) }
-    ensures ran { IfOk result (λ end. (beginning : Beginning) → Begun beginning plain.old.stage → (pick : Pick) → Answers (P.gives policy.now) pick
-        → HasRun trace plain.old.core beginning pick bound plain.new.stage told.new.out.items told.new.log.items end) }
+    ensures same_core { runner.new.core ≡ runner.old.core }
+    ensures told { IfOk result (λ end. end ≡ Over → IsSomeAnd (verdict_at runner.new.stage) (MayTell runner.old.core)) }
+    ensures ran { IfOk result (λ end. (beginning : Beginning) → Begun beginning runner.old.stage → (pick : Pick) → Answers (P.gives policy.now) pick
+        → HasRun trace runner.old.core beginning pick bound runner.new.stage told.new.out.items told.new.log.items end) }
 {
     time_law();
     turn_law();
@@ -94,11 +95,11 @@ fn run_on<P: Chooser>(
     let mut left = bound;
     let mut turn = 0;
     'turn: loop {
-        let label = match plain.ending() {
+        let label = match runner.ending() {
             Some(_) => return Ok(RunEnd::Over),
-            None => picked_label(plain, policy, turn),
+            None => picked_label(runner, policy, turn),
         };
-        match take(alloc, plain, trace, turn, &label, left, told) {
+        match take_turn(alloc, runner, trace, turn, &label, left, told) {
             Stepped::Next(cost) => {
                 left -= cost;
                 turn += 1;
@@ -114,52 +115,61 @@ fn run_on<P: Chooser>(
 fn run_from<P: Chooser>(
     alloc: Global,
     core: &Core,
-    plain: &mut Plain<'_>,
+    runner: &mut Plain<'_>,
     policy: &P,
     bound: u64,
     trace: bool,
 ) -> Result<Reported, NoMemory>
-    requires same_core { plain.old.core ≡ core.now }
-    requires there { IsThere plain.old.stage }
+    requires same_core { runner.old.core ≡ core.now }
+    requires there { IsThere runner.old.stage }
     requires bound { bound < 2 ^ 63 }
-    ensures { IfOk result (λ r. (beginning : Beginning) → Begun beginning plain.old.stage → (pick : Pick) → Answers (P.gives policy.now) pick
+    ensures { IfOk result (λ r. (beginning : Beginning) → Begun beginning runner.old.stage → (pick : Pick) → Answers (P.gives policy.now) pick
         → RunsTo trace core.now beginning pick bound (report_in r)) }
 {
     let out = Vec::new(alloc);
     let log = first_log(alloc, trace)?;
     let mut told = Telling { out, log };
-    let end = run_on(alloc, plain, policy, bound, trace, &mut told)?;
-    let clock = plain.clock();
+    let end = run_on(alloc, runner, policy, bound, trace, &mut told)?;
+    let clock = runner.clock();
     match end {
         RunEnd::CutOff => reported(alloc, core, &Verdict::OutOfSteps, clock, told),
-        RunEnd::Over => match plain.ending() {
+        RunEnd::Over => match runner.ending() {
             Some(verdict) => reported(alloc, core, verdict, clock, told),
             None => unreachable!(),
         },
     }
 }
 
-/// The report of a program's run.
+fn units_of(until: Option<Real>) -> Option<i64>
+    ensures { result ≡ until }
+{
+    match until {
+        None => None,
+        Some(time) => Some(time.units()),
+    }
+}
+
+/// The report of a program's run on these terms, with these arguments.
 pub fn run<P: Chooser + Drop>(
     alloc: Global,
     core: &Core,
-    settings: Settings<P>,
+    arguments: Vec<Value>,
+    terms: Terms<P>,
 ) -> Result<Reported, NoMemory>
     requires sound { Sound core.now }
     requires arguments { (d : ProcDef) → slice_get core.now.procs core.now.model ≡ Some d
-        → AreOf (at_start core.now.names.kinds) settings.arguments.items (kinds_of d.params) }
-    requires bound { settings.bound < 2 ^ 63 }
-    ensures { IfOk result (λ r. (pick : Pick) → Answers (P.gives settings.policy) pick
-        → IsRunReport core.now (record { seed = settings.seed; bound = settings.bound; pick = pick; arguments = settings.arguments.items; until = settings.until; trace = settings.trace }) (report_in r)) }
+        → AreOf (at_start core.now.names.kinds) arguments.items (kinds_of d.params) }
+    requires bound { terms.bound < 2 ^ 63 }
+    ensures { IfOk result (λ r. (pick : Pick) → Answers (P.gives terms.policy) pick
+        → IsRunReport core.now (record { seed = terms.seed; bound = terms.bound; pick = pick; arguments = arguments.items; until = terms.until; trace = terms.trace }) (report_in r)) }
 {
-    let Settings {
+    let Terms {
         seed,
         bound,
         policy,
-        arguments,
         until,
         trace,
-    } = settings;
-    let mut plain = Plain::new(alloc, core, arguments, seed, until)?;
-    run_from(alloc, core, &mut plain, &policy, bound, trace)
+    } = terms;
+    let mut runner = Plain::new(alloc, core, arguments, seed, units_of(until))?;
+    run_from(alloc, core, &mut runner, &policy, bound, trace)
 }

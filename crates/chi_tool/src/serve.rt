@@ -11,7 +11,7 @@ use crate::program::report_of_program;
 use crate::report::Reported;
 use crate::source::{Source, read};
 use crate::status::{NO_MEMORY, NOT_READ};
-use crate::task::{Purpose, plain};
+use crate::task::{Purpose, unasked};
 use chi_base::NoMemory;
 use chi_io::{Fetch, Shelf, Sink};
 use chi_lex::MOST_BYTES;
@@ -63,7 +63,7 @@ pub fn serve_factory<O: Sink, L: Sink>(alloc: Global, size: u32, out: &mut O, lo
     let Ok(source) = factory(alloc, size) else {
         return NO_MEMORY;
     };
-    let Ok(asked) = plain(alloc) else {
+    let Ok(asked) = unasked(alloc) else {
         return NO_MEMORY;
     };
     let purpose = Purpose::Simulate(asked);

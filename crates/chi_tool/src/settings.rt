@@ -1,22 +1,6 @@
-use chi_num::Real;
-use chi_value::Value;
+ghost use Rattle.std.specs.Prelude.{◌≡◌};
 
-/// What a program is run with.
-#[derive(Debug, Drop)]
-pub struct Settings<P> {
-    /// Of its draws.
-    pub seed: u64,
-    /// On the costs of all its steps together.
-    pub bound: u64,
-    /// What picks among the labels that may come.
-    pub policy: P,
-    /// Those of the model.
-    pub arguments: Vec<Value>,
-    /// The stopping time, in units of a real.
-    pub until: Option<i64>,
-    /// Whether the run's trace is logged.
-    pub trace: bool,
-}
+use chi_num::Real;
 
 /// On what terms a program is run, beside its arguments.
 #[derive(Debug, Drop)]
@@ -31,4 +15,19 @@ pub struct Terms<P> {
     pub until: Option<Real>,
     /// Whether the run's trace is logged.
     pub trace: bool,
+}
+
+impl<P> Terms<P> {
+    /// The same, with a policy in place of what names it.
+    pub fn with<Q>(&self, policy: Q) -> Terms<Q>
+        ensures { result ≡ record { seed = self.now.seed; bound = self.now.bound; policy = policy; until = self.now.until; trace = self.now.trace } }
+    {
+        Terms {
+            seed: self.seed,
+            bound: self.bound,
+            policy,
+            until: self.until,
+            trace: self.trace,
+        }
+    }
 }

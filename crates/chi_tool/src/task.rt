@@ -1,40 +1,34 @@
 ghost use Rattle.std.specs.Prelude.{◌≡◌, IfOk};
 ghost use Rattle.chi_tool.specs.Settings.{plain};
 
+use crate::settings::Terms;
 use chi_base::{Items, NoMemory};
 use chi_cli::{Pick, STEPS};
-use chi_num::Real;
 use chi_token::Bytes;
 use std::alloc::Global;
 
 /// What a run is asked for with, beside its program.
 #[derive(Debug, Drop)]
 pub struct Asked {
-    /// Of its draws.
-    pub seed: u64,
-    /// On the costs of all its steps together.
-    pub bound: u64,
-    /// What picks among the labels that may come.
-    pub pick: Pick,
+    /// With the policy by its name.
+    pub terms: Terms<Pick>,
     /// Those of the model's arguments.
     pub texts: Items<Bytes>,
-    /// The stopping time.
-    pub until: Option<Real>,
-    /// Whether the run's trace is logged.
-    pub trace: bool,
 }
 
 /// What a run is asked for with where the words say nothing of it.
-pub fn plain(alloc: Global) -> Result<Asked, NoMemory>
+pub fn unasked(alloc: Global) -> Result<Asked, NoMemory>
     ensures { IfOk result (λ asked. asked ≡ plain) }
 {
     Ok(Asked {
-        seed: 0,
-        bound: STEPS,
-        pick: Pick::First,
+        terms: Terms {
+            seed: 0,
+            bound: STEPS,
+            policy: Pick::First,
+            until: None,
+            trace: false,
+        },
         texts: Items::of(alloc, Vec::new(alloc))?,
-        until: None,
-        trace: false,
     })
 }
 

@@ -33,42 +33,42 @@ pub fn first_log(alloc: Global, trace: bool) -> Result<Vec<u8>, NoMemory>
 /// What a turn adds to the log: the line of its label's event, where the trace is wanted.
 fn line_at(
     alloc: Global,
-    plain: &Plain<'_>,
+    runner: &Plain<'_>,
     trace: bool,
     turn: u64,
     label: &Label,
 ) -> Result<Vec<u8>, NoMemory>
-    requires may { MayStep plain.now.stage label.now }
-    ensures { IfOk result (λ line. Logs trace plain.now.core plain.now.stage turn label.now line.items) }
+    requires may { MayStep runner.now.stage label.now }
+    ensures { IfOk result (λ line. Logs trace runner.now.core runner.now.stage turn label.now line.items) }
 {
     let mut line = Vec::new(alloc);
     if trace {
-        let event = plain.event_of(turn, label)?;
+        let event = runner.event_of(turn, label)?;
         line_of(alloc, &event, &mut line)?;
     }
     Ok(line)
 }
 
 /// Takes a label at its turn. What costs too much isn't logged.
-pub fn take(
+pub fn take_turn(
     alloc: Global,
-    plain: &mut Plain<'_>,
+    runner: &mut Plain<'_>,
     trace: bool,
     turn: u64,
     label: &Label,
     left: u64,
     told: &mut Telling,
 ) -> Stepped
-    requires may { MayStep plain.old.stage label.now }
-    ensures same_core { plain.new.core ≡ plain.old.core }
+    requires may { MayStep runner.old.stage label.now }
+    ensures same_core { runner.new.core ≡ runner.old.core }
     ensures steps { IfTold result (Appends told.old.out.items told.new.out.items
-        (λ text. Steps plain.old.core plain.old.stage plain.new.stage label.now left text result)) }
-    ensures logs { LogsBy trace plain.old.core plain.old.stage turn label.now told.old.log.items told.new.log.items result }
+        (λ text. Steps runner.old.core runner.old.stage runner.new.stage label.now left text result)) }
+    ensures logs { LogsBy trace runner.old.core runner.old.stage turn label.now told.old.log.items told.new.log.items result }
 {
-    let Ok(line) = line_at(alloc, plain, trace, turn, label) else {
+    let Ok(line) = line_at(alloc, runner, trace, turn, label) else {
         return Stepped::NoMemory;
     };
-    match plain.plain_step(label, left, &mut told.out) {
+    match runner.plain_step(label, left, &mut told.out) {
         Stepped::Next(cost) => match told.log.extend_from_slice(&line) {
             Ok(()) => Stepped::Next(cost),
             Err(_) => Stepped::NoMemory,

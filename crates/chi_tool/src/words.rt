@@ -1,6 +1,7 @@
 ghost use Rattle.std.specs.Prelude.{◌≡◌};
 ghost use Rattle.chi_tool.specs.Words.{is_refusal, task_of};
 
+use crate::settings::Terms;
 use crate::task::{Asked, Purpose, Task};
 use chi_cli::{CliFault, Request};
 
@@ -18,14 +19,14 @@ pub fn task_of(request: Request) -> Task
             pick,
             trace,
         } => {
-            let asked = Asked {
+            let terms = Terms {
                 seed,
                 bound,
-                pick,
-                texts: args,
+                policy: pick,
                 until,
                 trace,
             };
+            let asked = Asked { terms, texts: args };
             Task::OfFile {
                 file,
                 purpose: Purpose::Simulate(asked),

@@ -74,15 +74,7 @@ const OTHER_LINES: [&str; 44] = [
     "3 advance 9223372036.854775808",
 ];
 
-/// Lines of version 1.
-const LINES_1: [&str; 5] = [
-    "0 local 0",
-    "1 advance 0.000000001",
-    "2 wake 0 0",
-    "3 join 7",
-    "5 pair 1 0 0 0",
-];
-
+/// Lines that are none of an event in version 1.
 const OTHER_LINES_1: [&str; 6] = [
     "0 local 0 - -",
     "0 local 0 ",
@@ -127,23 +119,6 @@ fn other_lines_are_refused(rt: HostRuntime) -> Result<(), Fail> {
 }
 
 #[test]
-fn a_line_of_version_1_is_brought_up(rt: HostRuntime) -> Result<(), Fail> {
-    let mut out = Vec::new(rt.alloc());
-    for line in LINES_1 {
-        line_up(rt.alloc(), line.as_bytes(), &mut out)?;
-    }
-    let wanted = "\
-0 local 0 - -
-1 advance 0.000000001
-2 wake 0 0 -
-3 join 7 -
-5 pair 1 0 0 0 - -
-";
-    assert_eq!(rt; out.as_slice(), wanted.as_bytes());
-    Ok(())
-}
-
-#[test]
 fn the_parts_of_a_pair_stand_in_their_order(rt: HostRuntime) -> Result<(), Fail> {
     let event = read_line(rt.alloc(), b"7 pair 1 2 3 4 5 [6, 7]")?;
     assert_eq!(rt; event.turn, 7);
@@ -174,43 +149,18 @@ fn only_an_advance_tells_the_clock(rt: HostRuntime) -> Result<(), Fail> {
     Ok(())
 }
 
-/// Logs of version 1, and what they are brought up to.
-const LOGS: [(&str, &str); 4] = [
-    ("trace 1\n", "trace 2\n"),
-    ("trace 1\ndone\n", "trace 2\ndone\n"),
-    (
-        "trace 1\n0 local 0\n1 advance 0.000000001\n2 wake 0 0\ncompleted at time 0.000000001\n",
-        "trace 2\n0 local 0 - -\n1 advance 0.000000001\n2 wake 0 0 -\ncompleted at time 0.000000001\n",
-    ),
-    ("trace 1\n7 pair 1 2 3 4\n", "trace 2\n7 pair 1 2 3 4 - -\n"),
-];
-
-/// Texts with the first line of each that doesn't fit.
-const OTHER_LOGS: [(&str, u64); 9] = [
-    ("", 1),
-    ("trace 2\n", 1),
-    ("trace 1", 1),
-    ("\ntrace 1\n", 1),
-    ("trace 1\n0 local 0", 2),
-    ("trace 1\n\n", 2),
-    ("trace 1\n0 local 0\n0 local 0 M 1\n", 3),
-    ("trace 1\ndone\nagain\n", 3),
-    ("trace 1\n0 local 0\ndone\n1 local 0\n", 4),
-];
-
+/// Of the logs that are brought up most are in rows/.
 #[test]
-fn logs_are_brought_up(rt: HostRuntime) -> Result<(), Fail> {
-    for (text, wanted) in LOGS {
-        match log_up(rt.alloc(), text.as_bytes()) {
-            Ok(log) => assert_eq!(rt; log.as_slice(), wanted.as_bytes(), "of {text:?}"),
-            Err(_) => assert!(rt; false, "{text:?} is refused"),
-        }
-    }
-    for (text, wanted) in OTHER_LOGS {
-        match log_up(rt.alloc(), text.as_bytes()) {
-            Ok(_) => assert!(rt; false, "{text:?} is brought up"),
-            Err(fault) => assert_eq!(rt; fault, LogFault::Form(wanted), "of {text:?}"),
-        }
+fn a_log_is_brought_up(rt: HostRuntime) -> Result<(), Fail> {
+    let alloc = rt.alloc();
+    let mut line = Vec::new(alloc);
+    line_up(alloc, b"2 wake 0 0", &mut line)?;
+    assert_eq!(rt; line.as_slice(), b"2 wake 0 0 -\n".as_slice());
+    let log = log_up(alloc, b"trace 1\n2 wake 0 0\ndone\n")?;
+    assert_eq!(rt; log.as_slice(), b"trace 2\n2 wake 0 0 -\ndone\n".as_slice());
+    match log_up(alloc, b"trace 1\n0 local 0\n0 local 0 M 1\n") {
+        Ok(_) => assert!(rt; false, "it is brought up"),
+        Err(fault) => assert_eq!(rt; fault, LogFault::Form(3)),
     }
     Ok(())
 }

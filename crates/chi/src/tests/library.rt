@@ -11,7 +11,7 @@ use std::alloc::Global;
 use std::process::Abort;
 use std::test::Fail;
 
-const TWO_SENDERS: &str = "proc S(chan! int a; int n): a!n end \
+const STARTED: &str = "proc S(chan! int a; int n): a!n end \
      proc R(chan? int a): int x; a?x; writeln(\"%d\", x); a?x; writeln(\"%d\", x) end \
      model M(): chan int a; start S(a, 1), S(a, 2), R(a) end";
 
@@ -26,7 +26,7 @@ fn expect_by<P: Chooser + Drop>(
 ) -> Result<(), Fail> {
     let mut out = MemSink::new(alloc, 65_536, 65_536, Vec::new(alloc))?;
     let mut log = MemSink::new(alloc, 65_536, 65_536, Vec::new(alloc))?;
-    let source = TWO_SENDERS.as_bytes();
+    let source = STARTED.as_bytes();
     let status = simulate(
         alloc,
         source,

@@ -48,8 +48,13 @@ fn type_insertion(
     ensures noted { OnOk result (kept.new ≡ first_of kept.old (calls.called site scope.now name.now true (map (spec.read site scope.now) arguments.now)).faults) }
 {
     let list = type_in(alloc, &arguments[0], scope, site, kept)?;
-    let element = type_in(alloc, &arguments[1], scope, site, kept)?;
-    insert(alloc, scope, site, name, list, element, &arguments[2], kept)
+    match type_in(alloc, &arguments[1], scope, site, kept) {
+        Ok(element) => insert(alloc, scope, site, name, list, element, &arguments[2], kept),
+        Err(refusal) => {
+            drop(list);
+            Err(refusal)
+        }
+    }
 }
 
 /// A call whose arguments are all typed.

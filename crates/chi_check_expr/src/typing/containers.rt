@@ -177,6 +177,11 @@ pub(super) fn type_empty_dict(
     ensures made { IfOk result (λ m. m ≡ (literals.empty_dict place key (spec.reading site scope.now value.now false).made).made) }
     ensures noted { OnOk result (kept.new ≡ first_of (first_of kept.old (spec.reading site scope.now value.now false).faults) (literals.empty_dict place key (spec.reading site scope.now value.now false).made).faults) }
 {
-    let value = mean_in(alloc, value, scope, site, false, kept)?;
-    rule::empty_dict(alloc, place, key, value, kept)
+    match mean_in(alloc, value, scope, site, false, kept) {
+        Ok(value) => rule::empty_dict(alloc, place, key, value, kept),
+        Err(refusal) => {
+            drop(key);
+            Err(refusal)
+        }
+    }
 }

@@ -67,8 +67,13 @@ pub(super) fn type_related(
     ensures made { IfOk result (λ m. m ≡ (comparisons.relation_of sign place left (spec.typing site scope.now right.now).made).made) }
     ensures noted { OnOk result (kept.new ≡ first_of (first_of kept.old (spec.typing site scope.now right.now).faults) (comparisons.relation_of sign place left (spec.typing site scope.now right.now).made).faults) }
 {
-    let right = type_in(alloc, right, scope, site, kept)?;
-    rule::relation_of(alloc, sign, place, left, right, kept)
+    match type_in(alloc, right, scope, site, kept) {
+        Ok(right) => rule::relation_of(alloc, sign, place, left, right, kept),
+        Err(refusal) => {
+            drop(left);
+            Err(refusal)
+        }
+    }
 }
 
 /// A power with its exponent.
@@ -85,8 +90,13 @@ pub(super) fn type_power(
     ensures made { IfOk result (λ m. m ≡ (operators.power_of place base (spec.typing site scope.now exponent.now).made).made) }
     ensures noted { OnOk result (kept.new ≡ first_of (first_of kept.old (spec.typing site scope.now exponent.now).faults) (operators.power_of place base (spec.typing site scope.now exponent.now).made).faults) }
 {
-    let exponent = type_in(alloc, exponent, scope, site, kept)?;
-    rule::power_of(alloc, place, base, exponent, kept)
+    match type_in(alloc, exponent, scope, site, kept) {
+        Ok(exponent) => rule::power_of(alloc, place, base, exponent, kept),
+        Err(refusal) => {
+            drop(base);
+            Err(refusal)
+        }
+    }
 }
 
 /// Operands of one level, from the left.

@@ -132,8 +132,13 @@ fn mean_sized(
     ensures made { IfOk result (λ m. m ≡ (rules.sized_list_of place sizes size (spec.reading site scope.now element.now sizes).made).made) }
     ensures noted { OnOk result (kept.new ≡ first_of (first_of kept.old (spec.reading site scope.now element.now sizes).faults) (rules.sized_list_of place sizes size (spec.reading site scope.now element.now sizes).made).faults) }
 {
-    let element = mean_in(alloc, element, scope, site, sizes, kept)?;
-    chi_check_types::sized_list_of(alloc, place, sizes, size, element, kept)
+    match mean_in(alloc, element, scope, site, sizes, kept) {
+        Ok(element) => { chi_check_types::sized_list_of(alloc, place, sizes, size, element, kept) }
+        Err(refusal) => {
+            drop(size);
+            Err(refusal)
+        }
+    }
 }
 
 /// A dictionary, with the type of its values.
@@ -150,8 +155,13 @@ fn mean_dict(
     ensures made { IfOk result (λ m. m ≡ (rules.dict_of place key (spec.reading site scope.now value.now false).made).made) }
     ensures noted { OnOk result (kept.new ≡ first_of (first_of kept.old (spec.reading site scope.now value.now false).faults) (rules.dict_of place key (spec.reading site scope.now value.now false).made).faults) }
 {
-    let value = mean_in(alloc, value, scope, site, false, kept)?;
-    chi_check_types::dict_of(alloc, place, key, value, kept)
+    match mean_in(alloc, value, scope, site, false, kept) {
+        Ok(value) => chi_check_types::dict_of(alloc, place, key, value, kept),
+        Err(refusal) => {
+            drop(key);
+            Err(refusal)
+        }
+    }
 }
 
 /// A tuple.
@@ -228,6 +238,7 @@ fn type_before(
     let Some(tree) = &field.ty else {
         return Ok(last);
     };
+    drop(last);
     let meant = mean_in(alloc, tree.get(), scope, site, false, kept)?;
     Ok(type_meant(meant))
 }

@@ -337,21 +337,21 @@ pub operands::type_cast-returns-clause-noted : goal.operands::type_cast-returns-
 operands::type_cast-returns-clause-noted t c =
     on_ok_weaker c.cast_of.result (λ h. cc (c.in_ok-operand.ensures.made, c.in_ok-operand.ensures.noted, h)) c.cast_of.ensures.noted
 
-pub operands::type_related-returns-clause-made : goal.operands::type_related-returns-clause-made
-operands::type_related-returns-clause-made t c =
-    IfOk-weaker c.relation_of.result _ _ (λ m h. cc (c.in_ok-right.ensures.made, h)) c.relation_of.ensures.made
+pub operands::type_related-returns-in-Ok-clause-made : goal.operands::type_related-returns-in-Ok-clause-made
+operands::type_related-returns-in-Ok-clause-made t c =
+    IfOk-weaker c.relation_of.result _ _ (λ m h. cc (c.in-Ok.ensures.made, h)) c.relation_of.ensures.made
 
-pub operands::type_related-returns-clause-noted : goal.operands::type_related-returns-clause-noted
-operands::type_related-returns-clause-noted t c =
-    on_ok_weaker c.relation_of.result (λ h. cc (c.in_ok-right.ensures.made, c.in_ok-right.ensures.noted, h)) c.relation_of.ensures.noted
+pub operands::type_related-returns-in-Ok-clause-noted : goal.operands::type_related-returns-in-Ok-clause-noted
+operands::type_related-returns-in-Ok-clause-noted t c =
+    on_ok_weaker c.relation_of.result (λ h. cc (c.in-Ok.ensures.made, c.in-Ok.ensures.noted, h)) c.relation_of.ensures.noted
 
-pub operands::type_power-returns-clause-made : goal.operands::type_power-returns-clause-made
-operands::type_power-returns-clause-made t c =
-    IfOk-weaker c.power_of.result _ _ (λ m h. cc (c.in_ok-exponent.ensures.made, h)) c.power_of.ensures.made
+pub operands::type_power-returns-in-Ok-clause-made : goal.operands::type_power-returns-in-Ok-clause-made
+operands::type_power-returns-in-Ok-clause-made t c =
+    IfOk-weaker c.power_of.result _ _ (λ m h. cc (c.in-Ok.ensures.made, h)) c.power_of.ensures.made
 
-pub operands::type_power-returns-clause-noted : goal.operands::type_power-returns-clause-noted
-operands::type_power-returns-clause-noted t c =
-    on_ok_weaker c.power_of.result (λ h. cc (c.in_ok-exponent.ensures.made, c.in_ok-exponent.ensures.noted, h)) c.power_of.ensures.noted
+pub operands::type_power-returns-in-Ok-clause-noted : goal.operands::type_power-returns-in-Ok-clause-noted
+operands::type_power-returns-in-Ok-clause-noted t c =
+    on_ok_weaker c.power_of.result (λ h. cc (c.in-Ok.ensures.made, c.in-Ok.ensures.noted, h)) c.power_of.ensures.noted
 
 pub containers::type_tuple-returns-clause-made : goal.containers::type_tuple-returns-clause-made
 containers::type_tuple-returns-clause-made t c =
@@ -393,13 +393,13 @@ pub containers::type_empty_set-returns-clause-noted : goal.containers::type_empt
 containers::type_empty_set-returns-clause-noted t c =
     on_ok_weaker c.empty_set.result (λ h. cc (c.in_ok-element.ensures.made, c.in_ok-element.ensures.noted, h)) c.empty_set.ensures.noted
 
-pub containers::type_empty_dict-returns-clause-made : goal.containers::type_empty_dict-returns-clause-made
-containers::type_empty_dict-returns-clause-made t c =
-    IfOk-weaker c.empty_dict.result _ _ (λ m h. cc (c.in_ok-value.ensures.made, h)) c.empty_dict.ensures.made
+pub containers::type_empty_dict-returns-in-Ok-clause-made : goal.containers::type_empty_dict-returns-in-Ok-clause-made
+containers::type_empty_dict-returns-in-Ok-clause-made t c =
+    IfOk-weaker c.empty_dict.result _ _ (λ m h. cc (c.in-Ok.ensures.made, h)) c.empty_dict.ensures.made
 
-pub containers::type_empty_dict-returns-clause-noted : goal.containers::type_empty_dict-returns-clause-noted
-containers::type_empty_dict-returns-clause-noted t c =
-    on_ok_weaker c.empty_dict.result (λ h. cc (c.in_ok-value.ensures.made, c.in_ok-value.ensures.noted, h)) c.empty_dict.ensures.noted
+pub containers::type_empty_dict-returns-in-Ok-clause-noted : goal.containers::type_empty_dict-returns-in-Ok-clause-noted
+containers::type_empty_dict-returns-in-Ok-clause-noted t c =
+    on_ok_weaker c.empty_dict.result (λ h. cc (c.in-Ok.ensures.made, c.in-Ok.ensures.noted, h)) c.empty_dict.ensures.noted
 
 pub type_trees::mean_list-returns-clause-made : goal.type_trees::mean_list-returns-clause-made
 type_trees::mean_list-returns-clause-made t c =
@@ -425,21 +425,21 @@ pub type_trees::mean_dist-returns-clause-noted : goal.type_trees::mean_dist-retu
 type_trees::mean_dist-returns-clause-noted t c =
     on_ok_weaker c.dist_of.result (λ h. cc (c.in_ok-drawn.ensures.made, c.in_ok-drawn.ensures.noted, h)) c.dist_of.ensures.noted
 
-pub type_trees::mean_sized-returns-clause-made : goal.type_trees::mean_sized-returns-clause-made
-type_trees::mean_sized-returns-clause-made t c =
-    IfOk-weaker c.sized_list_of.result _ _ (λ m h. cc (c.in_ok-element.ensures.made, h)) c.sized_list_of.ensures.made
+pub type_trees::mean_sized-returns-in-Ok-clause-made : goal.type_trees::mean_sized-returns-in-Ok-clause-made
+type_trees::mean_sized-returns-in-Ok-clause-made t c =
+    IfOk-weaker c.sized_list_of.result _ _ (λ m h. cc (c.in-Ok.ensures.made, h)) c.sized_list_of.ensures.made
 
-pub type_trees::mean_sized-returns-clause-noted : goal.type_trees::mean_sized-returns-clause-noted
-type_trees::mean_sized-returns-clause-noted t c =
-    on_ok_weaker c.sized_list_of.result (λ h. cc (c.in_ok-element.ensures.made, c.in_ok-element.ensures.noted, h)) c.sized_list_of.ensures.noted
+pub type_trees::mean_sized-returns-in-Ok-clause-noted : goal.type_trees::mean_sized-returns-in-Ok-clause-noted
+type_trees::mean_sized-returns-in-Ok-clause-noted t c =
+    on_ok_weaker c.sized_list_of.result (λ h. cc (c.in-Ok.ensures.made, c.in-Ok.ensures.noted, h)) c.sized_list_of.ensures.noted
 
-pub type_trees::mean_dict-returns-clause-made : goal.type_trees::mean_dict-returns-clause-made
-type_trees::mean_dict-returns-clause-made t c =
-    IfOk-weaker c.dict_of.result _ _ (λ m h. cc (c.in_ok-value.ensures.made, h)) c.dict_of.ensures.made
+pub type_trees::mean_dict-returns-in-Ok-clause-made : goal.type_trees::mean_dict-returns-in-Ok-clause-made
+type_trees::mean_dict-returns-in-Ok-clause-made t c =
+    IfOk-weaker c.dict_of.result _ _ (λ m h. cc (c.in-Ok.ensures.made, h)) c.dict_of.ensures.made
 
-pub type_trees::mean_dict-returns-clause-noted : goal.type_trees::mean_dict-returns-clause-noted
-type_trees::mean_dict-returns-clause-noted t c =
-    on_ok_weaker c.dict_of.result (λ h. cc (c.in_ok-value.ensures.made, c.in_ok-value.ensures.noted, h)) c.dict_of.ensures.noted
+pub type_trees::mean_dict-returns-in-Ok-clause-noted : goal.type_trees::mean_dict-returns-in-Ok-clause-noted
+type_trees::mean_dict-returns-in-Ok-clause-noted t c =
+    on_ok_weaker c.dict_of.result (λ h. cc (c.in-Ok.ensures.made, c.in-Ok.ensures.noted, h)) c.dict_of.ensures.noted
 
 pub type_trees::mean_chan-returns-clause-made : goal.type_trees::mean_chan-returns-clause-made
 type_trees::mean_chan-returns-clause-made t c =
@@ -505,18 +505,18 @@ pub calls::type_call-returns-else-takes_function-clause-noted : goal.calls::type
 calls::type_call-returns-else-takes_function-clause-noted t c =
     on_ok_weaker c.type_plain.result (λ h. noted_other c.args.site c.args.scope.now c.args.kept.now _ c.args.name.now c.args.arguments.now (c.takes_function.ensures.other c.if-takes_function.false) h) c.type_plain.ensures.noted
 
-pub calls::type_insertion-returns-clause-made : goal.calls::type_insertion-returns-clause-made
-calls::type_insertion-returns-clause-made t c =
+pub calls::type_insertion-returns-in-Ok-clause-made : goal.calls::type_insertion-returns-in-Ok-clause-made
+calls::type_insertion-returns-in-Ok-clause-made t c =
     let h = three_items c.args.arguments.now c.index-arguments-0.result c.index-arguments-1.result c.index-arguments-2.result c.requires.three c.index-arguments-0.is c.index-arguments-1.is c.index-arguments-2.is in
     let a = c.in_ok-list.ensures in
-    let b = c.in_ok-element.ensures in
+    let b = c.in-Ok.ensures in
     IfOk-weaker c.insert.result _ _ (λ m n. made_inserted c.args.site c.args.scope.now c.args.name.now c.args.arguments.now _ _ _ _ _ m h a.made b.made n) c.insert.ensures.made
 
-pub calls::type_insertion-returns-clause-noted : goal.calls::type_insertion-returns-clause-noted
-calls::type_insertion-returns-clause-noted t c =
+pub calls::type_insertion-returns-in-Ok-clause-noted : goal.calls::type_insertion-returns-in-Ok-clause-noted
+calls::type_insertion-returns-in-Ok-clause-noted t c =
     let h = three_items c.args.arguments.now c.index-arguments-0.result c.index-arguments-1.result c.index-arguments-2.result c.requires.three c.index-arguments-0.is c.index-arguments-1.is c.index-arguments-2.is in
     let a = c.in_ok-list.ensures in
-    let b = c.in_ok-element.ensures in
+    let b = c.in-Ok.ensures in
     on_ok_weaker c.insert.result (λ n. noted_inserted c.args.site c.args.scope.now c.args.kept.now _ _ _ c.args.name.now c.args.arguments.now _ _ _ _ _ h a.made b.made a.noted b.noted n) c.insert.ensures.noted
 
 pub calls::type_plain-returns-clause-made : goal.calls::type_plain-returns-clause-made

@@ -5,18 +5,18 @@ use Rattle.chi_tool.proofs.library.simulate.Goals as goal
 pub returns-clause-headline : goal.returns-clause-headline
 returns-clause-headline g c pick answers =
     let law : SourceLaw = record { some = c.source_law.ensures.some; one = c.source_law.ensures.one } in
-    let may = may_be_simulated (g.P.Chooser.gives c.args.policy) (record { seed = c.args.seed; bound = c.args.bound; pick = pick; texts = c.args.args.now; until = c.args.until; trace = c.args.trace }) c.requires.bound answers in
+    let may = may_be_simulated (g.P.Chooser.gives c.args.policy) (record { seed = c.args.seed; bound = c.args.bound; pick = pick; texts = c.args.texts.now; until = c.args.until; trace = c.args.trace }) c.requires.bound answers in
     simulation-headline law _ c.requires.within may (c.tell_terms.ensures pick answers)
 
 pub returns-clause-causes : goal.returns-clause-causes
 returns-clause-causes g c pick answers =
     let law : SourceLaw = record { some = c.source_law.ensures.some; one = c.source_law.ensures.one } in
-    let may = may_be_simulated (g.P.Chooser.gives c.args.policy) (record { seed = c.args.seed; bound = c.args.bound; pick = pick; texts = c.args.args.now; until = c.args.until; trace = c.args.trace }) c.requires.bound answers in
+    let may = may_be_simulated (g.P.Chooser.gives c.args.policy) (record { seed = c.args.seed; bound = c.args.bound; pick = pick; texts = c.args.texts.now; until = c.args.until; trace = c.args.trace }) c.requires.bound answers in
     simulation-causes law _ c.requires.within may (c.tell_terms.ensures pick answers)
 
 pub returns-clause-complete : goal.returns-clause-complete
 returns-clause-complete g c pick answers =
     let law : SourceLaw = record { some = c.source_law.ensures.some; one = c.source_law.ensures.one } in
     let runs : RunLaw = record { some = c.one_run_law.ensures.some; one = c.one_run_law.ensures.one } in
-    let may = may_be_simulated (g.P.Chooser.gives c.args.policy) (record { seed = c.args.seed; bound = c.args.bound; pick = pick; texts = c.args.args.now; until = c.args.until; trace = c.args.trace }) c.requires.bound answers in
+    let may = may_be_simulated (g.P.Chooser.gives c.args.policy) (record { seed = c.args.seed; bound = c.args.bound; pick = pick; texts = c.args.texts.now; until = c.args.until; trace = c.args.trace }) c.requires.bound answers in
     simulation-complete law _ c.requires.within may (c.tell_terms.ensures pick answers) runs c.values_are_of_parameters.ensures

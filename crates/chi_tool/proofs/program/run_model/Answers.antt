@@ -6,7 +6,7 @@ pub returns-in-Ok : goal.returns-in-Ok
 returns-in-Ok g c =
     let read = rw (c.as_slice-params.ensures.same) at c.in-Ok.ensures.values in
     model_ran (g.P.Chooser.gives c.args.terms.policy) c.args.core.now c.args.terms.seed c.args.terms.bound c.args.texts.now c.args.terms.until c.args.terms.trace
-    c.args.model.now c.requires.model c.run_with.result c.in-Ok.arguments.items read c.run_with.ensures
+    c.args.model.now c.requires.model c.run.result c.in-Ok.arguments.items read c.run.ensures
 
 pub returns-else-not-is_misfit : goal.returns-else-not-is_misfit
 returns-else-not-is_misfit g c =

@@ -6,7 +6,7 @@ use Rattle.chi_tool.proofs.run.picked_label.Goals as goal
 pub choose-requires-2 : goal.choose-requires-2
 choose-requires-2 g c =
     let law : ChoiceLaw = record { option = c.choice_law.ensures.option; advance = c.choice_law.ensures.advance; may_come = c.choice_law.ensures.may_come; some = c.choice_law.ensures.some } in
-    let some : 0 < length (options_at c.args.plain.now.stage c.actor_at-actor.result) = has_option law c.args.plain.now.stage _ _ c.actor_at-actor.ensures.actor in
+    let some : 0 < length (options_at c.args.runner.now.stage c.actor_at-actor.result) = has_option law c.args.runner.now.stage _ _ c.actor_at-actor.ensures.actor in
     let same = c.option_count-options.ensures.count in
     omega arith
 
@@ -16,7 +16,7 @@ returns-clause-may g c = may_option c.options_law.ensures.may_come _ _ _ _ c.req
 pub returns-clause-picks : goal.returns-clause-picks
 returns-clause-picks g c =
     let law : ChoiceLaw = record { option = c.choice_law.ensures.option; advance = c.choice_law.ensures.advance; may_come = c.choice_law.ensures.may_come; some = c.choice_law.ensures.some } in
-    let stage = c.args.plain.now.stage in
+    let stage = c.args.runner.now.stage in
     let options : c.option_count-options.result ≡ length (options_at stage c.actor_at-actor.result) = c.option_count-options.ensures.count in
     let several = c.if-actors-eq0.false in
     let count = c.actor_count-actors.type_inv in
@@ -29,9 +29,9 @@ returns-clause-picks g c =
 pub returns-then-actors-eq0-clause-picks : goal.returns-then-actors-eq0-clause-picks
 returns-then-actors-eq0-clause-picks g c =
     let law : ChoiceLaw = record { option = c.choice_law.ensures.option; advance = c.choice_law.ensures.advance; may_come = c.choice_law.ensures.may_come; some = c.choice_law.ensures.some } in
-    picks_advance law (g.P.Chooser.gives c.args.policy.now) c.args.turn c.args.plain.now.stage c.requires.goes_on (sym c.actor_count-actors.ensures.count ∙ c.if-actors-eq0.true)
+    picks_advance law (g.P.Chooser.gives c.args.policy.now) c.args.turn c.args.runner.now.stage c.requires.goes_on (sym c.actor_count-actors.ensures.count ∙ c.if-actors-eq0.true)
 
 pub returns-then-actors-eq0-clause-may : goal.returns-then-actors-eq0-clause-may
 returns-then-actors-eq0-clause-may g c =
     let law : ChoiceLaw = record { option = c.choice_law.ensures.option; advance = c.choice_law.ensures.advance; may_come = c.choice_law.ensures.may_come; some = c.choice_law.ensures.some } in
-    may_advance law c.args.plain.now.stage c.requires.goes_on (sym c.actor_count-actors.ensures.count ∙ c.if-actors-eq0.true)
+    may_advance law c.args.runner.now.stage c.requires.goes_on (sym c.actor_count-actors.ensures.count ∙ c.if-actors-eq0.true)

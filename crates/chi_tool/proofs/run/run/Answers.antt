@@ -3,5 +3,5 @@ use Rattle.chi_tool.proofs.run.run.Goals as goal
 
 pub returns : goal.returns
 returns g c =
-    begun_ran c.args.core.now c.args.settings.seed c.args.settings.bound c.args.settings.arguments.items c.args.settings.until c.args.settings.trace c.in_ok-plain.plain.stage
-    (g.P.Chooser.gives c.args.settings.policy) c.run_from.result c.in_ok-plain.ensures.start c.run_from.ensures
+    begun_ran c.args.core.now c.args.terms.seed c.args.terms.bound c.args.arguments.items c.args.terms.until c.args.terms.trace c.in_ok-runner.runner.stage
+    (g.P.Chooser.gives c.args.terms.policy) c.run_from.result (rw (c.units_of.ensures) at c.in_ok-runner.ensures.start) c.run_from.ensures

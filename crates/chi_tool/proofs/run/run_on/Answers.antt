@@ -7,7 +7,7 @@ pub turn-init : goal.turn-init
 turn-init g c =
     let law : TurnLaw = turn_law_of c.turn_law.ensures.begins c.turn_law.ensures.on c.turn_law.ensures.over c.turn_law.ensures.cut_off c.turn_law.ensures.at_rest
     c.tracing_law.ensures.begins c.tracing_law.ensures.on c.tracing_law.ensures.over c.tracing_law.ensures.whole c.tracing_law.ensures.of_none in
-    begins law (g.P.Chooser.gives c.args.policy.now) _ _ _ _ c.args.plain.now refl refl c.requires.there _ _ c.requires.out c.requires.log
+    begins law (g.P.Chooser.gives c.args.policy.now) _ _ _ _ c.args.runner.now refl refl c.requires.there _ _ c.requires.out c.requires.log
 
 pub picked_label-label-requires-clause-goes_on : goal.picked_label-label-requires-clause-goes_on
 picked_label-label-requires-clause-goes_on g c =
@@ -18,8 +18,8 @@ picked_label-label-requires-clause-goes_on g c =
 pub picked_label-label-requires-clause-early : goal.picked_label-label-requires-clause-early
 picked_label-label-requires-clause-early g c = let room = c.turn.invariant.room in let below = c.requires.bound in omega arith
 
-pub take-requires : goal.take-requires
-take-requires g c = record { may = c.picked_label-label.ensures.may }
+pub take_turn-requires : goal.take_turn-requires
+take_turn-requires g c = record { may = c.picked_label-label.ensures.may }
 
 pub overflow_add-turn : goal.overflow_add-turn
 overflow_add-turn g c = let room = c.turn.invariant.room in let below = c.requires.bound in omega arith

@@ -4,7 +4,7 @@ use Rattle.chi_tool.proofs.run.run_on.Given as goal
 
 abbrev pub invariant-turn : goal.invariant-turn
 invariant-turn g l =
-    Keeps (g.P.Chooser.gives l.policy) l.trace l.initial.plain.core l.initial.plain.stage l.bound l.plain l.turn l.left l.told.out.items l.told.log.items
+    Keeps (g.P.Chooser.gives l.policy) l.trace l.initial.runner.core l.initial.runner.stage l.bound l.runner l.turn l.left l.told.out.items l.told.log.items
 
 abbrev pub decreases-turn : goal.decreases-turn
-decreases-turn g l = turns_left l.left l.plain.stage
+decreases-turn g l = turns_left l.left l.runner.stage

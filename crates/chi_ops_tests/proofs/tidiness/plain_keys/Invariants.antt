@@ -1,8 +1,0 @@
-use Rattle.std.proofs.Common.{◌≡◌, drop}
-use Rattle.std.specs.List.{list_all}
-use Rattle.chi_value.specs.Plain.{is_plain}
-use Rattle.chi_sets.specs.Dictionaries.{keys}
-use Rattle.chi_ops_tests.proofs.tidiness.plain_keys.Given as goal
-
-abbrev pub invariant-loop-entry : goal.invariant-loop-entry
-invariant-loop-entry l = list_all is_plain (keys l.fn.entries) ≡ list_all is_plain (keys (drop l.entry-index l.entries))
