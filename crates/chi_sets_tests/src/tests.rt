@@ -136,8 +136,9 @@ fn the_later_entry_stays(rt: HostRuntime) -> Result<(), Fail> {
 fn an_entry_is_put_in_its_place(rt: HostRuntime) -> Result<(), Fail> {
     let alloc = rt.alloc();
     let entries = dictionary(alloc, &[(1, 10), (3, 30)])?;
-    let entries = with_entry(alloc, entries, entry(alloc, 2, 5)?)?;
-    assert!(rt; are_pairs(&entries, &[(1, 10), (2, 5), (3, 30)]));
+    let entry = entry(alloc, 2, 5)?;
+    let expected = [(1, 10), (2, 5), (3, 30)];
+    assert!(rt; are_pairs(&with_entry(alloc, entries, entry)?, &expected));
     Ok(())
 }
 

@@ -67,25 +67,23 @@ fn pairs_of_types_fit_and_join(rt: HostRuntime) -> Result<(), Fail> {
 
 #[test]
 fn types_have_a_depth_and_may_be_plain(rt: HostRuntime) -> Result<(), Fail> {
-    // of each type in turn
+    // its number, its depth, and whether it is plain
     let rows = [
-        (1, true),
-        (1, true),
-        (2, true),
-        (2, false),
-        (2, false),
-        (2, true),
-        (3, true),
-        (2, false),
-        (1, true),
+        (0, 1, true),
+        (1, 1, true),
+        (2, 2, true),
+        (3, 2, false),
+        (4, 2, false),
+        (5, 2, true),
+        (6, 3, true),
+        (7, 2, false),
+        (8, 1, true),
     ];
-    let mut number = 0;
-    for (deep, plain) in rows {
+    for (number, deep, plain) in rows {
         let ty = example(rt.alloc(), number)?;
         assert_eq!(rt; depth(&ty), deep, "depth of {number}");
         assert_eq!(rt; is_plain(&ty), plain, "{number} is plain");
         assert!(rt; same(&ty.copy(rt.alloc())?, &ty), "copy of {number}");
-        number += 1;
     }
     Ok(())
 }

@@ -43,7 +43,8 @@ fn one_of_each(alloc: Global) -> Result<Value, NoMemory> {
     Ok(Value::TupleOf(Items::of(alloc, parts)?))
 }
 
-const TEXT: &[u8] = b"(true, -9223372036854775808, 0.000000001, \"a\\\"\\\\\\t\\n'\", blue, [7, 8], {1}, {\"a\": 1, \"b\": []})";
+const TEXT: &[u8] =
+    b"(true, -9223372036854775808, 0.000000001, \"a\\\"\\\\\\t\\n'\", blue, [7, 8], {1}, {\"a\": 1, \"b\": []})";
 
 /// More values are in rows/.
 #[test]
@@ -52,7 +53,11 @@ fn values_have_texts(rt: HostRuntime) -> Result<(), Fail> {
     let value = one_of_each(rt.alloc())?;
     assert_eq!(rt; quoted(rt.alloc(), &value, &names)?.as_slice(), TEXT);
     let copy = value.copy(rt.alloc())?;
-    assert_eq!(rt; quoted(rt.alloc(), &copy, &names)?.as_slice(), TEXT, "its copy");
+    assert_eq!(rt;
+        quoted(rt.alloc(), &copy, &names)?.as_slice(),
+        TEXT,
+        "its copy"
+    );
     Ok(())
 }
 

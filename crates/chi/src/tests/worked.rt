@@ -6,7 +6,7 @@ use std::process::Abort;
 use std::test::Fail;
 
 /// A source, the words, the output, the log and the status.
-pub(super) type Row = (
+pub(crate) type Row = (
     &'static str,
     &'static [&'static str],
     &'static str,
@@ -14,9 +14,9 @@ pub(super) type Row = (
     u8,
 );
 
-pub(super) const SIM: &[&str] = &["sim", "m.chi"];
+pub(crate) const SIM: &[&str] = &["sim", "m.chi"];
 
-pub(super) const ALONE: &str = "proc S(chan! int a): a!1 end model M(): chan int a; run S(a) end";
+pub(crate) const ALONE: &str = "proc S(chan! int a): a!1 end model M(): chan int a; run S(a) end";
 
 const WAITS: &str = "model M(): delay 0.000000001 end";
 
@@ -229,7 +229,7 @@ const LONG: [Row; 6] = [
     ),
 ];
 
-pub(super) fn expect_rows(rt: &impl Abort, alloc: Global, rows: &[Row]) -> Result<(), Fail> {
+pub(crate) fn expect_rows(rt: &impl Abort, alloc: Global, rows: &[Row]) -> Result<(), Fail> {
     for (source, words, out, log, status) in rows {
         let wanted = Wanted {
             out,
