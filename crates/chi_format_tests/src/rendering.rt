@@ -1,6 +1,6 @@
 use crate::conditions::may_render;
-use crate::reading::pieces_of;
 use crate::names::colours;
+use crate::reading::pieces_of;
 use chi_format::{Piece, RenderFault, render};
 use chi_num::Real;
 use chi_token::Bytes;

@@ -70,7 +70,12 @@ fn sets_are_combined(rt: HostRuntime) -> Result<(), Fail> {
     let alloc = rt.alloc();
     let a = set(alloc, &[2, 5, 1, 2])?;
     let b = set(alloc, &[5, 3, -1])?;
-    assert!(rt; are(&set_union(alloc, a.as_slice(), b.as_slice())?, &[-1, 1, 2, 3, 5]));
+    assert!(rt;
+        are(
+            &set_union(alloc, a.as_slice(), b.as_slice())?,
+            &[-1, 1, 2, 3, 5]
+        )
+    );
     assert!(rt; are(&set_meet(alloc, a.as_slice(), b.as_slice())?, &[5]));
     assert!(rt; are(&set_minus(alloc, a.as_slice(), b.as_slice())?, &[1, 2]));
     assert!(rt; !is_subset(a.as_slice(), b.as_slice()));
