@@ -1,16 +1,9 @@
-//! Tests of the checker, over sources. Most are in rows/: here are one source for each rule, some that break none, and what
-//! no command shows, cores and streams.
+//! Tests of the checker, over sources: one for each rule, and some that break none. More are in rows/, and what cores do.
 #![tactic(auto)]
 
 #[cfg(test)]
 mod accepted;
 #[cfg(test)]
-mod cores;
-#[cfg(test)]
-mod parts;
-#[cfg(test)]
 mod rules;
 #[cfg(test)]
 mod sources;
-#[cfg(test)]
-mod streams;

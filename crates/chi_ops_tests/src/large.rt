@@ -180,30 +180,6 @@ fn the_largest_sets_are_united(rt: HostRuntime) -> Result<(), Fail> {
     Ok(())
 }
 
-fn list(alloc: Global, count: u32) -> Result<Value, NoMemory> {
-    Ok(Value::ListOf(Row::of(alloc, falling(alloc, count)?)?))
-}
-
-#[test]
-fn the_largest_lists_are_joined_and_cut(rt: HostRuntime) -> Result<(), Fail> {
-    let alloc = rt.alloc();
-    let half = list(alloc, 524_288)?;
-    assert!(rt; may_join_ints(&half, &half));
-    let whole = join(alloc, &half, &half)?;
-    assert!(rt; is_sequence_of_ints(&whole));
-    let backwards = slice(alloc, &whole, None, None, Some(-1))?;
-    let Value::ListOf(items) = &backwards else {
-        return Err(Fail::new("no list"));
-    };
-    assert_eq!(rt; items.len(), 1_048_576);
-    assert!(rt; matches!(items.get(0), Some(Value::Int(1))));
-    assert!(rt; matches!(items.get(1_048_575), Some(Value::Int(524_288))));
-    let one = list(alloc, 1)?;
-    assert!(rt; may_join_ints(&whole, &one));
-    assert!(rt; matches!(join(alloc, &whole, &one), Err(OpFault::Limit)));
-    Ok(())
-}
-
 #[test]
 fn ints_are_counted_and_found(rt: HostRuntime) -> Result<(), Fail> {
     let alloc = rt.alloc();
@@ -212,6 +188,14 @@ fn ints_are_counted_and_found(rt: HostRuntime) -> Result<(), Fail> {
     assert!(rt; matches!(index(alloc, &ints, -1), Ok(Value::Int(2))));
     assert!(rt; matches!(index(alloc, &ints, 3), Err(OpFault::Index)));
     assert!(rt; matches!(range(alloc, 0, 3, 0), Err(OpFault::SliceStep)));
+    assert!(rt; may_join_ints(&ints, &ints));
+    let both = join(alloc, &ints, &ints)?;
+    assert!(rt; is_sequence_of_ints(&both));
+    let part = slice(alloc, &both, None, None, Some(-5))?;
+    let Value::ListOf(items) = &part else {
+        return Err(Fail::new("no list"));
+    };
+    assert!(rt; items.len() == 2 && matches!(items.get(1), Some(Value::Int(0))));
     Ok(())
 }
 

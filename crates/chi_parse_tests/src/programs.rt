@@ -1,7 +1,7 @@
 use chi_grammar::ParseFault;
 use chi_lex::{MOST_BYTES, lex};
 use chi_parse::parse;
-use chi_tree::{Alternative, Communication, Definition, Element, Program, Statement, Step};
+use chi_tree::Program;
 use std::alloc::Global;
 use std::test::Fail;
 
@@ -49,88 +49,5 @@ fn a_refusal_names_its_token(rt: HostRuntime) -> Result<(), Fail> {
         let fault = parsed(rt.alloc(), source.as_bytes())?.err();
         assert_eq!(rt; fault, Some(wanted), "{source}");
     }
-    Ok(())
-}
-
-/// Whether it is a run of one unwind.
-fn is_run_of_unwind(statement: &Statement) -> bool {
-    let Statement::Run { elements, .. } = statement else {
-        return false;
-    };
-    matches!(elements.as_slice(), [Element::Unwind { .. }])
-}
-
-/// Whether it is a guarded receive into a name.
-fn is_guarded_receive(alternative: &Alternative) -> bool {
-    matches!(
-        alternative,
-        Alternative::Guarded {
-            guard: Some(_),
-            communication: Communication::Receive { name: Some(_), .. },
-            ..
-        }
-    )
-}
-
-/// Whether it is a send of no value without a guard.
-fn is_bare_send(alternative: &Alternative) -> bool {
-    matches!(
-        alternative,
-        Alternative::Guarded {
-            guard: None,
-            communication: Communication::Send { value: None, .. },
-            ..
-        }
-    )
-}
-
-/// Whether it is a select of a guarded receive and a send.
-fn is_select_of_both(statement: &Statement) -> bool {
-    let Statement::Select { alternatives, .. } = statement else {
-        return false;
-    };
-    let [first, second] = alternatives.as_slice() else {
-        return false;
-    };
-    is_guarded_receive(first) && is_bare_send(second)
-}
-
-/// Whether they are a select, a run and an exit, of which only the first has a `;`.
-fn are_three(steps: &[Step]) -> bool {
-    let [select, run, exit] = steps else {
-        return false;
-    };
-    select.semicolon
-        && !run.semicolon
-        && !exit.semicolon
-        && is_select_of_both(&select.statement)
-        && is_run_of_unwind(&run.statement)
-        && matches!(exit.statement, Statement::Exit { value: None, .. })
-}
-
-/// Whether the program is one model without a type and without formals, of those three statements.
-fn is_model_of_three(program: &Program) -> bool {
-    let [item] = program.items.as_slice() else {
-        return false;
-    };
-    let Definition::Model {
-        exit_type: None,
-        formals,
-        block,
-        ..
-    } = &item.definition
-    else {
-        return false;
-    };
-    item.semicolon && formals.as_slice().is_empty() && are_three(block.as_slice())
-}
-
-#[test]
-fn a_tree_has_what_its_tokens_say(rt: HostRuntime) -> Result<(), Fail> {
-    let source =
-        "model M(): select x, a?y: pass alt b[1]! end; run unwind i in x: P() end exit end;";
-    let program = parsed(rt.alloc(), source.as_bytes())?.map_err(|_| "refused")?;
-    assert_eq!(rt; program.last.column, 82);
-    assert!(rt; is_model_of_three(&program));
     Ok(())
 }

@@ -1,4 +1,4 @@
-use crate::build::{entries, list, set, string};
+use crate::build::list;
 use crate::conditions::{plain, within};
 use chi_base::NoMemory;
 use chi_num::Real;
@@ -29,28 +29,26 @@ fn quoted(alloc: Global, value: &Value, names: &Names) -> Result<Vec<u8>, Fail> 
     Ok(text)
 }
 
-/// One value of each kind that has a text, in a tuple. Its dictionary has entries of two kinds, which no program has.
-fn one_of_each(alloc: Global) -> Result<Value, NoMemory> {
+/// Values of several kinds, in a tuple.
+fn several(alloc: Global) -> Result<Value, NoMemory> {
     let mut parts = Vec::new(alloc);
     parts.push(Value::Bool(true))?;
     parts.push(Value::Int(i64::MIN))?;
     parts.push(Value::Real(Real::from_units(1)))?;
-    parts.push(string(alloc, b"a\"\\\t\n'")?)?;
+    parts.push(Value::Text(Bytes::copy_of(alloc, b"a\"\\\t\n'")?))?;
     parts.push(Value::Choice(0, 1))?;
     parts.push(list(alloc, &[7, 8])?)?;
-    parts.push(set(alloc, &[1])?)?;
-    parts.push(Value::DictOf(entries(alloc)?))?;
     Ok(Value::TupleOf(Items::of(alloc, parts)?))
 }
 
 const TEXT: &[u8] =
-    b"(true, -9223372036854775808, 0.000000001, \"a\\\"\\\\\\t\\n'\", blue, [7, 8], {1}, {\"a\": 1, \"b\": []})";
+    b"(true, -9223372036854775808, 0.000000001, \"a\\\"\\\\\\t\\n'\", blue, [7, 8])";
 
 /// More values are in rows/.
 #[test]
 fn values_have_texts(rt: HostRuntime) -> Result<(), Fail> {
     let names = colours(rt.alloc())?;
-    let value = one_of_each(rt.alloc())?;
+    let value = several(rt.alloc())?;
     assert_eq!(rt; quoted(rt.alloc(), &value, &names)?.as_slice(), TEXT);
     let copy = value.copy(rt.alloc())?;
     assert_eq!(rt;
