@@ -7,7 +7,6 @@ mod communications;
 mod declared;
 mod definitions;
 mod formal;
-mod joined;
 mod launches;
 mod offers;
 mod program;

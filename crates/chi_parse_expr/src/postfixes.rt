@@ -16,7 +16,7 @@ use chi_grammar::{Nesting, ParseFault, Room};
 use chi_parse_look::classes::{
     COLON, DOT, FIRST_OF_EXPR, FIRST_OF_POSTFIX, LEFT_BRACKET, RIGHT_BRACKET,
 };
-use chi_parse_look::{enter, is_next, take, take_name};
+use chi_parse_look::{boxed, enter, followed, is_next, joined, take, take_name};
 use chi_token::{Place, Spanned};
 use chi_tree::{Expr, Postfix};
 use std::alloc::Global;
@@ -33,7 +33,7 @@ pub fn post(
     ensures { Reads grammar table tokens.now expr_of room (part s.Post) at result }
 {
     let (whole, middle) = primary(alloc, tokens, at, room)?;
-    let (parts, end) = postfixes(alloc, tokens, middle, room)?;
+    let ((whole, parts), end) = joined(whole, postfixes(alloc, tokens, middle, room))?;
     let taken = parted(alloc, whole, parts)?;
     Ok((taken, end))
 }
@@ -102,7 +102,7 @@ fn bracket(
     let inner = enter(tokens, at, room, Nesting::Expression, &[LEFT_BRACKET])?;
     let (word, start) = take(tokens, at, LEFT_BRACKET)?;
     let (postfix, middle) = bracketed(alloc, tokens, start, inner, word.place)?;
-    let (_, end) = take(tokens, middle, RIGHT_BRACKET)?;
+    let (postfix, end) = followed(postfix, tokens, middle, RIGHT_BRACKET)?;
     Ok((postfix, end))
 }
 
@@ -119,7 +119,7 @@ fn bracketed(
     ensures { Reads grammar table tokens.now (inside place) room (part s.Inside) at result }
 {
     if is_next(tokens, at, &FIRST_OF_EXPR) {
-        let (from, middle) = boxed_expr(alloc, tokens, at, room)?;
+        let (from, middle) = boxed(alloc, expr(alloc, tokens, at, room))?;
         return indexed(alloc, tokens, middle, room, place, from);
     }
     sliced(alloc, tokens, at, room, place, None)
@@ -214,13 +214,12 @@ fn optional_expr(
     ensures { Reads grammar table tokens.now (λ t. optional t (expr_of t)) room (maybe (part s.Expr)) at result }
 {
     if is_next(tokens, at, &FIRST_OF_EXPR) {
-        let (boxed, end) = boxed_expr(alloc, tokens, at, room)?;
-        return Ok((Some(boxed), end));
+        let (value, end) = boxed(alloc, expr(alloc, tokens, at, room))?;
+        return Ok((Some(value), end));
     }
     Ok((None, at))
 }
 
-#[cycle(expr)]
 pub fn boxed_expr(
     alloc: Global,
     tokens: &[Spanned],
@@ -231,7 +230,5 @@ pub fn boxed_expr(
     requires inside { at ≤ length tokens.now }
     ensures { Reads grammar table tokens.now expr_of room (part s.Expr) at result }
 {
-    let (value, end) = expr(alloc, tokens, at, room)?;
-    let boxed = Boxed::new(alloc, value)?;
-    Ok((boxed, end))
+    boxed(alloc, expr(alloc, tokens, at, room))
 }
