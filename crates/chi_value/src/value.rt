@@ -1,3 +1,4 @@
+use chi_base::Boxed;
 use chi_num::{Dist, Real};
 use chi_token::Bytes;
 
@@ -26,7 +27,8 @@ pub enum Value {
     DictOf(Items),
     /// A channel, by its number.
     Chan(u32),
-    Dist(Dist),
+    /// A distribution, on the heap, so that all other values stay small.
+    Dist(Boxed<Dist>),
     /// The time at which the timer is due, in units of 10^-9.
     Timer(i64),
     /// A started process, by the number of its instance, or none.
