@@ -16,4 +16,5 @@ mod simple;
 mod targets;
 mod walks;
 
+pub use chi_grammar::ParseFault;
 pub use program::parse;

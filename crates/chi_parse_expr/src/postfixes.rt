@@ -21,6 +21,9 @@ use chi_token::{Place, Spanned};
 use chi_tree::{Expr, Postfix};
 use std::alloc::Global;
 
+/// The first element of a slice and the one past its last, each of which may be left out.
+type Bounds = (Option<Boxed<Expr>>, Option<Boxed<Expr>>);
+
 #[cycle(expr)]
 pub fn post(
     alloc: Global,
@@ -157,9 +160,9 @@ fn sliced(
     requires inside { at ≤ length tokens.now }
     ensures { Reads grammar table tokens.now (sliced place from) room (grammar.rule_of s.Upto) at result }
 {
-    let (_, start) = take(tokens, at, COLON)?;
-    let (upto, middle) = optional_expr(alloc, tokens, start, room)?;
-    stepped(alloc, tokens, middle, room, place, from, upto)
+    let (from, start) = followed(from, tokens, at, COLON)?;
+    let (bounds, middle) = joined(from, optional_expr(alloc, tokens, start, room))?;
+    stepped(alloc, tokens, middle, room, place, bounds)
 }
 
 #[cycle(expr)]
@@ -169,16 +172,18 @@ fn stepped(
     at: u32,
     room: Room,
     place: Place,
-    from: Option<Boxed<Expr>>,
-    upto: Option<Boxed<Expr>>,
+    bounds: Bounds,
 ) -> Result<(Postfix, u32), ParseFault>
     requires short { length tokens.now < 2 ^ 32 }
     requires inside { at ≤ length tokens.now }
-    ensures { Reads grammar table tokens.now (stepped place from upto) room (maybe (part s.ByStep)) at result }
+    ensures { Reads grammar table tokens.now (stepped place bounds.0 bounds.1) room (maybe (part s.ByStep)) at result }
 {
     if is_next(tokens, at, &[COLON]) {
-        let (_, start) = take(tokens, at, COLON)?;
-        let (step, end) = optional_expr(alloc, tokens, start, room)?;
+        let (bounds, start) = followed(bounds, tokens, at, COLON)?;
+        let (((from, upto), step), end) = joined(
+            bounds,
+            optional_expr(alloc, tokens, start, room),
+        )?;
         return Ok((
             Postfix::Slice {
                 place,
@@ -190,6 +195,7 @@ fn stepped(
             end,
         ));
     }
+    let (from, upto) = bounds;
     Ok((
         Postfix::Slice {
             place,

@@ -15,9 +15,9 @@ ghost use Rattle.chi_tree.specs.Rules.{grammar};
 ghost use Rattle.chi_tree.specs.Tables.{table};
 ghost use Rattle.chi_tree.specs.View.{Built};
 
+use crate::look::take;
 use chi_base::Boxed;
 use chi_grammar::ParseFault;
-use crate::look::take;
 use chi_token::Spanned;
 use chi_tree::Class;
 use std::alloc::Global;

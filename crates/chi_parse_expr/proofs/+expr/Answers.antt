@@ -361,7 +361,7 @@ postfixes::bracket-returns t c =
     let postfix = c.in_ok-postfix.ensures in
     let end = c.in_ok-postfix-2.ensures in
     read grammar table _ postfix_of c.requires.inside
-    (runs.deeper c.in_ok-inner.ensures (runs.part (runs.both (run_word grammar table _ word) (runs.both postfix.runs (run_word grammar table _ end.1.1)))))
+    (runs.deeper c.in_ok-inner.ensures (runs.part (runs.both (run_word grammar table _ word) (runs.both postfix.runs (run_word grammar table _ end.2)))))
     (postfix.shows ∙ sym end.0)
 
 pub postfixes::bracketed-returns-in_err-from : goal.postfixes::bracketed-returns-in_err-from
@@ -393,45 +393,63 @@ postfixes::indexed-returns t c =
     (runs.never (c.is_next.ensures ∙ c.if-is_next.false))
     refl
 
-pub postfixes::sliced-returns-in_err-start : goal.postfixes::sliced-returns-in_err-start
-postfixes::sliced-returns-in_err-start t c =
-    failed grammar table _ (sliced c.args.place c.args.from) _ (grammar.rule_of s.Upto) _ _ _ c.from_residual.ensures.1
-    (runs.first_fails (run_no_word grammar table _ c.in_err-start.ensures))
+pub postfixes::sliced-optional_expr-requires : goal.postfixes::sliced-optional_expr-requires
+postfixes::sliced-optional_expr-requires t c =
+    let start = c.in_ok-from.ensures.2 in
+    (search rules, (c.requires.short, start.inside))
 
-pub postfixes::sliced-returns-in_err-upto : goal.postfixes::sliced-returns-in_err-upto
-postfixes::sliced-returns-in_err-upto t c =
-    let start = c.in_ok-start.ensures in
-    failed grammar table _ (sliced c.args.place c.args.from) _ (grammar.rule_of s.Upto) _ _ _ c.from_residual-in_err-upto.ensures.1
-    (runs.next_fails (run_word grammar table _ start) (runs.first_fails c.in_err-upto.ensures))
+pub postfixes::sliced-stepped-requires : goal.postfixes::sliced-stepped-requires
+postfixes::sliced-stepped-requires t c =
+    let upto = c.in_ok-bounds.ensures _ _ _ _ _ c.optional_expr.ensures in
+    (search rules, (c.requires.short, upto.inside))
+
+pub postfixes::sliced-returns-in_err-from : goal.postfixes::sliced-returns-in_err-from
+postfixes::sliced-returns-in_err-from t c =
+    failed grammar table _ (sliced c.args.place c.args.from) _ (grammar.rule_of s.Upto) _ _ _ c.from_residual.ensures.1
+    (runs.first_fails (run_no_word grammar table _ c.in_err-from.ensures))
+
+pub postfixes::sliced-returns-in_err-bounds : goal.postfixes::sliced-returns-in_err-bounds
+postfixes::sliced-returns-in_err-bounds t c =
+    let start = c.in_ok-from.ensures.2 in
+    failed grammar table _ (sliced c.args.place c.args.from) _ (grammar.rule_of s.Upto) _ _ _ c.from_residual-in_err-bounds.ensures.1
+    (runs.next_fails (run_word grammar table _ start) (runs.first_fails (c.in_err-bounds.ensures _ _ _ _ _ c.optional_expr.ensures)))
 
 pub postfixes::sliced-returns : goal.postfixes::sliced-returns
 postfixes::sliced-returns t c =
-    let start = c.in_ok-start.ensures in
-    let upto = c.in_ok-upto.ensures in
-    reads_then grammar table _ _ _ (sign Colon) (maybe (part s.Expr) ▸ maybe (part s.ByStep)) _ _ _ _ (run_word grammar table _ start) (reads_then grammar table _ _ _ (maybe (part s.Expr)) (maybe (part s.ByStep)) _ _ _ _ upto.runs (reads_same _ _ _ _ (maybe (part s.ByStep)) _ _ (λ u i. stepped c.args.place c.args.from (upto.shows i) u) c.stepped.ensures))
+    let start = c.in_ok-from.ensures.2 in
+    let upto = c.in_ok-bounds.ensures _ _ _ _ _ c.optional_expr.ensures in
+    reads_then grammar table _ _ _ (sign Colon) (maybe (part s.Expr) ▸ maybe (part s.ByStep)) _ _ _ _ (run_word grammar table _ start) (reads_then grammar table _ _ _ (maybe (part s.Expr)) (maybe (part s.ByStep)) _ _ _ _ upto.runs (reads_same _ _ _ _ (maybe (part s.ByStep)) _ _
+    (λ u. (λ i. stepped c.args.place (sym c.in_ok-from.ensures.0 i) (optional upto.tree (expr_of upto.tree)) u) ∙ (λ i. stepped c.args.place (upto.shows i).0 (upto.shows i).1 u))
+    c.stepped.ensures))
 
-pub postfixes::stepped-returns-in_err-start : goal.postfixes::stepped-returns-in_err-start
-postfixes::stepped-returns-in_err-start t c =
-    failed grammar table _ (stepped c.args.place c.args.from c.args.upto) _ (maybe (part s.ByStep)) _ _ _ c.from_residual.ensures.1
-    (runs.once (c.is_next.ensures ∙ c.if-is_next.true) (runs.part_fails (runs.first_fails (run_no_word grammar table _ c.in_err-start.ensures))))
+pub postfixes::stepped-optional_expr-requires : goal.postfixes::stepped-optional_expr-requires
+postfixes::stepped-optional_expr-requires t c =
+    let start = c.in_ok-bounds.ensures.2 in
+    (search rules, (c.requires.short, start.inside))
 
-pub postfixes::stepped-returns-in_err-step : goal.postfixes::stepped-returns-in_err-step
-postfixes::stepped-returns-in_err-step t c =
-    let start = c.in_ok-start.ensures in
-    failed grammar table _ (stepped c.args.place c.args.from c.args.upto) _ (maybe (part s.ByStep)) _ _ _ c.from_residual-in_err-step.ensures.1
-    (runs.once (c.is_next.ensures ∙ c.if-is_next.true) (runs.part_fails (runs.next_fails (run_word grammar table _ start) c.in_err-step.ensures)))
+pub postfixes::stepped-returns-in_err-bounds : goal.postfixes::stepped-returns-in_err-bounds
+postfixes::stepped-returns-in_err-bounds t c =
+    failed grammar table _ (stepped c.args.place c.args.bounds.0 c.args.bounds.1) _ (maybe (part s.ByStep)) _ _ _ c.from_residual.ensures.1
+    (runs.once (c.is_next.ensures ∙ c.if-is_next.true) (runs.part_fails (runs.first_fails (run_no_word grammar table _ c.in_err-bounds.ensures))))
+
+pub postfixes::stepped-returns-in_err-from : goal.postfixes::stepped-returns-in_err-from
+postfixes::stepped-returns-in_err-from t c =
+    let start = c.in_ok-bounds.ensures.2 in
+    failed grammar table _ (stepped c.args.place c.args.bounds.0 c.args.bounds.1) _ (maybe (part s.ByStep)) _ _ _ c.from_residual-in_err-from.ensures.1
+    (runs.once (c.is_next.ensures ∙ c.if-is_next.true) (runs.part_fails (runs.next_fails (run_word grammar table _ start) (c.in_err-from.ensures _ _ _ _ _ c.optional_expr.ensures))))
 
 pub postfixes::stepped-returns-then-is_next : goal.postfixes::stepped-returns-then-is_next
 postfixes::stepped-returns-then-is_next t c =
-    let start = c.in_ok-start.ensures in
-    let step = c.in_ok-step.ensures in
-    read grammar table _ (stepped c.args.place c.args.from c.args.upto) c.requires.inside
+    let start = c.in_ok-bounds.ensures.2 in
+    let step = c.in_ok-from.ensures _ _ _ _ _ c.optional_expr.ensures in
+    read grammar table _ (stepped c.args.place c.args.bounds.0 c.args.bounds.1) c.requires.inside
     (runs.once (c.is_next.ensures ∙ c.if-is_next.true) (runs.part (runs.both (run_word grammar table _ start) step.runs)))
-    (λ i. postfix.Slice c.args.place c.args.from c.args.upto true (step.shows i))
+    ((λ i. postfix.Slice c.args.place (sym c.in_ok-bounds.ensures.0 i).0 (sym c.in_ok-bounds.ensures.0 i).1 true (optional step.tree (expr_of step.tree)))
+    ∙ (λ i. postfix.Slice c.args.place (step.shows i).0.0 (step.shows i).0.1 true (step.shows i).1))
 
 pub postfixes::stepped-returns : goal.postfixes::stepped-returns
 postfixes::stepped-returns t c =
-    read grammar table _ (stepped c.args.place c.args.from c.args.upto) c.requires.inside
+    read grammar table _ (stepped c.args.place c.args.bounds.0 c.args.bounds.1) c.requires.inside
     (runs.never (c.is_next.ensures ∙ c.if-is_next.false))
     refl
 
@@ -590,8 +608,13 @@ primaries::round-returns t c =
     let value = c.in_ok-value.ensures in
     let end = c.in_ok-value-2.ensures in
     read grammar table _ expr_of c.requires.inside
-    (runs.deeper c.in_ok-inner.ensures (runs.part (runs.both (run_word grammar table _ word) (runs.both first.runs (runs.both value.runs (run_word grammar table _ end.1.1))))))
+    (runs.deeper c.in_ok-inner.ensures (runs.part (runs.both (run_word grammar table _ word) (runs.both first.runs (runs.both value.runs (run_word grammar table _ end.2))))))
     ((λ i. bracketed c.in_ok-word.word.now.place (first.shows i) value.tree) ∙ (value.shows ∙ sym end.0))
+
+pub primaries::tuple_or_round-exprs_after-requires : goal.primaries::tuple_or_round-exprs_after-requires
+primaries::tuple_or_round-exprs_after-requires t c =
+    let start = c.in_ok-first.ensures.2 in
+    (search rules, (c.requires.short, start.inside))
 
 pub primaries::tuple_or_round-returns-in_err-first : goal.primaries::tuple_or_round-returns-in_err-first
 primaries::tuple_or_round-returns-in_err-first t c =
@@ -604,7 +627,7 @@ primaries::tuple_or_round-returns-in_err-found t c =
 
 pub primaries::tuple_or_round-returns-in_err-values : goal.primaries::tuple_or_round-returns-in_err-values
 primaries::tuple_or_round-returns-in_err-values t c =
-    let start = c.in_ok-first.ensures.1.1 in
+    let start = c.in_ok-first.ensures.2 in
     failed grammar table _ (bracketed c.args.place c.args.first) _ (maybe (part s.Others)) _ _ _ c.from_residual-in_err-values.ensures.1
     (runs.once (c.is_next.ensures ∙ c.if-is_next.true) (runs.part_fails (runs.next_fails (run_word grammar table _ start) c.in_err-values.ensures)))
 
@@ -614,7 +637,7 @@ primaries::tuple_or_round-returns-in_err-boxed t c =
 
 pub primaries::tuple_or_round-returns-then-is_next : goal.primaries::tuple_or_round-returns-then-is_next
 primaries::tuple_or_round-returns-then-is_next t c =
-    let start = c.in_ok-first.ensures.1.1 in
+    let start = c.in_ok-first.ensures.2 in
     let values = c.in_ok-values.ensures in
     read grammar table _ (bracketed c.args.place c.args.first) c.requires.inside
     (runs.once (c.is_next.ensures ∙ c.if-is_next.true) (runs.part (runs.both (run_word grammar table _ start) values.runs)))
@@ -794,7 +817,7 @@ braces::curly-returns t c =
     let value = c.in_ok-value.ensures in
     let end = c.in_ok-value-2.ensures in
     read grammar table _ expr_of c.requires.inside
-    (runs.deeper c.in_ok-inner.ensures (runs.part (runs.both (run_word grammar table _ word) (runs.both first.runs (runs.both value.runs (run_word grammar table _ end.1.1))))))
+    (runs.deeper c.in_ok-inner.ensures (runs.part (runs.both (run_word grammar table _ word) (runs.both first.runs (runs.both value.runs (run_word grammar table _ end.2))))))
     ((λ i. braced c.in_ok-word.word.now.place (first.shows i) value.tree) ∙ (value.shows ∙ sym end.0))
 
 pub braces::set_or_dict-returns-then-is_next : goal.braces::set_or_dict-returns-then-is_next
@@ -815,6 +838,11 @@ braces::set_or_dict-returns t c =
     (runs.never (c.is_next.ensures ∙ c.if-is_next.false))
     (λ i. expr.SetOf c.args.place (sym (c.in_ok-values.ensures.same ∙ c.in_ok-found.ensures.items) i))
 
+pub braces::contents-exprs_after-requires : goal.braces::contents-exprs_after-requires
+braces::contents-exprs_after-requires t c =
+    let start = c.in_ok-first.ensures.2 in
+    (search rules, (c.requires.short, start.inside))
+
 pub braces::contents-returns-in_err-first : goal.braces::contents-returns-in_err-first
 braces::contents-returns-in_err-first t c =
     failed grammar table _ (braced c.args.place c.args.first) _ (part s.Contents) _ _ _ c.from_residual.ensures.1
@@ -826,13 +854,13 @@ braces::contents-returns-in_err-found t c =
 
 pub braces::contents-returns-in_err-values : goal.braces::contents-returns-in_err-values
 braces::contents-returns-in_err-values t c =
-    let start = c.in_ok-first.ensures.1.1 in
+    let start = c.in_ok-first.ensures.2 in
     failed grammar table _ (braced c.args.place c.args.first) _ (part s.Contents) _ _ _ c.from_residual-in_err-values.ensures.1
     (runs.part_fails (runs.left (c.is_next.ensures ∙ c.if-is_next.true) (runs.part_fails (runs.next_fails (run_word grammar table _ start) c.in_err-values.ensures))))
 
 pub braces::contents-returns-then-is_next : goal.braces::contents-returns-then-is_next
 braces::contents-returns-then-is_next t c =
-    let start = c.in_ok-first.ensures.1.1 in
+    let start = c.in_ok-first.ensures.2 in
     let values = c.in_ok-values.ensures in
     read grammar table _ (braced c.args.place c.args.first) c.requires.inside
     (runs.part (runs.left (c.is_next.ensures ∙ c.if-is_next.true) (runs.part (runs.both (run_word grammar table _ start) values.runs))))
@@ -843,6 +871,11 @@ pub braces::contents-returns : goal.braces::contents-returns
 braces::contents-returns t c =
     reads_part grammar table _ _ _ s.Contents _ _ (reads_right grammar table _ _ _ (part s.Others) (part s.Entries) _ _ (c.is_next.ensures ∙ c.if-is_next.false) c.entries.ensures)
 
+pub braces::entries-expr-requires : goal.braces::entries-expr-requires
+braces::entries-expr-requires t c =
+    let start = c.in_ok-key.ensures.2 in
+    (search rules, (c.requires.short, start.inside))
+
 pub braces::entries-returns-in_err-key : goal.braces::entries-returns-in_err-key
 braces::entries-returns-in_err-key t c =
     failed grammar table _ (braced c.args.place c.args.key) _ (part s.Entries) _ _ _ c.from_residual.ensures.1
@@ -850,7 +883,7 @@ braces::entries-returns-in_err-key t c =
 
 pub braces::entries-returns-in_err-key-2 : goal.braces::entries-returns-in_err-key-2
 braces::entries-returns-in_err-key-2 t c =
-    let start = c.in_ok-key.ensures.1.1 in
+    let start = c.in_ok-key.ensures.2 in
     failed grammar table _ (braced c.args.place c.args.key) _ (part s.Entries) _ _ _ c.from_residual-in_err-key-2.ensures.1
     (runs.part_fails (runs.next_fails (run_word grammar table _ start) (runs.first_fails (c.in_err-key-2.ensures _ _ _ _ _ c.expr.ensures))))
 
@@ -860,14 +893,14 @@ braces::entries-returns-in_err-found t c =
 
 pub braces::entries-returns-in_err-values : goal.braces::entries-returns-in_err-values
 braces::entries-returns-in_err-values t c =
-    let start = c.in_ok-key.ensures.1.1 in
+    let start = c.in_ok-key.ensures.2 in
     let value = c.in_ok-key-2.ensures _ _ _ _ _ c.expr.ensures in
     failed grammar table _ (braced c.args.place c.args.key) _ (part s.Entries) _ _ _ c.from_residual-in_err-values.ensures.1
     (runs.part_fails (runs.next_fails (run_word grammar table _ start) (runs.next_fails value.runs c.in_err-values.ensures)))
 
 pub braces::entries-returns : goal.braces::entries-returns
 braces::entries-returns t c =
-    let start = c.in_ok-key.ensures.1.1 in
+    let start = c.in_ok-key.ensures.2 in
     let value = c.in_ok-key-2.ensures _ _ _ _ _ c.expr.ensures in
     let values = c.in_ok-values.ensures in
     read grammar table _ (braced c.args.place c.args.key) c.requires.inside
