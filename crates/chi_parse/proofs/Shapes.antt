@@ -23,10 +23,10 @@ use Rattle.chi_tree.proofs.Fine.{grammar_fine}
 use Rattle.chi_grammar.proofs.Answers.{means}
 use Rattle.chi_grammar.proofs.Starts.{takes}
 use Rattle.chi_grammar.proofs.Decided.{decided}
-use Rattle.chi_tree.specs.Statements.{initial_of, is_some, alternative_of, definition_of, element_of, head_of, walk_of}
+use Rattle.chi_tree.specs.Statements.{initial_of, is_some, alternative_of, definition_of, element_of, walk_of}
 use Rattle.chi_tree.specs.View.{Built, name_in, optional, place_in, type_of}
 use Rattle.chi_parse.specs.Heads.{is_there}
-use Rattle.chi_parse.specs.Rests.{assigned_of, callable_of, guarded_of, offered_shown, values_of, repeated_alternatives_of, repeated_elements_of}
+use Rattle.chi_parse.specs.Rests.{assigned_of, callable_of, guarded_of, headed_of, offered_shown, values_of, repeated_alternatives_of, repeated_elements_of}
 
 pub any_room : Room
 any_room = record { blocks = 0; expressions = 0 }
@@ -59,15 +59,15 @@ module _ {tokens : List Spanned} where
       ≡ definition.Func (place_in w) (type_of ty) (name_in name) (callable_of t).0 (callable_of t).1
   function_shows (runs.both p q) w ty name = refl
 
-  pub process_shows : {room : Room} {i j : ℕ} {t : Built} → RuleRuns grammar table tokens room (part s.Parameters ▸ part s.Body) i (Done t j) → (w head : Built)
-      → definition_of (node s.ProcDef (pair w (pair head t)))
-      ≡ definition.Proc (place_in w) (head_of head).0 (head_of head).1 (callable_of t).0 (callable_of t).1
-  process_shows (runs.both p q) w head = refl
+  pub process_shows : {room : Room} {i j : ℕ} {t : Built} → RuleRuns grammar table tokens room (part s.Head ▸ part s.Parameters ▸ part s.Body) i (Done t j) → (w : Built)
+      → definition_of (node s.ProcDef (pair w t))
+      ≡ definition.Proc (place_in w) (headed_of t).0.0 (headed_of t).0.1 (headed_of t).1.0 (headed_of t).1.1
+  process_shows (runs.both h (runs.both p q)) w = refl
 
-  pub model_shows : {room : Room} {i j : ℕ} {t : Built} → RuleRuns grammar table tokens room (part s.Parameters ▸ part s.Body) i (Done t j) → (w head : Built)
-      → definition_of (node s.ModelDef (pair w (pair head t)))
-      ≡ definition.Model (place_in w) (head_of head).0 (head_of head).1 (callable_of t).0 (callable_of t).1
-  model_shows (runs.both p q) w head = refl
+  pub model_shows : {room : Room} {i j : ℕ} {t : Built} → RuleRuns grammar table tokens room (part s.Head ▸ part s.Parameters ▸ part s.Body) i (Done t j) → (w : Built)
+      → definition_of (node s.ModelDef (pair w t))
+      ≡ definition.Model (place_in w) (headed_of t).0.0 (headed_of t).0.1 (headed_of t).1.0 (headed_of t).1.1
+  model_shows (runs.both h (runs.both p q)) w = refl
 
 -- what stands after `=`, and after a guard
 module _ {tokens : List Spanned} where

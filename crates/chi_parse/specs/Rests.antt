@@ -1,6 +1,6 @@
 -- What is shown of the rest of a production. Private to proofs.
-use Rattle.std.specs.Prelude.{List, []}
-use Rattle.chi_grammar.specs.Rules.{pair}
+use Rattle.std.specs.Prelude.{List, [], Option}
+use Rattle.chi_grammar.specs.Rules.{pair, none}
 use Rattle.chi_tree.specs.declared.expr.Expr.{Expr}
 use Rattle.chi_tree.specs.declared.statement.Alternative.{Alternative}
 use Rattle.chi_tree.specs.declared.statement.Communication.{Communication}
@@ -10,7 +10,8 @@ use Rattle.chi_tree.specs.declared.statement.Initial.{Initial}
 use Rattle.chi_tree.specs.declared.statement.Step.{Step}
 use Rattle.chi_tree.specs.declared.type_tree.Formal.{Formal}
 use Rattle.chi_tree.specs.declared.type_tree.Name.{Name}
-use Rattle.chi_tree.specs.Statements.{alternatives_of, body_of, communication_of, elements_of, offer_of, offered, parameters_of}
+use Rattle.chi_tree.specs.declared.type_tree.TypeTree.{TypeTree}
+use Rattle.chi_tree.specs.Statements.{alternatives_of, body_of, communication_of, elements_of, head_of, offer_of, offered, parameters_of}
 use Rattle.chi_parse.specs.declared.offers.GuardedCommunication.{GuardedCommunication}
 use Rattle.chi_tree.specs.View.{Built, expr_of, names_in, no_expr, nowhere, place_in}
 
@@ -28,6 +29,11 @@ repeated_alternatives_of _ = []
 abbrev pub callable_of : Built → List Formal × List Step
 callable_of (pair ps b) = (parameters_of ps, body_of b)
 callable_of _ = ([], [])
+
+-- the head of a process or a model, its formals and its block
+abbrev pub headed_of : Built → (Option TypeTree × Name) × (List Formal × List Step)
+headed_of (pair h c) = (head_of h, callable_of c)
+headed_of _ = (head_of none, ([], []))
 
 -- `=` and what stands after it
 abbrev pub assigned_of : Built → Initial

@@ -9,7 +9,6 @@ ghost use Rattle.chi_tree.specs.Statements.{block_of, body_of, branch_of, elifs_
 ghost use Rattle.chi_parse.specs.Heads.{shown, statement};
 ghost use Rattle.chi_parse.specs.Branches.{opened_of};
 
-use crate::joined::joined;
 use crate::launches::launch;
 use crate::selects::select;
 use crate::semicolon::optional_semicolon;
@@ -19,7 +18,7 @@ use chi_base::Items;
 use chi_grammar::{Nesting, ParseFault, Room};
 use chi_parse_expr::expr;
 use chi_parse_look::classes::{FIRST_OF_BLOCK, FIRST_OF_CLOSED, FIRST_OF_LAUNCH};
-use chi_parse_look::{enter, is_next, take};
+use chi_parse_look::{enter, is_next, joined, take};
 use chi_token::{Keyword, Sign, Spanned};
 use chi_tree::{Block, Branch, Class, Statement, Step};
 use std::alloc::Global;

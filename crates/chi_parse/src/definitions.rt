@@ -6,18 +6,17 @@ ghost use Rattle.chi_token.specs.declared.sign.Sign.TheVariants.{Assign, LeftBra
 ghost use Rattle.chi_tree.specs.Rules.{grammar, nested, sign};
 ghost use Rattle.chi_tree.specs.Tables.{table};
 ghost use Rattle.chi_tree.specs.Statements.{definition_of, item_of};
-ghost use Rattle.chi_parse.specs.Rests.{callable_of, values_of};
+ghost use Rattle.chi_parse.specs.Rests.{callable_of, headed_of, values_of};
 
 use crate::blocks::body;
 use crate::declared::assigned;
-use crate::formal::{head, parameters};
-use crate::joined::joined;
+use crate::formal::{Head, head, parameters};
 use crate::semicolon::optional_semicolon;
 use crate::walks::names;
 use chi_base::Items;
 use chi_grammar::{Nesting, ParseFault, Room};
 use chi_parse_expr::any_type;
-use chi_parse_look::{enter, is_next, take, take_name};
+use chi_parse_look::{enter, is_next, joined, take, take_name};
 use chi_token::{Keyword, Sign, Spanned};
 use chi_tree::{Block, Class, Definition, Formal, Initial, Item, Name};
 use std::alloc::Global;
@@ -168,6 +167,21 @@ fn function(
     ))
 }
 
+/// The head of a process or a model, its formals and its block.
+fn headed(
+    alloc: Global,
+    tokens: &[Spanned],
+    at: u32,
+    room: Room,
+) -> Result<((Head, Callable), u32), ParseFault>
+    requires short { length tokens.now < 2 ^ 32 }
+    requires inside { at ≤ length tokens.now }
+    ensures { Reads grammar table tokens.now headed_of room (part s.Head ▸ part s.Parameters ▸ part s.Body) at result }
+{
+    let (head, middle) = head(alloc, tokens, at, room)?;
+    joined(head, callable(alloc, tokens, middle, room))
+}
+
 fn process(
     alloc: Global,
     tokens: &[Spanned],
@@ -179,11 +193,7 @@ fn process(
     ensures { Reads grammar table tokens.now definition_of room (part s.ProcDef) at result }
 {
     let (word, start) = take(tokens, at, Class::Word(Keyword::ProcWord))?;
-    let (head, middle) = head(alloc, tokens, start, room)?;
-    let (((ty, name), (formals, block)), end) = joined(
-        head,
-        callable(alloc, tokens, middle, room),
-    )?;
+    let (((ty, name), (formals, block)), end) = headed(alloc, tokens, start, room)?;
     Ok((
         Definition::Proc {
             place: word.place,
@@ -207,11 +217,7 @@ fn model(
     ensures { Reads grammar table tokens.now definition_of room (part s.ModelDef) at result }
 {
     let (word, start) = take(tokens, at, Class::Word(Keyword::ModelWord))?;
-    let (head, middle) = head(alloc, tokens, start, room)?;
-    let (((ty, name), (formals, block)), end) = joined(
-        head,
-        callable(alloc, tokens, middle, room),
-    )?;
+    let (((ty, name), (formals, block)), end) = headed(alloc, tokens, start, room)?;
     Ok((
         Definition::Model {
             place: word.place,

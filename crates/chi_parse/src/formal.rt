@@ -7,12 +7,11 @@ ghost use Rattle.chi_tree.specs.Tables.{table};
 ghost use Rattle.chi_tree.specs.View.{formal_of, formals_of, more_formals_of};
 ghost use Rattle.chi_tree.specs.Statements.{head_of, parameters_of};
 
-use crate::joined::joined;
 use chi_base::Items;
 use chi_grammar::{Nesting, ParseFault, Room};
 use chi_parse_expr::{boxed_type, built_type};
 use chi_parse_look::classes::{FIRST_OF_BUILT_TYPE, FIRST_OF_MORE_FORMAL, FIRST_OF_TYPE};
-use chi_parse_look::{enter, is_next, take, take_name};
+use chi_parse_look::{enter, is_next, joined, take, take_name};
 use chi_token::{Sign, Spanned};
 use chi_tree::{Class, Formal, Name, TypeTree};
 use std::alloc::Global;
@@ -113,13 +112,16 @@ pub fn parameters(
     Ok((formals, end))
 }
 
+/// A name, with the type before it where there is one.
+pub type Head = (Option<TypeTree>, Name);
+
 /// A name, with the type before it where there is one: of two names the first is a type.
 pub fn head(
     alloc: Global,
     tokens: &[Spanned],
     at: u32,
     room: Room,
-) -> Result<((Option<TypeTree>, Name), u32), ParseFault>
+) -> Result<(Head, u32), ParseFault>
     requires short { length tokens.now < 2 ^ 32 }
     requires inside { at ≤ length tokens.now }
     ensures { Reads grammar table tokens.now head_of room (part s.Head) at result }

@@ -12,14 +12,13 @@ ghost use Rattle.chi_parse.specs.Heads.{shown};
 ghost use Rattle.chi_parse.specs.Rests.{repeated_elements_of};
 ghost use Rattle.chi_tree.specs.Statements.{element_of, elements_of, ends_element, is_some, last_ends, launched, made, more_elements_of};
 
-use crate::joined::joined;
 use crate::targets::{is_bare, target};
 use crate::walks::walk;
 use chi_base::Items;
 use chi_grammar::{Nesting, ParseFault, Room};
 use chi_parse_expr::arguments;
 use chi_parse_look::classes::{FIRST_OF_ELEMENTS, FIRST_OF_LAUNCH};
-use chi_parse_look::{enter, is_next, take, take_name, take_one_of};
+use chi_parse_look::{enter, is_next, joined, take, take_name, take_one_of};
 use chi_token::{Keyword, Sign, Spanned, Token};
 use chi_tree::{Class, Element, Statement, Target};
 use std::alloc::Global;

@@ -7,7 +7,6 @@ mod communications;
 mod declared;
 mod definitions;
 mod formal;
-mod joined;
 mod launches;
 mod offers;
 mod program;
@@ -17,4 +16,5 @@ mod simple;
 mod targets;
 mod walks;
 
+pub use chi_grammar::ParseFault;
 pub use program::parse;

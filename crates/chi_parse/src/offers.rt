@@ -11,11 +11,10 @@ ghost use Rattle.chi_tree.specs.declared.expr.Postfix.{Postfix, out-Postfix};
 ghost use Rattle.chi_tree.specs.Statements.{as_target, is_some, is_step_in, name_target};
 
 use crate::communications::{communication, communication_end, delay};
-use crate::joined::joined;
 use chi_base::{Items, NoMemory};
 use chi_grammar::{ParseFault, Room};
 use chi_parse_expr::expr;
-use chi_parse_look::{is_next, take};
+use chi_parse_look::{is_next, joined, take};
 use chi_token::{Keyword, Sign, Spanned};
 use chi_tree::{Class, Communication, Expr, Postfix, Target};
 use std::alloc::Global;

@@ -11,13 +11,12 @@ ghost use Rattle.chi_tree.specs.Statements.{alternative_body_of, alternative_of,
 ghost use Rattle.chi_parse.specs.Rests.{repeated_alternatives_of};
 
 use crate::blocks::inner;
-use crate::joined::joined;
 use crate::offers::{GuardedCommunication, offer};
 use crate::walks::walk;
 use chi_base::Items;
 use chi_grammar::{Nesting, ParseFault, Room};
 use chi_parse_look::classes::FIRST_OF_ALTERNATIVES;
-use chi_parse_look::{enter, is_next, take};
+use chi_parse_look::{enter, is_next, joined, take};
 use chi_token::{Keyword, Sign, Spanned};
 use chi_tree::{Alternative, Block, Class, Statement};
 use std::alloc::Global;

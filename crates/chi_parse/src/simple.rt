@@ -10,14 +10,13 @@ ghost use Rattle.chi_tree.specs.Tokens.{ends_line, jump_of};
 
 use crate::communications::{communication_end, delay, optional_expr};
 use crate::declared::variables;
-use crate::joined::joined;
 use crate::targets::{is_bare, more_targets, target};
 use chi_grammar::{Nesting, ParseFault, Room};
 use chi_parse_expr::{built_type, expr, exprs, more_exprs};
 use chi_parse_look::classes::{
     FIRST_OF_BUILT_TYPE, FIRST_OF_COMMUNICATION_END, FIRST_OF_JUMP, FIRST_OF_WRITE,
 };
-use chi_parse_look::{bytes_of, enter, is_next, take, take_one_of};
+use chi_parse_look::{bytes_of, enter, is_next, joined, take, take_one_of};
 use chi_token::{Bytes, Keyword, Place, Sign, Spanned, Token};
 use chi_tree::{Class, Statement, Target, TypeTree};
 use std::alloc::Global;

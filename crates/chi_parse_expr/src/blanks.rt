@@ -8,13 +8,13 @@ ghost use Rattle.chi_tree.specs.Rules.{grammar, nested};
 ghost use Rattle.chi_tree.specs.View.{Built, expr_of, blank};
 ghost use Rattle.chi_tree.specs.Parts as s;
 
-use crate::types::boxed_type;
+use crate::types::any_type;
 use chi_base::Boxed;
 use chi_grammar::{Nesting, ParseFault, Room};
 use chi_parse_look::classes::{
     COLON, GREATER, LEFT_BRACE, LEFT_BRACKET, LESS, RIGHT_BRACE, RIGHT_BRACKET,
 };
-use chi_parse_look::{enter, is_next, take};
+use chi_parse_look::{boxed, enter, is_next, take};
 use chi_token::{Place, Spanned};
 use chi_tree::{Expr, TypeTree};
 use std::alloc::Global;
@@ -31,7 +31,7 @@ pub fn blank(
     ensures { Reads grammar table tokens.now expr_of room (part s.Blank) at result }
 {
     let (word, start) = take(tokens, at, LESS)?;
-    let (of, middle) = boxed_type(alloc, tokens, start, room)?;
+    let (of, middle) = boxed(alloc, any_type(alloc, tokens, start, room))?;
     blank_end(alloc, tokens, middle, room, word.place, of)
 }
 
@@ -53,7 +53,7 @@ fn blank_end(
         return blank_items(tokens, next, room, place, of);
     }
     let (_, start) = take(tokens, at, COLON)?;
-    let (value, middle) = boxed_type(alloc, tokens, start, room)?;
+    let (value, middle) = boxed(alloc, any_type(alloc, tokens, start, room))?;
     let (_, last) = take(tokens, middle, GREATER)?;
     let end = no_elements(tokens, last, room)?;
     Ok((

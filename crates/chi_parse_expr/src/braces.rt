@@ -14,7 +14,7 @@ use crate::sequences::exprs_after;
 use chi_base::Items;
 use chi_grammar::{Nesting, ParseFault, Room};
 use chi_parse_look::classes::{COLON, COMMA, LEFT_BRACE, RIGHT_BRACE};
-use chi_parse_look::{enter, is_next, take};
+use chi_parse_look::{enter, followed, is_next, joined, take};
 use chi_token::{Place, Spanned};
 use chi_tree::{Entry, Expr};
 use std::alloc::Global;
@@ -34,7 +34,7 @@ pub fn curly(
     let (word, start) = take(tokens, at, LEFT_BRACE)?;
     let (first, middle) = expr(alloc, tokens, start, inner)?;
     let (value, last) = set_or_dict(alloc, tokens, middle, inner, word.place, first)?;
-    let (_, end) = take(tokens, last, RIGHT_BRACE)?;
+    let (value, end) = followed(value, tokens, last, RIGHT_BRACE)?;
     Ok((value, end))
 }
 
@@ -79,7 +79,7 @@ fn contents(
     ensures { Reads grammar table tokens.now (braced place first) room (part s.Contents) at result }
 {
     if is_next(tokens, at, &[COMMA]) {
-        let (_, start) = take(tokens, at, COMMA)?;
+        let (first, start) = followed(first, tokens, at, COMMA)?;
         let found = vec![in alloc; first]?;
         let (values, end) = exprs_after(alloc, tokens, start, room, found)?;
         return Ok((
@@ -106,8 +106,8 @@ fn entries(
     requires inside { at ≤ length tokens.now }
     ensures { Reads grammar table tokens.now (braced place key) room (part s.Entries) at result }
 {
-    let (_, start) = take(tokens, at, COLON)?;
-    let (value, middle) = expr(alloc, tokens, start, room)?;
+    let (key, start) = followed(key, tokens, at, COLON)?;
+    let ((key, value), middle) = joined(key, expr(alloc, tokens, start, room))?;
     let found = vec![in alloc; Entry { key, value }]?;
     let (values, end) = more_entries(alloc, tokens, middle, room, found)?;
     Ok((
@@ -154,7 +154,7 @@ fn more_entry(
 {
     let (_, start) = take(tokens, at, COMMA)?;
     let (key, middle) = expr(alloc, tokens, start, room)?;
-    let (value, end) = entry_value(alloc, tokens, middle, room)?;
+    let ((key, value), end) = joined(key, entry_value(alloc, tokens, middle, room))?;
     Ok((Entry { key, value }, end))
 }
 

@@ -14,7 +14,7 @@ use crate::terms::unary;
 use chi_base::{Boxed, Items};
 use chi_grammar::{Nesting, ParseFault, Room};
 use chi_parse_look::classes::{NOT, RELATION_SIGNS};
-use chi_parse_look::{enter, is_next, take, take_one_of};
+use chi_parse_look::{boxed, enter, is_next, joined, take, take_one_of};
 use chi_token::Spanned;
 use chi_tree::{Expr, Link, PrefixSign};
 use std::alloc::Global;
@@ -48,7 +48,7 @@ fn chain(
     ensures { Reads grammar table tokens.now expr_of room (part (chain_part level)) at result }
 {
     let (first, middle) = operand(alloc, tokens, at, room, level)?;
-    let (links, end) = links(alloc, tokens, middle, room, level)?;
+    let ((first, links), end) = joined(first, links(alloc, tokens, middle, room, level))?;
     let chain = chained(alloc, first, links)?;
     Ok((chain, end))
 }
@@ -146,13 +146,12 @@ fn not_neg(
 {
     let inner = enter(tokens, at, room, Nesting::Expression, &[NOT])?;
     let (word, start) = take(tokens, at, NOT)?;
-    let (operand, end) = neg(alloc, tokens, start, inner)?;
-    let boxed = Boxed::new(alloc, operand)?;
+    let (operand, end) = boxed(alloc, neg(alloc, tokens, start, inner))?;
     Ok((
         Expr::Prefix {
             sign: PrefixSign::Not,
             place: word.place,
-            operand: boxed,
+            operand,
         },
         end,
     ))
@@ -185,14 +184,13 @@ fn rel_link(
     ensures { Reads grammar table tokens.now (related left) room (part s.RelLink) at result }
 {
     let (word, start) = take_one_of(tokens, at, &RELATION_SIGNS)?;
-    let (right, end) = chain(alloc, tokens, start, room, ChainLevel::Sum)?;
-    let second = Boxed::new(alloc, right)?;
+    let (right, end) = boxed(alloc, chain(alloc, tokens, start, room, ChainLevel::Sum))?;
     Ok((
         Expr::Relation {
             left,
             sign: relation_of(&word.token),
             place: word.place,
-            right: second,
+            right,
         },
         end,
     ))

@@ -14,6 +14,7 @@ mod sequences;
 mod terms;
 mod types;
 
+pub use chi_grammar::ParseFault;
 pub use levels::expr;
 pub use parse::{parse_expr, parse_type};
 pub use postfixes::{boxed_expr, field};

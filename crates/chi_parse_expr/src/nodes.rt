@@ -5,7 +5,7 @@ ghost use Rattle.chi_tree.specs.Tokens.{operator_of, relation_of, prefix_of, cas
 ghost use Rattle.chi_tree.specs.View.{chained, parted};
 
 use chi_base::{Boxed, Items, NoMemory};
-use chi_token::{Bytes, Keyword, Place, Sign, Spanned, Token};
+use chi_token::{Keyword, Place, Sign, Spanned, Token};
 use chi_tree::{CastWord, Expr, Link, Operator, Postfix, PrefixSign, RelationSign, TypeWord, Way};
 use std::alloc::Global;
 
@@ -97,22 +97,22 @@ pub fn way_of(token: &Token) -> Way
 }
 
 /// A literal of one token.
-pub fn literal_of(alloc: Global, spanned: &Spanned) -> Result<Expr, NoMemory>
+pub fn literal_of(spanned: &Spanned) -> Result<Expr, NoMemory>
     requires { is_some (literal_of spanned.now.token spanned.now.place) ≡ true }
     ensures { IfOk result (λ e. literal_of spanned.now.token spanned.now.place ≡ Some e) }
 {
     let place = spanned.place;
     match &spanned.token {
         Token::Int(digits) => {
-            let digits = Bytes::copy_of(alloc, digits.as_slice())?;
+            let digits = digits.copy()?;
             Ok(Expr::Int { digits, place })
         }
         Token::Real(digits) => {
-            let digits = Bytes::copy_of(alloc, digits.as_slice())?;
+            let digits = digits.copy()?;
             Ok(Expr::Real { digits, place })
         }
         Token::Text(text) => {
-            let bytes = Bytes::copy_of(alloc, text.as_slice())?;
+            let bytes = text.copy()?;
             Ok(Expr::Text { bytes, place })
         }
         Token::Word(Keyword::TrueWord) => Ok(Expr::Bool { truth: true, place }),

@@ -16,10 +16,13 @@ use chi_grammar::{Nesting, ParseFault, Room};
 use chi_parse_look::classes::{
     COLON, DOT, FIRST_OF_EXPR, FIRST_OF_POSTFIX, LEFT_BRACKET, RIGHT_BRACKET,
 };
-use chi_parse_look::{enter, is_next, take, take_name};
+use chi_parse_look::{boxed, enter, followed, is_next, joined, take, take_name};
 use chi_token::{Place, Spanned};
 use chi_tree::{Expr, Postfix};
 use std::alloc::Global;
+
+/// The first element of a slice and the one past its last, each of which may be left out.
+type Bounds = (Option<Boxed<Expr>>, Option<Boxed<Expr>>);
 
 #[cycle(expr)]
 pub fn post(
@@ -33,7 +36,7 @@ pub fn post(
     ensures { Reads grammar table tokens.now expr_of room (part s.Post) at result }
 {
     let (whole, middle) = primary(alloc, tokens, at, room)?;
-    let (parts, end) = postfixes(alloc, tokens, middle, room)?;
+    let ((whole, parts), end) = joined(whole, postfixes(alloc, tokens, middle, room))?;
     let taken = parted(alloc, whole, parts)?;
     Ok((taken, end))
 }
@@ -102,7 +105,7 @@ fn bracket(
     let inner = enter(tokens, at, room, Nesting::Expression, &[LEFT_BRACKET])?;
     let (word, start) = take(tokens, at, LEFT_BRACKET)?;
     let (postfix, middle) = bracketed(alloc, tokens, start, inner, word.place)?;
-    let (_, end) = take(tokens, middle, RIGHT_BRACKET)?;
+    let (postfix, end) = followed(postfix, tokens, middle, RIGHT_BRACKET)?;
     Ok((postfix, end))
 }
 
@@ -119,7 +122,7 @@ fn bracketed(
     ensures { Reads grammar table tokens.now (inside place) room (part s.Inside) at result }
 {
     if is_next(tokens, at, &FIRST_OF_EXPR) {
-        let (from, middle) = boxed_expr(alloc, tokens, at, room)?;
+        let (from, middle) = boxed(alloc, expr(alloc, tokens, at, room))?;
         return indexed(alloc, tokens, middle, room, place, from);
     }
     sliced(alloc, tokens, at, room, place, None)
@@ -157,9 +160,9 @@ fn sliced(
     requires inside { at ≤ length tokens.now }
     ensures { Reads grammar table tokens.now (sliced place from) room (grammar.rule_of s.Upto) at result }
 {
-    let (_, start) = take(tokens, at, COLON)?;
-    let (upto, middle) = optional_expr(alloc, tokens, start, room)?;
-    stepped(alloc, tokens, middle, room, place, from, upto)
+    let (from, start) = followed(from, tokens, at, COLON)?;
+    let (bounds, middle) = joined(from, optional_expr(alloc, tokens, start, room))?;
+    stepped(alloc, tokens, middle, room, place, bounds)
 }
 
 #[cycle(expr)]
@@ -169,16 +172,18 @@ fn stepped(
     at: u32,
     room: Room,
     place: Place,
-    from: Option<Boxed<Expr>>,
-    upto: Option<Boxed<Expr>>,
+    bounds: Bounds,
 ) -> Result<(Postfix, u32), ParseFault>
     requires short { length tokens.now < 2 ^ 32 }
     requires inside { at ≤ length tokens.now }
-    ensures { Reads grammar table tokens.now (stepped place from upto) room (maybe (part s.ByStep)) at result }
+    ensures { Reads grammar table tokens.now (stepped place bounds.0 bounds.1) room (maybe (part s.ByStep)) at result }
 {
     if is_next(tokens, at, &[COLON]) {
-        let (_, start) = take(tokens, at, COLON)?;
-        let (step, end) = optional_expr(alloc, tokens, start, room)?;
+        let (bounds, start) = followed(bounds, tokens, at, COLON)?;
+        let (((from, upto), step), end) = joined(
+            bounds,
+            optional_expr(alloc, tokens, start, room),
+        )?;
         return Ok((
             Postfix::Slice {
                 place,
@@ -190,6 +195,7 @@ fn stepped(
             end,
         ));
     }
+    let (from, upto) = bounds;
     Ok((
         Postfix::Slice {
             place,
@@ -214,13 +220,12 @@ fn optional_expr(
     ensures { Reads grammar table tokens.now (λ t. optional t (expr_of t)) room (maybe (part s.Expr)) at result }
 {
     if is_next(tokens, at, &FIRST_OF_EXPR) {
-        let (boxed, end) = boxed_expr(alloc, tokens, at, room)?;
-        return Ok((Some(boxed), end));
+        let (value, end) = boxed(alloc, expr(alloc, tokens, at, room))?;
+        return Ok((Some(value), end));
     }
     Ok((None, at))
 }
 
-#[cycle(expr)]
 pub fn boxed_expr(
     alloc: Global,
     tokens: &[Spanned],
@@ -231,7 +236,5 @@ pub fn boxed_expr(
     requires inside { at ≤ length tokens.now }
     ensures { Reads grammar table tokens.now expr_of room (part s.Expr) at result }
 {
-    let (value, end) = expr(alloc, tokens, at, room)?;
-    let boxed = Boxed::new(alloc, value)?;
-    Ok((boxed, end))
+    boxed(alloc, expr(alloc, tokens, at, room))
 }

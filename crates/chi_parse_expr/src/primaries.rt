@@ -12,7 +12,6 @@ use crate::blanks::blank;
 use crate::braces::curly;
 use crate::levels::expr;
 use crate::nodes::{cast_of, literal_of};
-use crate::postfixes::boxed_expr;
 use crate::sequences::{arguments, exprs, exprs_after};
 use chi_base::Boxed;
 use chi_grammar::{Nesting, ParseFault, Room};
@@ -20,7 +19,7 @@ use chi_parse_look::classes::{
     CAST_WORDS, COMMA, LEFT_BRACE, LEFT_BRACKET, LEFT_PAREN, LITERALS, NAME, RIGHT_BRACKET,
     RIGHT_PAREN,
 };
-use chi_parse_look::{enter, is_next, take, take_name, take_one_of};
+use chi_parse_look::{boxed, enter, followed, is_next, take, take_name, take_one_of};
 use chi_token::{Place, Spanned};
 use chi_tree::Expr;
 use std::alloc::Global;
@@ -37,7 +36,7 @@ pub fn primary(
     ensures { Reads grammar table tokens.now expr_of room (part s.Primary) at result }
 {
     if is_next(tokens, at, &LITERALS) {
-        return literal(alloc, tokens, at);
+        return literal(tokens, at);
     }
     if is_next(tokens, at, &[NAME]) {
         return named(alloc, tokens, at, room);
@@ -57,13 +56,13 @@ pub fn primary(
     blank(alloc, tokens, at, room)
 }
 
-fn literal(alloc: Global, tokens: &[Spanned], at: u32) -> Result<(Expr, u32), ParseFault>
+fn literal(tokens: &[Spanned], at: u32) -> Result<(Expr, u32), ParseFault>
     requires short { length tokens.now < 2 ^ 32 }
     requires inside { at ≤ length tokens.now }
     ensures { (room : Room) → Reads grammar table tokens.now expr_of room (part s.Literal) at result }
 {
     let (word, end) = take_one_of(tokens, at, &LITERALS)?;
-    let value = literal_of(alloc, word)?;
+    let value = literal_of(word)?;
     Ok((value, end))
 }
 
@@ -96,7 +95,7 @@ fn cast(alloc: Global, tokens: &[Spanned], at: u32, room: Room) -> Result<(Expr,
     let (word, start) = take_one_of(tokens, at, &CAST_WORDS)?;
     let inner = enter(tokens, start, room, Nesting::Expression, &[LEFT_PAREN])?;
     let (_, left) = take(tokens, start, LEFT_PAREN)?;
-    let (operand, right) = boxed_expr(alloc, tokens, left, inner)?;
+    let (operand, right) = boxed(alloc, expr(alloc, tokens, left, inner))?;
     let (_, end) = take(tokens, right, RIGHT_PAREN)?;
     Ok((
         Expr::Cast {
@@ -118,7 +117,7 @@ fn round(alloc: Global, tokens: &[Spanned], at: u32, room: Room) -> Result<(Expr
     let (word, start) = take(tokens, at, LEFT_PAREN)?;
     let (first, middle) = expr(alloc, tokens, start, inner)?;
     let (value, last) = tuple_or_round(alloc, tokens, middle, inner, word.place, first)?;
-    let (_, end) = take(tokens, last, RIGHT_PAREN)?;
+    let (value, end) = followed(value, tokens, last, RIGHT_PAREN)?;
     Ok((value, end))
 }
 
@@ -136,7 +135,7 @@ fn tuple_or_round(
     ensures { Reads grammar table tokens.now (bracketed place first) room (maybe (part s.Others)) at result }
 {
     if is_next(tokens, at, &[COMMA]) {
-        let (_, start) = take(tokens, at, COMMA)?;
+        let (first, start) = followed(first, tokens, at, COMMA)?;
         let found = vec![in alloc; first]?;
         let (values, end) = exprs_after(alloc, tokens, start, room, found)?;
         return Ok((

@@ -12,7 +12,7 @@ use crate::postfixes::post;
 use chi_base::Boxed;
 use chi_grammar::{Nesting, ParseFault, Room};
 use chi_parse_look::classes::{CARET, FIRST_OF_UNARY, PREFIX_SIGNS};
-use chi_parse_look::{enter, is_next, take, take_one_of};
+use chi_parse_look::{boxed, enter, is_next, take, take_one_of};
 use chi_token::Spanned;
 use chi_tree::Expr;
 use std::alloc::Global;
@@ -47,13 +47,12 @@ fn prefixed(
 {
     let inner = enter(tokens, at, room, Nesting::Expression, &PREFIX_SIGNS)?;
     let (word, start) = take_one_of(tokens, at, &PREFIX_SIGNS)?;
-    let (operand, end) = unary(alloc, tokens, start, inner)?;
-    let boxed = Boxed::new(alloc, operand)?;
+    let (operand, end) = boxed(alloc, unary(alloc, tokens, start, inner))?;
     Ok((
         Expr::Prefix {
             sign: prefix_of(&word.token),
             place: word.place,
-            operand: boxed,
+            operand,
         },
         end,
     ))
@@ -87,13 +86,12 @@ fn power_link(
 {
     let (word, start) = take(tokens, at, CARET)?;
     let inner = enter(tokens, start, room, Nesting::Expression, &FIRST_OF_UNARY)?;
-    let (right, end) = unary(alloc, tokens, start, inner)?;
-    let second = Boxed::new(alloc, right)?;
+    let (exponent, end) = boxed(alloc, unary(alloc, tokens, start, inner))?;
     Ok((
         Expr::Power {
             base,
             place: word.place,
-            exponent: second,
+            exponent,
         },
         end,
     ))

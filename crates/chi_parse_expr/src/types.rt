@@ -10,15 +10,15 @@ ghost use Rattle.chi_grammar.specs.declared.room.Room.{Room};
 ghost use Rattle.chi_tree.specs.Parts as s;
 
 use crate::compounds::{chan_type, dict_type, tuple_type};
+use crate::levels::expr;
 use crate::nodes::type_word_of;
-use crate::postfixes::boxed_expr;
 use chi_base::Boxed;
 use chi_grammar::{Nesting, ParseFault, Room};
 use chi_parse_look::classes::{
     DICT, DIST, FIRST_OF_BUILT_TYPE, FIRST_OF_TYPE, LEFT_PAREN, LIST, RIGHT_PAREN, SET, TUPLE,
     TYPE_WORDS,
 };
-use chi_parse_look::{enter, is_next, take, take_name, take_one_of};
+use chi_parse_look::{boxed, enter, is_next, take, take_name, take_one_of};
 use chi_token::Spanned;
 use chi_tree::{Expr, TypeTree};
 use std::alloc::Global;
@@ -41,7 +41,6 @@ pub fn any_type(
     named_type(alloc, tokens, at)
 }
 
-#[cycle(expr)]
 pub fn boxed_type(
     alloc: Global,
     tokens: &[Spanned],
@@ -52,9 +51,7 @@ pub fn boxed_type(
     requires inside { at ≤ length tokens.now }
     ensures { Reads grammar table tokens.now type_of room (part s.AnyType) at result }
 {
-    let (ty, end) = any_type(alloc, tokens, at, room)?;
-    let boxed = Boxed::new(alloc, ty)?;
-    Ok((boxed, end))
+    boxed(alloc, any_type(alloc, tokens, at, room))
 }
 
 #[cycle(expr)]
@@ -69,7 +66,7 @@ pub fn nested_type(
     ensures { Reads grammar table tokens.now type_of room (nested (part s.AnyType)) at result }
 {
     let inner = enter(tokens, at, room, Nesting::Expression, &FIRST_OF_TYPE)?;
-    boxed_type(alloc, tokens, at, inner)
+    boxed(alloc, any_type(alloc, tokens, at, inner))
 }
 
 fn named_type(alloc: Global, tokens: &[Spanned], at: u32) -> Result<(TypeTree, u32), ParseFault>
@@ -167,7 +164,7 @@ fn list_size(
     if is_next(tokens, at, &[LEFT_PAREN]) {
         let inner = enter(tokens, at, room, Nesting::Expression, &[LEFT_PAREN])?;
         let (_, start) = take(tokens, at, LEFT_PAREN)?;
-        let (size, last) = boxed_expr(alloc, tokens, start, inner)?;
+        let (size, last) = boxed(alloc, expr(alloc, tokens, start, inner))?;
         let (_, end) = take(tokens, last, RIGHT_PAREN)?;
         return Ok((Some(size), end));
     }

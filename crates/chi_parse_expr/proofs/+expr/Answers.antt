@@ -35,12 +35,12 @@ levels::chain-returns-in_err-first t c =
     failed grammar table _ expr_of _ (part (chain_part level)) _ _ _ c.from_residual.ensures.1
     (runs.part_fails (run_by (chain_rule level) (runs.first_fails c.in_err-first.ensures)))
 
-pub levels::chain-returns-in_err-links : goal.levels::chain-returns-in_err-links
-levels::chain-returns-in_err-links t c =
+pub levels::chain-returns-in_err-first-2 : goal.levels::chain-returns-in_err-first-2
+levels::chain-returns-in_err-first-2 t c =
     let level = c.args.level in
     let first = c.in_ok-first.ensures in
-    failed grammar table _ expr_of _ (part (chain_part level)) _ _ _ c.from_residual-in_err-links.ensures.1
-    (runs.part_fails (run_by (chain_rule level) (runs.next_fails first.runs c.in_err-links.ensures)))
+    failed grammar table _ expr_of _ (part (chain_part level)) _ _ _ c.from_residual-in_err-first-2.ensures.1
+    (runs.part_fails (run_by (chain_rule level) (runs.next_fails first.runs (c.in_err-first-2.ensures _ _ _ _ _ c.links.ensures))))
 
 pub levels::chain-returns-in_err-chain : goal.levels::chain-returns-in_err-chain
 levels::chain-returns-in_err-chain t c =
@@ -50,10 +50,10 @@ pub levels::chain-returns : goal.levels::chain-returns
 levels::chain-returns t c =
     let level = c.args.level in
     let first = c.in_ok-first.ensures in
-    let links = c.in_ok-links.ensures in
+    let links = c.in_ok-first-2.ensures _ _ _ _ _ c.links.ensures in
     read grammar table _ expr_of c.requires.inside
     (runs.part (run_by (chain_rule level) (runs.both first.runs links.runs)))
-    (chain_shows level first.tree links.tree ∙ ((λ i. chained (first.shows i) (links.shows i)) ∙ sym c.in_ok-chain.ensures))
+    (chain_shows level first.tree links.tree ∙ ((λ i. chained (first.shows i) (links_of links.tree)) ∙ ((λ i. chained (links.shows i).0 (links.shows i).1) ∙ sym c.in_ok-chain.ensures)))
 
 pub levels::links-turn-init : goal.levels::links-turn-init
 levels::links-turn-init t c =
@@ -144,19 +144,15 @@ pub levels::not_neg-returns-in_err-operand : goal.levels::not_neg-returns-in_err
 levels::not_neg-returns-in_err-operand t c =
     let word = c.in_ok-word.ensures in
     failed grammar table _ expr_of _ (nested (part s.NotNeg)) _ _ _ c.from_residual-in_err-operand.ensures.1
-    (runs.deeper c.in_ok-inner.ensures (runs.part_fails (runs.next_fails (run_word grammar table _ word) c.in_err-operand.ensures)))
-
-pub levels::not_neg-returns-in_err-boxed : goal.levels::not_neg-returns-in_err-boxed
-levels::not_neg-returns-in_err-boxed t c =
-    no_memory grammar table _ expr_of _ (nested (part s.NotNeg)) _ _ c.from_residual-in_err-boxed.ensures.1
+    (runs.deeper c.in_ok-inner.ensures (runs.part_fails (runs.next_fails (run_word grammar table _ word) (c.in_err-operand.ensures _ _ _ _ _ c.neg.ensures))))
 
 pub levels::not_neg-returns : goal.levels::not_neg-returns
 levels::not_neg-returns t c =
     let word = c.in_ok-word.ensures in
-    let operand = c.in_ok-operand.ensures in
+    let operand = c.in_ok-operand.ensures _ _ _ _ _ c.neg.ensures in
     read grammar table _ expr_of c.requires.inside
     (runs.deeper c.in_ok-inner.ensures (runs.part (runs.both (run_word grammar table _ word) operand.runs)))
-    (λ i. expr.Prefix prefix.Not c.in_ok-word.word.now.place ((operand.shows ∙ sym c.in_ok-boxed.ensures.same) i))
+    (λ i. expr.Prefix prefix.Not c.in_ok-word.word.now.place (operand.shows i))
 
 pub terms::prefixed-returns-in_err-inner : goal.terms::prefixed-returns-in_err-inner
 terms::prefixed-returns-in_err-inner t c =
@@ -172,19 +168,15 @@ pub terms::prefixed-returns-in_err-operand : goal.terms::prefixed-returns-in_err
 terms::prefixed-returns-in_err-operand t c =
     let word = c.in_ok-word.ensures in
     failed grammar table _ expr_of _ (nested (part s.Prefixed)) _ _ _ c.from_residual-in_err-operand.ensures.1
-    (runs.deeper c.in_ok-inner.ensures (runs.part_fails (runs.next_fails (run_one_of prefix_signs.first prefix_signs.more word) c.in_err-operand.ensures)))
-
-pub terms::prefixed-returns-in_err-boxed : goal.terms::prefixed-returns-in_err-boxed
-terms::prefixed-returns-in_err-boxed t c =
-    no_memory grammar table _ expr_of _ (nested (part s.Prefixed)) _ _ c.from_residual-in_err-boxed.ensures.1
+    (runs.deeper c.in_ok-inner.ensures (runs.part_fails (runs.next_fails (run_one_of prefix_signs.first prefix_signs.more word) (c.in_err-operand.ensures _ _ _ _ _ c.unary.ensures))))
 
 pub terms::prefixed-returns : goal.terms::prefixed-returns
 terms::prefixed-returns t c =
     let word = c.in_ok-word.ensures in
-    let operand = c.in_ok-operand.ensures in
+    let operand = c.in_ok-operand.ensures _ _ _ _ _ c.unary.ensures in
     read grammar table _ expr_of c.requires.inside
     (runs.deeper c.in_ok-inner.ensures (runs.part (runs.both (run_one_of prefix_signs.first prefix_signs.more word) operand.runs)))
-    (λ i. expr.Prefix (ap (given_or prefix.Not) c.prefix_of.ensures i) c.in_ok-word.word.now.place ((operand.shows ∙ sym c.in_ok-boxed.ensures.same) i))
+    (λ i. expr.Prefix (ap (given_or prefix.Not) c.prefix_of.ensures i) c.in_ok-word.word.now.place (operand.shows i))
 
 pub terms::prefixed-prefix_of-requires : goal.terms::prefixed-prefix_of-requires
 terms::prefixed-prefix_of-requires t c = prefix_row c.in_ok-word.word.now.token c.in_ok-word.ensures.of_classes
@@ -240,19 +232,15 @@ pub levels::rel_link-returns-in_err-right : goal.levels::rel_link-returns-in_err
 levels::rel_link-returns-in_err-right t c =
     let word = c.in_ok-word.ensures in
     failed grammar table _ (related c.args.left) _ (part s.RelLink) _ _ _ c.from_residual-in_err-right.ensures.1
-    (runs.part_fails (runs.next_fails (run_one_of relation_signs.first relation_signs.more word) c.in_err-right.ensures))
-
-pub levels::rel_link-returns-in_err-second : goal.levels::rel_link-returns-in_err-second
-levels::rel_link-returns-in_err-second t c =
-    no_memory grammar table _ (related c.args.left) _ (part s.RelLink) _ _ c.from_residual-in_err-second.ensures.1
+    (runs.part_fails (runs.next_fails (run_one_of relation_signs.first relation_signs.more word) (c.in_err-right.ensures _ _ _ _ _ c.chain.ensures)))
 
 pub levels::rel_link-returns : goal.levels::rel_link-returns
 levels::rel_link-returns t c =
     let word = c.in_ok-word.ensures in
-    let right = c.in_ok-right.ensures in
+    let right = c.in_ok-right.ensures _ _ _ _ _ c.chain.ensures in
     read grammar table _ (related c.args.left) c.requires.inside
     (runs.part (runs.both (run_one_of relation_signs.first relation_signs.more word) right.runs))
-    (λ i. expr.Relation c.args.left (ap (given_or relation.Less) c.relation_of.ensures i) c.in_ok-word.word.now.place ((right.shows ∙ sym c.in_ok-second.ensures.same) i))
+    (λ i. expr.Relation c.args.left (ap (given_or relation.Less) c.relation_of.ensures i) c.in_ok-word.word.now.place (right.shows i))
 
 pub levels::rel_link-relation_of-requires : goal.levels::rel_link-relation_of-requires
 levels::rel_link-relation_of-requires t c = relation_row c.in_ok-word.word.now.token c.in_ok-word.ensures.of_classes
@@ -268,34 +256,30 @@ terms::power_link-returns-in_err-inner t c =
     failed grammar table _ (powered c.args.base) _ (part s.PowerLink) _ _ _ c.from_residual-in_err-inner.ensures.1
     (runs.part_fails (runs.next_fails (run_word grammar table _ word) (run_refused grammar table _ _ Expression (part s.Unary) _ _ c.in_err-inner.ensures.0 c.in_err-inner.ensures.1)))
 
-pub terms::power_link-returns-in_err-right : goal.terms::power_link-returns-in_err-right
-terms::power_link-returns-in_err-right t c =
+pub terms::power_link-returns-in_err-exponent : goal.terms::power_link-returns-in_err-exponent
+terms::power_link-returns-in_err-exponent t c =
     let word = c.in_ok-word.ensures in
-    failed grammar table _ (powered c.args.base) _ (part s.PowerLink) _ _ _ c.from_residual-in_err-right.ensures.1
-    (runs.part_fails (runs.next_fails (run_word grammar table _ word) (runs.deeper c.in_ok-inner.ensures c.in_err-right.ensures)))
-
-pub terms::power_link-returns-in_err-second : goal.terms::power_link-returns-in_err-second
-terms::power_link-returns-in_err-second t c =
-    no_memory grammar table _ (powered c.args.base) _ (part s.PowerLink) _ _ c.from_residual-in_err-second.ensures.1
+    failed grammar table _ (powered c.args.base) _ (part s.PowerLink) _ _ _ c.from_residual-in_err-exponent.ensures.1
+    (runs.part_fails (runs.next_fails (run_word grammar table _ word) (runs.deeper c.in_ok-inner.ensures (c.in_err-exponent.ensures _ _ _ _ _ c.unary.ensures))))
 
 pub terms::power_link-returns : goal.terms::power_link-returns
 terms::power_link-returns t c =
     let word = c.in_ok-word.ensures in
-    let right = c.in_ok-right.ensures in
+    let exponent = c.in_ok-exponent.ensures _ _ _ _ _ c.unary.ensures in
     read grammar table _ (powered c.args.base) c.requires.inside
-    (runs.part (runs.both (run_word grammar table _ word) (runs.deeper c.in_ok-inner.ensures right.runs)))
-    (λ i. expr.Power c.args.base c.in_ok-word.word.now.place ((right.shows ∙ sym c.in_ok-second.ensures.same) i))
+    (runs.part (runs.both (run_word grammar table _ word) (runs.deeper c.in_ok-inner.ensures exponent.runs)))
+    (λ i. expr.Power c.args.base c.in_ok-word.word.now.place (exponent.shows i))
 
 pub postfixes::post-returns-in_err-whole : goal.postfixes::post-returns-in_err-whole
 postfixes::post-returns-in_err-whole t c =
     failed grammar table _ expr_of _ (part s.Post) _ _ _ c.from_residual.ensures.1
     (runs.part_fails (runs.first_fails c.in_err-whole.ensures))
 
-pub postfixes::post-returns-in_err-parts : goal.postfixes::post-returns-in_err-parts
-postfixes::post-returns-in_err-parts t c =
+pub postfixes::post-returns-in_err-whole-2 : goal.postfixes::post-returns-in_err-whole-2
+postfixes::post-returns-in_err-whole-2 t c =
     let whole = c.in_ok-whole.ensures in
-    failed grammar table _ expr_of _ (part s.Post) _ _ _ c.from_residual-in_err-parts.ensures.1
-    (runs.part_fails (runs.next_fails whole.runs c.in_err-parts.ensures))
+    failed grammar table _ expr_of _ (part s.Post) _ _ _ c.from_residual-in_err-whole-2.ensures.1
+    (runs.part_fails (runs.next_fails whole.runs (c.in_err-whole-2.ensures _ _ _ _ _ c.postfixes.ensures)))
 
 pub postfixes::post-returns-in_err-taken : goal.postfixes::post-returns-in_err-taken
 postfixes::post-returns-in_err-taken t c =
@@ -304,10 +288,10 @@ postfixes::post-returns-in_err-taken t c =
 pub postfixes::post-returns : goal.postfixes::post-returns
 postfixes::post-returns t c =
     let whole = c.in_ok-whole.ensures in
-    let parts = c.in_ok-parts.ensures in
+    let parts = c.in_ok-whole-2.ensures _ _ _ _ _ c.postfixes.ensures in
     read grammar table _ expr_of c.requires.inside
     (runs.part (runs.both whole.runs parts.runs))
-    ((λ i. parted (whole.shows i) (parts.shows i)) ∙ sym c.in_ok-taken.ensures)
+    ((λ i. parted (whole.shows i) (postfixes_of parts.tree)) ∙ ((λ i. parted (parts.shows i).0 (parts.shows i).1) ∙ sym c.in_ok-taken.ensures))
 
 pub postfixes::postfixes-turn-init : goal.postfixes::postfixes-turn-init
 postfixes::postfixes-turn-init t c =
@@ -364,35 +348,40 @@ postfixes::bracket-returns-in_err-postfix t c =
     failed grammar table _ postfix_of _ (nested (part s.Bracket)) _ _ _ c.from_residual-in_err-postfix.ensures.1
     (runs.deeper c.in_ok-inner.ensures (runs.part_fails (runs.next_fails (run_word grammar table _ word) (runs.first_fails c.in_err-postfix.ensures))))
 
-pub postfixes::bracket-returns-in_err-end : goal.postfixes::bracket-returns-in_err-end
-postfixes::bracket-returns-in_err-end t c =
+pub postfixes::bracket-returns-in_err-postfix-2 : goal.postfixes::bracket-returns-in_err-postfix-2
+postfixes::bracket-returns-in_err-postfix-2 t c =
     let word = c.in_ok-word.ensures in
     let postfix = c.in_ok-postfix.ensures in
-    failed grammar table _ postfix_of _ (nested (part s.Bracket)) _ _ _ c.from_residual-in_err-end.ensures.1
-    (runs.deeper c.in_ok-inner.ensures (runs.part_fails (runs.next_fails (run_word grammar table _ word) (runs.next_fails postfix.runs (run_no_word grammar table _ c.in_err-end.ensures)))))
+    failed grammar table _ postfix_of _ (nested (part s.Bracket)) _ _ _ c.from_residual-in_err-postfix-2.ensures.1
+    (runs.deeper c.in_ok-inner.ensures (runs.part_fails (runs.next_fails (run_word grammar table _ word) (runs.next_fails postfix.runs (run_no_word grammar table _ c.in_err-postfix-2.ensures)))))
 
 pub postfixes::bracket-returns : goal.postfixes::bracket-returns
 postfixes::bracket-returns t c =
     let word = c.in_ok-word.ensures in
     let postfix = c.in_ok-postfix.ensures in
-    let end = c.in_ok-end.ensures in
+    let end = c.in_ok-postfix-2.ensures in
     read grammar table _ postfix_of c.requires.inside
-    (runs.deeper c.in_ok-inner.ensures (runs.part (runs.both (run_word grammar table _ word) (runs.both postfix.runs (run_word grammar table _ end)))))
-    postfix.shows
+    (runs.deeper c.in_ok-inner.ensures (runs.part (runs.both (run_word grammar table _ word) (runs.both postfix.runs (run_word grammar table _ end.2)))))
+    (postfix.shows ∙ sym end.0)
 
 pub postfixes::bracketed-returns-in_err-from : goal.postfixes::bracketed-returns-in_err-from
 postfixes::bracketed-returns-in_err-from t c =
     failed grammar table _ (inside c.args.place) _ (part s.Inside) _ _ _ c.from_residual.ensures.1
-    (runs.part_fails (runs.left (c.is_next.ensures ∙ c.if-is_next.true) (runs.first_fails c.in_err-from.ensures)))
+    (runs.part_fails (runs.left (c.is_next.ensures ∙ c.if-is_next.true) (runs.first_fails (c.in_err-from.ensures _ _ _ _ _ c.expr.ensures))))
 
 pub postfixes::bracketed-returns-then-is_next : goal.postfixes::bracketed-returns-then-is_next
 postfixes::bracketed-returns-then-is_next t c =
-    let from = c.in_ok-from.ensures in
+    let from = c.in_ok-from.ensures _ _ _ _ _ c.expr.ensures in
     reads_part grammar table _ _ _ s.Inside _ _ (reads_left grammar table _ _ _ (part s.Expr ▸ maybe (part s.Upto)) (part s.Upto) _ _ (c.is_next.ensures ∙ c.if-is_next.true) (reads_then grammar table _ _ _ (part s.Expr) (maybe (part s.Upto)) _ _ _ _ from.runs (reads_same _ _ _ _ (maybe (part s.Upto)) _ _ (λ u i. indexed c.args.place (from.shows i) u) c.indexed.ensures)))
 
 pub postfixes::bracketed-returns : goal.postfixes::bracketed-returns
 postfixes::bracketed-returns t c =
     reads_part grammar table _ _ _ s.Inside _ _ (reads_right grammar table _ _ _ (part s.Expr ▸ maybe (part s.Upto)) (part s.Upto) _ _ (c.is_next.ensures ∙ c.if-is_next.false) (reads_part grammar table _ _ _ s.Upto _ _ c.sliced.ensures))
+
+pub postfixes::bracketed-indexed-requires : goal.postfixes::bracketed-indexed-requires
+postfixes::bracketed-indexed-requires t c =
+    let from = c.in_ok-from.ensures _ _ _ _ _ c.expr.ensures in
+    (search rules, (c.requires.short, from.inside))
 
 pub postfixes::indexed-returns-then-is_next : goal.postfixes::indexed-returns-then-is_next
 postfixes::indexed-returns-then-is_next t c =
@@ -404,81 +393,83 @@ postfixes::indexed-returns t c =
     (runs.never (c.is_next.ensures ∙ c.if-is_next.false))
     refl
 
-pub postfixes::sliced-returns-in_err-start : goal.postfixes::sliced-returns-in_err-start
-postfixes::sliced-returns-in_err-start t c =
-    failed grammar table _ (sliced c.args.place c.args.from) _ (grammar.rule_of s.Upto) _ _ _ c.from_residual.ensures.1
-    (runs.first_fails (run_no_word grammar table _ c.in_err-start.ensures))
+pub postfixes::sliced-optional_expr-requires : goal.postfixes::sliced-optional_expr-requires
+postfixes::sliced-optional_expr-requires t c =
+    let start = c.in_ok-from.ensures.2 in
+    (search rules, (c.requires.short, start.inside))
 
-pub postfixes::sliced-returns-in_err-upto : goal.postfixes::sliced-returns-in_err-upto
-postfixes::sliced-returns-in_err-upto t c =
-    let start = c.in_ok-start.ensures in
-    failed grammar table _ (sliced c.args.place c.args.from) _ (grammar.rule_of s.Upto) _ _ _ c.from_residual-in_err-upto.ensures.1
-    (runs.next_fails (run_word grammar table _ start) (runs.first_fails c.in_err-upto.ensures))
+pub postfixes::sliced-stepped-requires : goal.postfixes::sliced-stepped-requires
+postfixes::sliced-stepped-requires t c =
+    let upto = c.in_ok-bounds.ensures _ _ _ _ _ c.optional_expr.ensures in
+    (search rules, (c.requires.short, upto.inside))
+
+pub postfixes::sliced-returns-in_err-from : goal.postfixes::sliced-returns-in_err-from
+postfixes::sliced-returns-in_err-from t c =
+    failed grammar table _ (sliced c.args.place c.args.from) _ (grammar.rule_of s.Upto) _ _ _ c.from_residual.ensures.1
+    (runs.first_fails (run_no_word grammar table _ c.in_err-from.ensures))
+
+pub postfixes::sliced-returns-in_err-bounds : goal.postfixes::sliced-returns-in_err-bounds
+postfixes::sliced-returns-in_err-bounds t c =
+    let start = c.in_ok-from.ensures.2 in
+    failed grammar table _ (sliced c.args.place c.args.from) _ (grammar.rule_of s.Upto) _ _ _ c.from_residual-in_err-bounds.ensures.1
+    (runs.next_fails (run_word grammar table _ start) (runs.first_fails (c.in_err-bounds.ensures _ _ _ _ _ c.optional_expr.ensures)))
 
 pub postfixes::sliced-returns : goal.postfixes::sliced-returns
 postfixes::sliced-returns t c =
-    let start = c.in_ok-start.ensures in
-    let upto = c.in_ok-upto.ensures in
-    reads_then grammar table _ _ _ (sign Colon) (maybe (part s.Expr) ▸ maybe (part s.ByStep)) _ _ _ _ (run_word grammar table _ start) (reads_then grammar table _ _ _ (maybe (part s.Expr)) (maybe (part s.ByStep)) _ _ _ _ upto.runs (reads_same _ _ _ _ (maybe (part s.ByStep)) _ _ (λ u i. stepped c.args.place c.args.from (upto.shows i) u) c.stepped.ensures))
+    let start = c.in_ok-from.ensures.2 in
+    let upto = c.in_ok-bounds.ensures _ _ _ _ _ c.optional_expr.ensures in
+    reads_then grammar table _ _ _ (sign Colon) (maybe (part s.Expr) ▸ maybe (part s.ByStep)) _ _ _ _ (run_word grammar table _ start) (reads_then grammar table _ _ _ (maybe (part s.Expr)) (maybe (part s.ByStep)) _ _ _ _ upto.runs (reads_same _ _ _ _ (maybe (part s.ByStep)) _ _
+    (λ u. (λ i. stepped c.args.place (sym c.in_ok-from.ensures.0 i) (optional upto.tree (expr_of upto.tree)) u) ∙ (λ i. stepped c.args.place (upto.shows i).0 (upto.shows i).1 u))
+    c.stepped.ensures))
 
-pub postfixes::stepped-returns-in_err-start : goal.postfixes::stepped-returns-in_err-start
-postfixes::stepped-returns-in_err-start t c =
-    failed grammar table _ (stepped c.args.place c.args.from c.args.upto) _ (maybe (part s.ByStep)) _ _ _ c.from_residual.ensures.1
-    (runs.once (c.is_next.ensures ∙ c.if-is_next.true) (runs.part_fails (runs.first_fails (run_no_word grammar table _ c.in_err-start.ensures))))
+pub postfixes::stepped-optional_expr-requires : goal.postfixes::stepped-optional_expr-requires
+postfixes::stepped-optional_expr-requires t c =
+    let start = c.in_ok-bounds.ensures.2 in
+    (search rules, (c.requires.short, start.inside))
 
-pub postfixes::stepped-returns-in_err-step : goal.postfixes::stepped-returns-in_err-step
-postfixes::stepped-returns-in_err-step t c =
-    let start = c.in_ok-start.ensures in
-    failed grammar table _ (stepped c.args.place c.args.from c.args.upto) _ (maybe (part s.ByStep)) _ _ _ c.from_residual-in_err-step.ensures.1
-    (runs.once (c.is_next.ensures ∙ c.if-is_next.true) (runs.part_fails (runs.next_fails (run_word grammar table _ start) c.in_err-step.ensures)))
+pub postfixes::stepped-returns-in_err-bounds : goal.postfixes::stepped-returns-in_err-bounds
+postfixes::stepped-returns-in_err-bounds t c =
+    failed grammar table _ (stepped c.args.place c.args.bounds.0 c.args.bounds.1) _ (maybe (part s.ByStep)) _ _ _ c.from_residual.ensures.1
+    (runs.once (c.is_next.ensures ∙ c.if-is_next.true) (runs.part_fails (runs.first_fails (run_no_word grammar table _ c.in_err-bounds.ensures))))
+
+pub postfixes::stepped-returns-in_err-from : goal.postfixes::stepped-returns-in_err-from
+postfixes::stepped-returns-in_err-from t c =
+    let start = c.in_ok-bounds.ensures.2 in
+    failed grammar table _ (stepped c.args.place c.args.bounds.0 c.args.bounds.1) _ (maybe (part s.ByStep)) _ _ _ c.from_residual-in_err-from.ensures.1
+    (runs.once (c.is_next.ensures ∙ c.if-is_next.true) (runs.part_fails (runs.next_fails (run_word grammar table _ start) (c.in_err-from.ensures _ _ _ _ _ c.optional_expr.ensures))))
 
 pub postfixes::stepped-returns-then-is_next : goal.postfixes::stepped-returns-then-is_next
 postfixes::stepped-returns-then-is_next t c =
-    let start = c.in_ok-start.ensures in
-    let step = c.in_ok-step.ensures in
-    read grammar table _ (stepped c.args.place c.args.from c.args.upto) c.requires.inside
+    let start = c.in_ok-bounds.ensures.2 in
+    let step = c.in_ok-from.ensures _ _ _ _ _ c.optional_expr.ensures in
+    read grammar table _ (stepped c.args.place c.args.bounds.0 c.args.bounds.1) c.requires.inside
     (runs.once (c.is_next.ensures ∙ c.if-is_next.true) (runs.part (runs.both (run_word grammar table _ start) step.runs)))
-    (λ i. postfix.Slice c.args.place c.args.from c.args.upto true (step.shows i))
+    ((λ i. postfix.Slice c.args.place (sym c.in_ok-bounds.ensures.0 i).0 (sym c.in_ok-bounds.ensures.0 i).1 true (optional step.tree (expr_of step.tree)))
+    ∙ (λ i. postfix.Slice c.args.place (step.shows i).0.0 (step.shows i).0.1 true (step.shows i).1))
 
 pub postfixes::stepped-returns : goal.postfixes::stepped-returns
 postfixes::stepped-returns t c =
-    read grammar table _ (stepped c.args.place c.args.from c.args.upto) c.requires.inside
+    read grammar table _ (stepped c.args.place c.args.bounds.0 c.args.bounds.1) c.requires.inside
     (runs.never (c.is_next.ensures ∙ c.if-is_next.false))
     refl
 
-pub postfixes::optional_expr-returns-in_err-boxed : goal.postfixes::optional_expr-returns-in_err-boxed
-postfixes::optional_expr-returns-in_err-boxed t c =
+pub postfixes::optional_expr-returns-in_err-value : goal.postfixes::optional_expr-returns-in_err-value
+postfixes::optional_expr-returns-in_err-value t c =
     failed grammar table _ (λ t. optional t (expr_of t)) _ (maybe (part s.Expr)) _ _ _ c.from_residual.ensures.1
-    (runs.once (c.is_next.ensures ∙ c.if-is_next.true) c.in_err-boxed.ensures)
+    (runs.once (c.is_next.ensures ∙ c.if-is_next.true) (c.in_err-value.ensures _ _ _ _ _ c.expr.ensures))
 
 pub postfixes::optional_expr-returns-then-is_next : goal.postfixes::optional_expr-returns-then-is_next
 postfixes::optional_expr-returns-then-is_next t c =
-    let boxed = c.in_ok-boxed.ensures in
+    let value = c.in_ok-value.ensures _ _ _ _ _ c.expr.ensures in
     read grammar table _ (λ t. optional t (expr_of t)) c.requires.inside
-    (runs.once (c.is_next.ensures ∙ c.if-is_next.true) boxed.runs)
-    (optional_part boxed.runs (expr_of boxed.tree) ∙ (λ i. Some (boxed.shows i)))
+    (runs.once (c.is_next.ensures ∙ c.if-is_next.true) value.runs)
+    (optional_part value.runs (expr_of value.tree) ∙ (λ i. Some (value.shows i)))
 
 pub postfixes::optional_expr-returns : goal.postfixes::optional_expr-returns
 postfixes::optional_expr-returns t c =
     read grammar table _ (λ t. optional t (expr_of t)) c.requires.inside
     (runs.never (c.is_next.ensures ∙ c.if-is_next.false))
     refl
-
-pub postfixes::boxed_expr-returns-in_err-value : goal.postfixes::boxed_expr-returns-in_err-value
-postfixes::boxed_expr-returns-in_err-value t c =
-    failed grammar table _ expr_of _ (part s.Expr) _ _ _ c.from_residual.ensures.1
-    (c.in_err-value.ensures)
-
-pub postfixes::boxed_expr-returns-in_err-boxed : goal.postfixes::boxed_expr-returns-in_err-boxed
-postfixes::boxed_expr-returns-in_err-boxed t c =
-    no_memory grammar table _ expr_of _ (part s.Expr) _ _ c.from_residual-in_err-boxed.ensures.1
-
-pub postfixes::boxed_expr-returns : goal.postfixes::boxed_expr-returns
-postfixes::boxed_expr-returns t c =
-    let value = c.in_ok-value.ensures in
-    read grammar table _ expr_of c.requires.inside
-    (value.runs)
-    (value.shows ∙ sym c.in_ok-boxed.ensures.same)
 
 pub primaries::primary-returns-then-is_next : goal.primaries::primary-returns-then-is_next
 primaries::primary-returns-then-is_next t c =
@@ -556,13 +547,13 @@ primaries::cast-returns-in_err-operand t c =
     let word = c.in_ok-word.ensures in
     let left = c.in_ok-left.ensures in
     failed grammar table _ expr_of _ (part s.Cast) _ _ _ c.from_residual-in_err-operand.ensures.1
-    (runs.part_fails (runs.next_fails (run_one_of cast_words.first cast_words.more word) (runs.deeper c.in_ok-inner.ensures (runs.next_fails (run_word grammar table _ left) (runs.first_fails c.in_err-operand.ensures)))))
+    (runs.part_fails (runs.next_fails (run_one_of cast_words.first cast_words.more word) (runs.deeper c.in_ok-inner.ensures (runs.next_fails (run_word grammar table _ left) (runs.first_fails (c.in_err-operand.ensures _ _ _ _ _ c.expr.ensures))))))
 
 pub primaries::cast-returns-in_err-end : goal.primaries::cast-returns-in_err-end
 primaries::cast-returns-in_err-end t c =
     let word = c.in_ok-word.ensures in
     let left = c.in_ok-left.ensures in
-    let operand = c.in_ok-operand.ensures in
+    let operand = c.in_ok-operand.ensures _ _ _ _ _ c.expr.ensures in
     failed grammar table _ expr_of _ (part s.Cast) _ _ _ c.from_residual-in_err-end.ensures.1
     (runs.part_fails (runs.next_fails (run_one_of cast_words.first cast_words.more word) (runs.deeper c.in_ok-inner.ensures (runs.next_fails (run_word grammar table _ left) (runs.next_fails operand.runs (run_no_word grammar table _ c.in_err-end.ensures))))))
 
@@ -570,7 +561,7 @@ pub primaries::cast-returns : goal.primaries::cast-returns
 primaries::cast-returns t c =
     let word = c.in_ok-word.ensures in
     let left = c.in_ok-left.ensures in
-    let operand = c.in_ok-operand.ensures in
+    let operand = c.in_ok-operand.ensures _ _ _ _ _ c.expr.ensures in
     let end = c.in_ok-end.ensures in
     read grammar table _ expr_of c.requires.inside
     (runs.part (runs.both (run_one_of cast_words.first cast_words.more word) (runs.deeper c.in_ok-inner.ensures (runs.both (run_word grammar table _ left) (runs.both operand.runs (run_word grammar table _ end))))))
@@ -602,28 +593,33 @@ primaries::round-returns-in_err-value t c =
     failed grammar table _ expr_of _ (nested (part s.Round)) _ _ _ c.from_residual-in_err-value.ensures.1
     (runs.deeper c.in_ok-inner.ensures (runs.part_fails (runs.next_fails (run_word grammar table _ word) (runs.next_fails first.runs (runs.first_fails c.in_err-value.ensures)))))
 
-pub primaries::round-returns-in_err-end : goal.primaries::round-returns-in_err-end
-primaries::round-returns-in_err-end t c =
+pub primaries::round-returns-in_err-value-2 : goal.primaries::round-returns-in_err-value-2
+primaries::round-returns-in_err-value-2 t c =
     let word = c.in_ok-word.ensures in
     let first = c.in_ok-first.ensures in
     let value = c.in_ok-value.ensures in
-    failed grammar table _ expr_of _ (nested (part s.Round)) _ _ _ c.from_residual-in_err-end.ensures.1
-    (runs.deeper c.in_ok-inner.ensures (runs.part_fails (runs.next_fails (run_word grammar table _ word) (runs.next_fails first.runs (runs.next_fails value.runs (run_no_word grammar table _ c.in_err-end.ensures))))))
+    failed grammar table _ expr_of _ (nested (part s.Round)) _ _ _ c.from_residual-in_err-value-2.ensures.1
+    (runs.deeper c.in_ok-inner.ensures (runs.part_fails (runs.next_fails (run_word grammar table _ word) (runs.next_fails first.runs (runs.next_fails value.runs (run_no_word grammar table _ c.in_err-value-2.ensures))))))
 
 pub primaries::round-returns : goal.primaries::round-returns
 primaries::round-returns t c =
     let word = c.in_ok-word.ensures in
     let first = c.in_ok-first.ensures in
     let value = c.in_ok-value.ensures in
-    let end = c.in_ok-end.ensures in
+    let end = c.in_ok-value-2.ensures in
     read grammar table _ expr_of c.requires.inside
-    (runs.deeper c.in_ok-inner.ensures (runs.part (runs.both (run_word grammar table _ word) (runs.both first.runs (runs.both value.runs (run_word grammar table _ end))))))
-    ((λ i. bracketed c.in_ok-word.word.now.place (first.shows i) value.tree) ∙ value.shows)
+    (runs.deeper c.in_ok-inner.ensures (runs.part (runs.both (run_word grammar table _ word) (runs.both first.runs (runs.both value.runs (run_word grammar table _ end.2))))))
+    ((λ i. bracketed c.in_ok-word.word.now.place (first.shows i) value.tree) ∙ (value.shows ∙ sym end.0))
 
-pub primaries::tuple_or_round-returns-in_err-start : goal.primaries::tuple_or_round-returns-in_err-start
-primaries::tuple_or_round-returns-in_err-start t c =
+pub primaries::tuple_or_round-exprs_after-requires : goal.primaries::tuple_or_round-exprs_after-requires
+primaries::tuple_or_round-exprs_after-requires t c =
+    let start = c.in_ok-first.ensures.2 in
+    (search rules, (c.requires.short, start.inside))
+
+pub primaries::tuple_or_round-returns-in_err-first : goal.primaries::tuple_or_round-returns-in_err-first
+primaries::tuple_or_round-returns-in_err-first t c =
     failed grammar table _ (bracketed c.args.place c.args.first) _ (maybe (part s.Others)) _ _ _ c.from_residual.ensures.1
-    (runs.once (c.is_next.ensures ∙ c.if-is_next.true) (runs.part_fails (runs.first_fails (run_no_word grammar table _ c.in_err-start.ensures))))
+    (runs.once (c.is_next.ensures ∙ c.if-is_next.true) (runs.part_fails (runs.first_fails (run_no_word grammar table _ c.in_err-first.ensures))))
 
 pub primaries::tuple_or_round-returns-in_err-found : goal.primaries::tuple_or_round-returns-in_err-found
 primaries::tuple_or_round-returns-in_err-found t c =
@@ -631,7 +627,7 @@ primaries::tuple_or_round-returns-in_err-found t c =
 
 pub primaries::tuple_or_round-returns-in_err-values : goal.primaries::tuple_or_round-returns-in_err-values
 primaries::tuple_or_round-returns-in_err-values t c =
-    let start = c.in_ok-start.ensures in
+    let start = c.in_ok-first.ensures.2 in
     failed grammar table _ (bracketed c.args.place c.args.first) _ (maybe (part s.Others)) _ _ _ c.from_residual-in_err-values.ensures.1
     (runs.once (c.is_next.ensures ∙ c.if-is_next.true) (runs.part_fails (runs.next_fails (run_word grammar table _ start) c.in_err-values.ensures)))
 
@@ -641,11 +637,12 @@ primaries::tuple_or_round-returns-in_err-boxed t c =
 
 pub primaries::tuple_or_round-returns-then-is_next : goal.primaries::tuple_or_round-returns-then-is_next
 primaries::tuple_or_round-returns-then-is_next t c =
-    let start = c.in_ok-start.ensures in
+    let start = c.in_ok-first.ensures.2 in
     let values = c.in_ok-values.ensures in
     read grammar table _ (bracketed c.args.place c.args.first) c.requires.inside
     (runs.once (c.is_next.ensures ∙ c.if-is_next.true) (runs.part (runs.both (run_word grammar table _ start) values.runs)))
-    ((λ i. expr.TupleOf c.args.place (sym c.in_ok-found.ensures.items i ++ exprs_of values.tree)) ∙ (λ i. expr.TupleOf c.args.place (values.shows i)))
+    ((λ i. expr.TupleOf c.args.place (sym c.in_ok-first.ensures.0 i ∷ exprs_of values.tree))
+    ∙ (λ i. expr.TupleOf c.args.place (sym c.in_ok-found.ensures.items i ++ exprs_of values.tree)) ∙ (λ i. expr.TupleOf c.args.place (values.shows i)))
 
 pub primaries::tuple_or_round-returns : goal.primaries::tuple_or_round-returns
 primaries::tuple_or_round-returns t c =
@@ -805,23 +802,23 @@ braces::curly-returns-in_err-value t c =
     failed grammar table _ expr_of _ (nested (part s.Curly)) _ _ _ c.from_residual-in_err-value.ensures.1
     (runs.deeper c.in_ok-inner.ensures (runs.part_fails (runs.next_fails (run_word grammar table _ word) (runs.next_fails first.runs (runs.first_fails c.in_err-value.ensures)))))
 
-pub braces::curly-returns-in_err-end : goal.braces::curly-returns-in_err-end
-braces::curly-returns-in_err-end t c =
+pub braces::curly-returns-in_err-value-2 : goal.braces::curly-returns-in_err-value-2
+braces::curly-returns-in_err-value-2 t c =
     let word = c.in_ok-word.ensures in
     let first = c.in_ok-first.ensures in
     let value = c.in_ok-value.ensures in
-    failed grammar table _ expr_of _ (nested (part s.Curly)) _ _ _ c.from_residual-in_err-end.ensures.1
-    (runs.deeper c.in_ok-inner.ensures (runs.part_fails (runs.next_fails (run_word grammar table _ word) (runs.next_fails first.runs (runs.next_fails value.runs (run_no_word grammar table _ c.in_err-end.ensures))))))
+    failed grammar table _ expr_of _ (nested (part s.Curly)) _ _ _ c.from_residual-in_err-value-2.ensures.1
+    (runs.deeper c.in_ok-inner.ensures (runs.part_fails (runs.next_fails (run_word grammar table _ word) (runs.next_fails first.runs (runs.next_fails value.runs (run_no_word grammar table _ c.in_err-value-2.ensures))))))
 
 pub braces::curly-returns : goal.braces::curly-returns
 braces::curly-returns t c =
     let word = c.in_ok-word.ensures in
     let first = c.in_ok-first.ensures in
     let value = c.in_ok-value.ensures in
-    let end = c.in_ok-end.ensures in
+    let end = c.in_ok-value-2.ensures in
     read grammar table _ expr_of c.requires.inside
-    (runs.deeper c.in_ok-inner.ensures (runs.part (runs.both (run_word grammar table _ word) (runs.both first.runs (runs.both value.runs (run_word grammar table _ end))))))
-    ((λ i. braced c.in_ok-word.word.now.place (first.shows i) value.tree) ∙ value.shows)
+    (runs.deeper c.in_ok-inner.ensures (runs.part (runs.both (run_word grammar table _ word) (runs.both first.runs (runs.both value.runs (run_word grammar table _ end.2))))))
+    ((λ i. braced c.in_ok-word.word.now.place (first.shows i) value.tree) ∙ (value.shows ∙ sym end.0))
 
 pub braces::set_or_dict-returns-then-is_next : goal.braces::set_or_dict-returns-then-is_next
 braces::set_or_dict-returns-then-is_next t c =
@@ -841,10 +838,15 @@ braces::set_or_dict-returns t c =
     (runs.never (c.is_next.ensures ∙ c.if-is_next.false))
     (λ i. expr.SetOf c.args.place (sym (c.in_ok-values.ensures.same ∙ c.in_ok-found.ensures.items) i))
 
-pub braces::contents-returns-in_err-start : goal.braces::contents-returns-in_err-start
-braces::contents-returns-in_err-start t c =
+pub braces::contents-exprs_after-requires : goal.braces::contents-exprs_after-requires
+braces::contents-exprs_after-requires t c =
+    let start = c.in_ok-first.ensures.2 in
+    (search rules, (c.requires.short, start.inside))
+
+pub braces::contents-returns-in_err-first : goal.braces::contents-returns-in_err-first
+braces::contents-returns-in_err-first t c =
     failed grammar table _ (braced c.args.place c.args.first) _ (part s.Contents) _ _ _ c.from_residual.ensures.1
-    (runs.part_fails (runs.left (c.is_next.ensures ∙ c.if-is_next.true) (runs.part_fails (runs.first_fails (run_no_word grammar table _ c.in_err-start.ensures)))))
+    (runs.part_fails (runs.left (c.is_next.ensures ∙ c.if-is_next.true) (runs.part_fails (runs.first_fails (run_no_word grammar table _ c.in_err-first.ensures)))))
 
 pub braces::contents-returns-in_err-found : goal.braces::contents-returns-in_err-found
 braces::contents-returns-in_err-found t c =
@@ -852,32 +854,38 @@ braces::contents-returns-in_err-found t c =
 
 pub braces::contents-returns-in_err-values : goal.braces::contents-returns-in_err-values
 braces::contents-returns-in_err-values t c =
-    let start = c.in_ok-start.ensures in
+    let start = c.in_ok-first.ensures.2 in
     failed grammar table _ (braced c.args.place c.args.first) _ (part s.Contents) _ _ _ c.from_residual-in_err-values.ensures.1
     (runs.part_fails (runs.left (c.is_next.ensures ∙ c.if-is_next.true) (runs.part_fails (runs.next_fails (run_word grammar table _ start) c.in_err-values.ensures))))
 
 pub braces::contents-returns-then-is_next : goal.braces::contents-returns-then-is_next
 braces::contents-returns-then-is_next t c =
-    let start = c.in_ok-start.ensures in
+    let start = c.in_ok-first.ensures.2 in
     let values = c.in_ok-values.ensures in
     read grammar table _ (braced c.args.place c.args.first) c.requires.inside
     (runs.part (runs.left (c.is_next.ensures ∙ c.if-is_next.true) (runs.part (runs.both (run_word grammar table _ start) values.runs))))
-    ((λ i. expr.SetOf c.args.place (sym c.in_ok-found.ensures.items i ++ exprs_of values.tree)) ∙ (λ i. expr.SetOf c.args.place (values.shows i)))
+    ((λ i. expr.SetOf c.args.place (sym c.in_ok-first.ensures.0 i ∷ exprs_of values.tree))
+    ∙ (λ i. expr.SetOf c.args.place (sym c.in_ok-found.ensures.items i ++ exprs_of values.tree)) ∙ (λ i. expr.SetOf c.args.place (values.shows i)))
 
 pub braces::contents-returns : goal.braces::contents-returns
 braces::contents-returns t c =
     reads_part grammar table _ _ _ s.Contents _ _ (reads_right grammar table _ _ _ (part s.Others) (part s.Entries) _ _ (c.is_next.ensures ∙ c.if-is_next.false) c.entries.ensures)
 
-pub braces::entries-returns-in_err-start : goal.braces::entries-returns-in_err-start
-braces::entries-returns-in_err-start t c =
-    failed grammar table _ (braced c.args.place c.args.key) _ (part s.Entries) _ _ _ c.from_residual.ensures.1
-    (runs.part_fails (runs.first_fails (run_no_word grammar table _ c.in_err-start.ensures)))
+pub braces::entries-expr-requires : goal.braces::entries-expr-requires
+braces::entries-expr-requires t c =
+    let start = c.in_ok-key.ensures.2 in
+    (search rules, (c.requires.short, start.inside))
 
-pub braces::entries-returns-in_err-value : goal.braces::entries-returns-in_err-value
-braces::entries-returns-in_err-value t c =
-    let start = c.in_ok-start.ensures in
-    failed grammar table _ (braced c.args.place c.args.key) _ (part s.Entries) _ _ _ c.from_residual-in_err-value.ensures.1
-    (runs.part_fails (runs.next_fails (run_word grammar table _ start) (runs.first_fails c.in_err-value.ensures)))
+pub braces::entries-returns-in_err-key : goal.braces::entries-returns-in_err-key
+braces::entries-returns-in_err-key t c =
+    failed grammar table _ (braced c.args.place c.args.key) _ (part s.Entries) _ _ _ c.from_residual.ensures.1
+    (runs.part_fails (runs.first_fails (run_no_word grammar table _ c.in_err-key.ensures)))
+
+pub braces::entries-returns-in_err-key-2 : goal.braces::entries-returns-in_err-key-2
+braces::entries-returns-in_err-key-2 t c =
+    let start = c.in_ok-key.ensures.2 in
+    failed grammar table _ (braced c.args.place c.args.key) _ (part s.Entries) _ _ _ c.from_residual-in_err-key-2.ensures.1
+    (runs.part_fails (runs.next_fails (run_word grammar table _ start) (runs.first_fails (c.in_err-key-2.ensures _ _ _ _ _ c.expr.ensures))))
 
 pub braces::entries-returns-in_err-found : goal.braces::entries-returns-in_err-found
 braces::entries-returns-in_err-found t c =
@@ -885,20 +893,26 @@ braces::entries-returns-in_err-found t c =
 
 pub braces::entries-returns-in_err-values : goal.braces::entries-returns-in_err-values
 braces::entries-returns-in_err-values t c =
-    let start = c.in_ok-start.ensures in
-    let value = c.in_ok-value.ensures in
+    let start = c.in_ok-key.ensures.2 in
+    let value = c.in_ok-key-2.ensures _ _ _ _ _ c.expr.ensures in
     failed grammar table _ (braced c.args.place c.args.key) _ (part s.Entries) _ _ _ c.from_residual-in_err-values.ensures.1
     (runs.part_fails (runs.next_fails (run_word grammar table _ start) (runs.next_fails value.runs c.in_err-values.ensures)))
 
 pub braces::entries-returns : goal.braces::entries-returns
 braces::entries-returns t c =
-    let start = c.in_ok-start.ensures in
-    let value = c.in_ok-value.ensures in
+    let start = c.in_ok-key.ensures.2 in
+    let value = c.in_ok-key-2.ensures _ _ _ _ _ c.expr.ensures in
     let values = c.in_ok-values.ensures in
     read grammar table _ (braced c.args.place c.args.key) c.requires.inside
     (runs.part (runs.both (run_word grammar table _ start) (runs.both value.runs values.runs)))
-    ((λ i. expr.DictOf c.args.place (record { key = c.args.key; value = value.shows i } ∷ entries_of values.tree))
+    ((λ i. expr.DictOf c.args.place (record { key = sym c.in_ok-key.ensures.0 i; value = expr_of value.tree } ∷ entries_of values.tree))
+    ∙ (λ i. expr.DictOf c.args.place (record { key = (value.shows i).0; value = (value.shows i).1 } ∷ entries_of values.tree))
     ∙ ((λ i. expr.DictOf c.args.place (sym c.in_ok-found.ensures.items i ++ entries_of values.tree)) ∙ (λ i. expr.DictOf c.args.place (values.shows i))))
+
+pub braces::entries-more_entries-requires : goal.braces::entries-more_entries-requires
+braces::entries-more_entries-requires t c =
+    let value = c.in_ok-key-2.ensures _ _ _ _ _ c.expr.ensures in
+    (search rules, (c.requires.short, value.inside))
 
 pub braces::more_entries-turn-init : goal.braces::more_entries-turn-init
 braces::more_entries-turn-init t c =
@@ -942,21 +956,21 @@ braces::more_entry-returns-in_err-key t c =
     failed grammar table _ entry_of _ (part s.MoreEntry) _ _ _ c.from_residual-in_err-key.ensures.1
     (runs.part_fails (runs.next_fails (run_word grammar table _ start) (runs.first_fails c.in_err-key.ensures)))
 
-pub braces::more_entry-returns-in_err-value : goal.braces::more_entry-returns-in_err-value
-braces::more_entry-returns-in_err-value t c =
+pub braces::more_entry-returns-in_err-key-2 : goal.braces::more_entry-returns-in_err-key-2
+braces::more_entry-returns-in_err-key-2 t c =
     let start = c.in_ok-start.ensures in
     let key = c.in_ok-key.ensures in
-    failed grammar table _ entry_of _ (part s.MoreEntry) _ _ _ c.from_residual-in_err-value.ensures.1
-    (runs.part_fails (runs.next_fails (run_word grammar table _ start) (runs.next_fails key.runs c.in_err-value.ensures)))
+    failed grammar table _ entry_of _ (part s.MoreEntry) _ _ _ c.from_residual-in_err-key-2.ensures.1
+    (runs.part_fails (runs.next_fails (run_word grammar table _ start) (runs.next_fails key.runs (c.in_err-key-2.ensures _ _ _ _ _ c.entry_value.ensures))))
 
 pub braces::more_entry-returns : goal.braces::more_entry-returns
 braces::more_entry-returns t c =
     let start = c.in_ok-start.ensures in
     let key = c.in_ok-key.ensures in
-    let value = c.in_ok-value.ensures in
+    let value = c.in_ok-key-2.ensures _ _ _ _ _ c.entry_value.ensures in
     read grammar table _ entry_of c.requires.inside
     (runs.part (runs.both (run_word grammar table _ start) (runs.both key.runs value.runs)))
-    (entry_shows (run_word grammar table _ start) value.runs key.tree ∙ (λ i. record { key = key.shows i; value = value.shows i }))
+    (entry_shows (run_word grammar table _ start) value.runs key.tree ∙ ((λ i. record { key = key.shows i; value = value_of value.tree }) ∙ (λ i. record { key = (value.shows i).0; value = (value.shows i).1 })))
 
 pub braces::entry_value-returns-in_err-start : goal.braces::entry_value-returns-in_err-start
 braces::entry_value-returns-in_err-start t c =
@@ -976,13 +990,18 @@ pub blanks::blank-returns-in_err-of : goal.blanks::blank-returns-in_err-of
 blanks::blank-returns-in_err-of t c =
     let word = c.in_ok-word.ensures in
     failed grammar table _ expr_of _ (part s.Blank) _ _ _ c.from_residual-in_err-of.ensures.1
-    (runs.part_fails (runs.next_fails (run_word grammar table _ word) (runs.first_fails c.in_err-of.ensures)))
+    (runs.part_fails (runs.next_fails (run_word grammar table _ word) (runs.first_fails (c.in_err-of.ensures _ _ _ _ _ c.any_type.ensures))))
 
 pub blanks::blank-returns : goal.blanks::blank-returns
 blanks::blank-returns t c =
     let word = c.in_ok-word.ensures in
-    let of = c.in_ok-of.ensures in
+    let of = c.in_ok-of.ensures _ _ _ _ _ c.any_type.ensures in
     reads_part grammar table _ _ _ s.Blank _ _ (reads_then grammar table _ _ _ (sign Less) (part s.AnyType ▸ part s.BlankEnd) _ _ _ _ (run_word grammar table _ word) (reads_then grammar table _ _ _ (part s.AnyType) (part s.BlankEnd) _ _ _ _ of.runs (reads_same _ _ _ _ (part s.BlankEnd) _ _ (λ u i. blank c.in_ok-word.word.now.place (of.shows i) u) c.blank_end.ensures)))
+
+pub blanks::blank-blank_end-requires : goal.blanks::blank-blank_end-requires
+blanks::blank-blank_end-requires t c =
+    let of = c.in_ok-of.ensures _ _ _ _ _ c.any_type.ensures in
+    (search rules, (c.requires.short, of.inside))
 
 pub blanks::blank_end-returns-in_err-next : goal.blanks::blank_end-returns-in_err-next
 blanks::blank_end-returns-in_err-next t c =
@@ -998,19 +1017,19 @@ pub blanks::blank_end-returns-in_err-value : goal.blanks::blank_end-returns-in_e
 blanks::blank_end-returns-in_err-value t c =
     let start = c.in_ok-start.ensures in
     failed grammar table _ (blank c.args.place c.args.of) _ (part s.BlankEnd) _ _ _ c.from_residual-in_err-value.ensures.1
-    (runs.part_fails (runs.right (c.is_next.ensures ∙ c.if-is_next.false) (runs.next_fails (run_word grammar table _ start) (runs.first_fails c.in_err-value.ensures))))
+    (runs.part_fails (runs.right (c.is_next.ensures ∙ c.if-is_next.false) (runs.next_fails (run_word grammar table _ start) (runs.first_fails (c.in_err-value.ensures _ _ _ _ _ c.any_type.ensures)))))
 
 pub blanks::blank_end-returns-in_err-last : goal.blanks::blank_end-returns-in_err-last
 blanks::blank_end-returns-in_err-last t c =
     let start = c.in_ok-start.ensures in
-    let value = c.in_ok-value.ensures in
+    let value = c.in_ok-value.ensures _ _ _ _ _ c.any_type.ensures in
     failed grammar table _ (blank c.args.place c.args.of) _ (part s.BlankEnd) _ _ _ c.from_residual-in_err-last.ensures.1
     (runs.part_fails (runs.right (c.is_next.ensures ∙ c.if-is_next.false) (runs.next_fails (run_word grammar table _ start) (runs.next_fails value.runs (runs.first_fails (run_no_word grammar table _ c.in_err-last.ensures))))))
 
 pub blanks::blank_end-returns-in_err-end : goal.blanks::blank_end-returns-in_err-end
 blanks::blank_end-returns-in_err-end t c =
     let start = c.in_ok-start.ensures in
-    let value = c.in_ok-value.ensures in
+    let value = c.in_ok-value.ensures _ _ _ _ _ c.any_type.ensures in
     let last = c.in_ok-last.ensures in
     failed grammar table _ (blank c.args.place c.args.of) _ (part s.BlankEnd) _ _ _ c.from_residual-in_err-end.ensures.1
     (runs.part_fails (runs.right (c.is_next.ensures ∙ c.if-is_next.false) (runs.next_fails (run_word grammar table _ start) (runs.next_fails value.runs (runs.next_fails (run_word grammar table _ last) c.in_err-end.ensures)))))
@@ -1023,7 +1042,7 @@ blanks::blank_end-returns-then-is_next t c =
 pub blanks::blank_end-returns : goal.blanks::blank_end-returns
 blanks::blank_end-returns t c =
     let start = c.in_ok-start.ensures in
-    let value = c.in_ok-value.ensures in
+    let value = c.in_ok-value.ensures _ _ _ _ _ c.any_type.ensures in
     let last = c.in_ok-last.ensures in
     let end = c.in_ok-end.ensures in
     read grammar table _ (blank c.args.place c.args.of) c.requires.inside
@@ -1038,22 +1057,6 @@ pub types::any_type-returns : goal.types::any_type-returns
 types::any_type-returns t c =
     reads_part grammar table _ _ _ s.AnyType _ _ (reads_right grammar table _ _ _ (part s.BuiltType) (part s.NamedType) _ _ (c.is_next.ensures ∙ c.if-is_next.false) (c.named_type.ensures c.args.room))
 
-pub types::boxed_type-returns-in_err-ty : goal.types::boxed_type-returns-in_err-ty
-types::boxed_type-returns-in_err-ty t c =
-    failed grammar table _ type_of _ (part s.AnyType) _ _ _ c.from_residual.ensures.1
-    (c.in_err-ty.ensures)
-
-pub types::boxed_type-returns-in_err-boxed : goal.types::boxed_type-returns-in_err-boxed
-types::boxed_type-returns-in_err-boxed t c =
-    no_memory grammar table _ type_of _ (part s.AnyType) _ _ c.from_residual-in_err-boxed.ensures.1
-
-pub types::boxed_type-returns : goal.types::boxed_type-returns
-types::boxed_type-returns t c =
-    let ty = c.in_ok-ty.ensures in
-    read grammar table _ type_of c.requires.inside
-    (ty.runs)
-    (ty.shows ∙ sym c.in_ok-boxed.ensures.same)
-
 pub types::nested_type-returns-in_err-inner : goal.types::nested_type-returns-in_err-inner
 types::nested_type-returns-in_err-inner t c =
     failed grammar table _ type_of _ (nested (part s.AnyType)) _ _ _ c.from_residual.ensures.1
@@ -1061,7 +1064,7 @@ types::nested_type-returns-in_err-inner t c =
 
 pub types::nested_type-returns : goal.types::nested_type-returns
 types::nested_type-returns t c =
-    reads_deeper grammar table _ _ _ _ Expression (part s.AnyType) _ _ c.in_ok-inner.ensures c.boxed_type.ensures
+    reads_deeper grammar table _ _ _ _ Expression (part s.AnyType) _ _ c.in_ok-inner.ensures (c.boxed.ensures _ _ _ _ _ c.any_type.ensures)
 
 pub types::built_type-returns-then-is_next : goal.types::built_type-returns-then-is_next
 types::built_type-returns-then-is_next t c =
@@ -1132,19 +1135,19 @@ pub types::list_size-returns-in_err-size : goal.types::list_size-returns-in_err-
 types::list_size-returns-in_err-size t c =
     let start = c.in_ok-start.ensures in
     failed grammar table _ size_of _ (maybe (nested (sign LeftParen ▸ part s.Expr ▸ sign RightParen))) _ _ _ c.from_residual-in_err-size.ensures.1
-    (runs.once (c.is_next.ensures ∙ c.if-is_next.true) (runs.deeper c.in_ok-inner.ensures (runs.next_fails (run_word grammar table _ start) (runs.first_fails c.in_err-size.ensures))))
+    (runs.once (c.is_next.ensures ∙ c.if-is_next.true) (runs.deeper c.in_ok-inner.ensures (runs.next_fails (run_word grammar table _ start) (runs.first_fails (c.in_err-size.ensures _ _ _ _ _ c.expr.ensures)))))
 
 pub types::list_size-returns-in_err-end : goal.types::list_size-returns-in_err-end
 types::list_size-returns-in_err-end t c =
     let start = c.in_ok-start.ensures in
-    let size = c.in_ok-size.ensures in
+    let size = c.in_ok-size.ensures _ _ _ _ _ c.expr.ensures in
     failed grammar table _ size_of _ (maybe (nested (sign LeftParen ▸ part s.Expr ▸ sign RightParen))) _ _ _ c.from_residual-in_err-end.ensures.1
     (runs.once (c.is_next.ensures ∙ c.if-is_next.true) (runs.deeper c.in_ok-inner.ensures (runs.next_fails (run_word grammar table _ start) (runs.next_fails size.runs (run_no_word grammar table _ c.in_err-end.ensures)))))
 
 pub types::list_size-returns-then-is_next : goal.types::list_size-returns-then-is_next
 types::list_size-returns-then-is_next t c =
     let start = c.in_ok-start.ensures in
-    let size = c.in_ok-size.ensures in
+    let size = c.in_ok-size.ensures _ _ _ _ _ c.expr.ensures in
     let end = c.in_ok-end.ensures in
     read grammar table _ size_of c.requires.inside
     (runs.once (c.is_next.ensures ∙ c.if-is_next.true) (runs.deeper c.in_ok-inner.ensures (runs.both (run_word grammar table _ start) (runs.both size.runs (run_word grammar table _ end)))))

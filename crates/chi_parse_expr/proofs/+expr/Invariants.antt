@@ -84,9 +84,6 @@ decreases-levels::rel l = 38 * l.room.expressions + 21
 abbrev pub decreases-levels::rel_link : goal.decreases-levels::rel_link
 decreases-levels::rel_link l = 38 * l.room.expressions + 20
 
-abbrev pub decreases-postfixes::boxed_expr : goal.decreases-postfixes::boxed_expr
-decreases-postfixes::boxed_expr l = 38 * l.room.expressions + 32
-
 abbrev pub decreases-postfixes::bracket : goal.decreases-postfixes::bracket
 decreases-postfixes::bracket l = 38 * l.room.expressions + 0
 
@@ -161,9 +158,6 @@ decreases-terms::unary l = 38 * l.room.expressions + 11
 
 abbrev pub decreases-types::any_type : goal.decreases-types::any_type
 decreases-types::any_type l = 38 * l.room.expressions + 4
-
-abbrev pub decreases-types::boxed_type : goal.decreases-types::boxed_type
-decreases-types::boxed_type l = 38 * l.room.expressions + 5
 
 abbrev pub decreases-types::built_type : goal.decreases-types::built_type
 decreases-types::built_type l = 38 * l.room.expressions + 3

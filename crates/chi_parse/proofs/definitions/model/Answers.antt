@@ -7,7 +7,6 @@ use Rattle.chi_tree.specs.Parts as s
 use Rattle.chi_tree.specs.Rules.{grammar}
 use Rattle.chi_tree.specs.Tables.{table}
 use Rattle.chi_tree.specs.Statements.{definition_of}
-use Rattle.chi_parse.specs.Rests.{callable_of}
 use Rattle.chi_parse.proofs.Shapes.{model_shows}
 use Rattle.chi_parse.proofs.definitions.model.Goals as goal
 
@@ -15,19 +14,14 @@ pub returns-in_err-word : goal.returns-in_err-word
 returns-in_err-word c = failed grammar table _ definition_of _ (part s.ModelDef) _ _ _ c.from_residual.ensures.1
     (runs.part_fails (runs.first_fails (run_no_word grammar table _ c.in_err-word.ensures)))
 
-pub returns-in_err-head : goal.returns-in_err-head
-returns-in_err-head c = failed grammar table _ definition_of _ (part s.ModelDef) _ _ _ c.from_residual-in_err-head.ensures.1
-    (runs.part_fails (runs.next_fails (run_word grammar table _ c.in_ok-word.ensures) (runs.first_fails c.in_err-head.ensures)))
-
 pub returns-in_err-ty : goal.returns-in_err-ty
 returns-in_err-ty c = failed grammar table _ definition_of _ (part s.ModelDef) _ _ _ c.from_residual-in_err-ty.ensures.1
-    (runs.part_fails (runs.next_fails (run_word grammar table _ c.in_ok-word.ensures) (runs.next_fails c.in_ok-head.ensures.runs (c.in_err-ty.ensures _ _ _ _ _ c.callable.ensures))))
+    (runs.part_fails (runs.next_fails (run_word grammar table _ c.in_ok-word.ensures) c.in_err-ty.ensures))
 
 pub returns : goal.returns
 returns c =
-    let q = c.in_ok-ty.ensures _ _ _ _ _ c.callable.ensures in
-    read grammar table _ (definition_of) c.requires.inside
-    (runs.part (runs.both (run_word grammar table _ c.in_ok-word.ensures) (runs.both c.in_ok-head.ensures.runs q.runs)))
-    (model_shows q.runs (leaf c.in_ok-word.word.now) c.in_ok-head.ensures.tree
-    ∙ (λ i. definition.Model c.in_ok-word.word.now.place (c.in_ok-head.ensures.shows i).0 (c.in_ok-head.ensures.shows i).1 (callable_of q.tree).0 (callable_of q.tree).1)
+    let q = c.in_ok-ty.ensures in
+    read grammar table _ definition_of c.requires.inside
+    (runs.part (runs.both (run_word grammar table _ c.in_ok-word.ensures) q.runs))
+    (model_shows q.runs (leaf c.in_ok-word.word.now)
     ∙ (λ i. definition.Model c.in_ok-word.word.now.place (q.shows i).0.0 (q.shows i).0.1 (q.shows i).1.0 (q.shows i).1.1))
