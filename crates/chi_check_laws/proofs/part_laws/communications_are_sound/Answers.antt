@@ -1,5 +1,5 @@
 use Rattle.chi_check_laws.proofs.SoundCommunications.{delaying_sound, receiving_sound, sending_sound, void_receiving_sound, void_sending_sound}
-use Rattle.chi_check_laws.proofs.laws.communications_are_sound.Goals as goal
+use Rattle.chi_check_laws.proofs.part_laws.communications_are_sound.Goals as goal
 
 pub returns-clause-sends : goal.returns-clause-sends
 returns-clause-sends c = sending_sound

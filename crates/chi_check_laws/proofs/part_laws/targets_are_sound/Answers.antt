@@ -1,5 +1,5 @@
 use Rattle.chi_check_laws.proofs.Targets.{aim_takes, target_field_sound, target_index_sound, target_name_sound}
-use Rattle.chi_check_laws.proofs.laws.targets_are_sound.Goals as goal
+use Rattle.chi_check_laws.proofs.part_laws.targets_are_sound.Goals as goal
 
 pub returns-clause-of_names : goal.returns-clause-of_names
 returns-clause-of_names c = target_name_sound

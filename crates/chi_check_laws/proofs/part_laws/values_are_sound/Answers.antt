@@ -1,5 +1,5 @@
 use Rattle.chi_check_laws.proofs.SoundValues.{condition_has, exiting_sound, fitted_has, instance_has, walked_sound}
-use Rattle.chi_check_laws.proofs.laws.values_are_sound.Goals as goal
+use Rattle.chi_check_laws.proofs.part_laws.values_are_sound.Goals as goal
 
 pub returns-clause-initial : goal.returns-clause-initial
 returns-clause-initial c = fitted_has

@@ -1,5 +1,5 @@
 use Rattle.chi_check_laws.proofs.WholeFills.{statements_grow, unwinds_own}
-use Rattle.chi_check_laws.proofs.laws.slots_are_new.Goals as goal
+use Rattle.chi_check_laws.proofs.statement_laws.slots_are_new.Goals as goal
 
 pub returns-clause-grows : goal.returns-clause-grows
 returns-clause-grows c home loop steps s whole = statements_grow home loop steps s whole

@@ -1,6 +1,6 @@
 use Rattle.chi_check_laws.proofs.Types.{default_sound}
 use Rattle.chi_check_laws.proofs.WholeParts.{type_sound}
-use Rattle.chi_check_laws.proofs.laws.types_are_sound.Goals as goal
+use Rattle.chi_check_laws.proofs.type_laws.types_are_sound.Goals as goal
 
 pub returns-clause-sound : goal.returns-clause-sound
 returns-clause-sound c = type_sound
