@@ -60,6 +60,15 @@ fn remove(twin: &mut Vec<(i64, u32)>, number: u32) {
     }
 }
 
+/// The due time of a number becomes another one.
+fn again<L: Ledger>(dues: &mut Dues, number: u32, due: i64, steps: &mut Steps<L>)
+    requires { number < length dues.old }
+    ensures { length dues.new ≡ length dues.old }
+{
+    dues.withdraw(number, steps);
+    dues.put(number, due, steps);
+}
+
 impl Tried {
     fn withdraw<L: Ledger>(&mut self, number: u32, steps: &mut Steps<L>) {
         self.dues.withdraw(number, steps);
@@ -76,9 +85,8 @@ impl Tried {
         if number >= self.room {
             return Ok(());
         }
-        self.withdraw(number, steps);
-        self.dues.withdraw(number, steps);
-        self.dues.put(number, due, steps);
+        again(&mut self.dues, number, due, steps);
+        remove(&mut self.twin, number);
         let place = place_of(&self.twin, due, number);
         if place <= self.twin.len() {
             self.twin.insert(place, (due, number))?;

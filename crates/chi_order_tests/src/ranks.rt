@@ -99,10 +99,12 @@ fn nth<L: Ledger>(ranks: &Ranks, rank: u32, steps: &mut Steps<L>) -> Option<u32>
 
 /// Whether both have the same members.
 fn agree<L: Ledger>(tried: &Tried, steps: &mut Steps<L>) -> bool {
-    for (rank, own) in tried.twin.iter().enumerate() {
-        if nth(&tried.ranks, rank as u32, steps) != Some(*own) {
+    let mut rank = 0u32;
+    for own in tried.twin.iter() {
+        if nth(&tried.ranks, rank, steps) != Some(*own) {
             return false;
         }
+        rank = rank.saturating_add(1);
     }
     tried.ranks.count() as usize == tried.twin.len()
 }
