@@ -17,5 +17,5 @@ put-requires-clause-none g c =
 
 pub returns : goal.returns
 returns g c =
-    ap length c.put.ensures.put ∙ length-set c.withdraw.new.self c.args.number (Some c.args.due)
+    ap length c.put.ensures.put ∙ length-set c.withdraw.new.self c.args.number _
     ∙ ap length c.withdraw.ensures.taken ∙ length-set c.args.dues.now c.args.number None
