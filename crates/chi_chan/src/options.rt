@@ -48,7 +48,13 @@ pub(crate) fn count_among(receivers: &Lines, pid: u32, clock: i64, offers: &[Off
 
 /// Option number `i` by these offers of its own.
 #[inline(always)]
-pub(crate) fn choice_among(receivers: &Lines, pid: u32, clock: i64, i: u64, offers: &[Offer]) -> Choice
+pub(crate) fn choice_among(
+    receivers: &Lines,
+    pid: u32,
+    clock: i64,
+    i: u64,
+    offers: &[Offer],
+) -> Choice
     requires pid { pid < 100000 }
     requires few { length offers.now ≤ 65536 }
     requires some { i < length (choices_from receivers.now clock pid 0 offers.now) }

@@ -118,13 +118,7 @@ impl Seats {
         ensures err { OnErr result (SameOffers self.old self.new) }
         ensures within { length self.new ≤ 100000 }
     {
-        wait(
-            self.alloc,
-            &mut self.seats,
-            &mut self.offers,
-            pid,
-            offers,
-        )
+        wait(self.alloc, &mut self.seats, &mut self.offers, pid, offers)
     }
 
     /// Instance `pid` doesn't wait any more.

@@ -56,7 +56,13 @@ impl Waiting {
         ensures ok { OnOk result (Updates self.old self.new pid (Some offers.now)) }
         ensures err { OnErr result (SameOffers self.old self.new) }
     {
-        come(&mut self.seats, &mut self.senders, &mut self.receivers, pid, offers)
+        come(
+            &mut self.seats,
+            &mut self.senders,
+            &mut self.receivers,
+            pid,
+            offers,
+        )
     }
 
     /// Instance `pid`, which waits, doesn't wait any more.

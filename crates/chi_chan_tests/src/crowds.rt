@@ -28,8 +28,16 @@ fn own(sends: bool) -> [Offer; 1] {
 
 /// Number `turn` of the crowd, from either end.
 fn member(order: &Order, turn: u32) -> u32 {
-    let place = if order.ascending { turn } else { CROWD.saturating_sub(turn).saturating_sub(1) };
-    if place < ONE { place } else { place.saturating_add(1) }
+    let place = if order.ascending {
+        turn
+    } else {
+        CROWD.saturating_sub(turn).saturating_sub(1)
+    };
+    if place < ONE {
+        place
+    } else {
+        place.saturating_add(1)
+    }
 }
 
 fn come(waiting: &mut Waiting, order: &Order) -> Result<(), NoMemory> {
@@ -60,7 +68,11 @@ fn go(waiting: &mut Waiting, order: &Order) {
 /// Each of the crowd may meet the one, or the one each of them, in order.
 fn meet(waiting: &Waiting, crowd_sends: bool) -> bool {
     for place in 0..CROWD {
-        let pid = if place < ONE { place } else { place.saturating_add(1) };
+        let pid = if place < ONE {
+            place
+        } else {
+            place.saturating_add(1)
+        };
         let met = if crowd_sends {
             is_pair(option(waiting, pid, 0, 0), 0, ONE, 0) && waiting.option_count(pid, 0) == 1
         } else {
@@ -89,7 +101,11 @@ fn one_meets_a_crowd(rt: HostRuntime) -> Result<(), Fail> {
         };
         come(&mut waiting, &order)?;
         assert!(rt; meet(&waiting, order.crowd_sends), "turn {turn}");
-        let (senders, receivers) = if order.crowd_sends { (10_000, 1) } else { (1, 10_000) };
+        let (senders, receivers) = if order.crowd_sends {
+            (10_000, 1)
+        } else {
+            (1, 10_000)
+        };
         assert!(rt; lengths(&waiting, senders, receivers), "turn {turn}");
         go(&mut waiting, &order);
         assert!(rt; lengths(&waiting, 0, 0), "turn {turn}");
@@ -113,7 +129,11 @@ fn many_offers_leave_at_once(rt: HostRuntime) -> Result<(), Fail> {
     let mut waiting = Waiting::new(alloc);
     for count in [0u32, 1, 63, 64, 65, 4_096, 65_536] {
         let offers = receives(alloc, count)?;
-        let few = [Offer::Receive(CHANNEL), Offer::Send(CHANNEL), Offer::Receive(CHANNEL)];
+        let few = [
+            Offer::Receive(CHANNEL),
+            Offer::Send(CHANNEL),
+            Offer::Receive(CHANNEL),
+        ];
         offer(&mut waiting, 3, offers.as_slice())?;
         offer(&mut waiting, 9, &few)?;
         offer(&mut waiting, 1, &few)?;
@@ -126,7 +146,10 @@ fn many_offers_leave_at_once(rt: HostRuntime) -> Result<(), Fail> {
         let left = waiting.receivers(CHANNEL);
         assert!(rt;
             left.len() == 4
-                && left.iter().zip([1u32, 1, 9, 9].iter()).all(|(party, pid)| party.pid == *pid)
+                && left
+                    .iter()
+                    .zip([1u32, 1, 9, 9].iter())
+                    .all(|(party, pid)| party.pid == *pid)
         );
         withdraw(&mut waiting, 9);
         withdraw(&mut waiting, 1);
@@ -141,7 +164,12 @@ fn great_numbers_have_their_lines(rt: HostRuntime) -> Result<(), Fail> {
     let mut waiting = Waiting::new(rt.alloc());
     for pid in [0u32, 1, 63, 64, 65, 4_096, 99_999] {
         offer(&mut waiting, pid, &[Offer::Delay(5), Offer::Send(pid)])?;
-        assert!(rt; waiting.senders(pid).iter().all(|party| is_party(party, pid, 1)));
+        assert!(rt;
+            waiting
+                .senders(pid)
+                .iter()
+                .all(|party| is_party(party, pid, 1))
+        );
         assert_eq!(rt; waiting.senders(pid).len(), 1);
         assert_eq!(rt; waiting.option_count(pid, 4), 0);
         assert_eq!(rt; waiting.option_count(pid, 5), 1);

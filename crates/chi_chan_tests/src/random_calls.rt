@@ -6,6 +6,7 @@ use std::alloc::Global;
 use std::test::Fail;
 
 const INSTANCES: u32 = 24;
+
 const CHANNELS: u32 = 4;
 
 /// Numbers in an order that looks random, always the same.
@@ -75,7 +76,12 @@ fn lines_agree(alloc: Global, waiting: &Waiting, twin: &Twin) -> Result<bool, No
     Ok(true)
 }
 
-fn options_agree(alloc: Global, waiting: &Waiting, twin: &Twin, clock: i64) -> Result<bool, NoMemory> {
+fn options_agree(
+    alloc: Global,
+    waiting: &Waiting,
+    twin: &Twin,
+    clock: i64,
+) -> Result<bool, NoMemory> {
     for pid in 0..INSTANCES + 1 {
         let options = twin.options(alloc, pid, clock)?;
         if waiting.option_count(pid, clock) != options.len() as u64 {
@@ -111,7 +117,10 @@ fn lines_and_options_are_those_of_a_scan(rt: HostRuntime) -> Result<(), Fail> {
         }
         let clock = (call % 10) as i64;
         assert!(rt; lines_agree(alloc, &waiting, &twin)?, "call {call}");
-        assert!(rt; options_agree(alloc, &waiting, &twin, clock)?, "call {call}");
+        assert!(rt;
+            options_agree(alloc, &waiting, &twin, clock)?,
+            "call {call}"
+        );
     }
     Ok(())
 }

@@ -59,7 +59,12 @@ impl Twin {
     }
 
     /// Who sends on a channel, or who receives from it.
-    pub fn parties(&self, alloc: Global, sends: bool, channel: u32) -> Result<Vec<Party>, NoMemory> {
+    pub fn parties(
+        &self,
+        alloc: Global,
+        sends: bool,
+        channel: u32,
+    ) -> Result<Vec<Party>, NoMemory> {
         let mut parties = Vec::new(alloc);
         for entry in self.entries.iter() {
             let mut alternative = 0u32;
