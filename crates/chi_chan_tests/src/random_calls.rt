@@ -5,7 +5,7 @@ use chi_chan::{Choice, Offer, Party, Waiting};
 use std::alloc::Global;
 use std::test::Fail;
 
-const INSTANCES: u32 = 24;
+const INSTANCES: u32 = 16;
 
 const CHANNELS: u32 = 4;
 
@@ -105,7 +105,7 @@ fn lines_and_options_are_those_of_a_scan(rt: HostRuntime) -> Result<(), Fail> {
     let mut random = Random { state: 42 };
     let mut waiting = Waiting::new(alloc);
     let mut twin = Twin::new(alloc);
-    for call in 0..3_000u32 {
+    for call in 0..2_000u32 {
         let pid = random.next() % INSTANCES;
         if twin.waits(pid) {
             twin.withdraw(pid);
