@@ -1,0 +1,4 @@
+pub mod Lining
+pub mod Scanning
+pub mod Seating
+pub mod Standing

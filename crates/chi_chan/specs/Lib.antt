@@ -1,0 +1,4 @@
+pub mod Held
+pub mod Lined
+pub mod Seated
+pub mod Kept
