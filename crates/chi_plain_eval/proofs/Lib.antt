@@ -5,6 +5,7 @@ pub mod Insertions
 pub mod Operating
 pub mod Passing
 pub mod Repeating
+pub mod Setting
 pub mod Spans
 pub mod Spotting
 pub mod Standing
