@@ -5,9 +5,9 @@ pub mod Insertions
 pub mod Operating
 pub mod Passing
 pub mod Repeating
-pub mod Setting
 pub mod Spans
 pub mod Spotting
 pub mod Standing
 pub mod Truths
 pub mod Turns
+pub mod Wholes

@@ -115,7 +115,7 @@ fn act_on<'a>(
 
 /// A declaration, which stands first.
 #[cycle(eval)]
-#[tactic(auto, using(chi_core_frame::proofs::Stopping::stopping, crate::proofs::Setting::declaring))]
+#[tactic(auto, using(chi_core_frame::proofs::Stopping::stopping, crate::proofs::Wholes::declaring))]
 fn declare(
     e: &CExpr,
     alloc: Global,
@@ -227,7 +227,7 @@ fn choose<'a>(
 /// An assignment, which stands first: the values, spread over the targets, then the targets' indexes,
 /// then the stores.
 #[cycle(eval)]
-#[tactic(auto, using(chi_core_frame::proofs::Stopping::stopping, crate::proofs::Setting::assigning))]
+#[tactic(auto, using(chi_core_frame::proofs::Stopping::stopping, crate::proofs::Wholes::assigning))]
 fn assign(
     values: &[CExpr],
     alloc: Global,

@@ -16,7 +16,7 @@ use chi_core_frame::{Stop, Variables};
 use std::alloc::Global;
 
 /// The slot and the expression, where one expression goes to one whole variable.
-#[tactic(auto, using(crate::proofs::Setting::wholes))]
+#[tactic(auto, using(crate::proofs::Wholes::wholes))]
 pub fn whole_of<'e>(targets: &[CTarget], values: &'e [CExpr]) -> Option<(u32, &'e CExpr)>
     ensures target { IfSome result (λ whole. targets.now ≡ record { slot = whole.0; steps = [] } ∷ []) }
     ensures value { IfSome result (λ whole. values.now ≡ whole.1.now ∷ []) }
@@ -49,7 +49,7 @@ fn operator_in(e: &CExpr) -> Option<(OpName, &[CExpr])>
 /// Sets a whole variable to the value of an expression. Where that is an operator, the old value is let go of once the
 /// operands are there.
 #[cycle(eval)]
-#[tactic(auto, using(chi_core_frame::proofs::Stopping::stopping, crate::proofs::Setting::setting))]
+#[tactic(auto, using(chi_core_frame::proofs::Stopping::stopping, crate::proofs::Wholes::setting))]
 pub fn set_to(
     e: &CExpr,
     alloc: Global,

@@ -11,7 +11,7 @@ use Rattle.chi_core.specs.declared.view.View.{View}
 use Rattle.chi_core.specs.Answer.{Answer, Does, Gives, Fails, Spent, Amiss, then_do, wanted, giving, in_turn, through}
 use Rattle.chi_core.specs.Evaluation.{Run, Evaluates, eval}
 use Rattle.chi_core.specs.Operators.{applied}
-use Rattle.chi_core.specs.Scene.{Scene}
+use Rattle.chi_core.specs.declared.scene.Scene.{Scene}
 use Rattle.chi_core.specs.Spots.{spot_of, store}
 use Rattle.chi_core.specs.Terms.{Term, Did, On, on_with, assigned, declared, spread}
 use Rattle.chi_core.specs.Variables.{Variables, value_at, with_slot, side_by_side}
@@ -96,7 +96,6 @@ module _ (m : Evaluates) (variables : Variables) (slot : ℕ) (e : CExpr) (rest 
   one_assigned = by_value (m e view)
     where
       by_value : (it : Answer Value) → then_do (then_do it (λ x now. Gives (x ∷ []) now)) rest_of ≡ giving (on_with rest) (then_do it (λ x. wanted (with_slot slot x variables)))
-      unfolding rest_of
       by_value (Gives x now) = last_store (with_slot slot x variables) now
       by_value (Fails kind) = refl
       by_value Spent = refl
