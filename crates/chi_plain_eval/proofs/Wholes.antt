@@ -1,8 +1,7 @@
 -- Whole variables that are set, in place where it is by an operator.
-use Rattle.std.proofs.Common.{◌≡◌, ◌≢◌, ℕ, ◌<◌, List, [], ◌∷◌, Option, Some, None, length, max, get_or, map, ap, sym, subst, refl, ◌∙◌, arith}
-use denote.Param.Weighed.{most}
+use Rattle.std.proofs.Common.{◌≡◌, ◌≢◌, ℕ, ◌<◌, List, [], ◌∷◌, Option, Some, None, length, get_or, map, ap, sym, subst, refl, ◌∙◌, arith}
 use Rattle.chi_value.specs.declared.value.Value.{Value}
-use Rattle.chi_core.specs.declared.expression.CExpr.{CExpr, size-CExpr}
+use Rattle.chi_core.specs.declared.expression.CExpr.{CExpr}
 use Rattle.chi_core.specs.declared.expression.CExpr.TheVariants as e
 use Rattle.chi_core.specs.declared.op_name.OpName.{OpName}
 use Rattle.chi_core.specs.declared.target.CTarget.{CTarget}

@@ -6,6 +6,7 @@ ghost use Rattle.chi_core.specs.Answer.{Gives, Amiss};
 ghost use Rattle.chi_core_frame.specs.Stops.{Stops};
 ghost use Rattle.chi_plain_eval.specs.Calls.{meaning};
 ghost use Rattle.chi_plain_eval.specs.Settings.{set_to};
+ghost use Rattle.chi_plain_eval.specs.Spans.{AreSmaller};
 
 use crate::calls::Calls;
 use crate::expressions::eval;
@@ -38,7 +39,8 @@ pub fn whole_of<'e>(targets: &[CTarget], values: &'e [CExpr]) -> Option<(u32, &'
 
 /// The operator that an expression is, with its operands.
 fn operator_in(e: &CExpr) -> Option<(OpName, &[CExpr])>
-    ensures { IfSome result (λ operator. e.now ≡ Op operator.0 operator.1.now) }
+    ensures is { IfSome result (λ operator. e.now ≡ Op operator.0 operator.1.now) }
+    ensures smaller { IfSome result (λ operator. AreSmaller operator.1.now e.now) }
 {
     match e {
         CExpr::Op(name, parts) => Some((*name, parts.as_slice())),
