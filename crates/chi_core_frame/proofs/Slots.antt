@@ -1,6 +1,6 @@
 -- The variables of a new instance, as they are put into a list.
 use Rattle.std.proofs.Common.{◌≡◌, ℕ, suc, ◌-◌, ◌<◌, ◌≤◌, ◌≢◌, nat_lt, slice_set, List, [], ◌∷◌, ◌++◌, Some, None, length, sym, ◌∙◌, ap, refl, arith, length-append}
-use Rattle.std.specs.Prelude.{map, replicate, if◌then◌else◌}
+use Rattle.std.specs.Prelude.{map, replicate, slice_get, if◌then◌else◌}
 use Rattle.std.proofs.lemmas.List.{append-nil, append_assoc, length-map, length-set, set-set}
 use Rattle.chi_value.specs.declared.value.Value.{Value}
 use Rattle.chi_core.specs.Variables.{Variables, variables_of, value_at, set_value, with_slot}
@@ -50,6 +50,18 @@ taken_set variables new slot x e =
     ap (with_slot slot x) e
     ∙ ap (λ n. if nat_lt slot n then Some (slice_set (slice_set variables slot None) slot (Some x)) else None) (length-set variables slot None)
     ∙ ap (λ v. if nat_lt slot (length variables) then Some v else None) (set-set variables slot None (Some x))
+
+-- whether it is set
+pub set_at : (variables : Variables) (slot : ℕ) (v : Value) → slice_get variables slot ≡ Some (Some v) → value_at variables slot ≢ None
+set_at variables slot v e none = absurd (cc)
+
+pub unset_at : (variables : Variables) (slot : ℕ) → slice_get variables slot ≡ Some None → value_at variables slot ≡ None
+unset_at variables slot e = ap set_value e
+
+pub not_there : (variables : Variables) (slot : ℕ) → slice_get variables slot ≡ None → value_at variables slot ≡ None
+not_there variables slot e = ap set_value e
+
+pub ruleset set = (set_at, unset_at, not_there)
 
 pub ruleset taking = (there_at, taken_size, taken_set)
 

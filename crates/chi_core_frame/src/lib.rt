@@ -16,7 +16,7 @@ pub use given::{
     copy_of, fresh_of, insertion_of, list_of, literal_of, operator_of_all, operator_of_one,
     operator_of_two, part_of,
 };
-pub use in_place::{operate_on_one, operate_on_two};
+pub use in_place::{operate_on_one, operate_on_two, operator_off_one, operator_off_two};
 pub use scalars::copied;
 pub use spots::{Spot, store};
 pub use stop::Stop;

@@ -1,4 +1,4 @@
-ghost use Rattle.std.specs.Prelude.{◌≡◌, ◌≢◌, ◌<◌, None, Some, IfOk, OnOk, length, slice_set};
+ghost use Rattle.std.specs.Prelude.{◌≡◌, ◌≢◌, ◌<◌, ◌↔◌, None, Some, IfOk, IsTrue, OnOk, length, slice_set};
 ghost use Rattle.std.specs.Option.{option_copied};
 ghost use Rattle.chi_value.specs.declared.value.Value.{Value};
 ghost use Rattle.chi_core_frame.specs.Bindings.{bound_parts};
@@ -98,6 +98,19 @@ impl Variables {
         match &self.slots[slot as usize] {
             Some(value) => value,
             None => unreachable!(),
+        }
+    }
+
+    /// Whether a slot is there and set.
+    #[inline(always)]
+    #[tactic(auto, using(crate::proofs::Slots::set))]
+    pub fn is_set(&self, slot: u32) -> bool
+        ensures { IsTrue result ↔ (value_at self.now slot ≢ None) }
+    {
+        match self.slots.get(slot as usize) {
+            Some(Some(_)) => true,
+            Some(None) => false,
+            None => false,
         }
     }
 

@@ -27,7 +27,7 @@ giving_there f it h e = h (ap (giving f) e)
 wanted_there : {A : Type 0} (o : Option A) (view : View) → wanted o view ≢ Amiss → o ≢ None
 wanted_there o view h e = h (ap (λ o. wanted o view) e)
 
-slot_there : (slot : ℕ) (x : Value) (variables : Variables) → with_slot slot x variables ≢ None → slot < length variables
+pub slot_there : (slot : ℕ) (x : Value) (variables : Variables) → with_slot slot x variables ≢ None → slot < length variables
 slot_there slot x variables h = by_test (nat_lt slot (length variables)) refl h
   where
     by_test : (b : Bool) → nat_lt slot (length variables) ≡ b → (if b then Some (slice_set variables slot (Some x)) else None) ≢ None → slot < length variables
@@ -89,16 +89,6 @@ module _ (m : Evaluates) (variables : Variables) (x : CStat) (rest : Term) (view
   pub finish_amiss : (l : ℕ) (es : List CExpr) → x ≡ s.Finish l es → act_stat m variables (out-CStat x) rest view ≢ Amiss → ⊥
   finish_amiss l es is h = at _ (ap out-CStat is ∙ s.outs-Finish l es) h refl
 
--- a declaration
-module _ (m : Evaluates) (variables : Variables) (slot : ℕ) (e : CExpr) (rest : Term) (view : View) where
-  pub declare_first : declared m variables slot e rest view ≢ Amiss → m e view ≢ Amiss
-  declare_first h = then_there (m e view) (λ x now. giving (on_with rest) (wanted (with_slot slot x variables) now)) h
-
-  pub declare_there : (v : Value) (now : View) → m e view ≡ Gives v now → declared m variables slot e rest view ≢ Amiss → slot < length variables
-  declare_there v now got h =
-      slot_there slot v variables (wanted_there (with_slot slot v variables) now (giving_there (on_with rest) (wanted (with_slot slot v variables) now)
-      (next_there (m e view) (λ x now. giving (on_with rest) (wanted (with_slot slot x variables) now)) v now h got)))
-
 -- the beginning of a walk
 module _ (m : Evaluates) (variables : Variables) (line : ℕ) (slots : List ℕ) (e : CExpr) (block : List CStat) (rest : Term) (view : View) where
   pub walk_first : walking m variables line slots e block rest view ≢ Amiss → m e view ≢ Amiss
@@ -146,8 +136,6 @@ pub walk_goes : (m : Evaluates) (variables variables2 : Variables) (term term2 :
 walk_goes m variables variables2 term term2 view is e = walk_is m variables term view is ∙ ap (λ o. giving on_pair (wanted o view)) e
 
 pub ruleset acting = (return_first, break_there, continue_there, exit_amiss, write_amiss, select_amiss, run_amiss, start_amiss, finish_amiss)
-
-pub ruleset declaring = (declare_first, declare_there)
 
 pub ruleset beginning = (walk_first, elements_there)
 

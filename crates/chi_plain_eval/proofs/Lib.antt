@@ -10,3 +10,4 @@ pub mod Spotting
 pub mod Standing
 pub mod Truths
 pub mod Turns
+pub mod Wholes

@@ -9,7 +9,7 @@ use Rattle.chi_core_frame.specs.declared.stop.Stop.{Stop}
 use Rattle.chi_core_frame.specs.Stops.{Stops}
 use Rattle.chi_core_frame.proofs.Stopping.{then_stops, then_there, next_there}
 
-only_one : (parts : List CExpr) (a : CExpr) → length parts ≡ 1 → a ≡ get_or parts 0 a → parts ≡ a ∷ []
+pub only_one : {A : Type 0} (parts : List A) (a : A) → length parts ≡ 1 → a ≡ get_or parts 0 a → parts ≡ a ∷ []
 only_one [] a n at = absurd (omega arith)
 only_one (x ∷ []) a n at = ap (λ x. x ∷ []) (sym at)
 only_one (x ∷ y ∷ rest) a n at = absurd (omega arith)

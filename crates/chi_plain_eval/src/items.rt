@@ -12,6 +12,7 @@ use crate::calls::Calls;
 use crate::expressions::{eval, eval_all};
 use crate::places::spots_of;
 use crate::reading::truth_of;
+use crate::setting::{set_to, whole_of};
 use crate::surroundings::Surroundings;
 use chi_core::{Branch, CExpr, CStat, CTarget, View};
 use chi_core_apply::elements_in;
@@ -114,7 +115,7 @@ fn act_on<'a>(
 
 /// A declaration, which stands first.
 #[cycle(eval)]
-#[tactic(auto, using(chi_core_frame::proofs::Stopping::stopping, crate::proofs::Acting::declaring))]
+#[tactic(auto, using(chi_core_frame::proofs::Stopping::stopping, crate::proofs::Wholes::declaring))]
 fn declare(
     e: &CExpr,
     alloc: Global,
@@ -130,8 +131,7 @@ fn declare(
     ensures stops { IfErr result (λ stop. Stops stop (declared (meaning calls s.now variables.old) variables.old slot e.now (drop 1 term.old) view.old)) }
     ensures kept { result ≡ Err Stop.Spent → (variables.new ≡ variables.old) × (term.new ≡ term.old) }
 {
-    let value = eval(e, alloc, s, calls, variables, view)?;
-    variables.set(slot, value);
+    set_to(e, alloc, s, calls, slot, variables, view)?;
     term.drop_first();
     Ok(None)
 }
@@ -227,8 +227,36 @@ fn choose<'a>(
 /// An assignment, which stands first: the values, spread over the targets, then the targets' indexes,
 /// then the stores.
 #[cycle(eval)]
-#[tactic(auto, using(chi_core_frame::proofs::Stopping::stopping, crate::proofs::Assigned::assigning))]
+#[tactic(auto, using(chi_core_frame::proofs::Stopping::stopping, crate::proofs::Wholes::assigning))]
 fn assign(
+    values: &[CExpr],
+    alloc: Global,
+    s: &Surroundings<'_>,
+    calls: Calls,
+    targets: &[CTarget],
+    term: &mut Term<'_>,
+    variables: &mut Variables,
+    view: &mut View,
+) -> Result<Option<Value>, Stop>
+    requires { assigned (meaning calls s.now variables.old) variables.old targets.now values.now (drop 1 term.old) view.old ≢ Amiss }
+    ensures value { IfOk result (λ r. assigned (meaning calls s.now variables.old) variables.old targets.now values.now (drop 1 term.old) view.old ≡ Gives (came_to r variables.new term.new) view.new) }
+    ensures stops { IfErr result (λ stop. Stops stop (assigned (meaning calls s.now variables.old) variables.old targets.now values.now (drop 1 term.old) view.old)) }
+    ensures kept { result ≡ Err Stop.Spent → (variables.new ≡ variables.old) × (term.new ≡ term.old) }
+{
+    match whole_of(targets, values) {
+        Some((slot, e)) => {
+            set_to(e, alloc, s, calls, slot, variables, view)?;
+            term.drop_first();
+            Ok(None)
+        }
+        None => assign_all(values, alloc, s, calls, targets, term, variables, view),
+    }
+}
+
+/// An assignment, which stands first, of any values to any targets.
+#[cycle(eval)]
+#[tactic(auto, using(chi_core_frame::proofs::Stopping::stopping, crate::proofs::Assigned::assigning))]
+fn assign_all(
     values: &[CExpr],
     alloc: Global,
     s: &Surroundings<'_>,

@@ -12,6 +12,7 @@ mod literals;
 mod operators;
 mod places;
 mod reading;
+mod setting;
 mod surroundings;
 
 pub use chi_core_apply::{
