@@ -1,0 +1,126 @@
+//! A program to its code.
+
+ghost use Rattle.std.specs.Prelude.{◌≡◌, IfOk, OnOk, [], ◌∷◌};
+ghost use Rattle.chi_code.specs.Codes.{Codes};
+ghost use Rattle.chi_core.specs.Kinds.{Every};
+ghost use Rattle.chi_core.specs.Sound.{Sound};
+ghost use Rattle.chi_gen.specs.Added.{AddsConsts, AddsFuncs, AddsProcs};
+ghost use Rattle.chi_gen.specs.Soundness.{SoundBody};
+
+use crate::copies::{bytes_copy, names_copy};
+use crate::expressions::expression;
+use crate::here::Here;
+use crate::statements::block;
+use crate::writer::{number_of, place, plus_one, put};
+use chi_base::{Items, NoMemory};
+use chi_code::{Code, Entry, Instr};
+use chi_core::{ConstDef, Core, FuncDef, ProcDef};
+use std::alloc::Global;
+
+fn constant(alloc: Global, number: u32, k: &ConstDef, code: &mut Vec<Instr>) -> Result<(), NoMemory>
+    ensures { OnOk result (AddsConsts number (k.now ∷ []) code.old.items code.new.items) }
+{
+    expression(alloc, &k.value, code)?;
+    put(code, Instr::SetConst(number, k.line))?;
+    Ok(())
+}
+
+fn constants(alloc: Global, ks: &[ConstDef], code: &mut Vec<Instr>) -> Result<(), NoMemory>
+    ensures { OnOk result (AddsConsts 0 ks.now code.old.items code.new.items) }
+{
+    let mut number = 0;
+    for k in ks {
+        constant(alloc, number, k, code)?;
+        number = plus_one(number)?;
+    }
+    Ok(())
+}
+
+fn function(alloc: Global, f: &FuncDef, code: &mut Vec<Instr>) -> Result<Entry, NoMemory>
+    requires sound { SoundBody f.now.slots f.now.body }
+    ensures { IfOk result (λ entry. AddsFuncs (f.now ∷ []) (entry ∷ []) code.old.items code.new.items) }
+{
+    let entry = Entry {
+        name: bytes_copy(alloc, &f.name)?,
+        arity: f.arity,
+        slots: number_of(&f.slots)?,
+        entry: place(code),
+    };
+    let here = Here {
+        alloc,
+        process: false,
+        slots: f.slots.as_slice(),
+        near: None,
+    };
+    block(&here, f.body.as_slice(), code)?;
+    put(code, Instr::NoRet)?;
+    Ok(entry)
+}
+
+fn functions(alloc: Global, fs: &[FuncDef], code: &mut Vec<Instr>) -> Result<Items<Entry>, NoMemory>
+    requires sound { Every (λ f. SoundBody f.slots f.body) fs.now }
+    ensures { IfOk result (λ entries. AddsFuncs fs.now entries code.old.items code.new.items) }
+{
+    let mut entries = Vec::new(alloc);
+    for f in fs {
+        let entry = function(alloc, f, code)?;
+        entries.push(entry)?;
+    }
+    Ok(Items::of(alloc, entries)?)
+}
+
+fn process(alloc: Global, d: &ProcDef, code: &mut Vec<Instr>) -> Result<Entry, NoMemory>
+    requires sound { SoundBody d.now.slots d.now.body }
+    ensures { IfOk result (λ entry. AddsProcs (d.now ∷ []) (entry ∷ []) code.old.items code.new.items) }
+{
+    let entry = Entry {
+        name: bytes_copy(alloc, &d.name)?,
+        arity: number_of(&d.params)?,
+        slots: number_of(&d.slots)?,
+        entry: place(code),
+    };
+    let here = Here {
+        alloc,
+        process: true,
+        slots: d.slots.as_slice(),
+        near: None,
+    };
+    block(&here, d.body.as_slice(), code)?;
+    put(code, Instr::Done)?;
+    Ok(entry)
+}
+
+fn processes(alloc: Global, ds: &[ProcDef], code: &mut Vec<Instr>) -> Result<Items<Entry>, NoMemory>
+    requires sound { Every (λ d. SoundBody d.slots d.body) ds.now }
+    ensures { IfOk result (λ entries. AddsProcs ds.now entries code.old.items code.new.items) }
+{
+    let mut entries = Vec::new(alloc);
+    for d in ds {
+        let entry = process(alloc, d, code)?;
+        entries.push(entry)?;
+    }
+    Ok(Items::of(alloc, entries)?)
+}
+
+/// The code of a sound program.
+pub fn generate(alloc: Global, core: &Core) -> Result<Code, NoMemory>
+    requires sound { Sound core.now }
+    ensures code { IfOk result (λ code. Codes core.now code) }
+{
+    let mut instrs = Vec::new(alloc);
+    constants(alloc, core.consts.as_slice(), &mut instrs)?;
+    put(&mut instrs, Instr::Done)?;
+    let funcs = functions(alloc, core.funcs.as_slice(), &mut instrs)?;
+    let procs = processes(alloc, core.procs.as_slice(), &mut instrs)?;
+    let consts = number_of(&core.consts)?;
+    let names = names_copy(alloc, &core.names)?;
+    let instrs = Items::of(alloc, instrs)?;
+    Ok(Code {
+        consts,
+        funcs,
+        procs,
+        model: core.model,
+        names,
+        instrs,
+    })
+}
