@@ -19,12 +19,14 @@ impl<T> Model for Boxed<T> {
 }
 
 impl<T> Boxed<T> {
+    /// The value, where it lies.
     pub fn get(&self) -> &T
         ensures same { result.now ≡ self.now }
     {
         &self.inner
     }
 
+    /// The value, off the heap.
     pub fn into_inner(self) -> T
         ensures same { result ≡ self }
     {
@@ -34,6 +36,7 @@ impl<T> Boxed<T> {
 }
 
 impl<T: Drop> Boxed<T> {
+    /// A value, moved to the heap.
     pub fn new(alloc: Global, value: T) -> Result<Boxed<T>, NoMemory>
         ensures same { IfOk result (λ boxed. boxed ≡ value) }
     {

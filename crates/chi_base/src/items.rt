@@ -24,6 +24,7 @@ impl<T> Model for Items<T> {
 }
 
 impl<T> Items<T> {
+    /// The elements, as they lie in memory.
     pub fn as_slice(&self) -> &[T]
         ensures same { result.now ≡ self.now }
     {
@@ -32,13 +33,14 @@ impl<T> Items<T> {
 }
 
 impl<T: Drop> Items<T> {
+    /// The list of a vector's elements, which stay where they are.
     pub fn of(_alloc: Global, values: Vec<T>) -> Result<Items<T>, NoMemory>
         ensures same { IfOk result (λ items. items ≡ values.items) }
     {
         Ok(Items { elements: values })
     }
 
-    /// The elements, to be changed or used up. It takes memory where they are shared.
+    /// The elements, to be changed or used up. None is copied.
     pub fn into_vec(self, _alloc: Global) -> Result<Vec<T>, NoMemory>
         ensures same { IfOk result (λ values. values.items ≡ self) }
     {

@@ -1,5 +1,5 @@
-//! What every crate of the project shares: the one refusal for want of memory, and the list and
-//! the box of which trees are made.
+//! What every crate of the project shares: the one refusal for want of memory, the list and the box of which trees are
+//! made, and the lists whose copies share their elements.
 #![tactic(auto)]
 
 mod boxed;

@@ -8,8 +8,9 @@ use std::marker::Model;
 use std::mem;
 use std::rc::Rc;
 
-/// A list whose elements its copies share, which is made longer at its end and shorter at its front at no cost where it
-/// isn't shared. Contracts see it as the list of its elements. What is changed is copied first where it is shared.
+/// A list in a ring, whose elements its copies share: contracts see it as the list of its elements. Its sole owner
+/// changes it where it is, and makes it longer at its end and shorter at either end in the time of what comes and goes;
+/// any other owner first gets elements of its own, each copied.
 #[derive(Debug, Drop)]
 pub struct Row<T> {
     shared: Rc<VecDeque<T>>,
@@ -27,19 +28,21 @@ impl<T> Model for Row<T> {
 }
 
 impl<T> Row<T> {
-    /// The elements, in two parts.
+    /// The elements, as the two stretches in which they lie.
     pub fn as_slices(&self) -> (&[T], &[T])
         ensures same { result.0.now ++ result.1.now ≡ self.now }
     {
         self.shared.as_ref().as_slices()
     }
 
+    /// How many elements there are, in constant time.
     pub fn len(&self) -> usize
         ensures same { result ≡ length self.now }
     {
         self.shared.as_ref().len()
     }
 
+    /// The element at a place, in constant time, if there is one.
     pub fn get(&self, place: usize) -> Option<&T>
         ensures variant { IsSome result ↔ (place < length self.now) }
         ensures lookup { IfSome result (λ x. x.now ≡ slice_index_or self.now place x.now) }
@@ -47,9 +50,14 @@ impl<T> Row<T> {
     {
         self.shared.as_ref().get(place)
     }
+
+    fn has_other_owners(&self) -> bool {
+        Rc::strong_count(&self.shared) != 1
+    }
 }
 
 impl<T: Drop> Row<T> {
+    /// The list of a vector's elements, which stay where they are.
     pub fn of(alloc: Global, values: Vec<T>) -> Result<Row<T>, NoMemory>
         ensures same { IfOk result (λ row. row ≡ values.items) }
     {
@@ -67,7 +75,7 @@ impl<T: Drop> Row<T> {
 }
 
 impl<T: Drop + Copied> Row<T> {
-    /// The elements, to be changed or used up. They are copied where they are shared.
+    /// The elements, to be changed or used up: the very ones of a sole owner, and else copies.
     pub fn into_vec(self, alloc: Global) -> Result<Vec<T>, NoMemory>
         ensures same { IfOk result (λ values. values.items ≡ self) }
     {
@@ -76,18 +84,18 @@ impl<T: Drop + Copied> Row<T> {
             Ok(values) => Ok(values.into_vec()),
             Err(shared) => {
                 let (first, second) = shared.as_ref().as_slices();
-                Ok(joined_copies(alloc, first, second)?)
+                Ok(copies_of_both(alloc, first, second)?)
             }
         }
     }
 
-    /// Sees to it that nobody else has the elements.
+    /// Sees to it that nobody else has the elements, so that `Rc::get_mut` lends them.
     fn make_own(&mut self, alloc: Global) -> Result<(), NoMemory>
         ensures same { self.new ≡ self.old }
     {
-        if Rc::strong_count(&self.shared) != 1 {
+        if self.has_other_owners() {
             let (first, second) = self.shared.as_ref().as_slices();
-            let copies = joined_copies(alloc, first, second)?;
+            let copies = copies_of_both(alloc, first, second)?;
             self.shared = Rc::new(alloc, VecDeque::from_vec(copies))?;
         }
         Ok(())
@@ -139,13 +147,14 @@ impl<T: Drop + Copied> Row<T> {
         Ok(())
     }
 
-    /// So many elements from a place on. Where the list isn't shared, the others go, and these stay where they are.
+    /// So many elements from a place on. Of a sole owner the others go, and these stay where they are; else these are
+    /// copied, and no others.
     #[tactic(auto, using(crate::proofs::Parts::drop_of_take))]
     pub fn part(self, alloc: Global, from: usize, size: usize) -> Result<Row<T>, NoMemory>
         requires inside { from + size ≤ length self }
         ensures part { IfOk result (λ row. row ≡ take size (drop from self)) }
     {
-        if Rc::strong_count(&self.shared) != 1 {
+        if self.has_other_owners() {
             return Ok(self.copied_part(alloc, from, size)?);
         }
         let mut row = self;
@@ -159,6 +168,7 @@ impl<T: Drop + Copied> Row<T> {
         ensures part { IfOk result (λ row. row ≡ take size (drop from self.now)) }
     {
         let mut copies = Vec::with_capacity(alloc, size)?;
+        // the length of a list that is there bounds its places, so that their sum fits
         let _whole = self.len();
         for place in 0..size {
             let Some(value) = self.get(from + place) else {
@@ -192,7 +202,7 @@ impl<T: Drop + Copied> Row<T> {
         Ok(())
     }
 
-    /// Puts an element before a place.
+    /// Puts an element before a place. The fewer of those before it and after it move.
     pub fn insert(&mut self, alloc: Global, place: usize, value: T) -> Result<(), NoMemory>
         requires inside { place ≤ length self.old }
         ensures inserted { OnOk result (self.new ≡ insert self.old place value) }
@@ -207,7 +217,7 @@ impl<T: Drop + Copied> Row<T> {
         }
     }
 
-    /// Takes an element out. What is nearer of the parts before and after it moves.
+    /// Takes an element out. The fewer of those before it and after it move.
     pub fn remove(&mut self, alloc: Global, place: usize) -> Result<T, NoMemory>
         requires inside { place < length self.old }
         ensures taken { IfOk result (λ old. slice_get self.old place ≡ Some old) }
@@ -223,7 +233,7 @@ impl<T: Drop + Copied> Row<T> {
         }
     }
 
-    /// Takes the first element out, at no cost where the list isn't shared.
+    /// Takes the first element out. None of the others moves.
     pub fn take_first(&mut self, alloc: Global) -> Result<T, NoMemory>
         requires some { 0 < length self.old }
         ensures taken { IfOk result (λ first. self.old ≡ first ∷ self.new) }
@@ -239,8 +249,8 @@ impl<T: Drop + Copied> Row<T> {
     }
 }
 
-/// A copy of each of two parts.
-fn joined_copies<T: Drop + Copied>(
+/// A copy of each element of two stretches.
+fn copies_of_both<T: Drop + Copied>(
     alloc: Global,
     first: &[T],
     second: &[T],

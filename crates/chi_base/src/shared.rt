@@ -1,4 +1,4 @@
-ghost use Rattle.std.specs.Prelude.{◌≡◌, ◌<◌, ◌≤◌, ◌++◌, ◌∷◌, [], insert, length, remove, slice_get, slice_set, take, Some, IfOk, OnOk};
+ghost use Rattle.std.specs.Prelude.{◌≡◌, ◌<◌, ◌∷◌, length, slice_get, slice_set, Some, IfOk, OnOk};
 
 use crate::NoMemory;
 use std::alloc::Global;
@@ -6,14 +6,16 @@ use std::marker::Model;
 use std::mem;
 use std::rc::Rc;
 
-/// What can be copied, where memory is found.
+/// What can be copied, where memory is found. A copy is as cheap as the type has it: that of a list that is shared
+/// counts one more owner.
 pub trait Copied: Sized {
+    /// A copy, which is the very same to contracts.
     fn copied(&self, alloc: Global) -> Result<Self, NoMemory>
         ensures same { IfOk result (λ copy. copy ≡ self.now) };
 }
 
-/// A list whose elements its copies share: contracts see it as the list of its elements. What is changed is copied first
-/// where it is shared.
+/// A list of fixed size whose elements its copies share: contracts see it as the list of its elements. Only its sole
+/// owner changes them where they are; any other owner first gets elements of its own, each copied.
 #[derive(Debug, Drop)]
 pub struct Shared<T> {
     shared: Rc<Vec<T>>,
@@ -31,6 +33,7 @@ impl<T> Model for Shared<T> {
 }
 
 impl<T> Shared<T> {
+    /// The elements, as they lie in memory.
     pub fn as_slice(&self) -> &[T]
         ensures same { result.now ≡ self.now }
     {
@@ -39,6 +42,7 @@ impl<T> Shared<T> {
 }
 
 impl<T: Drop> Shared<T> {
+    /// The list of a vector's elements, which stay where they are.
     pub fn of(alloc: Global, values: Vec<T>) -> Result<Shared<T>, NoMemory>
         ensures same { IfOk result (λ items. items ≡ values.items) }
     {
@@ -56,7 +60,7 @@ impl<T: Drop> Shared<T> {
 }
 
 impl<T: Drop + Copied> Shared<T> {
-    /// The elements, to be changed or used up. They are copied where they are shared.
+    /// The elements, to be changed or used up: the very ones of a sole owner, and else copies.
     pub fn into_vec(self, alloc: Global) -> Result<Vec<T>, NoMemory>
         ensures same { IfOk result (λ values. values.items ≡ self) }
     {
@@ -67,7 +71,7 @@ impl<T: Drop + Copied> Shared<T> {
         }
     }
 
-    /// Sees to it that nobody else has the elements.
+    /// Sees to it that nobody else has the elements, so that `Rc::get_mut` lends them.
     fn make_own(&mut self, alloc: Global) -> Result<(), NoMemory>
         ensures same { self.new ≡ self.old }
     {
@@ -91,64 +95,20 @@ impl<T: Drop + Copied> Shared<T> {
         }
     }
 
-    /// Appends an element.
-    pub fn push(&mut self, alloc: Global, value: T) -> Result<(), NoMemory>
-        ensures pushed { OnOk result (self.new ≡ self.old ++ value ∷ []) }
+    /// Takes the first element out. The others move up.
+    pub fn take_first(&mut self, alloc: Global) -> Result<T, NoMemory>
+        requires some { 0 < length self.old }
+        ensures taken { IfOk result (λ first. self.old ≡ first ∷ self.new) }
     {
         self.make_own(alloc)?;
         match Rc::get_mut(&mut self.shared) {
-            Some(values) => {
-                values.push(value)?;
-                Ok(())
-            }
-            None => Err(NoMemory),
-        }
-    }
-
-    /// Puts an element before a place.
-    pub fn insert(&mut self, alloc: Global, place: usize, value: T) -> Result<(), NoMemory>
-        requires inside { place ≤ length self.old }
-        ensures inserted { OnOk result (self.new ≡ insert self.old place value) }
-    {
-        self.make_own(alloc)?;
-        match Rc::get_mut(&mut self.shared) {
-            Some(values) => {
-                values.insert(place, value)?;
-                Ok(())
-            }
-            None => Err(NoMemory),
-        }
-    }
-
-    /// Takes an element out.
-    pub fn remove(&mut self, alloc: Global, place: usize) -> Result<T, NoMemory>
-        requires inside { place < length self.old }
-        ensures taken { IfOk result (λ old. slice_get self.old place ≡ Some old) }
-        ensures rest { OnOk result (self.new ≡ remove self.old place) }
-    {
-        self.make_own(alloc)?;
-        match Rc::get_mut(&mut self.shared) {
-            Some(values) => Ok(values.remove(place)),
-            None => Err(NoMemory),
-        }
-    }
-
-    /// Keeps so many of the first elements.
-    pub fn truncate(&mut self, alloc: Global, size: usize) -> Result<(), NoMemory>
-        ensures kept { OnOk result (self.new ≡ take size self.old) }
-    {
-        self.make_own(alloc)?;
-        match Rc::get_mut(&mut self.shared) {
-            Some(values) => {
-                values.truncate(size);
-                Ok(())
-            }
+            Some(values) => Ok(values.remove(0)),
             None => Err(NoMemory),
         }
     }
 }
 
-/// A copy of each.
+/// A copy of each value, in a vector that has room for no more.
 pub fn copies_of<T: Drop + Copied>(alloc: Global, values: &[T]) -> Result<Vec<T>, NoMemory>
     ensures same { IfOk result (λ copies. copies.items ≡ values.now) }
 {

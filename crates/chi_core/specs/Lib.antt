@@ -12,6 +12,7 @@ pub mod Fills
 pub mod Functions
 pub mod Kinded
 pub mod Kinds
+pub mod Limits
 pub mod Meeting
 pub mod Of
 pub mod OpNames

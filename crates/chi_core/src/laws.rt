@@ -16,6 +16,7 @@ ghost use Rattle.chi_core.specs.declared.statement.CStat.{CStat};
 ghost use Rattle.chi_core.specs.Beginning.{first_config};
 ghost use Rattle.chi_core.specs.Kinded.{KindedConstants, Kinded};
 ghost use Rattle.chi_core.specs.Kinds.{Kind, kind_of, kinds_of, is_plain_kind, holds_channel};
+ghost use Rattle.chi_core.specs.Limits.{LimitsAre};
 ghost use Rattle.chi_core.specs.Of.{World, Wider, at_start, IsOf, AreOf};
 ghost use Rattle.chi_core.specs.Scopes.{Home};
 ghost use Rattle.chi_core.specs.SetSlots.{Known};
@@ -62,4 +63,9 @@ pub fn start_is_kinded()
     ensures kinded { (core : Core) → Sound core → (constants : List Value) → KindedConstants core constants → (d : ProcDef) → slice_get core.procs core.model ≡ Some d
         → (arguments : List Value) → AreOf (at_start core.names.kinds) arguments (kinds_of d.params) → (seed : ℕ) (until : Option ℤ)
         → Kinded core (first_config seed until arguments constants core.model d) }
+{}
+
+/// The numbers that are the language's limits, each of which the definitions cite by its constant.
+pub fn limits_law()
+    ensures limits { LimitsAre }
 {}

@@ -26,7 +26,9 @@ pub use element::CElem;
 pub use expression::CExpr;
 pub use fault::FaultKind;
 pub use label::Label;
-pub use laws::{kinds_are_types, places_are_sound, start_is_kinded, values_are_of_kinds};
+pub use laws::{
+    kinds_are_types, limits_law, places_are_sound, start_is_kinded, values_are_of_kinds,
+};
 pub use limits::{MOST_CALLS, MOST_INSTANCES, MOST_OFFERS};
 pub use line::verdict_line;
 pub use op_name::OpName;

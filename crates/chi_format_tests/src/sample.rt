@@ -1,7 +1,7 @@
 use chi_base::NoMemory;
 use chi_num::Real;
 use chi_token::Bytes;
-use chi_value::{Items, Names, Value};
+use chi_value::{Names, Row, Value};
 use std::alloc::Global;
 
 /// Values as plain data, for tables.
@@ -29,7 +29,7 @@ impl Sample {
                 for number in *numbers {
                     items.push(Value::Int(*number))?;
                 }
-                Ok(Value::ListOf(Items::of(alloc, items)?))
+                Ok(Value::ListOf(Row::of(alloc, items)?))
             }
             Sample::Choice(position) => Ok(Value::Choice(0, *position)),
         }

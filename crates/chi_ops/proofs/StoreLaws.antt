@@ -4,21 +4,21 @@ use Rattle.std.proofs.lemmas.Bool.{false≢true, and_parts, and_from}
 use Rattle.std.proofs.lemmas.List.{set-set}
 use Rattle.std.specs.Prelude.{find, unwrap_or, option_and_then}
 use Rattle.std.specs.List.{list_all, cons_option}
-use Rattle.chi_value.specs.declared.value.Value.{Value, Value-F, map-Value, para-Value, para-roll-Value, out-Value, roll-out-Value}
+use Rattle.chi_value.specs.declared.value.Value.{Value, Value-F, map-Value, para-roll-Value, out-Value, roll-out-Value}
 use Rattle.chi_value.specs.declared.value.Value.TheVariants as value
 use Rattle.chi_value.specs.Alike.{uniform, uniform_step, all_alike, part_itself, part_holds}
 use Rattle.chi_value.specs.Alike.{alike}
 use Rattle.chi_sets.specs.Dictionaries.{keys, value_in, value_of, values, value_at}
 use Rattle.chi_ops.specs.Conditions.{is_key}
 use Rattle.chi_ops.specs.Kinds.{is_int}
-use Rattle.chi_ops.specs.Paths.{is_index, is_by}
+use Rattle.chi_ops.specs.Paths.{is_index}
 use Rattle.chi_ops.specs.Places.{place_of}
 use Rattle.chi_ops.specs.declared.fault.OpFault.{OpFault}
 use Rattle.chi_ops.specs.declared.fault.OpFault.TheVariants as fault
 use Rattle.chi_ops.specs.Outcome.{Fault, Outcome, gives, faults, wrong, outcome_map}
 use Rattle.chi_ops.specs.Refusal.{Refuses}
 use Rattle.chi_ops.specs.Store.{Step, by, part, changed_at, change_place, fits_along, store_key, stored}
-use Rattle.chi_ops.specs.Tidy.{tidy, all_tidy, sorted, sorted_step, is_set_list, is_dictionary_list}
+use Rattle.chi_ops.specs.Tidy.{tidy, all_tidy, sorted, is_dictionary_list}
 use Rattle.chi_ops.proofs.TidyLaws.{beside, sorted_at}
 
 -- what holds of all elements holds of each

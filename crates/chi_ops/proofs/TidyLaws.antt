@@ -1,8 +1,8 @@
 -- What tidy sets and dictionaries are.
-use Rattle.std.proofs.Common.{◌≡◌, Bool, true, false, ◌&&◌, IsTrue, Option, None, Some, List, [], ◌∷◌, map, refl, sym, ap, ◌∙◌, subst}
-use Rattle.std.proofs.lemmas.Bool.{false≢true, and_parts}
+use Rattle.std.proofs.Common.{◌≡◌, Bool, true, ◌&&◌, IsTrue, List, [], ◌∷◌, map, refl, sym, ap, ◌∙◌}
+use Rattle.std.proofs.lemmas.Bool.{and_parts}
 use Rattle.std.specs.List.{list_all}
-use Rattle.chi_value.specs.declared.value.Value.{Value, Value-F, map-Value, para-Value, para-roll-Value, out-Value, roll-out-Value}
+use Rattle.chi_value.specs.declared.value.Value.{Value, Value-F, map-Value, para-roll-Value, out-Value, roll-out-Value}
 use Rattle.chi_value.specs.declared.value.Value.TheVariants as value
 use Rattle.chi_value.specs.Alike.{uniform, alike, part_itself, part_holds}
 use Rattle.chi_value.specs.Plain.{is_plain}

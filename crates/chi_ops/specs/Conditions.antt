@@ -1,5 +1,5 @@
 -- When an operation may be used: the kinds of its operands to the whole depth. `range` takes any ints.
-use Rattle.std.specs.Prelude.{ℕ, ◌^◌, Bool, true, false, nat_le, nat_lt, ℤ, Option, None, Some, List, length, ◌&&◌}
+use Rattle.std.specs.Prelude.{ℕ, ◌^◌, Bool, false, nat_le, nat_lt, ℤ, Option, None, Some, List, length, ◌&&◌}
 use Rattle.std.specs.List.{list_all}
 use Rattle.chi_value.specs.declared.format.Kind.{Kind}
 use Rattle.chi_value.specs.declared.format.Kind.TheVariants as kind

@@ -1,5 +1,5 @@
 -- The kinds of values that operations take.
-use Rattle.std.specs.Prelude.{ℕ, Bool, true, false, Option, None, Some, List, length}
+use Rattle.std.specs.Prelude.{Bool, true, false}
 use Rattle.chi_value.specs.declared.value.Value.{Value, Value-F, out-Value}
 
 abbrev pub is_int : Value → Bool

@@ -1,5 +1,5 @@
 -- The operations on all containers, and those on sets and dictionaries, each wrong (or none) exactly where its condition fails.
-use Rattle.std.specs.Prelude.{ℕ, Bool, Option, None, Some, List, [], ◌∷◌, ◌++◌, length, option_map, if◌then◌else◌}
+use Rattle.std.specs.Prelude.{ℕ, Bool, Option, None, Some, List, [], ◌∷◌, length, option_map, if◌then◌else◌}
 use Rattle.chi_value.specs.declared.format.Kind.{Kind}
 use Rattle.chi_value.specs.declared.format.Kind.TheVariants as kind
 use Rattle.chi_value.specs.declared.value.Value.{Value, Value-F, out-Value}

@@ -1,6 +1,5 @@
 -- The steps that a path is.
-use Rattle.std.specs.Prelude.{Bool, true, false, Option, None, Some, List, map}
-use Rattle.chi_value.specs.declared.value.Value.{Value}
+use Rattle.std.specs.Prelude.{Bool, true, false, List, map}
 use Rattle.chi_value.specs.declared.value.Value.TheVariants as value
 use Rattle.chi_ops.specs.declared.path.Path.{Path}
 use Rattle.chi_ops.specs.declared.path.Path.TheVariants as path

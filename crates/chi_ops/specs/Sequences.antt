@@ -1,5 +1,5 @@
 -- The operations on lists and strings, each wrong exactly where its condition fails.
-use Rattle.std.specs.Prelude.{ℕ, ◌+◌, Bool, ℤ, pos, Option, None, Some, List, [], ◌∷◌, ◌++◌, length, map, slice_get, insert, remove, option_map, option_and_then, unwrap_or, if◌then◌else◌}
+use Rattle.std.specs.Prelude.{ℕ, ◌+◌, ℤ, pos, Option, [], ◌∷◌, ◌++◌, length, map, insert, remove, option_map, unwrap_or, if◌then◌else◌}
 use Rattle.std.specs.Ordering.{int_eq}
 use Rattle.std.specs.List.{enumerate_from}
 use Rattle.chi_value.specs.declared.value.Value.{Value, Value-F, out-Value}

@@ -1,5 +1,5 @@
 -- Storing a value into a part of another, along a path.
-use Rattle.std.specs.Prelude.{ℕ, Bool, true, false, ℤ, nat_lt, is_none, not, Option, None, Some, List, [], ◌∷◌, length, slice_get, slice_set, if◌then◌else◌, ◌&&◌}
+use Rattle.std.specs.Prelude.{ℕ, Bool, false, nat_lt, is_none, not, Option, None, Some, List, [], ◌∷◌, length, slice_get, slice_set, if◌then◌else◌, ◌&&◌}
 use Rattle.std.specs.List.{list_all}
 use Rattle.chi_value.specs.declared.value.TheConstants.{MOST_ELEMENTS}
 use Rattle.chi_value.specs.declared.value.Value.{Value, Value-F, out-Value}

@@ -2,7 +2,6 @@
 #![tactic(auto)]
 
 mod building;
-mod copies;
 mod fault;
 mod laws;
 mod made;

@@ -6,9 +6,8 @@ ghost use Rattle.chi_ops.specs.Outcome.{gives};
 ghost use Rattle.chi_ops.specs.Refusal.{Refuses};
 
 use crate::OpFault;
-use crate::copies::items_of;
 use crate::made::{pair, parts_of, triple};
-use chi_value::Value;
+use chi_value::{Items, Value};
 use std::alloc::Global;
 
 /// The first and the rest: of a list its first element, of a set the least, of a dictionary the least key and what it has.
@@ -20,7 +19,8 @@ pub fn pop(alloc: Global, v: &Value) -> Result<Value, OpFault>
     Ok(popped(alloc, v.copy(alloc)?)?)
 }
 
-/// As pop, of a value that is used up: a list that isn't shared keeps the others where they are.
+/// As pop, of a value that is used up: where its elements aren't shared none is copied, and those of a list stay where
+/// they are.
 pub fn popped(alloc: Global, v: Value) -> Result<Value, OpFault>
     requires fits { IsTrue (may_pop v) }
     ensures value { IfOk result (λ value. pop v ≡ gives value) }
@@ -34,30 +34,33 @@ pub fn popped(alloc: Global, v: Value) -> Result<Value, OpFault>
             let first = rest.take_first(alloc)?;
             Ok(pair(alloc, first, Value::ListOf(rest))?)
         }
-        Value::SetOf(items) => match items.as_slice().split_first() {
-            Some((first, rest)) => {
-                let rest = Value::SetOf(items_of(alloc, rest)?);
-                Ok(pair(alloc, first.copy(alloc)?, rest)?)
+        Value::SetOf(mut rest) => {
+            if rest.as_slice().is_empty() {
+                return Err(OpFault::Empty);
             }
-            None => Err(OpFault::Empty),
-        },
-        Value::DictOf(entries) => Ok(pop_entry(alloc, entries.as_slice())?),
+            let first = rest.take_first(alloc)?;
+            Ok(pair(alloc, first, Value::SetOf(rest))?)
+        }
+        Value::DictOf(entries) => Ok(pop_entry(alloc, entries)?),
         _ => unreachable!(),
     }
 }
 
 /// The least key, what it has, and the rest.
-fn pop_entry(alloc: Global, entries: &[Value]) -> Result<Value, OpFault>
-    requires { IsTrue (are_entries entries.now) }
-    ensures value { IfOk result (λ value. entry_and_rest entries.now ≡ gives value) }
-    ensures refused { IfErr result (λ fault. Refuses fault (entry_and_rest entries.now)) }
+fn pop_entry(alloc: Global, mut rest: Items) -> Result<Value, OpFault>
+    requires { IsTrue (are_entries rest) }
+    ensures value { IfOk result (λ value. entry_and_rest rest ≡ gives value) }
+    ensures refused { IfErr result (λ fault. Refuses fault (entry_and_rest rest)) }
 {
-    match entries.split_first() {
-        Some((first, rest)) => {
-            let rest = Value::DictOf(items_of(alloc, rest)?);
-            let (key, has) = parts_of(first);
-            Ok(triple(alloc, key.copy(alloc)?, has.copy(alloc)?, rest)?)
-        }
-        None => Err(OpFault::Empty),
+    if rest.as_slice().is_empty() {
+        return Err(OpFault::Empty);
     }
+    let first = rest.take_first(alloc)?;
+    let (key, has) = parts_of(&first);
+    Ok(triple(
+        alloc,
+        key.copy(alloc)?,
+        has.copy(alloc)?,
+        Value::DictOf(rest),
+    )?)
 }

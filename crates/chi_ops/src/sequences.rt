@@ -23,7 +23,7 @@ pub fn join(alloc: Global, a: &Value, b: &Value) -> Result<Value, OpFault>
     Ok(joined(alloc, a.copy(alloc)?, b)?)
 }
 
-/// One list or string after another: the first is used up, and grows where it isn't shared.
+/// As join, of a first that is used up: a list that isn't shared grows where it is. Bytes are copied.
 pub fn joined(alloc: Global, a: Value, b: &Value) -> Result<Value, OpFault>
     requires fits { IsTrue (may_join a b.now) }
     ensures value { IfOk result (λ value. join a b.now ≡ gives value) }
@@ -54,7 +54,7 @@ pub fn insert_at(alloc: Global, v: &Value, i: u32, x: &Value) -> Result<Value, O
     Ok(inserted(alloc, v.copy(alloc)?, i, x.copy(alloc)?)?)
 }
 
-/// As insert_at, of values that are used up: the list grows where it isn't shared.
+/// As insert_at, of values that are used up: a list that isn't shared grows where it is.
 pub fn inserted(alloc: Global, v: Value, i: u32, x: Value) -> Result<Value, OpFault>
     requires fits { IsTrue (may_insert_at v i x) }
     ensures value { IfOk result (λ value. insert_at v i x ≡ gives value) }
@@ -79,7 +79,7 @@ pub fn del(alloc: Global, v: &Value, i: i64) -> Result<Value, OpFault>
     Ok(deleted(alloc, v.copy(alloc)?, i)?)
 }
 
-/// As del, of a list that is used up, and shrinks where it isn't shared.
+/// As del, of a value that is used up: a list that isn't shared shrinks where it is.
 pub fn deleted(alloc: Global, v: Value, i: i64) -> Result<Value, OpFault>
     requires fits { IsTrue (may_del v i) }
     ensures value { IfOk result (λ value. del v i ≡ gives value) }

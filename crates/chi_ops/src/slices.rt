@@ -29,7 +29,7 @@ pub fn slice(
     Ok(sliced(alloc, v.copy(alloc)?, from, upto, by)?)
 }
 
-/// As slice, of a value that is used up: by steps of 1 a list that isn't shared keeps its elements where they are.
+/// As slice, of a value that is used up: by steps of 1 the elements of a list that isn't shared stay where they are.
 pub fn sliced(
     alloc: Global,
     v: Value,
@@ -98,6 +98,7 @@ fn place_or(size: usize, bound: Option<i64>, otherwise: usize) -> usize
     }
 }
 
+/// A bound below 0 counts from the end, and one beyond an end is moved to it.
 fn place_near(size: usize, bound: i64) -> usize
     ensures place { pos result ≡ clamped (pos 0) (pos size) (from_end size bound) }
     ensures inside { result ≤ size }

@@ -19,7 +19,8 @@ use chi_value::{Items, Row, Value};
 use std::alloc::Global;
 
 /// A value with another stored where a path leads. The first fault along the path decides. A last step to a key that
-/// isn't there adds it.
+/// isn't there adds it. What is used up and not shared is changed where it is: a part is out of its container while it
+/// is stored into, so that it isn't shared either.
 pub fn put(alloc: Global, v: Value, path: &[Path], x: Value) -> Result<Value, OpFault>
     requires fits { IsTrue (may_put (steps_of path.now) x v) }
     ensures value { IfOk result (λ value. put (steps_of path.now) x v ≡ gives value) }
@@ -55,7 +56,7 @@ fn stored(path: &[Path], alloc: Global, v: Value, x: Value) -> Result<Value, OpF
     }
 }
 
-/// Elements or parts with the one at a place changed by a store into it.
+/// Parts with the one at a place changed by a store into it.
 #[cycle(stored)]
 fn stored_at(
     path: &[Path],

@@ -20,6 +20,7 @@ impl Model for Bytes {
 }
 
 impl Bytes {
+    /// The text of a vector's bytes, which stay where they are.
     pub fn of(alloc: Global, text: Vec<u8>) -> Result<Bytes, NoMemory>
         ensures same { IfOk result (λ b. b ≡ text.items) }
     {
@@ -27,6 +28,7 @@ impl Bytes {
         Ok(Bytes { bytes })
     }
 
+    /// A text with bytes of its own, each copied.
     pub fn copy_of(alloc: Global, text: &[u8]) -> Result<Bytes, NoMemory>
         ensures copied { IfOk result (λ b. b ≡ text.now) }
     {
@@ -42,6 +44,7 @@ impl Bytes {
         Ok(Bytes { bytes })
     }
 
+    /// The bytes, as they lie in memory.
     pub fn as_slice(&self) -> &[u8]
         ensures same { result.now ≡ self.now }
     {

@@ -1,12 +1,12 @@
 ghost use Rattle.std.specs.Prelude.{◌≡◌, IfOk};
 
 use crate::Value;
-use chi_base::{Copied, NoMemory};
+use chi_base::{Boxed, Copied, NoMemory};
 use std::alloc::Global;
 
 impl Value {
     /// The same value. What is in it is shared, and not copied.
-    pub fn copy(&self, _alloc: Global) -> Result<Value, NoMemory>
+    pub fn copy(&self, alloc: Global) -> Result<Value, NoMemory>
         ensures copied { IfOk result (λ value. value ≡ self.now) }
     {
         match self {
@@ -20,7 +20,7 @@ impl Value {
             Value::SetOf(items) => Ok(Value::SetOf(items.copy()?)),
             Value::DictOf(items) => Ok(Value::DictOf(items.copy()?)),
             Value::Chan(number) => Ok(Value::Chan(*number)),
-            Value::Dist(dist) => Ok(Value::Dist(*dist)),
+            Value::Dist(dist) => Ok(Value::Dist(Boxed::new(alloc, *dist.get())?)),
             Value::Timer(due) => Ok(Value::Timer(*due)),
             Value::Inst(instance) => Ok(Value::Inst(*instance)),
         }

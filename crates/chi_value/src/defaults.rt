@@ -2,7 +2,7 @@ ghost use Rattle.std.specs.Prelude.{◌≡◌, ◌+◌, ◌≤◌, IfOk, IfErr, 
 ghost use Rattle.chi_value.specs.Default.{default, in_turn, tuple_of, PastChannels};
 
 use crate::{Items, Row, Shape, Value};
-use chi_base::NoMemory;
+use chi_base::{Boxed, NoMemory};
 use chi_num::{Dist, Real};
 use chi_token::Bytes;
 use std::alloc::{AllocFailed, Global};
@@ -11,6 +11,7 @@ use thiserror::Error;
 /// How many channels there may be.
 pub const MOST_CHANNELS: u32 = 1_000_000;
 
+/// Why there is no default.
 #[derive(Clone, Copy, Debug, PartialEq, Eq, Error)]
 pub enum DefaultFault {
     /// There would be more channels than there may be.
@@ -73,9 +74,9 @@ fn make_default(shape: &Shape, alloc: Global, channels: u32) -> Result<(Value, u
         Shape::SetOf => Value::SetOf(Items::of(alloc, Vec::new(alloc))?),
         Shape::DictOf => Value::DictOf(Items::of(alloc, Vec::new(alloc))?),
         Shape::Chan => return Ok(make_channel(channels)?),
-        Shape::DistBool => Value::Dist(Dist::ConstBool(false)),
-        Shape::DistInt => Value::Dist(Dist::ConstInt(0)),
-        Shape::DistReal => Value::Dist(Dist::ConstReal(Real::from_units(0))),
+        Shape::DistBool => Value::Dist(Boxed::new(alloc, Dist::ConstBool(false))?),
+        Shape::DistInt => Value::Dist(Boxed::new(alloc, Dist::ConstInt(0))?),
+        Shape::DistReal => Value::Dist(Boxed::new(alloc, Dist::ConstReal(Real::from_units(0)))?),
         Shape::Timer => Value::Timer(0),
         Shape::Inst => Value::Inst(None),
     };

@@ -14,15 +14,10 @@ fn defaults_count_their_channels(rt: HostRuntime) -> Result<(), Fail> {
     let Value::TupleOf(made) = &value else {
         return Err(Fail::new("no tuple"));
     };
-    let [
-        Value::Chan(5),
-        Value::Dist(Dist::ConstReal(zero)),
-        Value::Chan(6),
-    ] = made.as_slice()
-    else {
+    let [Value::Chan(5), Value::Dist(dist), Value::Chan(6)] = made.as_slice() else {
         return Err(Fail::new("other parts"));
     };
-    assert_eq!(rt; zero.units(), 0);
+    assert!(rt; matches!(dist.get(), Dist::ConstReal(zero) if zero.units() == 0));
     let full = default_of(rt.alloc(), &tuple, 999_999);
     assert!(rt; matches!(full, Err(DefaultFault::TooManyChannels)));
     let last = default_of(rt.alloc(), &Shape::Chan, 999_999)?;

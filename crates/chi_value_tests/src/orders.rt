@@ -1,7 +1,7 @@
-use crate::build::{entries, ints, pair, string};
+use crate::build::{entries, list, pair, set, string};
 use chi_base::NoMemory;
 use chi_num::Real;
-use chi_value::{Value, compare_any};
+use chi_value::{Items, Value, compare_any};
 use std::alloc::Global;
 use std::cmp::Ordering;
 use std::test::Fail;
@@ -22,16 +22,10 @@ fn ascending(alloc: Global) -> Result<Vec<(Value, Value)>, NoMemory> {
         pair(alloc, Value::Int(1), Value::Int(9))?,
         pair(alloc, Value::Int(2), Value::Int(0))?,
     ))?;
+    rows.push((list(alloc, &[1, 2])?, list(alloc, &[1, 2, 0])?))?;
+    rows.push((set(alloc, &[])?, set(alloc, &[5])?))?;
     rows.push((
-        Value::ListOf(ints(alloc, &[1, 2])?),
-        Value::ListOf(ints(alloc, &[1, 2, 0])?),
-    ))?;
-    rows.push((
-        Value::SetOf(ints(alloc, &[])?),
-        Value::SetOf(ints(alloc, &[5])?),
-    ))?;
-    rows.push((
-        Value::DictOf(ints(alloc, &[])?),
+        Value::DictOf(Items::of(alloc, Vec::new(alloc))?),
         Value::DictOf(entries(alloc)?),
     ))?;
     Ok(rows)

@@ -1,4 +1,4 @@
-use crate::build::{entries, ints, pair, string};
+use crate::build::{entries, list, pair, set, string};
 use crate::conditions::{plain, within};
 use chi_base::NoMemory;
 use chi_num::Real;
@@ -36,10 +36,10 @@ fn shown(alloc: Global) -> Result<Vec<(Value, &'static [u8])>, NoMemory> {
         pair(alloc, Value::Int(-1), string(alloc, b"")?)?,
         b"(-1, \"\")",
     ))?;
-    rows.push((Value::ListOf(ints(alloc, &[])?), b"[]"))?;
-    rows.push((Value::ListOf(ints(alloc, &[7, 8, 9])?), b"[7, 8, 9]"))?;
-    rows.push((Value::SetOf(ints(alloc, &[1])?), b"{1}"))?;
-    rows.push((Value::SetOf(ints(alloc, &[])?), b"{}"))?;
+    rows.push((list(alloc, &[])?, b"[]"))?;
+    rows.push((list(alloc, &[7, 8, 9])?, b"[7, 8, 9]"))?;
+    rows.push((set(alloc, &[1])?, b"{1}"))?;
+    rows.push((set(alloc, &[])?, b"{}"))?;
     rows.push((Value::DictOf(entries(alloc)?), b"{\"a\": 1, \"b\": []}"))?;
     Ok(rows)
 }

@@ -2,6 +2,7 @@ use chi_base::NoMemory;
 use std::alloc::AllocError;
 use thiserror::Error;
 
+/// Why a text isn't made.
 #[derive(Clone, Copy, Debug, PartialEq, Eq, Error)]
 pub enum TextFault {
     /// The text would have more bytes than a text may have.

@@ -14,7 +14,6 @@ use denote.Hole.Fix.{over}
 use denote.Param.Weighed.{Weighed, w_list}
 use denote.Model.Placed.{view_places}
 use Rattle.std.specs.formers.vec.deque.VecDeque as vec
-use Rattle.std.specs.declared.collections.VecDeque.{VecDeque}
 use Rattle.std.specs.contracts.collections.VecDeque as V
 use Rattle.std.specs.declared.rc.Rc.{Rc}
 use Rattle.std.specs.contracts.rc.Rc as rc

@@ -6,5 +6,5 @@ use Rattle.chi_ops.proofs.popping.popped.Goals as goal
 
 pub pop_entry-requires : goal.pop_entry-requires
 pop_entry-requires c =
-    let is : c.args.v ≡ value.DictOf c.as_slice-in-DictOf.result.now = search rules in
+    let is : c.args.v ≡ value.DictOf c.in-DictOf.entries = search rules in
     dictionary_entries c.args.v _ is (first_of_two c.args.v (is_container c.args.v) c.requires.fits)

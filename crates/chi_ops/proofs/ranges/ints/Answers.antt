@@ -1,5 +1,5 @@
-use Rattle.std.proofs.Common.{rules, ◌≡◌, [], ◌∷◌, ◌++◌, ◌∙◌, ap, map, FitsSigned, w64, arith}
-use Rattle.std.proofs.lemmas.Int.{ints, to_z-of_z}
+use Rattle.std.proofs.Common.{rules, ◌≡◌, [], ◌∷◌, ◌++◌, ◌∙◌, map, w64}
+use Rattle.std.proofs.lemmas.Int.{to_z-of_z}
 use Rattle.chi_value.specs.declared.value.Value.TheVariants as value
 use Rattle.chi_ops.specs.Progression.{progression}
 use Rattle.chi_ops.specs.Walking.{rest_of}

@@ -1,4 +1,4 @@
-use Rattle.std.proofs.Common.{rules, ◌≡◌, ◌≢◌, ◌≤◌, pos, map, arith}
+use Rattle.std.proofs.Common.{rules, ◌≡◌, ◌≢◌, ◌≤◌, pos, map}
 use Rattle.chi_value.specs.declared.value.Value.TheVariants as value
 use Rattle.chi_ops.specs.Progression.{count_from, progression}
 use Rattle.chi_ops.proofs.Walks.{range_gives}

@@ -1,8 +1,7 @@
-use Rattle.std.proofs.Common.{rules, ◌≡◌, ◌<◌, true, false, Some, List, ◌∷◌, ap, sym, ◌∙◌, subst, length, slice_get, slice_set, arith}
+use Rattle.std.proofs.Common.{rules, ◌≡◌, ◌<◌, true, false, Some, ◌∷◌, ap, sym, ◌∙◌, subst, length, slice_get, slice_set, arith}
 use Rattle.std.proofs.lemmas.Result.{err_from_is_err_and}
-use Rattle.std.specs.List.{list_all}
 use Rattle.chi_value.specs.declared.value.Value.TheVariants as value
-use Rattle.chi_sets.specs.Dictionaries.{values, value_at}
+use Rattle.chi_sets.specs.Dictionaries.{value_at}
 use Rattle.chi_ops.specs.Outcome.{gives}
 use Rattle.chi_ops.specs.Paths.{step_of, steps_of}
 use Rattle.chi_ops.specs.Places.{place_of}

@@ -1,4 +1,4 @@
-use Rattle.std.proofs.Common.{rules, ◌≡◌, ◌+◌, ◌<◌, ◌++◌, ◌∷◌, [], ap, sym, ◌∙◌, length, take, drop, get_or}
+use Rattle.std.proofs.Common.{rules, ◌≡◌, ◌+◌, ◌<◌, ◌++◌, ◌∷◌, [], sym, ◌∙◌, length, take, drop, get_or}
 use Rattle.chi_base.proofs.Parts.{part_grows}
 use Rattle.chi_base.proofs.row.Row.copied_part.Goals as goal
 

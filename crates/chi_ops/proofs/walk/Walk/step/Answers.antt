@@ -1,6 +1,5 @@
-use Rattle.std.proofs.Common.{rules, ◌≡◌, ◌≤◌, ◌^◌, true, false, ◌+ℤ◌, arith}
+use Rattle.std.proofs.Common.{rules, ◌≡◌, true, false, arith}
 use Rattle.std.proofs.lemmas.Int.{ints}
-use Rattle.std.specs.Prelude.{unsigned_abs}
 use Rattle.chi_ops.specs.Progression.{comes_before}
 use Rattle.chi_ops.proofs.Walks.{near, walk_on, one_more, no_more}
 use Rattle.chi_ops.proofs.walk.Walk.step.Goals as goal
