@@ -7,7 +7,7 @@ ghost use Rattle.chi_core.specs.Sound.{Sound};
 ghost use Rattle.chi_gen.specs.Added.{AddsConsts, AddsFuncs, AddsProcs};
 ghost use Rattle.chi_gen.specs.Soundness.{SoundBody};
 
-use crate::copies::{bytes_copy, names_copy};
+use crate::copies::names_copy;
 use crate::expressions::expression;
 use crate::here::Here;
 use crate::statements::block;
@@ -41,7 +41,7 @@ fn function(alloc: Global, f: &FuncDef, code: &mut Vec<Instr>) -> Result<Entry, 
     ensures { IfOk result (λ entry. AddsFuncs (f.now ∷ []) (entry ∷ []) code.old.items code.new.items) }
 {
     let entry = Entry {
-        name: bytes_copy(alloc, &f.name)?,
+        name: f.name.copy()?,
         arity: f.arity,
         slots: number_of(&f.slots)?,
         entry: place(code),
@@ -74,7 +74,7 @@ fn process(alloc: Global, d: &ProcDef, code: &mut Vec<Instr>) -> Result<Entry, N
     ensures { IfOk result (λ entry. AddsProcs (d.now ∷ []) (entry ∷ []) code.old.items code.new.items) }
 {
     let entry = Entry {
-        name: bytes_copy(alloc, &d.name)?,
+        name: d.name.copy()?,
         arity: number_of(&d.params)?,
         slots: number_of(&d.slots)?,
         entry: place(code),

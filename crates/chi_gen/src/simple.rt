@@ -67,17 +67,19 @@ pub(crate) fn leave(here: &Here<'_>, line: u32, code: &mut Vec<Instr>) -> Result
     requires inside { in_loop here.now.near ≡ true }
     ensures { OnOk result (AddsStat here.now.process here.now.slots.now here.now.near (statement.Break line) code.old.items code.new.items) }
 {
-    let Some(near) = here.near else {
-        unreachable!();
-    };
-    turn(here.process, line, code)?;
-    if near.walks {
-        put(code, Instr::Drop)?;
-        put(code, Instr::Jump(near.end))?;
-        Ok(())
-    } else {
-        put(code, Instr::Jump(near.end))?;
-        Ok(())
+    match here.near {
+        Some(near) => {
+            turn(here.process, line, code)?;
+            if near.walks {
+                put(code, Instr::Drop)?;
+                put(code, Instr::Jump(near.end))?;
+                Ok(())
+            } else {
+                put(code, Instr::Jump(near.end))?;
+                Ok(())
+            }
+        }
+        None => unreachable!(),
     }
 }
 
@@ -86,12 +88,14 @@ pub(crate) fn again(here: &Here<'_>, line: u32, code: &mut Vec<Instr>) -> Result
     requires inside { in_loop here.now.near ≡ true }
     ensures { OnOk result (AddsStat here.now.process here.now.slots.now here.now.near (statement.Continue line) code.old.items code.new.items) }
 {
-    let Some(near) = here.near else {
-        unreachable!();
-    };
-    turn(here.process, line, code)?;
-    put(code, Instr::Jump(near.top))?;
-    Ok(())
+    match here.near {
+        Some(near) => {
+            turn(here.process, line, code)?;
+            put(code, Instr::Jump(near.top))?;
+            Ok(())
+        }
+        None => unreachable!(),
+    }
 }
 
 pub(crate) fn pass(

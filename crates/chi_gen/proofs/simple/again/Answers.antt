@@ -2,4 +2,4 @@ use Rattle.chi_gen.proofs.AddedStatements.{add_continue}
 use Rattle.chi_gen.proofs.simple.again.Goals as goal
 
 pub returns-in_ok-put-in-Some : goal.returns-in_ok-put-in-Some
-returns-in_ok-put-in-Some c = add_continue c.args.here.now.process c.args.here.now.slots.now c.args.here.now.near c.args.code.now.items c.args.line c.in-Some.l _ _ c.in-Some.is c.in_ok-turn-in-Some.ensures c.in_ok-put-in-Some.ensures
+returns-in_ok-put-in-Some c = add_continue c.args.here.now.process c.args.here.now.slots.now c.args.here.now.near c.args.code.now.items c.args.line c.in-Some.near _ _ c.in-Some.is c.in_ok-turn-in-Some.ensures c.in_ok-put-in-Some.ensures

@@ -1,7 +1,8 @@
-use Rattle.std.proofs.Common.{◌≡◌, ◌+◌, ◌∙◌, length, ap, sym, arith, true, false}
+use Rattle.std.proofs.Common.{◌≡◌, ◌+◌, ◌∙◌, length, ap, sym, refl, arith, true, false}
 use Rattle.chi_core.specs.declared.statement.CAlt.TheVariants as alternative
 use Rattle.chi_core.specs.declared.statement.CStat.TheVariants as s
-use Rattle.chi_code.specs.Sizes.{block_size, branches_size}
+use Rattle.chi_code.specs.Sizes.{block_size, branches_size, fronts_size}
+use Rattle.chi_gen.specs.Added.{walks_in}
 use Rattle.chi_code.specs.StatementLayout.{looping, walking}
 use Rattle.chi_gen.proofs.AddedStatements.{as_stat}
 use Rattle.chi_gen.proofs.AddedBlocks.{add_no_statement, add_next_statement, add_while, add_for, add_test, add_no_test, add_next_test, add_if, add_guarded_body, add_unwind_bodies, add_no_body, add_next_body, add_select}
@@ -63,8 +64,8 @@ walk-returns t c =
 pub select-returns : goal.select-returns
 select-returns t c =
     as_stat c.args.here.now.process c.args.here.now.slots.now c.args.here.now.near c.args.code.now.items _ _ _ (ap (s.Select c.args.line) (sym c.as_slice-xs.ensures.same))
-    (add_select c.args.here.now.process c.args.here.now.slots.now c.args.here.now.near c.args.code.now.items c.args.line _ _ c.as_slice-xs.result.now c.in_walk-walks.result _ _ _ _ c.in_walk-walks.ensures c.in_ok-turn.ensures
-    (omega (arith, c.in_ok-first.ensures, c.in_ok-fronts_of.ensures)) c.in_ok-end.ensures c.in_ok-put.ensures c.in_ok-bodies.ensures)
+    (add_select c.args.here.now.process c.args.here.now.slots.now c.args.here.now.near c.args.code.now.items c.args.line _ _ c.as_slice-xs.result.now (walks_in c.args.here.now.near) _ _ _ _ refl c.in_ok-turn.ensures
+    (omega (arith, c.in_ok-first.ensures, c.in_ok-fronts_of.ensures, ap (fronts_size c.as_slice-xs.result.now) c.in_walk.ensures)) c.in_ok-end.ensures c.in_ok-put.ensures c.in_ok-bodies.ensures)
 
 pub body-returns-in_ok-put-in-Guarded : goal.body-returns-in_ok-put-in-Guarded
 body-returns-in_ok-put-in-Guarded t c =
