@@ -16,10 +16,10 @@ use Rattle.chi_code.specs.ExpressionLayout.{Has}
 use Rattle.chi_code.specs.Sizes.{block_size, branches_size, fronts_size, guard_size, comm_size}
 use Rattle.chi_code.specs.StatementLayout.{looping, walking, in_walk, StatAt, chooses, loops, walks, selects, loop, WalkAt, walk, BranchesAt, AltsAt, GuardAt, BlockAt, no_statement, one_statement}
 use Rattle.chi_code.proofs.Sized.{block_sized, guard_sized, comm_sized}
-use Rattle.chi_gen.specs.Added.{Grows, AddsOne, AddsExpr, AddsGuard, AddsComm, AddsStat, AddsBlock, around_of, turn_at, walks_in}
+use Rattle.chi_gen_parts.specs.Added.{Grows, AddsOne, AddsExpr, AddsGuard, AddsComm, AddsStat, AddsBlock, around_of, turn_at, walks_in}
 use Rattle.chi_gen.specs.Passes.{TestsAt, no_test, one_test, AddsTests, FrontsAt, no_front, one_front, FrontAt, front, fronts_within, AddsFronts, AddsOffer, BodiesAt, no_body, one_body, BodyOf, body_of, bodies_of, AddsBodies}
-use Rattle.chi_gen.proofs.Growing.{grows_same, grows_on, grow_expr, grow_guard, grow_block}
-use Rattle.chi_gen.proofs.AddedExpressions.{has_at, goal_at, expr_from}
+use Rattle.chi_gen_parts.proofs.Growing.{grows_same, grows_on, grow_expr, grow_guard, grow_block}
+use Rattle.chi_gen_parts.proofs.AddedExpressions.{has_at, goal_at, expr_from}
 use Rattle.chi_gen.proofs.AddedStatements.{stat_of}
 use Rattle.chi_gen.proofs.Passing.{walks_of, grow_tests, grow_fronts, grow_bodies, tests_sized, tests_then, tests_joined, joined, fronts_sized}
 

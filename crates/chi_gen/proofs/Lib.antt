@@ -1,12 +1,5 @@
 pub mod AddedBlocks
-pub mod AddedExpressions
-pub mod AddedParts
 pub mod AddedPrograms
 pub mod AddedStatements
-pub mod AddedTargets
-pub mod Growing
-pub mod MeasuredParts
-pub mod MeasuredStatements
-pub mod Measures
 pub mod Passing
 pub mod Sounding

@@ -13,7 +13,7 @@ use Rattle.chi_code.specs.declared.instr.Instr.TheVariants as i
 use Rattle.chi_code.specs.ExpressionLayout.{Has, ExprAt}
 use Rattle.chi_code.specs.Sizes.{block_size}
 use Rattle.chi_code.specs.StatementLayout.{GuardAt, CommAt, BlockAt}
-use Rattle.chi_gen.specs.Added.{Grows, around_of, turn_at}
+use Rattle.chi_gen_parts.specs.Added.{Grows, around_of, turn_at}
 
 -- branches, each of whose blocks leads to an end
 pub data TestsAt (code : List Instr) (turn : ℕ → Instr) (slots : List Ty) (around : List Around) (end : ℕ) : List Branch → ℕ → ℕ → Type 0 where

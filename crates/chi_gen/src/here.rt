@@ -1,5 +1,5 @@
 ghost use Rattle.std.specs.Prelude.{◌≡◌};
-ghost use Rattle.chi_gen.specs.Added.{walks_in};
+ghost use Rattle.chi_gen_parts.specs.Added.{walks_in};
 
 use chi_code::Around;
 use chi_types::Ty;
@@ -15,18 +15,6 @@ pub(crate) struct Here<'a> {
     pub slots: &'a [Ty],
     /// The nearest loop around.
     pub near: Option<Around>,
-}
-
-/// What an offer is generated within.
-#[derive(Clone, Copy)]
-pub(crate) struct Offered<'a> {
-    pub alloc: Global,
-    /// The types of the slots.
-    pub slots: &'a [Ty],
-    /// The names of the unwinds around it.
-    pub names: &'a [u32],
-    /// Where its body begins.
-    pub body: u64,
 }
 
 /// Whether the nearest loop is a walk.

@@ -4,17 +4,15 @@ ghost use Rattle.std.specs.Prelude.{◌≡◌, IfOk, OnOk, [], ◌∷◌};
 ghost use Rattle.chi_code.specs.Codes.{Codes};
 ghost use Rattle.chi_core.specs.Kinds.{Every};
 ghost use Rattle.chi_core.specs.Sound.{Sound};
-ghost use Rattle.chi_gen.specs.Added.{AddsConsts, AddsFuncs, AddsProcs};
+ghost use Rattle.chi_gen_parts.specs.Added.{AddsConsts, AddsFuncs, AddsProcs};
 ghost use Rattle.chi_gen.specs.Soundness.{SoundBody};
 
-use crate::copies::names_copy;
-use crate::expressions::expression;
 use crate::here::Here;
 use crate::statements::block;
-use crate::writer::{number_of, place, plus_one, put};
 use chi_base::{Items, NoMemory};
 use chi_code::{Code, Entry, Instr};
 use chi_core::{ConstDef, Core, FuncDef, ProcDef};
+use chi_gen_parts::{expression, names_copy, number_of, place, plus_one, put};
 use std::alloc::Global;
 
 fn constant(alloc: Global, number: u32, k: &ConstDef, code: &mut Vec<Instr>) -> Result<(), NoMemory>

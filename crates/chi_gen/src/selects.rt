@@ -3,19 +3,17 @@
 ghost use Rattle.std.specs.Prelude.{◌≡◌, ◌+◌, ◌++◌, IfOk, OnOk, [], ◌∷◌};
 ghost use Rattle.chi_core.specs.Kinds.{Every};
 ghost use Rattle.chi_code.specs.Sizes as sizes;
-ghost use Rattle.chi_gen.specs.Added.{walks_in};
+ghost use Rattle.chi_gen_parts.specs.Added.{walks_in};
 ghost use Rattle.chi_gen.specs.Passes.{AddsFronts, AddsOffer};
-ghost use Rattle.chi_gen.specs.Soundness.{in_loop, SoundAlternativeAt, SoundCommAt};
+ghost use Rattle.chi_gen_parts.specs.Soundness.{SoundCommAt};
+ghost use Rattle.chi_gen.specs.Soundness.{in_loop, SoundAlternativeAt};
 
-use crate::copies::slots_copy;
-use crate::expressions::expression;
-use crate::here::{Here, Offered, in_walk};
-use crate::measure_statements::{block_of, fronts_of, offer_of};
-use crate::parts::{communication, guard};
-use crate::writer::{behind, place, plus, put};
+use crate::here::{Here, in_walk};
 use chi_base::{Items, NoMemory};
 use chi_code::Instr;
 use chi_core::{CAlt, CComm, CExpr, CStat};
+use chi_gen_parts::{Offered, behind, communication, expression, guard, place, put, slots_copy};
+use chi_gen_sizes::{block_of, fronts_of, offer_of, plus};
 use std::alloc::Global;
 
 /// The place behind a body and its jump.

@@ -2,18 +2,16 @@
 
 ghost use Rattle.std.specs.Prelude.{◌≡◌, OnOk, true};
 ghost use Rattle.chi_core.specs.declared.statement.CStat.TheVariants as statement;
-ghost use Rattle.chi_gen.specs.Added.{AddsOne, AddsStat, turn_at};
+ghost use Rattle.chi_gen_parts.specs.Added.{AddsOne, AddsStat, turn_at};
 ghost use Rattle.chi_gen.specs.Soundness.{in_loop};
 
-use crate::copies::pieces_copy;
-use crate::expressions::{expression, expressions};
 use crate::here::Here;
-use crate::parts::{all_elements, spread};
-use crate::targets::{aims, indexes};
-use crate::writer::{number_of, put};
 use chi_base::{Items, NoMemory};
 use chi_code::Instr;
 use chi_core::{CElem, CExpr, CTarget};
+use chi_gen_parts::{
+    aims, all_elements, expression, expressions, indexes, number_of, pieces_copy, put, spread,
+};
 use chi_value::Piece;
 
 /// The instruction at which a turn begins.

@@ -3,22 +3,20 @@
 ghost use Rattle.std.specs.Prelude.{OnOk, [], ◌∷◌, true};
 ghost use Rattle.chi_core.specs.declared.statement.CStat.TheVariants as statement;
 ghost use Rattle.chi_core.specs.Kinds.{Every};
-ghost use Rattle.chi_gen.specs.Added.{AddsBlock, AddsStat};
+ghost use Rattle.chi_gen_parts.specs.Added.{AddsBlock, AddsStat};
 ghost use Rattle.chi_gen.specs.Passes.{AddsBodies, AddsTests};
 ghost use Rattle.chi_gen.specs.Soundness.{in_loop, SoundAlternativeAt, SoundAt, SoundBranchAt};
 
-use crate::copies::slots_copy;
-use crate::expressions::expression;
 use crate::here::{Here, in_walk};
-use crate::measure_statements::{block_of, branches_of, fronts_of};
 use crate::selects::fronts;
 use crate::simple::{
     again, assign, declare, exit, finish, give_back, leave, pass, run, start, turn, write,
 };
-use crate::writer::{behind, place, plus, put};
 use chi_base::{Items, NoMemory};
 use chi_code::{Around, Instr};
 use chi_core::{Branch, CAlt, CExpr, CStat};
+use chi_gen_parts::{behind, expression, place, put, slots_copy};
+use chi_gen_sizes::{block_of, branches_of, fronts_of, plus};
 
 #[cycle(statement)]
 fn statement(here: &Here<'_>, x: &CStat, code: &mut Vec<Instr>) -> Result<(), NoMemory>

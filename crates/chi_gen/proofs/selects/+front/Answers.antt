@@ -1,7 +1,7 @@
 use Rattle.std.proofs.Common.{◌∙◌, ◌++◌, ap, sym, subst, arith}
 use Rattle.chi_core.specs.declared.statement.CAlt.TheVariants as alternative
 use Rattle.chi_code.specs.Sizes.{fronts_size}
-use Rattle.chi_gen.specs.Added.{walks_in}
+use Rattle.chi_gen_parts.specs.Added.{walks_in}
 use Rattle.chi_gen.proofs.AddedBlocks.{add_guarded_front, add_unwind_front, add_no_front, add_next_front}
 use Rattle.chi_gen.proofs.Sounding.{sound_comm, sound_unwind}
 use Rattle.chi_gen.proofs.selects.+front.Goals as goal

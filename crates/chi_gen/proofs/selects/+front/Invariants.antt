@@ -1,7 +1,7 @@
 use Rattle.std.proofs.Common.{take, ◌+◌, ◌*◌}
 use denote.Param.Weighed.{most}
 use Rattle.chi_core.specs.declared.statement.CAlt.{size-CAlt}
-use Rattle.chi_gen.specs.Added.{walks_in}
+use Rattle.chi_gen_parts.specs.Added.{walks_in}
 use Rattle.chi_gen.specs.Passes.{AddsFronts}
 use Rattle.chi_gen.proofs.selects.+front.Given as goal
 

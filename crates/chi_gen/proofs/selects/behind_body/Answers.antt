@@ -1,6 +1,6 @@
 use Rattle.std.proofs.Common.{ap, arith}
 use Rattle.chi_code.specs.Sizes.{block_size}
-use Rattle.chi_gen.specs.Added.{walks_in}
+use Rattle.chi_gen_parts.specs.Added.{walks_in}
 use Rattle.chi_gen.proofs.selects.behind_body.Goals as goal
 
 pub returns : goal.returns

@@ -2,7 +2,7 @@ use Rattle.std.proofs.Common.{◌≡◌, ◌+◌, ◌∙◌, length, ap, sym, re
 use Rattle.chi_core.specs.declared.statement.CAlt.TheVariants as alternative
 use Rattle.chi_core.specs.declared.statement.CStat.TheVariants as s
 use Rattle.chi_code.specs.Sizes.{block_size, branches_size, fronts_size}
-use Rattle.chi_gen.specs.Added.{walks_in}
+use Rattle.chi_gen_parts.specs.Added.{walks_in}
 use Rattle.chi_code.specs.StatementLayout.{looping, walking}
 use Rattle.chi_gen.proofs.AddedStatements.{as_stat}
 use Rattle.chi_gen.proofs.AddedBlocks.{add_no_statement, add_next_statement, add_while, add_for, add_test, add_no_test, add_next_test, add_if, add_guarded_body, add_unwind_bodies, add_no_body, add_next_body, add_select}

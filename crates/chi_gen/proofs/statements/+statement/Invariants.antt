@@ -3,7 +3,7 @@ use denote.Param.Weighed.{most}
 use Rattle.chi_core.specs.declared.statement.CAlt.{size-CAlt}
 use Rattle.chi_core.specs.declared.statement.CStat.{size-CStat}
 use Rattle.chi_core.specs.declared.statement.Branch.{size-Branch}
-use Rattle.chi_gen.specs.Added.{AddsBlock}
+use Rattle.chi_gen_parts.specs.Added.{AddsBlock}
 use Rattle.chi_gen.specs.Passes.{AddsTests, AddsBodies}
 use Rattle.chi_gen.proofs.statements.+statement.Given as goal
 

@@ -1,0 +1,5 @@
+pub mod AddedExpressions
+pub mod AddedParts
+pub mod AddedTargets
+pub mod Growing
+pub mod Sounding

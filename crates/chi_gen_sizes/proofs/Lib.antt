@@ -1,0 +1,3 @@
+pub mod MeasuredParts
+pub mod MeasuredStatements
+pub mod Measures
