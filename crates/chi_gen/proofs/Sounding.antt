@@ -30,7 +30,8 @@ use Rattle.chi_core.specs.SoundStatements as t
 use Rattle.chi_core.specs.SoundStatements.{SoundStat, SoundBlock, SoundBranches, SoundAlternatives, SoundAlternative}
 use Rattle.chi_core.proofs.Erased.{kind_at}
 use Rattle.chi_gen_parts.specs.Soundness.{SoundCommAt}
-use Rattle.chi_gen.specs.Soundness.{SoundAt, SoundBranchAt, SoundAlternativeAt, SoundBody}
+use Rattle.chi_code.specs.declared.code.Around.{Around}
+use Rattle.chi_gen.specs.Soundness.{in_loop, SoundAt, SoundBranchAt, SoundAlternativeAt, SoundBody}
 
 some_is : {A : Type 0} (x y : A) → Some x ≡ Some y → x ≡ y
 some_is x y h = cc
@@ -126,6 +127,16 @@ module _ (slots : List Ty) (loop : Bool) (x : CAlt) (h : SoundAlternativeAt slot
 
 pub item : {A : Type 0} (P : A → Type 0) (xs : List A) (k : ℕ) (x : A) → Every P xs → k < length xs → x ≡ get_or xs k x → P x
 item P xs k x h l is = h k x (slice_get-get_or xs k x l ∙ ap Some (sym is))
+
+-- and of a part of such a list, which is what a call takes
+pub all_same : {A : Type 0} (P : A → Type 0) (xs ys : List A) → xs ≡ ys → Every P xs → Every P ys
+all_same P xs ys is h = subst (Every P) is h
+
+pub both_same : {A B : Type 0} (P : A → B → Type 0) (x x' : A) (y y' : B) → x ≡ x' → y ≡ y' → P x y → P x' y'
+both_same P x x' y y' e f h = subst (P x') f (subst (λ x. P x y) e h)
+
+pub none_inside : (near : Option Around) → in_loop near ≡ true → near ≡ None → ⊥
+none_inside near h is = let k : false ≡ true = ap in_loop (sym is) ∙ h in absurd (cc)
 
 -- the bodies of a sound program
 

@@ -3,7 +3,8 @@ use Rattle.chi_core.specs.declared.statement.CAlt.TheVariants as alternative
 use Rattle.chi_code.specs.Sizes.{fronts_size}
 use Rattle.chi_gen_parts.specs.Added.{walks_in}
 use Rattle.chi_gen.proofs.AddedBlocks.{add_guarded_front, add_unwind_front, add_no_front, add_next_front}
-use Rattle.chi_gen.proofs.Sounding.{sound_comm, sound_unwind}
+use Rattle.chi_gen.specs.Soundness.{in_loop, SoundAlternativeAt}
+use Rattle.chi_gen.proofs.Sounding.{item, all_same, sound_comm, sound_unwind}
 use Rattle.chi_gen.proofs.selects.+front.Goals as goal
 
 pub fronts-loop-x-init : goal.fronts-loop-x-init
@@ -24,5 +25,11 @@ pub front-returns-in_ok-offer-in-Guarded : goal.front-returns-in_ok-offer-in-Gua
 front-returns-in_ok-offer-in-Guarded t c =
     add_guarded_front c.args.here.now.slots.now (walks_in c.args.here.now.near) c.args.names.now c.args.x.now _ _ _ c.args.first _ c.args.code.now.items _ c.in-Guarded.is c.in_ok-next-in-Guarded.ensures c.in_ok-offer-in-Guarded.ensures
 
-pub front-offer-requires-in-Guarded : goal.front-offer-requires-in-Guarded
-front-offer-requires-in-Guarded t c = sound_comm c.args.here.now.slots.now _ c.args.x.now c.requires.sound _ _ _ c.in-Guarded.is
+pub front-offer-requires : goal.front-offer-requires
+front-offer-requires t c = sound_comm c.args.here.now.slots.now (in_loop c.args.here.now.near) c.args.x.now c.requires.sound _ _ _ c.in-Guarded.is
+
+pub front-fronts-requires : goal.front-fronts-requires
+front-fronts-requires t c = all_same (SoundAlternativeAt c.args.here.now.slots.now (in_loop c.args.here.now.near)) _ _ (sym c.as_slice-xs.ensures.same) (sound_unwind c.args.here.now.slots.now (in_loop c.args.here.now.near) c.args.x.now c.requires.sound _ _ _ c.in-Unwind.is)
+
+pub fronts-front-requires : goal.fronts-front-requires
+fronts-front-requires t c = item (SoundAlternativeAt c.args.here.now.slots.now (in_loop c.args.here.now.near)) c.args.xs.now c.loop-x.x-index c.x-item.result c.requires.sound (omega arith) c.x-item.is

@@ -6,6 +6,8 @@ use Rattle.chi_gen_parts.specs.Added.{walks_in}
 use Rattle.chi_code.specs.StatementLayout.{looping, walking}
 use Rattle.chi_gen.proofs.AddedStatements.{as_stat}
 use Rattle.chi_gen.proofs.AddedBlocks.{add_no_statement, add_next_statement, add_while, add_for, add_test, add_no_test, add_next_test, add_if, add_guarded_body, add_unwind_bodies, add_no_body, add_next_body, add_select}
+use Rattle.chi_gen.specs.Soundness.{in_loop, SoundAt, SoundBranchAt, SoundAlternativeAt}
+use Rattle.chi_gen.proofs.Sounding.{item, all_same, sound_branches, sound_otherwise, sound_while, sound_for, sound_break, sound_continue, sound_select, sound_body, sound_unwind}
 use Rattle.chi_gen.proofs.statements.+statement.Goals as goal
 
 pub block-loop-x-init : goal.block-loop-x-init
@@ -76,3 +78,60 @@ pub body-returns-in_ok-bodies-in-Unwind : goal.body-returns-in_ok-bodies-in-Unwi
 body-returns-in_ok-bodies-in-Unwind t c =
     add_unwind_bodies c.args.here.now.process c.args.here.now.slots.now c.args.here.now.near c.args.end c.args.x.now _ _ c.as_slice-in-Unwind.result.now c.args.code.now.items _
     (c.in-Unwind.is ∙ ap (alternative.Unwind c.in-Unwind.field-0 c.in-Unwind.field-1) (sym c.as_slice-in-Unwind.ensures.same)) c.in_ok-bodies-in-Unwind.ensures
+
+pub block-statement-requires : goal.block-statement-requires
+block-statement-requires t c = item (SoundAt c.args.here.now.slots.now (in_loop c.args.here.now.near)) c.args.xs.now c.loop-x.x-index c.x-item.result c.requires.sound (omega arith) c.x-item.is
+
+pub branches-branch-requires : goal.branches-branch-requires
+branches-branch-requires t c = item (SoundBranchAt c.args.here.now.slots.now (in_loop c.args.here.now.near)) c.args.xs.now c.loop-x.x-index c.x-item.result c.requires.sound (omega arith) c.x-item.is
+
+pub bodies-body-requires : goal.bodies-body-requires
+bodies-body-requires t c = item (SoundAlternativeAt c.args.here.now.slots.now (in_loop c.args.here.now.near)) c.args.xs.now c.loop-x.x-index c.x-item.result c.requires.sound (omega arith) c.x-item.is
+
+pub statement-choose-requires-clause-first : goal.statement-choose-requires-clause-first
+statement-choose-requires-clause-first t c = sound_branches c.args.here.now.slots.now (in_loop c.args.here.now.near) c.args.x.now c.requires.sound _ _ _ c.in-If.is
+
+pub statement-choose-requires-clause-last : goal.statement-choose-requires-clause-last
+statement-choose-requires-clause-last t c = sound_otherwise c.args.here.now.slots.now (in_loop c.args.here.now.near) c.args.x.now c.requires.sound _ _ _ c.in-If.is
+
+pub statement-repeat-requires : goal.statement-repeat-requires
+statement-repeat-requires t c = sound_while c.args.here.now.slots.now (in_loop c.args.here.now.near) c.args.x.now c.requires.sound _ _ _ c.in-While.is
+
+pub statement-walk-requires : goal.statement-walk-requires
+statement-walk-requires t c = sound_for c.args.here.now.slots.now (in_loop c.args.here.now.near) c.args.x.now c.requires.sound _ _ _ _ c.in-For.is
+
+pub statement-leave-requires : goal.statement-leave-requires
+statement-leave-requires t c = sound_break c.args.here.now.slots.now (in_loop c.args.here.now.near) c.args.x.now c.requires.sound _ c.in-Break.is
+
+pub statement-again-requires : goal.statement-again-requires
+statement-again-requires t c = sound_continue c.args.here.now.slots.now (in_loop c.args.here.now.near) c.args.x.now c.requires.sound _ c.in-Continue.is
+
+pub statement-select-requires : goal.statement-select-requires
+statement-select-requires t c = sound_select c.args.here.now.slots.now (in_loop c.args.here.now.near) c.args.x.now c.requires.sound _ _ c.in-Select.is
+
+pub choose-branches-requires : goal.choose-branches-requires
+choose-branches-requires t c = all_same (SoundBranchAt c.args.here.now.slots.now (in_loop c.args.here.now.near)) _ _ (sym c.as_slice-tests.ensures.same) c.requires.first
+
+pub choose-block-requires : goal.choose-block-requires
+choose-block-requires t c = all_same (SoundAt c.args.here.now.slots.now (in_loop c.args.here.now.near)) _ _ (sym c.as_slice-otherwise.ensures.same) c.requires.last
+
+pub branch-block-requires : goal.branch-block-requires
+branch-block-requires t c = all_same (SoundAt c.args.here.now.slots.now (in_loop c.args.here.now.near)) _ _ (sym c.as_slice-inner.ensures.same) c.requires.sound
+
+pub repeat-block-requires : goal.repeat-block-requires
+repeat-block-requires t c = all_same (SoundAt c.args.here.now.slots.now true) _ _ (sym c.as_slice-inner.ensures.same) c.requires.sound
+
+pub walk-block-requires : goal.walk-block-requires
+walk-block-requires t c = all_same (SoundAt c.args.here.now.slots.now true) _ _ (sym c.as_slice-inner.ensures.same) c.requires.sound
+
+pub select-fronts-requires : goal.select-fronts-requires
+select-fronts-requires t c = all_same (SoundAlternativeAt c.args.here.now.slots.now (in_loop c.args.here.now.near)) _ _ (sym c.as_slice-xs.ensures.same) c.requires.sound
+
+pub select-bodies-requires : goal.select-bodies-requires
+select-bodies-requires t c = all_same (SoundAlternativeAt c.args.here.now.slots.now (in_loop c.args.here.now.near)) _ _ (sym c.as_slice-xs.ensures.same) c.requires.sound
+
+pub body-block-requires : goal.body-block-requires
+body-block-requires t c = all_same (SoundAt c.args.here.now.slots.now (in_loop c.args.here.now.near)) _ _ (sym c.as_slice.ensures.same) (sound_body c.args.here.now.slots.now (in_loop c.args.here.now.near) c.args.x.now c.requires.sound _ _ _ c.in-Guarded.is)
+
+pub body-bodies-requires : goal.body-bodies-requires
+body-bodies-requires t c = all_same (SoundAlternativeAt c.args.here.now.slots.now (in_loop c.args.here.now.near)) _ _ (sym c.as_slice-in-Unwind.ensures.same) (sound_unwind c.args.here.now.slots.now (in_loop c.args.here.now.near) c.args.x.now c.requires.sound _ _ _ c.in-Unwind.is)
