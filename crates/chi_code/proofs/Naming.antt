@@ -198,12 +198,12 @@ module _ (c : List Instr) (scope : Scope) where
   fine_read known slots t K U _ _ there g (reads T a b is h l) = next a (a + 1) b (one a _ h (slice_get_within scope.slots t.slot K there)) (fine_into known (out-Ty T) t.steps K U (a + 1) b g l)
 
   fine_comm : (known : Known) (slots : List Ty) (ns : List ℕ) (p : ℕ) (o : CComm) (a b : ℕ) → SlotsWithin count ns → SoundComm scope known o → CommAt c slots ns p o a b → Fine a b
-  fine_comm known slots ns p _ _ _ within (q.sends t e element ch v g) (sends _ _ a b n h l m) = next a b _ (fine_read known slots t _ _ a b ch.is ch.steps h) (next b n _ (fine_layer known (out-CExpr e) _ b n g l) (one n _ m within))
-  fine_comm known slots ns p _ _ _ within (q.sends_void t element ch v) (sends_void _ a b h m) = next a b _ (fine_read known slots t _ _ a b ch.is ch.steps h) (one b _ m within)
-  fine_comm known slots ns p _ _ _ within (q.receives t slot element ch v is) (receives _ _ a b h m) = next a b _ (fine_read known slots t _ _ a b ch.is ch.steps h) (one b _ m (slice_get_within scope.slots slot (out-Ty element) is, within))
-  fine_comm known slots ns p _ _ _ within (q.receives_void t element ch v) (receives_void _ a b h m) = next a b _ (fine_read known slots t _ _ a b ch.is ch.steps h) (one b _ m within)
-  fine_comm known slots ns p _ _ _ within (q.delays e g) (delays _ a b h m) = next a b _ (fine_layer known (out-CExpr e) _ a b g h) (one b _ m within)
-  fine_comm known slots ns p _ _ _ within (q.waits_for_timer e g) (waits_for_timer _ a b h m) = next a b _ (fine_layer known (out-CExpr e) _ a b g h) (one b _ m within)
+  fine_comm known slots ns p _ _ _ inside (q.sends t e element ch v g) (sends _ _ a b n h l m) = next a b _ (fine_read known slots t _ _ a b ch.is ch.steps h) (next b n _ (fine_layer known (out-CExpr e) _ b n g l) (one n _ m inside))
+  fine_comm known slots ns p _ _ _ inside (q.sends_void t element ch v) (sends_void _ a b h m) = next a b _ (fine_read known slots t _ _ a b ch.is ch.steps h) (one b _ m inside)
+  fine_comm known slots ns p _ _ _ inside (q.receives t slot element ch v is) (receives _ _ a b h m) = next a b _ (fine_read known slots t _ _ a b ch.is ch.steps h) (one b _ m (slice_get_within scope.slots slot (out-Ty element) is, inside))
+  fine_comm known slots ns p _ _ _ inside (q.receives_void t element ch v) (receives_void _ a b h m) = next a b _ (fine_read known slots t _ _ a b ch.is ch.steps h) (one b _ m inside)
+  fine_comm known slots ns p _ _ _ inside (q.delays e g) (delays _ a b h m) = next a b _ (fine_layer known (out-CExpr e) _ a b g h) (one b _ m inside)
+  fine_comm known slots ns p _ _ _ inside (q.waits_for_timer e g) (waits_for_timer _ a b h m) = next a b _ (fine_layer known (out-CExpr e) _ a b g h) (one b _ m inside)
 
   fine_guard : (known : Known) (end : ℕ) (o : Option CExpr) (a b : ℕ) → SoundGuard scope known o → GuardAt c end o a b → Fine a b
   fine_guard known end _ _ _ q.no_guard (no_guard a) = none a
@@ -270,17 +270,17 @@ module _ (c : List Instr) (scope : Scope) where
       fine_block _ _ _ _ _ _ (t.one_statement lp known x xs g r) (one_statement around _ _ a b n h l) = next a b n (fine_statement lp known around (out-CStat x) a b g h) (fine_block lp (sets (out-CStat x) known) around xs b n r l)
 
       fine_alternatives : (lp : Bool) (known : Known) (around : List Around) (end : ℕ) (ns : List ℕ) (xs : List CAlt) (p p' a b : ℕ) → SlotsWithin count ns → SoundAlternatives scope lp known xs → AltsAt c turn slots around end ns xs p p' a b → Fine a b × Fine p p'
-      fine_alternatives _ _ _ _ _ _ _ _ _ _ within (t.no_alternative lp known) (no_alternative around end ns p a) = (none a, none p)
-      fine_alternatives _ _ _ _ _ _ _ _ _ _ within (t.one_alternative lp known x xs g r) (one_alternative around end ns _ _ p p' m a b n h l) =
-          let u = fine_alternative lp known around end ns (out-CAlt x) p p' a b within g h in
-          let v = fine_alternatives lp known around end ns xs p' m b n within r l in
+      fine_alternatives _ _ _ _ _ _ _ _ _ _ inside (t.no_alternative lp known) (no_alternative around end ns p a) = (none a, none p)
+      fine_alternatives _ _ _ _ _ _ _ _ _ _ inside (t.one_alternative lp known x xs g r) (one_alternative around end ns _ _ p p' m a b n h l) =
+          let u = fine_alternative lp known around end ns (out-CAlt x) p p' a b inside g h in
+          let v = fine_alternatives lp known around end ns xs p' m b n inside r l in
           (next a b n u.0 v.0, next p p' m u.1 v.1)
 
       fine_alternative : (lp : Bool) (known : Known) (around : List Around) (end : ℕ) (ns : List ℕ) (o : CAlt-F CAlt CStat Branch) (p p' a b : ℕ) → SlotsWithin count ns → SoundAlternative scope lp known o → AltAt c turn slots around end ns o p p' a b → Fine a b × Fine p p'
-      fine_alternative _ _ _ _ _ _ _ _ _ _ within (t.guarded lp known guard communication block gg gc gb) (guarded around end ns _ _ _ p p' a b n h l m j) =
-          (next a b n (fine_guard known n guard a b gg h) (fine_comm known slots ns p communication b n within gc l), next p p' _ (fine_block lp known around block p p' gb m) (one p' _ j tt))
-      fine_alternative _ _ _ _ _ _ _ _ _ _ within (t.unwinds lp known own x alternatives w g) (unwinds around end ns _ _ _ p p' a b n h l m r j) =
-          let u = fine_alternatives lp (also_all own known) around end (ns ++ own) alternatives p p' (b + 1 + 1) n (within_append count ns own within (walked_within own w.element w.take)) g r in
+      fine_alternative _ _ _ _ _ _ _ _ _ _ inside (t.guarded lp known guard communication block gg gc gb) (guarded around end ns _ _ _ p p' a b n h l m j) =
+          (next a b n (fine_guard known n guard a b gg h) (fine_comm known slots ns p communication b n inside gc l), next p p' _ (fine_block lp known around block p p' gb m) (one p' _ j tt))
+      fine_alternative _ _ _ _ _ _ _ _ _ _ inside (t.unwinds lp known own x alternatives w g) (unwinds around end ns _ _ _ p p' a b n h l m r j) =
+          let u = fine_alternatives lp (also_all own known) around end (ns ++ own) alternatives p p' (b + 1 + 1) n (within_append count ns own inside (walked_within own w.element w.take)) g r in
           (next a b _ (fine_layer known (out-CExpr x) _ a b w.has_kind h) (next b (b + 1) _ (one b _ l tt) (next (b + 1) (b + 1 + 1) _ (one (b + 1) _ m (walked_within own w.element w.take)) (next (b + 1 + 1) n _ u.0 (one n _ j tt)))), u.1)
 
 length_map : {A B : Type 0} (f : A → B) (xs : List A) → length (map f xs) ≡ length xs
@@ -321,7 +321,8 @@ module _ (core : Core) (c : List Instr) where
   constants_fine _ _ _ _ few g (no_constant number a) = each_of_none c NamedSomewhere a
   constants_fine _ _ _ _ few g (one_constant number d ds a b n h j l) =
       let here : SoundConstant core number d = subst (λ m. SoundConstant core m d) (omega arith) (g 0 d refl) in
-      then_here a b n (somewhere 0 a b (fine_layer c (constant_scope core number) nothing_known (out-CExpr d.value) _ a b here.value h)) (then_here b (b + 1) n (one_here b _ j (omega (arith, few)))
+      let there : number < length core.consts = omega (arith, few) in
+      then_here a b n (somewhere 0 a b (fine_layer c (constant_scope core number) nothing_known (out-CExpr d.value) _ a b here.value h)) (then_here b (b + 1) n (one_here b _ j there)
       (constants_fine (number + 1) ds (b + 1) n (omega (arith, few)) (λ m x is. subst (λ z. SoundConstant core z x) (omega arith) (g (suc m) x is)) l))
 
   functions_fine : (fs : List FuncDef) (es : List Entry) (a b : ℕ) → Every (SoundFunction core) fs → FuncsAt c fs es a b → Here a b

@@ -1,5 +1,6 @@
 -- The parts of what is sound are sound.
 use Rattle.std.proofs.Common.{◌≡◌, ℕ, zero, suc, ◌<◌, length, get_or, Bool, true, false, List, [], ◌∷◌, Option, Some, None, map, refl, sym, ap, subst, ◌∙◌}
+use Rattle.std.proofs.lemmas.Bool.{false≢true}
 use Rattle.std.specs.Prelude.{slice_get, option_map}
 use Rattle.std.proofs.lemmas.Option.{slice_get-map, slice_get-get_or}
 use Rattle.chi_types.specs.declared.ty.Way.TheVariants as way
@@ -39,17 +40,17 @@ some_is x y h = cc
 -- elements of sound lists
 
 module _ (slots : List Ty) (scope : Scope) (kinds : scope.slots ≡ kinds_of slots) where
-  pub each_of_block : (loop : Bool) (known : Known) (xs : List CStat) → SoundBlock scope loop known xs → Every (SoundAt slots loop) xs
+  pub each_of_block : (loop : Bool) (known : Known) (xs : List CStat) → SoundBlock scope loop known xs → (k : ℕ) (x : CStat) → slice_get xs k ≡ Some x → SoundAt slots loop x
   each_of_block _ _ _ (t.no_statement loop known) k x is = absurd (cc)
   each_of_block _ _ _ (t.one_statement loop known y ys g r) zero x is = subst (SoundAt slots loop) (some_is y x is) (record { scope = scope; known = known; kinds = kinds; sound = g })
   each_of_block _ _ _ (t.one_statement loop known y ys g r) (suc k) x is = each_of_block loop (sets (out-CStat y) known) ys r k x is
 
-  each_of_branches : (loop : Bool) (known : Known) (xs : List Branch) → SoundBranches scope loop known xs → Every (SoundBranchAt slots loop) xs
+  each_of_branches : (loop : Bool) (known : Known) (xs : List Branch) → SoundBranches scope loop known xs → (k : ℕ) (x : Branch) → slice_get xs k ≡ Some x → SoundBranchAt slots loop x
   each_of_branches _ _ _ (t.no_branch loop known) k x is = absurd (cc)
   each_of_branches _ _ _ (t.one_branch loop known y ys g b r) zero x is = subst (SoundBranchAt slots loop) (some_is y x is) (each_of_block loop known (out-Branch y).block b)
   each_of_branches _ _ _ (t.one_branch loop known y ys g b r) (suc k) x is = each_of_branches loop known ys r k x is
 
-  each_of_alternatives : (loop : Bool) (known : Known) (xs : List CAlt) → SoundAlternatives scope loop known xs → Every (SoundAlternativeAt slots loop) xs
+  each_of_alternatives : (loop : Bool) (known : Known) (xs : List CAlt) → SoundAlternatives scope loop known xs → (k : ℕ) (x : CAlt) → slice_get xs k ≡ Some x → SoundAlternativeAt slots loop x
   each_of_alternatives _ _ _ (t.no_alternative loop known) k x is = absurd (cc)
   each_of_alternatives _ _ _ (t.one_alternative loop known y ys g r) zero x is = subst (SoundAlternativeAt slots loop) (some_is y x is) (record { scope = scope; known = known; kinds = kinds; sound = g })
   each_of_alternatives _ _ _ (t.one_alternative loop known y ys g r) (suc k) x is = each_of_alternatives loop known ys r k x is
@@ -136,12 +137,12 @@ pub both_same : {A B : Type 0} (P : A → B → Type 0) (x x' : A) (y y' : B) �
 both_same P x x' y y' e f h = subst (P x') f (subst (λ x. P x y) e h)
 
 pub none_inside : (near : Option Around) → in_loop near ≡ true → near ≡ None → ⊥
-none_inside near h is = let k : false ≡ true = ap in_loop (sym is) ∙ h in absurd (cc)
+none_inside near h is = let k : false ≡ true = ap in_loop (sym is) ∙ h in absurd (false≢true k)
 
 -- the bodies of a sound program
 
 pub sound_functions : (core : Core) → Sound core → Every (λ f. SoundBody f.slots f.body) core.funcs
-sound_functions core h k f is = let sf = h.functions k f is in each_of_block f.slots (function_home core f).scope refl false (params_known (function_home core f)) f.body sf.home.body
+sound_functions core h = λ k f is. let sf = h.functions k f is in each_of_block f.slots (function_home core f).scope refl false (params_known (function_home core f)) f.body sf.home.body
 
 pub sound_processes : (core : Core) → Sound core → Every (λ d. SoundBody d.slots d.body) core.procs
-sound_processes core h k d is = let sd = h.processes k d is in each_of_block d.slots (process_home core d).scope refl false (params_known (process_home core d)) d.body sd.home.body
+sound_processes core h = λ k d is. let sd = h.processes k d is in each_of_block d.slots (process_home core d).scope refl false (params_known (process_home core d)) d.body sd.home.body

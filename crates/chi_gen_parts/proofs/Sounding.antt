@@ -1,5 +1,6 @@
 -- The channels of what is sound are read soundly.
-use Rattle.std.proofs.Common.{◌≡◌, ℕ, zero, suc, ◌<◌, length, get_or, Bool, true, false, List, [], ◌∷◌, Option, Some, None, map, refl, sym, ap, subst, ◌∙◌}
+use Rattle.std.proofs.Common.{◌≡◌, ◌≢◌, arith, ℕ, zero, suc, ◌<◌, length, get_or, Bool, true, false, List, [], ◌∷◌, Option, Some, None, map, refl, sym, ap, subst, ◌∙◌}
+use Rattle.std.proofs.lemmas.Bool.{false≢true}
 use Rattle.std.specs.Prelude.{slice_get, option_map}
 use Rattle.std.proofs.lemmas.Option.{slice_get-map, slice_get-get_or}
 use Rattle.chi_types.specs.declared.ty.Way.TheVariants as way
@@ -33,6 +34,16 @@ use Rattle.chi_gen_parts.specs.Soundness.{SoundCommAt, LeadsFrom, SoundTargetAt}
 
 some_is : {A : Type 0} (x y : A) → Some x ≡ Some y → x ≡ y
 some_is x y h = cc
+
+-- what is somewhere is within
+
+pub at_place : {A : Type 0} (xs : List A) (n : ℕ) → slice_get xs n ≢ None → n < length xs
+at_place [] n h = absurd (h refl)
+at_place (x ∷ xs) zero h = omega arith
+at_place (x ∷ xs) (suc n) h = omega (arith, at_place xs n h)
+
+some_there : {A : Type 0} (o : Option A) (x : A) → o ≡ Some x → o ≢ None
+some_there o x h k = let e : Some x ≡ None = sym h ∙ k in absurd (cc)
 
 -- channels, and steps into the types of slots
 
@@ -120,41 +131,65 @@ module _ (t : Ty) where
   rolled u o h k = sym (roll-out-Ty t) ∙ ap roll-Ty (h ∙ sym k) ∙ roll-out-Ty u
 
   no_index_layer : (o : Ty-F Ty) → out-Ty t ≡ o → indexed (without_ways_and_names (map-Ty Ty Ty erased o)) ≡ true → ((i : Ty) → t ≡ ty.ListOf i → ⊥) → ((k i : Ty) → t ≡ ty.DictOf k i → ⊥) → ⊥
-  no_index_layer Ty-F.Bool h e f g = absurd (cc)
-  no_index_layer Ty-F.Int h e f g = absurd (cc)
-  no_index_layer Ty-F.Real h e f g = absurd (cc)
-  no_index_layer Ty-F.Text h e f g = absurd (cc)
-  no_index_layer Ty-F.Timer h e f g = absurd (cc)
-  no_index_layer Ty-F.Inst h e f g = absurd (cc)
-  no_index_layer Ty-F.Void h e f g = absurd (cc)
-  no_index_layer (Ty-F.Choice k) h e f g = absurd (cc)
-  no_index_layer (Ty-F.TupleOf parts) h e f g = absurd (cc)
+  no_index_layer Ty-F.Bool h e f g = absurd (false≢true e)
+  no_index_layer Ty-F.Int h e f g = absurd (false≢true e)
+  no_index_layer Ty-F.Real h e f g = absurd (false≢true e)
+  no_index_layer Ty-F.Text h e f g = absurd (false≢true e)
+  no_index_layer Ty-F.Timer h e f g = absurd (false≢true e)
+  no_index_layer Ty-F.Inst h e f g = absurd (false≢true e)
+  no_index_layer Ty-F.Void h e f g = absurd (false≢true e)
+  no_index_layer (Ty-F.Choice k) h e f g = absurd (false≢true e)
+  no_index_layer (Ty-F.TupleOf parts) h e f g = absurd (false≢true e)
   no_index_layer (Ty-F.ListOf i) h e f g = f i (rolled _ _ h (ty.outs-ListOf i))
-  no_index_layer (Ty-F.SetOf i) h e f g = absurd (cc)
+  no_index_layer (Ty-F.SetOf i) h e f g = absurd (false≢true e)
   no_index_layer (Ty-F.DictOf k i) h e f g = g k i (rolled _ _ h (ty.outs-DictOf k i))
-  no_index_layer (Ty-F.Chan way i) h e f g = absurd (cc)
-  no_index_layer (Ty-F.Dist i) h e f g = absurd (cc)
+  no_index_layer (Ty-F.Chan way i) h e f g = absurd (false≢true e)
+  no_index_layer (Ty-F.Dist i) h e f g = absurd (false≢true e)
 
   pub no_index : (e : CExpr) (steps : List CStep) → LeadsFrom t (step.Index e ∷ steps) → ((i : Ty) → t ≡ ty.ListOf i → ⊥) → ((k i : Ty) → t ≡ ty.DictOf k i → ⊥) → ⊥
   no_index e steps h f g =
       no_index_layer (out-Ty t) refl (ap indexed (sym (kind_at t (out-Ty t) refl)) ∙ is_indexed h.scope h.known e steps (kind_of t) h.goal h.leads) f g
 
   no_number_layer : (o : Ty-F Ty) → out-Ty t ≡ o → numbered (without_ways_and_names (map-Ty Ty Ty erased o)) ≡ true → ((parts : List (List ℕ × Ty)) → t ≡ ty.TupleOf parts → ⊥) → ⊥
-  no_number_layer Ty-F.Bool h e f = absurd (cc)
-  no_number_layer Ty-F.Int h e f = absurd (cc)
-  no_number_layer Ty-F.Real h e f = absurd (cc)
-  no_number_layer Ty-F.Text h e f = absurd (cc)
-  no_number_layer Ty-F.Timer h e f = absurd (cc)
-  no_number_layer Ty-F.Inst h e f = absurd (cc)
-  no_number_layer Ty-F.Void h e f = absurd (cc)
-  no_number_layer (Ty-F.Choice k) h e f = absurd (cc)
+  no_number_layer Ty-F.Bool h e f = absurd (false≢true e)
+  no_number_layer Ty-F.Int h e f = absurd (false≢true e)
+  no_number_layer Ty-F.Real h e f = absurd (false≢true e)
+  no_number_layer Ty-F.Text h e f = absurd (false≢true e)
+  no_number_layer Ty-F.Timer h e f = absurd (false≢true e)
+  no_number_layer Ty-F.Inst h e f = absurd (false≢true e)
+  no_number_layer Ty-F.Void h e f = absurd (false≢true e)
+  no_number_layer (Ty-F.Choice k) h e f = absurd (false≢true e)
   no_number_layer (Ty-F.TupleOf parts) h e f = f parts (rolled _ _ h (ty.outs-TupleOf parts))
-  no_number_layer (Ty-F.ListOf i) h e f = absurd (cc)
-  no_number_layer (Ty-F.SetOf i) h e f = absurd (cc)
-  no_number_layer (Ty-F.DictOf k i) h e f = absurd (cc)
-  no_number_layer (Ty-F.Chan way i) h e f = absurd (cc)
-  no_number_layer (Ty-F.Dist i) h e f = absurd (cc)
+  no_number_layer (Ty-F.ListOf i) h e f = absurd (false≢true e)
+  no_number_layer (Ty-F.SetOf i) h e f = absurd (false≢true e)
+  no_number_layer (Ty-F.DictOf k i) h e f = absurd (false≢true e)
+  no_number_layer (Ty-F.Chan way i) h e f = absurd (false≢true e)
+  no_number_layer (Ty-F.Dist i) h e f = absurd (false≢true e)
 
   pub no_number : (number : ℕ) (steps : List CStep) → LeadsFrom t (step.Part number ∷ steps) → ((parts : List (List ℕ × Ty)) → t ≡ ty.TupleOf parts → ⊥) → ⊥
   no_number number steps h f =
       no_number_layer (out-Ty t) refl (ap numbered (sym (kind_at t (out-Ty t) refl)) ∙ is_numbered h.scope h.known number steps (kind_of t) h.goal h.leads) f
+
+-- for the calls
+
+pub slot_there : (slots : List Ty) (c : CTarget) → SoundTargetAt slots c → slice_get slots c.slot ≢ None
+slot_there slots c h = some_there (slice_get slots c.slot) h.ty h.is
+
+leads_as : (t u : Ty) (steps : List CStep) → LeadsFrom t steps → t ≡ u → LeadsFrom u steps
+leads_as t u steps h e = subst (λ t. LeadsFrom t steps) e h
+
+pub leads_at : (slots : List Ty) (c : CTarget) (t : Ty) (steps : List CStep) → SoundTargetAt slots c → slice_get slots c.slot ≡ Some t → steps ≡ c.steps → LeadsFrom t steps
+leads_at slots c t steps h is same = subst (λ s. LeadsFrom t s) (sym same) (leads_as h.ty t c.steps h.leads (some_is h.ty t (sym h.is ∙ is)))
+
+pub part_there : (t : Ty) (parts : List (List ℕ × Ty)) (number : ℕ) (steps : List CStep) → LeadsFrom t (step.Part number ∷ steps) → t ≡ ty.TupleOf parts → slice_get parts number ≢ None
+part_there t parts number steps h is = let r = leads_into_tuple t parts number steps h is in some_there (slice_get parts number) r.0 r.1.0
+
+pub leads_at_part : (t : Ty) (parts : List (List ℕ × Ty)) (p : List ℕ × Ty) (number : ℕ) (steps : List CStep) → LeadsFrom t (step.Part number ∷ steps) → t ≡ ty.TupleOf parts
+    → slice_get parts number ≡ Some p → LeadsFrom p.1 steps
+leads_at_part t parts p number steps h is at =
+    let r = leads_into_tuple t parts number steps h is in
+    leads_as r.0.1 p.1 steps r.1.1 (ap (λ (x : List ℕ × Ty). x.1) (some_is r.0 p (sym r.1.0 ∙ at)))
+
+-- the steps of a target, the first of them apart
+pub leads_first : (t : Ty) (all : List CStep) (first : CStep) (rest : List CStep) (s : CStep) → LeadsFrom t all → all ≡ first ∷ rest → first ≡ s → LeadsFrom t (s ∷ rest)
+leads_first t all first rest s h e is = subst (λ l. LeadsFrom t l) (e ∙ ap (λ x. x ∷ rest) is) h

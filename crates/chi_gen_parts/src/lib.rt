@@ -2,14 +2,14 @@
 #![tactic(auto)]
 
 mod copies;
-mod expressions;
+mod expressing;
 mod offered;
 mod parts;
 mod targets;
 mod writer;
 
 pub use copies::{names_copy, pieces_copy, slots_copy};
-pub use expressions::{expression, expressions};
+pub use expressing::{expression, expressions};
 pub use offered::Offered;
 pub use parts::{all_elements, communication, guard, spread};
 pub use targets::{aims, indexes};

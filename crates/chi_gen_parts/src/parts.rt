@@ -7,7 +7,7 @@ ghost use Rattle.chi_gen_parts.specs.Added.{AddsComm, AddsElem, AddsElems, AddsG
 ghost use Rattle.chi_gen_parts.specs.Soundness.{SoundCommAt, SoundTargetAt};
 
 use crate::copies::slots_copy;
-use crate::expressions::{expression, expressions};
+use crate::expressing::{expression, expressions};
 use crate::offered::Offered;
 use crate::targets::{read, some_aim, some_indexes};
 use crate::writer::{behind, number_of, place, put};

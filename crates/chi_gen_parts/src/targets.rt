@@ -1,17 +1,18 @@
 //! Targets: as instructions have them, their indexes, and the expressions that read them.
 
-ghost use Rattle.std.specs.Prelude.{◌≡◌, map, OnOk, IfOk, [], ◌∷◌};
+ghost use Rattle.std.specs.Prelude.{◌≡◌, ◌≢◌, map, OnOk, IfOk, None, Some, [], ◌∷◌, slice_get};
 ghost use Rattle.chi_types.specs.declared.ty.Ty.{out-Ty};
 ghost use Rattle.chi_core.specs.declared.target.CStep.TheVariants as step;
 ghost use Rattle.chi_code.specs.Aims as aims;
 ghost use Rattle.chi_gen_parts.specs.Added.{AddsExprs, AddsInto, AddsRead};
 ghost use Rattle.chi_gen_parts.specs.Soundness.{LeadsFrom, SoundTargetAt};
 
-use crate::expressions::expression;
+use crate::expressing::expression;
 use crate::writer::put;
 use chi_base::{Items, NoMemory};
 use chi_code::{Aim, AimStep, Instr};
 use chi_core::{CExpr, CStep, CTarget, OpName};
+use chi_token::Bytes;
 use chi_types::Ty;
 use std::alloc::Global;
 
@@ -122,6 +123,24 @@ pub fn some_indexes(
     }
 }
 
+/// The type of a slot.
+#[tactic(auto, using(crate::proofs::Sounding::at_place))]
+fn type_of<'a>(slots: &'a [Ty], slot: u32) -> &'a Ty
+    requires { slice_get slots.now slot ≢ None }
+    ensures { slice_get slots.now slot ≡ Some result.now }
+{
+    &slots[slot as usize]
+}
+
+/// The part of a tuple's type.
+#[tactic(auto, using(crate::proofs::Sounding::at_place))]
+fn part_of<'a>(parts: &'a [(Bytes, Ty)], number: u32) -> &'a (Bytes, Ty)
+    requires { slice_get parts.now number ≢ None }
+    ensures { slice_get parts.now number ≡ Some result.now }
+{
+    &parts[number as usize]
+}
+
 /// Steps into a value of a type, as the expression that reads there.
 #[cycle(into)]
 fn into(alloc: Global, ty: &Ty, steps: &[CStep], code: &mut Vec<Instr>) -> Result<(), NoMemory>
@@ -178,7 +197,8 @@ fn into_part(
 {
     match ty {
         Ty::TupleOf(parts) => {
-            let part = &parts.as_slice()[number as usize];
+            let parts = parts.as_slice();
+            let part = part_of(parts, number);
             put(code, Instr::Part(number))?;
             into(alloc, &part.1, steps, code)?;
             Ok(())
@@ -197,7 +217,7 @@ pub fn read(
     requires sound { SoundTargetAt slots.now target.now }
     ensures { OnOk result (AddsRead slots.now target.now code.old.items code.new.items) }
 {
-    let ty = &slots[target.slot as usize];
+    let ty = type_of(slots, target.slot);
     put(code, Instr::Load(target.slot))?;
     into(alloc, ty, target.steps.as_slice(), code)?;
     Ok(())

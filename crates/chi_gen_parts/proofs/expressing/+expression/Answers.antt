@@ -1,6 +1,6 @@
 use Rattle.std.proofs.Common.{arith}
 use Rattle.chi_gen_parts.proofs.AddedExpressions.{add_op, add_and, add_or, add_build, add_part, add_call, add_insert, add_repeat, add_none, add_next}
-use Rattle.chi_gen_parts.proofs.expressions.+expression.Goals as goal
+use Rattle.chi_gen_parts.proofs.expressing.+expression.Goals as goal
 
 pub all-loop-x-init : goal.all-loop-x-init
 all-loop-x-init t c = add_none c.args.code.now.items
