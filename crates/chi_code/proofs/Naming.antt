@@ -165,7 +165,7 @@ module _ (c : List Instr) (scope : Scope) where
   kinds_append known _ fs _ Us k.no_expression h = h
   kinds_append known _ fs _ Us (k.one_expression e es T Ts g r) h = k.one_expression e (es ++ fs) T (Ts ++ Us) g (kinds_append known es fs Ts Us r h)
 
-  steps_kinds : (known : Known) (steps : List CStep) (T U : Kind) → StepsLead scope known steps T U → (Ts : List Kind) × HaveKinds scope known (step_indexes steps) Ts
+  pub steps_kinds : (known : Known) (steps : List CStep) (T U : Kind) → StepsLead scope known steps T U → (Ts : List Kind) × HaveKinds scope known (step_indexes steps) Ts
   steps_kinds known _ _ _ (q.no_step T) = ([], k.no_expression)
   steps_kinds known _ _ _ (q.into_list e steps t U g r) = let m = steps_kinds known steps (out-Ty t) U r in (Ty-F.Int ∷ m.0, k.one_expression e (step_indexes steps) Ty-F.Int m.0 g m.1)
   steps_kinds known _ _ _ (q.into_dictionary e steps key has U g r) = let m = steps_kinds known steps (out-Ty has) U r in (out-Ty key ∷ m.0, k.one_expression e (step_indexes steps) (out-Ty key) m.0 g m.1)
@@ -175,14 +175,14 @@ module _ (c : List Instr) (scope : Scope) where
   target_kinds known slot _ _ (q.whole T is) = ([], k.no_expression)
   target_kinds known slot _ _ (q.within s steps T U set is r) = steps_kinds known (s ∷ steps) T U r
 
-  targets_kinds : (known : Known) (ts : List CTarget) (Ts : List Kind) → TargetsTake scope known ts Ts → (Us : List Kind) × HaveKinds scope known (indexes_of ts) Us
+  pub targets_kinds : (known : Known) (ts : List CTarget) (Ts : List Kind) → TargetsTake scope known ts Ts → (Us : List Kind) × HaveKinds scope known (indexes_of ts) Us
   targets_kinds known _ _ q.no_target = ([], k.no_expression)
   targets_kinds known _ _ (q.one_target t ts T Ts g r) =
       let m = target_kinds known t.slot t.steps T g in
       let n = targets_kinds known ts Ts r in
       (m.0 ++ n.0, kinds_append known (step_indexes t.steps) (indexes_of ts) m.0 n.0 m.1 n.1)
 
-  instance_kinds : (known : Known) (o : Option CTarget) → TakesInstance scope known o → (Us : List Kind) × HaveKinds scope known (some_indexes o) Us
+  pub instance_kinds : (known : Known) (o : Option CTarget) → TakesInstance scope known o → (Us : List Kind) × HaveKinds scope known (some_indexes o) Us
   instance_kinds known _ q.nowhere = ([], k.no_expression)
   instance_kinds known _ (q.target t g) = target_kinds known t.slot t.steps Ty-F.Inst g
 

@@ -175,7 +175,7 @@ module _ (process : Bool) (slots : List Ty) where
   pub add_no_body : (near : Option Around) (end : ℕ) (c : List Instr) → AddsBodies process slots near end [] c c
   add_no_body near end c = record { grows = grows_same c; at = λ outer. no_body (length c) }
 
-  bodies_joined : {code : List Instr} (around : List Around) (end : ℕ) (xs ys : List CAlt) (p q r : ℕ) → BodiesAt code turn slots around end xs p q → BodiesAt code turn slots around end ys q r → BodiesAt code turn slots around end (xs ++ ys) p r
+  pub bodies_joined : {code : List Instr} (around : List Around) (end : ℕ) (xs ys : List CAlt) (p q r : ℕ) → BodiesAt code turn slots around end xs p q → BodiesAt code turn slots around end ys q r → BodiesAt code turn slots around end (xs ++ ys) p r
   bodies_joined around end _ ys _ _ r (no_body p) m = m
   bodies_joined around end _ ys _ _ r (one_body x xs p q s h k) m = one_body x (xs ++ ys) p q r h (bodies_joined around end xs ys q s r k m)
 
@@ -212,7 +212,7 @@ module _ (process : Bool) (slots : List Ty) where
             (eb.grows.has _ _ w.has)) refl;
       }
 
-fronts_joined : {d : List Instr} {slots : List Ty} {w : Bool} (names : List ℕ) (xs ys : List CAlt) (p q r a b c : ℕ) → FrontsAt d slots w names xs p q a b → FrontsAt d slots w names ys q r b c → FrontsAt d slots w names (xs ++ ys) p r a c
+pub fronts_joined : {d : List Instr} {slots : List Ty} {w : Bool} (names : List ℕ) (xs ys : List CAlt) (p q r a b c : ℕ) → FrontsAt d slots w names xs p q a b → FrontsAt d slots w names ys q r b c → FrontsAt d slots w names (xs ++ ys) p r a c
 fronts_joined _ _ ys _ _ r _ _ c (no_front names p a) m = m
 fronts_joined _ _ ys _ _ r _ _ c (one_front names x xs p q t a b n h k) m = one_front names x (xs ++ ys) p q r a b c h (fronts_joined names xs ys q t r b n c k m)
 

@@ -52,7 +52,7 @@ mapped f None y e = absurd (cc)
 mapped f (Some x) y e = (x, refl, some_is (f x) y e)
 
 module _ (slots : List Ty) (scope : Scope) (known : Known) (kinds : scope.slots ≡ kinds_of slots) where
-  channel_target : (c : CTarget) (element : Ty) → ChannelAt scope known c element → SoundTargetAt slots c
+  pub channel_target : (c : CTarget) (element : Ty) → ChannelAt scope known c element → SoundTargetAt slots c
   channel_target c element ch =
       let m = mapped kind_of (slice_get slots c.slot) ch.kind (sym (slice_get-map kind_of slots c.slot) ∙ ap (λ l. slice_get l c.slot) (sym kinds) ∙ ch.is) in
       record {
@@ -96,7 +96,7 @@ pub leads_into_dictionary : (t key has : Ty) (e : CExpr) (steps : List CStep) �
 leads_into_dictionary t key has e steps h is =
     record { scope = h.scope; known = h.known; goal = h.goal; leads = step_into_dictionary h.scope h.known h.goal e steps (kind_of t) (erased key) (erased has) h.leads (kind_at t _ (ap out-Ty is ∙ ty.outs-DictOf key has)) }
 
-part_of_type : (parts : List (List ℕ × Ty)) (number : ℕ) (p : List ℕ × Ty) → slice_get (nameless (map (beside erased) parts)) number ≡ Some p → (r : List ℕ × Ty) × (slice_get parts number ≡ Some r) × (erased r.1 ≡ p.1)
+pub part_of_type : (parts : List (List ℕ × Ty)) (number : ℕ) (p : List ℕ × Ty) → slice_get (nameless (map (beside erased) parts)) number ≡ Some p → (r : List ℕ × Ty) × (slice_get parts number ≡ Some r) × (erased r.1 ≡ p.1)
 part_of_type [] number p is = absurd (cc)
 part_of_type (r ∷ parts) zero p is = (r, refl, ap (λ (x : List ℕ × Ty). x.1) (some_is _ p is))
 part_of_type (r ∷ parts) (suc number) p is = part_of_type parts number p is

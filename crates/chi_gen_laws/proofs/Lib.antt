@@ -1,0 +1,4 @@
+pub mod ExpressionCode
+pub mod PartCode
+pub mod ProgramCode
+pub mod StatementCode
