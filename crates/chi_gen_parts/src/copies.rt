@@ -9,7 +9,7 @@ use std::alloc::Global;
 
 /// A copy of a shape.
 #[cycle(shape)]
-pub fn shape_copy(alloc: Global, shape: &Shape) -> Result<Shape, NoMemory>
+pub(crate) fn shape_copy(alloc: Global, shape: &Shape) -> Result<Shape, NoMemory>
     ensures { IfOk result (λ s. s ≡ shape.now) }
 {
     match shape {

@@ -56,7 +56,7 @@ pub fn aims(alloc: Global, targets: &[CTarget]) -> Result<Items<Aim>, NoMemory>
     Ok(Items::of(alloc, done)?)
 }
 
-pub fn some_aim(alloc: Global, target: &Option<CTarget>) -> Result<Option<Aim>, NoMemory>
+pub(crate) fn some_aim(alloc: Global, target: &Option<CTarget>) -> Result<Option<Aim>, NoMemory>
     ensures { IfOk result (λ r. r ≡ aims.some_aim target.now) }
 {
     match target {
@@ -110,7 +110,7 @@ pub fn indexes(
 
 /// The indexes of a target, if there is one.
 #[tactic(auto, using(crate::proofs::AddedExpressions::add_none))]
-pub fn some_indexes(
+pub(crate) fn some_indexes(
     alloc: Global,
     target: &Option<CTarget>,
     code: &mut Vec<Instr>,
@@ -208,7 +208,7 @@ fn into_part(
 }
 
 /// The expression that reads a target, where each slot has a type.
-pub fn read(
+pub(crate) fn read(
     alloc: Global,
     slots: &[Ty],
     target: &CTarget,

@@ -52,6 +52,7 @@ pub(crate) fn sizes_of(xs: &Items<CExpr>) -> Result<u64, NoMemory>
     Ok(count)
 }
 
+/// Of an expression.
 pub fn size_of_boxed(x: &Boxed<CExpr>) -> Result<u64, NoMemory>
     ensures { IfOk result (λ n. n ≡ size x.now) }
 {

@@ -123,6 +123,7 @@ pub(crate) fn comm_of(comm: &CComm) -> Result<u64, NoMemory>
     }
 }
 
+/// Whether the values of an assignment are one tuple for several targets.
 #[tactic(auto, using(crate::proofs::MeasuredParts::spread_by, crate::proofs::MeasuredParts::no_spread_by))]
 pub fn is_spread(targets: &Items<CTarget>, es: &Items<CExpr>) -> bool
     ensures { result ≡ aims.is_spread targets.now es.now }
@@ -166,6 +167,7 @@ fn element_of(x: &CElem) -> Result<u64, NoMemory>
     }
 }
 
+/// Of elements, one after another.
 #[cycle(element_of)]
 #[tactic(auto, using(crate::proofs::Measures::total_next))]
 pub fn elements_of(xs: &[CElem]) -> Result<u64, NoMemory>

@@ -9,6 +9,7 @@ use crate::adding::plus;
 use chi_base::NoMemory;
 use chi_core::{Branch, CAlt, CComm, CExpr, CStat};
 
+/// Of a guard, if there is one, and a communication.
 pub fn offer_of(guard: &Option<CExpr>, comm: &CComm) -> Result<u64, NoMemory>
     ensures { IfOk result (λ n. n ≡ sizes.guard_size guard.now + sizes.comm_size comm.now) }
 {
@@ -78,6 +79,7 @@ fn statement_of(x: &CStat, walks: bool) -> Result<u64, NoMemory>
     }
 }
 
+/// Of statements in turn.
 #[cycle(statement_of)]
 #[tactic(auto, using(crate::proofs::MeasuredStatements::block_next))]
 pub fn block_of(xs: &[CStat], walks: bool) -> Result<u64, NoMemory>
@@ -99,6 +101,7 @@ fn branch_of(x: &Branch, walks: bool) -> Result<u64, NoMemory>
     plus(first, block_of(x.block.as_slice(), walks)?)
 }
 
+/// Of the branches of a choice, but for its last block.
 #[cycle(statement_of)]
 #[tactic(auto, using(crate::proofs::MeasuredStatements::branches_next))]
 pub fn branches_of(xs: &[Branch], walks: bool) -> Result<u64, NoMemory>
