@@ -35,7 +35,7 @@ fn constants(alloc: Global, ks: &[ConstDef], code: &mut Vec<Instr>) -> Result<()
 }
 
 fn function(alloc: Global, f: &FuncDef, code: &mut Vec<Instr>) -> Result<Entry, NoMemory>
-    requires sound { SoundBody f.now.slots f.now.body }
+    requires { SoundBody f.now.slots f.now.body }
     ensures { IfOk result (λ entry. AddsFuncs (f.now ∷ []) (entry ∷ []) code.old.items code.new.items) }
 {
     let entry = Entry {
@@ -56,7 +56,7 @@ fn function(alloc: Global, f: &FuncDef, code: &mut Vec<Instr>) -> Result<Entry, 
 }
 
 fn functions(alloc: Global, fs: &[FuncDef], code: &mut Vec<Instr>) -> Result<Items<Entry>, NoMemory>
-    requires sound { Every (λ f. SoundBody f.slots f.body) fs.now }
+    requires { Every (λ f. SoundBody f.slots f.body) fs.now }
     ensures { IfOk result (λ entries. AddsFuncs fs.now entries code.old.items code.new.items) }
 {
     let mut entries = Vec::new(alloc);
@@ -68,7 +68,7 @@ fn functions(alloc: Global, fs: &[FuncDef], code: &mut Vec<Instr>) -> Result<Ite
 }
 
 fn process(alloc: Global, d: &ProcDef, code: &mut Vec<Instr>) -> Result<Entry, NoMemory>
-    requires sound { SoundBody d.now.slots d.now.body }
+    requires { SoundBody d.now.slots d.now.body }
     ensures { IfOk result (λ entry. AddsProcs (d.now ∷ []) (entry ∷ []) code.old.items code.new.items) }
 {
     let entry = Entry {
@@ -89,7 +89,7 @@ fn process(alloc: Global, d: &ProcDef, code: &mut Vec<Instr>) -> Result<Entry, N
 }
 
 fn processes(alloc: Global, ds: &[ProcDef], code: &mut Vec<Instr>) -> Result<Items<Entry>, NoMemory>
-    requires sound { Every (λ d. SoundBody d.slots d.body) ds.now }
+    requires { Every (λ d. SoundBody d.slots d.body) ds.now }
     ensures { IfOk result (λ entries. AddsProcs ds.now entries code.old.items code.new.items) }
 {
     let mut entries = Vec::new(alloc);

@@ -33,7 +33,7 @@ fn offer(
     comm: &CComm,
     code: &mut Vec<Instr>,
 ) -> Result<(), NoMemory>
-    requires sound { SoundCommAt here.now.slots.now comm.now }
+    requires { SoundCommAt here.now.slots.now comm.now }
     ensures { OnOk result (AddsOffer here.now.slots.now names.now body test.now comm.now code.old.items code.new.items) }
 {
     let end = plus(place(code), offer_of(test, comm)?)?;
@@ -66,7 +66,7 @@ fn front(
     x: &CAlt,
     code: &mut Vec<Instr>,
 ) -> Result<u64, NoMemory>
-    requires sound { SoundAlternativeAt here.now.slots.now (in_loop here.now.near) x.now }
+    requires { SoundAlternativeAt here.now.slots.now (in_loop here.now.near) x.now }
     ensures { IfOk result (λ next. AddsFronts here.now.slots.now (walks_in here.now.near) names.now (x.now ∷ []) first next code.old.items code.new.items) }
 {
     match x {
@@ -100,7 +100,7 @@ pub(crate) fn fronts(
     xs: &[CAlt],
     code: &mut Vec<Instr>,
 ) -> Result<u64, NoMemory>
-    requires sound { Every (SoundAlternativeAt here.now.slots.now (in_loop here.now.near)) xs.now }
+    requires { Every (SoundAlternativeAt here.now.slots.now (in_loop here.now.near)) xs.now }
     ensures { IfOk result (λ next. AddsFronts here.now.slots.now (walks_in here.now.near) names.now xs.now first next code.old.items code.new.items) }
 {
     let mut next = first;

@@ -62,7 +62,7 @@ pub(crate) fn assign(
 
 /// Leaves the nearest loop.
 pub(crate) fn leave(here: &Here<'_>, line: u32, code: &mut Vec<Instr>) -> Result<(), NoMemory>
-    requires inside { in_loop here.now.near ≡ true }
+    requires { in_loop here.now.near ≡ true }
     ensures { OnOk result (AddsStat here.now.process here.now.slots.now here.now.near (statement.Break line) code.old.items code.new.items) }
 {
     match here.near {
@@ -83,7 +83,7 @@ pub(crate) fn leave(here: &Here<'_>, line: u32, code: &mut Vec<Instr>) -> Result
 
 /// Goes on with the next turn of the nearest loop.
 pub(crate) fn again(here: &Here<'_>, line: u32, code: &mut Vec<Instr>) -> Result<(), NoMemory>
-    requires inside { in_loop here.now.near ≡ true }
+    requires { in_loop here.now.near ≡ true }
     ensures { OnOk result (AddsStat here.now.process here.now.slots.now here.now.near (statement.Continue line) code.old.items code.new.items) }
 {
     match here.near {

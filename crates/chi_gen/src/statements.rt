@@ -20,7 +20,7 @@ use chi_gen_sizes::{block_of, branches_of, fronts_of, plus};
 
 #[cycle(statement)]
 fn statement(here: &Here<'_>, x: &CStat, code: &mut Vec<Instr>) -> Result<(), NoMemory>
-    requires sound { SoundAt here.now.slots.now (in_loop here.now.near) x.now }
+    requires { SoundAt here.now.slots.now (in_loop here.now.near) x.now }
     ensures { OnOk result (AddsStat here.now.process here.now.slots.now here.now.near x.now code.old.items code.new.items) }
 {
     match x {
@@ -49,7 +49,7 @@ pub(crate) fn block(
     xs: &[CStat],
     code: &mut Vec<Instr>,
 ) -> Result<(), NoMemory>
-    requires sound { Every (SoundAt here.now.slots.now (in_loop here.now.near)) xs.now }
+    requires { Every (SoundAt here.now.slots.now (in_loop here.now.near)) xs.now }
     ensures { OnOk result (AddsBlock here.now.process here.now.slots.now here.now.near xs.now code.old.items code.new.items) }
 {
     for x in xs {
@@ -88,7 +88,7 @@ fn branches(
     xs: &[Branch],
     code: &mut Vec<Instr>,
 ) -> Result<(), NoMemory>
-    requires sound { Every (SoundBranchAt here.now.slots.now (in_loop here.now.near)) xs.now }
+    requires { Every (SoundBranchAt here.now.slots.now (in_loop here.now.near)) xs.now }
     ensures { OnOk result (AddsTests here.now.process here.now.slots.now here.now.near end xs.now code.old.items code.new.items) }
 {
     for x in xs {
@@ -104,7 +104,7 @@ fn branch(
     x: &Branch,
     code: &mut Vec<Instr>,
 ) -> Result<(), NoMemory>
-    requires sound { SoundBranchAt here.now.slots.now (in_loop here.now.near) x.now }
+    requires { SoundBranchAt here.now.slots.now (in_loop here.now.near) x.now }
     ensures { OnOk result (AddsTests here.now.process here.now.slots.now here.now.near end (x.now ∷ []) code.old.items code.new.items) }
 {
     let inner = x.block.as_slice();
@@ -124,7 +124,7 @@ fn repeat(
     inner: &Items<CStat>,
     code: &mut Vec<Instr>,
 ) -> Result<(), NoMemory>
-    requires sound { Every (SoundAt here.now.slots.now true) inner.now }
+    requires { Every (SoundAt here.now.slots.now true) inner.now }
     ensures { OnOk result (AddsStat here.now.process here.now.slots.now here.now.near (statement.While line test.now inner.now) code.old.items code.new.items) }
 {
     let inner = inner.as_slice();
@@ -157,7 +157,7 @@ fn walk(
     inner: &Items<CStat>,
     code: &mut Vec<Instr>,
 ) -> Result<(), NoMemory>
-    requires sound { Every (SoundAt here.now.slots.now true) inner.now }
+    requires { Every (SoundAt here.now.slots.now true) inner.now }
     ensures { OnOk result (AddsStat here.now.process here.now.slots.now here.now.near (statement.For line names.now e.now inner.now) code.old.items code.new.items) }
 {
     let inner = inner.as_slice();
@@ -190,7 +190,7 @@ fn select(
     alternatives: &Items<CAlt>,
     code: &mut Vec<Instr>,
 ) -> Result<(), NoMemory>
-    requires sound { Every (SoundAlternativeAt here.now.slots.now (in_loop here.now.near)) alternatives.now }
+    requires { Every (SoundAlternativeAt here.now.slots.now (in_loop here.now.near)) alternatives.now }
     ensures { OnOk result (AddsStat here.now.process here.now.slots.now here.now.near (statement.Select line alternatives.now) code.old.items code.new.items) }
 {
     let xs = alternatives.as_slice();
@@ -205,7 +205,7 @@ fn select(
 /// The bodies of alternatives.
 #[cycle(statement)]
 fn bodies(here: &Here<'_>, end: u64, xs: &[CAlt], code: &mut Vec<Instr>) -> Result<(), NoMemory>
-    requires sound { Every (SoundAlternativeAt here.now.slots.now (in_loop here.now.near)) xs.now }
+    requires { Every (SoundAlternativeAt here.now.slots.now (in_loop here.now.near)) xs.now }
     ensures { OnOk result (AddsBodies here.now.process here.now.slots.now here.now.near end xs.now code.old.items code.new.items) }
 {
     for x in xs {
@@ -216,7 +216,7 @@ fn bodies(here: &Here<'_>, end: u64, xs: &[CAlt], code: &mut Vec<Instr>) -> Resu
 
 #[cycle(statement)]
 fn body(here: &Here<'_>, end: u64, x: &CAlt, code: &mut Vec<Instr>) -> Result<(), NoMemory>
-    requires sound { SoundAlternativeAt here.now.slots.now (in_loop here.now.near) x.now }
+    requires { SoundAlternativeAt here.now.slots.now (in_loop here.now.near) x.now }
     ensures { OnOk result (AddsBodies here.now.process here.now.slots.now here.now.near end (x.now ∷ []) code.old.items code.new.items) }
 {
     match x {

@@ -49,7 +49,7 @@ fn send(
     value: &Option<CExpr>,
     code: &mut Vec<Instr>,
 ) -> Result<(), NoMemory>
-    requires sound { SoundTargetAt within.now.slots.now target.now }
+    requires { SoundTargetAt within.now.slots.now target.now }
     ensures { OnOk result (AddsComm within.now.slots.now within.now.names.now within.now.body (comm.Send target.now value.now) code.old.items code.new.items) }
 {
     let alloc = within.alloc;
@@ -75,7 +75,7 @@ fn receive(
     slot: &Option<u32>,
     code: &mut Vec<Instr>,
 ) -> Result<(), NoMemory>
-    requires sound { SoundTargetAt within.now.slots.now target.now }
+    requires { SoundTargetAt within.now.slots.now target.now }
     ensures { OnOk result (AddsComm within.now.slots.now within.now.names.now within.now.body (comm.Receive target.now slot.now) code.old.items code.new.items) }
 {
     let alloc = within.alloc;
@@ -117,7 +117,7 @@ pub fn communication(
     comm: &CComm,
     code: &mut Vec<Instr>,
 ) -> Result<(), NoMemory>
-    requires sound { SoundCommAt within.now.slots.now comm.now }
+    requires { SoundCommAt within.now.slots.now comm.now }
     ensures { OnOk result (AddsComm within.now.slots.now within.now.names.now within.now.body comm.now code.old.items code.new.items) }
 {
     match comm {

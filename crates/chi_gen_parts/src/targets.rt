@@ -144,7 +144,7 @@ fn part_of<'a>(parts: &'a [(Bytes, Ty)], number: u32) -> &'a (Bytes, Ty)
 /// Steps into a value of a type, as the expression that reads there.
 #[cycle(into)]
 fn into(alloc: Global, ty: &Ty, steps: &[CStep], code: &mut Vec<Instr>) -> Result<(), NoMemory>
-    requires sound { LeadsFrom ty.now steps.now }
+    requires { LeadsFrom ty.now steps.now }
     ensures { OnOk result (AddsInto (out-Ty ty.now) steps.now code.old.items code.new.items) }
 {
     let Some((first, rest)) = steps.split_first() else {
@@ -164,7 +164,7 @@ fn into_index(
     steps: &[CStep],
     code: &mut Vec<Instr>,
 ) -> Result<(), NoMemory>
-    requires sound { LeadsFrom ty.now (step.Index e.now ∷ steps.now) }
+    requires { LeadsFrom ty.now (step.Index e.now ∷ steps.now) }
     ensures { OnOk result (AddsInto (out-Ty ty.now) (step.Index e.now ∷ steps.now) code.old.items code.new.items) }
 {
     match ty {
@@ -192,7 +192,7 @@ fn into_part(
     steps: &[CStep],
     code: &mut Vec<Instr>,
 ) -> Result<(), NoMemory>
-    requires sound { LeadsFrom ty.now (step.Part number ∷ steps.now) }
+    requires { LeadsFrom ty.now (step.Part number ∷ steps.now) }
     ensures { OnOk result (AddsInto (out-Ty ty.now) (step.Part number ∷ steps.now) code.old.items code.new.items) }
 {
     match ty {
@@ -214,7 +214,7 @@ pub(crate) fn read(
     target: &CTarget,
     code: &mut Vec<Instr>,
 ) -> Result<(), NoMemory>
-    requires sound { SoundTargetAt slots.now target.now }
+    requires { SoundTargetAt slots.now target.now }
     ensures { OnOk result (AddsRead slots.now target.now code.old.items code.new.items) }
 {
     let ty = type_of(slots, target.slot);

@@ -26,10 +26,10 @@ front-returns-in_ok-offer-in-Guarded t c =
     add_guarded_front c.args.here.now.slots.now (walks_in c.args.here.now.near) c.args.names.now c.args.x.now _ _ _ c.args.first _ c.args.code.now.items _ c.in-Guarded.is c.in_ok-next-in-Guarded.ensures c.in_ok-offer-in-Guarded.ensures
 
 pub front-offer-requires : goal.front-offer-requires
-front-offer-requires t c = sound_comm c.args.here.now.slots.now (in_loop c.args.here.now.near) c.args.x.now c.requires.sound _ _ _ c.in-Guarded.is
+front-offer-requires t c = sound_comm c.args.here.now.slots.now (in_loop c.args.here.now.near) c.args.x.now c.requires _ _ _ c.in-Guarded.is
 
 pub front-fronts-requires : goal.front-fronts-requires
-front-fronts-requires t c = all_same (SoundAlternativeAt c.args.here.now.slots.now (in_loop c.args.here.now.near)) _ _ (sym c.as_slice-xs.ensures.same) (sound_unwind c.args.here.now.slots.now (in_loop c.args.here.now.near) c.args.x.now c.requires.sound _ _ _ c.in-Unwind.is)
+front-fronts-requires t c = all_same (SoundAlternativeAt c.args.here.now.slots.now (in_loop c.args.here.now.near)) _ _ (sym c.as_slice-xs.ensures.same) (sound_unwind c.args.here.now.slots.now (in_loop c.args.here.now.near) c.args.x.now c.requires _ _ _ c.in-Unwind.is)
 
 pub fronts-front-requires : goal.fronts-front-requires
-fronts-front-requires t c = item (SoundAlternativeAt c.args.here.now.slots.now (in_loop c.args.here.now.near)) c.args.xs.now c.loop-x.x-index c.x-item.result c.requires.sound (omega arith) c.x-item.is
+fronts-front-requires t c = item (SoundAlternativeAt c.args.here.now.slots.now (in_loop c.args.here.now.near)) c.args.xs.now c.loop-x.x-index c.x-item.result c.requires (omega arith) c.x-item.is

@@ -9,4 +9,4 @@ pub returns-in_ok-put-in-Some-3 : goal.returns-in_ok-put-in-Some-3
 returns-in_ok-put-in-Some-3 c = add_break c.args.here.now.process c.args.here.now.slots.now c.args.here.now.near c.args.code.now.items c.args.line c.in-Some.near _ _ c.in-Some.is c.if-near.false c.in_ok-turn-in-Some.ensures c.in_ok-put-in-Some-3.ensures
 
 pub unreachable-requires : goal.unreachable-requires
-unreachable-requires c = none_inside c.args.here.now.near c.requires.inside c.in-None.is
+unreachable-requires c = none_inside c.args.here.now.near c.requires c.in-None.is

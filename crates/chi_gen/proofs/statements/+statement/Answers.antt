@@ -80,34 +80,34 @@ body-returns-in_ok-bodies-in-Unwind t c =
     (c.in-Unwind.is ∙ ap (alternative.Unwind c.in-Unwind.field-0 c.in-Unwind.field-1) (sym c.as_slice-in-Unwind.ensures.same)) c.in_ok-bodies-in-Unwind.ensures
 
 pub block-statement-requires : goal.block-statement-requires
-block-statement-requires t c = item (SoundAt c.args.here.now.slots.now (in_loop c.args.here.now.near)) c.args.xs.now c.loop-x.x-index c.x-item.result c.requires.sound (omega arith) c.x-item.is
+block-statement-requires t c = item (SoundAt c.args.here.now.slots.now (in_loop c.args.here.now.near)) c.args.xs.now c.loop-x.x-index c.x-item.result c.requires (omega arith) c.x-item.is
 
 pub branches-branch-requires : goal.branches-branch-requires
-branches-branch-requires t c = item (SoundBranchAt c.args.here.now.slots.now (in_loop c.args.here.now.near)) c.args.xs.now c.loop-x.x-index c.x-item.result c.requires.sound (omega arith) c.x-item.is
+branches-branch-requires t c = item (SoundBranchAt c.args.here.now.slots.now (in_loop c.args.here.now.near)) c.args.xs.now c.loop-x.x-index c.x-item.result c.requires (omega arith) c.x-item.is
 
 pub bodies-body-requires : goal.bodies-body-requires
-bodies-body-requires t c = item (SoundAlternativeAt c.args.here.now.slots.now (in_loop c.args.here.now.near)) c.args.xs.now c.loop-x.x-index c.x-item.result c.requires.sound (omega arith) c.x-item.is
+bodies-body-requires t c = item (SoundAlternativeAt c.args.here.now.slots.now (in_loop c.args.here.now.near)) c.args.xs.now c.loop-x.x-index c.x-item.result c.requires (omega arith) c.x-item.is
 
 pub statement-choose-requires-clause-first : goal.statement-choose-requires-clause-first
-statement-choose-requires-clause-first t c = sound_branches c.args.here.now.slots.now (in_loop c.args.here.now.near) c.args.x.now c.requires.sound _ _ _ c.in-If.is
+statement-choose-requires-clause-first t c = sound_branches c.args.here.now.slots.now (in_loop c.args.here.now.near) c.args.x.now c.requires _ _ _ c.in-If.is
 
 pub statement-choose-requires-clause-last : goal.statement-choose-requires-clause-last
-statement-choose-requires-clause-last t c = sound_otherwise c.args.here.now.slots.now (in_loop c.args.here.now.near) c.args.x.now c.requires.sound _ _ _ c.in-If.is
+statement-choose-requires-clause-last t c = sound_otherwise c.args.here.now.slots.now (in_loop c.args.here.now.near) c.args.x.now c.requires _ _ _ c.in-If.is
 
 pub statement-repeat-requires : goal.statement-repeat-requires
-statement-repeat-requires t c = sound_while c.args.here.now.slots.now (in_loop c.args.here.now.near) c.args.x.now c.requires.sound _ _ _ c.in-While.is
+statement-repeat-requires t c = sound_while c.args.here.now.slots.now (in_loop c.args.here.now.near) c.args.x.now c.requires _ _ _ c.in-While.is
 
 pub statement-walk-requires : goal.statement-walk-requires
-statement-walk-requires t c = sound_for c.args.here.now.slots.now (in_loop c.args.here.now.near) c.args.x.now c.requires.sound _ _ _ _ c.in-For.is
+statement-walk-requires t c = sound_for c.args.here.now.slots.now (in_loop c.args.here.now.near) c.args.x.now c.requires _ _ _ _ c.in-For.is
 
 pub statement-leave-requires : goal.statement-leave-requires
-statement-leave-requires t c = sound_break c.args.here.now.slots.now (in_loop c.args.here.now.near) c.args.x.now c.requires.sound _ c.in-Break.is
+statement-leave-requires t c = sound_break c.args.here.now.slots.now (in_loop c.args.here.now.near) c.args.x.now c.requires _ c.in-Break.is
 
 pub statement-again-requires : goal.statement-again-requires
-statement-again-requires t c = sound_continue c.args.here.now.slots.now (in_loop c.args.here.now.near) c.args.x.now c.requires.sound _ c.in-Continue.is
+statement-again-requires t c = sound_continue c.args.here.now.slots.now (in_loop c.args.here.now.near) c.args.x.now c.requires _ c.in-Continue.is
 
 pub statement-select-requires : goal.statement-select-requires
-statement-select-requires t c = sound_select c.args.here.now.slots.now (in_loop c.args.here.now.near) c.args.x.now c.requires.sound _ _ c.in-Select.is
+statement-select-requires t c = sound_select c.args.here.now.slots.now (in_loop c.args.here.now.near) c.args.x.now c.requires _ _ c.in-Select.is
 
 pub choose-branches-requires : goal.choose-branches-requires
 choose-branches-requires t c = all_same (SoundBranchAt c.args.here.now.slots.now (in_loop c.args.here.now.near)) _ _ (sym c.as_slice-tests.ensures.same) c.requires.first
@@ -116,22 +116,22 @@ pub choose-block-requires : goal.choose-block-requires
 choose-block-requires t c = all_same (SoundAt c.args.here.now.slots.now (in_loop c.args.here.now.near)) _ _ (sym c.as_slice-otherwise.ensures.same) c.requires.last
 
 pub branch-block-requires : goal.branch-block-requires
-branch-block-requires t c = all_same (SoundAt c.args.here.now.slots.now (in_loop c.args.here.now.near)) _ _ (sym c.as_slice-inner.ensures.same) c.requires.sound
+branch-block-requires t c = all_same (SoundAt c.args.here.now.slots.now (in_loop c.args.here.now.near)) _ _ (sym c.as_slice-inner.ensures.same) c.requires
 
 pub repeat-block-requires : goal.repeat-block-requires
-repeat-block-requires t c = all_same (SoundAt c.args.here.now.slots.now true) _ _ (sym c.as_slice-inner.ensures.same) c.requires.sound
+repeat-block-requires t c = all_same (SoundAt c.args.here.now.slots.now true) _ _ (sym c.as_slice-inner.ensures.same) c.requires
 
 pub walk-block-requires : goal.walk-block-requires
-walk-block-requires t c = all_same (SoundAt c.args.here.now.slots.now true) _ _ (sym c.as_slice-inner.ensures.same) c.requires.sound
+walk-block-requires t c = all_same (SoundAt c.args.here.now.slots.now true) _ _ (sym c.as_slice-inner.ensures.same) c.requires
 
 pub select-fronts-requires : goal.select-fronts-requires
-select-fronts-requires t c = all_same (SoundAlternativeAt c.args.here.now.slots.now (in_loop c.args.here.now.near)) _ _ (sym c.as_slice-xs.ensures.same) c.requires.sound
+select-fronts-requires t c = all_same (SoundAlternativeAt c.args.here.now.slots.now (in_loop c.args.here.now.near)) _ _ (sym c.as_slice-xs.ensures.same) c.requires
 
 pub select-bodies-requires : goal.select-bodies-requires
-select-bodies-requires t c = all_same (SoundAlternativeAt c.args.here.now.slots.now (in_loop c.args.here.now.near)) _ _ (sym c.as_slice-xs.ensures.same) c.requires.sound
+select-bodies-requires t c = all_same (SoundAlternativeAt c.args.here.now.slots.now (in_loop c.args.here.now.near)) _ _ (sym c.as_slice-xs.ensures.same) c.requires
 
 pub body-block-requires : goal.body-block-requires
-body-block-requires t c = all_same (SoundAt c.args.here.now.slots.now (in_loop c.args.here.now.near)) _ _ (sym c.as_slice.ensures.same) (sound_body c.args.here.now.slots.now (in_loop c.args.here.now.near) c.args.x.now c.requires.sound _ _ _ c.in-Guarded.is)
+body-block-requires t c = all_same (SoundAt c.args.here.now.slots.now (in_loop c.args.here.now.near)) _ _ (sym c.as_slice.ensures.same) (sound_body c.args.here.now.slots.now (in_loop c.args.here.now.near) c.args.x.now c.requires _ _ _ c.in-Guarded.is)
 
 pub body-bodies-requires : goal.body-bodies-requires
-body-bodies-requires t c = all_same (SoundAlternativeAt c.args.here.now.slots.now (in_loop c.args.here.now.near)) _ _ (sym c.as_slice-in-Unwind.ensures.same) (sound_unwind c.args.here.now.slots.now (in_loop c.args.here.now.near) c.args.x.now c.requires.sound _ _ _ c.in-Unwind.is)
+body-bodies-requires t c = all_same (SoundAlternativeAt c.args.here.now.slots.now (in_loop c.args.here.now.near)) _ _ (sym c.as_slice-in-Unwind.ensures.same) (sound_unwind c.args.here.now.slots.now (in_loop c.args.here.now.near) c.args.x.now c.requires _ _ _ c.in-Unwind.is)

@@ -22,21 +22,21 @@ into_part-returns-in_ok-into-in-TupleOf t c =
     c.in_ok-put-in-TupleOf.ensures c.in_ok-into-in-TupleOf.ensures
 
 pub into_part-part_of-requires : goal.into_part-part_of-requires
-into_part-part_of-requires t c = part_there c.args.ty.now c.as_slice-parts.result.now c.args.number c.args.steps.now c.requires.sound (c.in-TupleOf.is ∙ ap ty.TupleOf (sym c.as_slice-parts.ensures.same))
+into_part-part_of-requires t c = part_there c.args.ty.now c.as_slice-parts.result.now c.args.number c.args.steps.now c.requires (c.in-TupleOf.is ∙ ap ty.TupleOf (sym c.as_slice-parts.ensures.same))
 
 pub into_part-into-requires : goal.into_part-into-requires
 into_part-into-requires t c =
-    leads_at_part c.args.ty.now c.as_slice-parts.result.now c.part_of-part.result.now c.args.number c.args.steps.now c.requires.sound (c.in-TupleOf.is ∙ ap ty.TupleOf (sym c.as_slice-parts.ensures.same)) c.part_of-part.ensures
+    leads_at_part c.args.ty.now c.as_slice-parts.result.now c.part_of-part.result.now c.args.number c.args.steps.now c.requires (c.in-TupleOf.is ∙ ap ty.TupleOf (sym c.as_slice-parts.ensures.same)) c.part_of-part.ensures
 
 pub into_index-into-requires : goal.into_index-into-requires
-into_index-into-requires t c = leads_into_list c.args.ty.now c.get.result.now c.args.e.now c.args.steps.now c.requires.sound (c.in-ListOf.is ∙ ap ty.ListOf (sym c.get.ensures.same))
+into_index-into-requires t c = leads_into_list c.args.ty.now c.get.result.now c.args.e.now c.args.steps.now c.requires (c.in-ListOf.is ∙ ap ty.ListOf (sym c.get.ensures.same))
 
 pub into_index-into-requires-in-DictOf : goal.into_index-into-requires-in-DictOf
 into_index-into-requires-in-DictOf t c =
-    leads_into_dictionary c.args.ty.now c.in-DictOf.field-0 c.get-in-DictOf.result.now c.args.e.now c.args.steps.now c.requires.sound (c.in-DictOf.is ∙ ap (ty.DictOf c.in-DictOf.field-0) (sym c.get-in-DictOf.ensures.same))
+    leads_into_dictionary c.args.ty.now c.in-DictOf.field-0 c.get-in-DictOf.result.now c.args.e.now c.args.steps.now c.requires (c.in-DictOf.is ∙ ap (ty.DictOf c.in-DictOf.field-0) (sym c.get-in-DictOf.ensures.same))
 
 pub into_index-unreachable-requires : goal.into_index-unreachable-requires
-into_index-unreachable-requires t c = no_index c.args.ty.now c.args.e.now c.args.steps.now c.requires.sound c.in_default.not-ListOf c.in_default.not-DictOf
+into_index-unreachable-requires t c = no_index c.args.ty.now c.args.e.now c.args.steps.now c.requires c.in_default.not-ListOf c.in_default.not-DictOf
 
 pub into_part-unreachable-requires : goal.into_part-unreachable-requires
-into_part-unreachable-requires t c = no_number c.args.ty.now c.args.number c.args.steps.now c.requires.sound c.in_default.not-TupleOf
+into_part-unreachable-requires t c = no_number c.args.ty.now c.args.number c.args.steps.now c.requires c.in_default.not-TupleOf

@@ -3,10 +3,10 @@ use Rattle.chi_gen_parts.proofs.Sounding.{slot_there, leads_at}
 use Rattle.chi_gen_parts.proofs.targets.read.Goals as goal
 
 pub type_of-requires : goal.type_of-requires
-type_of-requires c = slot_there c.args.slots.now c.args.target.now c.requires.sound
+type_of-requires c = slot_there c.args.slots.now c.args.target.now c.requires
 
 pub into-requires : goal.into-requires
-into-requires c = leads_at c.args.slots.now c.args.target.now c.type_of-ty.result.now c.as_slice.result.now c.requires.sound c.type_of-ty.ensures c.as_slice.ensures.same
+into-requires c = leads_at c.args.slots.now c.args.target.now c.type_of-ty.result.now c.as_slice.result.now c.requires c.type_of-ty.ensures c.as_slice.ensures.same
 
 pub returns : goal.returns
 returns c =
