@@ -8,5 +8,6 @@ mod laws;
 pub use code::{Around, Code, Entry};
 pub use instr::{Aim, AimStep, Instr};
 pub use laws::{
-    code_is_unique, literals_can_be_listed, what_a_function_names, what_a_process_names, what_code_names,
+    code_is_unique, literals_can_be_listed, what_a_function_names, what_a_process_names,
+    what_code_names,
 };

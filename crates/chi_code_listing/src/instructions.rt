@@ -161,7 +161,12 @@ fn put_line(
 }
 
 /// Instructions, each on a line with its place.
-pub(crate) fn put_instrs(alloc: Global, xs: &[Instr], names: &Names, out: &mut Vec<u8>) -> Result<(), NoMemory>
+pub(crate) fn put_instrs(
+    alloc: Global,
+    xs: &[Instr],
+    names: &Names,
+    out: &mut Vec<u8>,
+) -> Result<(), NoMemory>
     requires told { (p : ℕ) (v : Value) → slice_get xs.now p ≡ Some (i.Push v) → IsTrue (is_plain v) × IsTrue (within names.now.kinds v) }
     ensures ok { OnOk result (out.new.items ≡ out.old.items ++ spec.instrs_text names.now.kinds 0 xs.now) }
 {

@@ -36,7 +36,12 @@ fn put_slice(from: bool, upto: bool, by: bool, out: &mut Vec<u8>) -> Result<(), 
 }
 
 /// The name of an operator.
-pub(crate) fn put_op(alloc: Global, name: OpName, operands: u32, out: &mut Vec<u8>) -> Result<(), NoMemory>
+pub(crate) fn put_op(
+    alloc: Global,
+    name: OpName,
+    operands: u32,
+    out: &mut Vec<u8>,
+) -> Result<(), NoMemory>
     ensures ok { OnOk result (out.new.items ≡ out.old.items ++ spec.op_text name operands) }
 {
     match name {
@@ -173,7 +178,11 @@ fn put_pieces(alloc: Global, pieces: &[Piece], out: &mut Vec<u8>) -> Result<(), 
 }
 
 /// What is written.
-pub(crate) fn put_format(alloc: Global, pieces: &Items<Piece>, out: &mut Vec<u8>) -> Result<(), NoMemory>
+pub(crate) fn put_format(
+    alloc: Global,
+    pieces: &Items<Piece>,
+    out: &mut Vec<u8>,
+) -> Result<(), NoMemory>
     ensures ok { OnOk result (out.new.items ≡ out.old.items ++ codes "write " ++ quoted (spec.pieces_text pieces.now)) }
 {
     let mut text = Vec::new(alloc);
@@ -220,7 +229,11 @@ fn put_aims(alloc: Global, aims: &[Aim], out: &mut Vec<u8>) -> Result<(), NoMemo
 }
 
 /// An assignment to targets.
-pub(crate) fn put_assign(alloc: Global, aims: &Items<Aim>, out: &mut Vec<u8>) -> Result<(), NoMemory>
+pub(crate) fn put_assign(
+    alloc: Global,
+    aims: &Items<Aim>,
+    out: &mut Vec<u8>,
+) -> Result<(), NoMemory>
     ensures ok { OnOk result (out.new.items ≡ out.old.items ++ codes "assign" ++ spec.aims_text aims.now) }
 {
     put_word(b"assign", out)?;

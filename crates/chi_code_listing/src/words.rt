@@ -25,7 +25,12 @@ pub(crate) fn put_number(alloc: Global, number: u64, out: &mut Vec<u8>) -> Resul
 }
 
 /// A word and a number.
-pub(crate) fn numbered(alloc: Global, word: &[u8], number: u64, out: &mut Vec<u8>) -> Result<(), NoMemory>
+pub(crate) fn numbered(
+    alloc: Global,
+    word: &[u8],
+    number: u64,
+    out: &mut Vec<u8>,
+) -> Result<(), NoMemory>
     ensures ok { OnOk result (out.new.items ≡ out.old.items ++ word.now ++ decimal number) }
 {
     put_word(word, out)?;

@@ -96,11 +96,7 @@ pub(crate) fn again(here: &Here<'_>, line: u32, code: &mut Vec<Instr>) -> Result
     }
 }
 
-pub(crate) fn pass(
-    here: &Here<'_>,
-    line: u32,
-    code: &mut Vec<Instr>,
-) -> Result<(), NoMemory>
+pub(crate) fn pass(here: &Here<'_>, line: u32, code: &mut Vec<Instr>) -> Result<(), NoMemory>
     ensures { OnOk result (AddsStat here.now.process here.now.slots.now here.now.near (statement.Pass line) code.old.items code.new.items) }
 {
     turn(here.process, line, code)?;

@@ -44,11 +44,7 @@ fn statement(here: &Here<'_>, x: &CStat, code: &mut Vec<Instr>) -> Result<(), No
 
 /// Statements in turn.
 #[cycle(statement)]
-pub(crate) fn block(
-    here: &Here<'_>,
-    xs: &[CStat],
-    code: &mut Vec<Instr>,
-) -> Result<(), NoMemory>
+pub(crate) fn block(here: &Here<'_>, xs: &[CStat], code: &mut Vec<Instr>) -> Result<(), NoMemory>
     requires { Every (SoundAt here.now.slots.now (in_loop here.now.near)) xs.now }
     ensures { OnOk result (AddsBlock here.now.process here.now.slots.now here.now.near xs.now code.old.items code.new.items) }
 {
@@ -82,12 +78,7 @@ fn choose(
 }
 
 #[cycle(statement)]
-fn branches(
-    here: &Here<'_>,
-    end: u64,
-    xs: &[Branch],
-    code: &mut Vec<Instr>,
-) -> Result<(), NoMemory>
+fn branches(here: &Here<'_>, end: u64, xs: &[Branch], code: &mut Vec<Instr>) -> Result<(), NoMemory>
     requires { Every (SoundBranchAt here.now.slots.now (in_loop here.now.near)) xs.now }
     ensures { OnOk result (AddsTests here.now.process here.now.slots.now here.now.near end xs.now code.old.items code.new.items) }
 {
@@ -98,12 +89,7 @@ fn branches(
 }
 
 #[cycle(statement)]
-fn branch(
-    here: &Here<'_>,
-    end: u64,
-    x: &Branch,
-    code: &mut Vec<Instr>,
-) -> Result<(), NoMemory>
+fn branch(here: &Here<'_>, end: u64, x: &Branch, code: &mut Vec<Instr>) -> Result<(), NoMemory>
     requires { SoundBranchAt here.now.slots.now (in_loop here.now.near) x.now }
     ensures { OnOk result (AddsTests here.now.process here.now.slots.now here.now.near end (x.now ∷ []) code.old.items code.new.items) }
 {

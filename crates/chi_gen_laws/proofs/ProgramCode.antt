@@ -97,8 +97,7 @@ sound_has_code core h =
     let a = consts_code core 0 core.consts (λ m k is. h.constants m k is) [] in
     let c2 = more a.code i.Done in
     let b = funcs_code core core.funcs h.functions c2 in
-    let p = procs_code core core.procs h.processes b.code in
-    (
+    let p = procs_code core core.procs h.processes b.code in (
       record { consts = length core.consts; funcs = b.entries; procs = p.entries; model = core.model; names = core.names; instrs = p.code },
       generated core (length core.consts) b.entries p.entries core.names a.code c2 b.code p.code a.adds (one_more i.Done a.code) b.adds p.adds refl refl,
     )

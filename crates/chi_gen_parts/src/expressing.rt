@@ -103,11 +103,7 @@ fn boxed(alloc: Global, x: &Boxed<CExpr>, code: &mut Vec<Instr>) -> Result<(), N
 
 /// Expressions, one after another.
 #[cycle(expression)]
-pub fn expressions(
-    alloc: Global,
-    xs: &Items<CExpr>,
-    code: &mut Vec<Instr>,
-) -> Result<(), NoMemory>
+pub fn expressions(alloc: Global, xs: &Items<CExpr>, code: &mut Vec<Instr>) -> Result<(), NoMemory>
     ensures { OnOk result (AddsExprs xs.now code.old.items code.new.items) }
 {
     all(alloc, xs.as_slice(), code)

@@ -206,11 +206,7 @@ fn elements(alloc: Global, xs: &[CElem], code: &mut Vec<Instr>) -> Result<(), No
 }
 
 /// What is started, one after another.
-pub fn all_elements(
-    alloc: Global,
-    xs: &Items<CElem>,
-    code: &mut Vec<Instr>,
-) -> Result<(), NoMemory>
+pub fn all_elements(alloc: Global, xs: &Items<CElem>, code: &mut Vec<Instr>) -> Result<(), NoMemory>
     ensures { OnOk result (AddsElems xs.now code.old.items code.new.items) }
 {
     elements(alloc, xs.as_slice(), code)

@@ -95,11 +95,7 @@ fn indexes_of(alloc: Global, target: &CTarget, code: &mut Vec<Instr>) -> Result<
 }
 
 /// The indexes of targets.
-pub fn indexes(
-    alloc: Global,
-    targets: &[CTarget],
-    code: &mut Vec<Instr>,
-) -> Result<(), NoMemory>
+pub fn indexes(alloc: Global, targets: &[CTarget], code: &mut Vec<Instr>) -> Result<(), NoMemory>
     ensures { OnOk result (AddsExprs (aims.indexes_of targets.now) code.old.items code.new.items) }
 {
     for target in targets {

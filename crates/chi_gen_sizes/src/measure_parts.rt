@@ -5,8 +5,8 @@ ghost use Rattle.chi_core.specs.declared.communication.CComm.TheVariants as comm
 ghost use Rattle.chi_code.specs.Aims as aims;
 ghost use Rattle.chi_code.specs.Sizes as sizes;
 
-use crate::measure::{size_of, sizes_of};
 use crate::adding::plus;
+use crate::measure::{size_of, sizes_of};
 use chi_base::{Items, NoMemory};
 use chi_core::{CComm, CElem, CExpr, CStep, CTarget};
 

@@ -3,9 +3,9 @@
 ghost use Rattle.std.specs.Prelude.{◌≡◌, ◌+◌, IfOk};
 ghost use Rattle.chi_code.specs.Sizes as sizes;
 
+use crate::adding::plus;
 use crate::measure::{size_of, sizes_of};
 use crate::measure_parts::{assign_of, comm_of, elements_of, exit_of, guard_of};
-use crate::adding::plus;
 use chi_base::NoMemory;
 use chi_core::{Branch, CAlt, CComm, CExpr, CStat};
 
