@@ -15,6 +15,7 @@ use Rattle.chi_code.specs.Aims.{step_indexes, indexes_of}
 use Rattle.chi_code.specs.ExpressionLayout.{ExprsAt, no_expression, one_expression}
 use Rattle.chi_code.specs.StatementLayout.{IntoAt, no_step, into_list, into_dictionary, into_tuple, reads}
 use Rattle.chi_gen_parts.specs.Added.{AddsOne, AddsExpr, AddsExprs, AddsInto, AddsRead}
+use Rattle.chi_gen_sizes.proofs.Indexes.{steps_snoc, targets_snoc}
 use Rattle.chi_gen_parts.proofs.Growing.{grows_same, grows_on, grow_expr, grow_exprs}
 use Rattle.chi_gen_parts.proofs.AddedExpressions.{add_none}
 
@@ -32,24 +33,11 @@ joined _ ys _ _ n (one_expression x xs a b m h r) k = one_expression x (xs ++ ys
 pub exprs_then : (es fs : List CExpr) (c c1 d : List Instr) → AddsExprs es c c1 → AddsExprs fs c1 d → AddsExprs (es ++ fs) c d
 exprs_then es fs c c1 d h k = record { grows = grows_on c c1 d h.grows k.grows; at = joined es fs _ _ _ (grow_exprs c1 d k.grows es _ _ h.at) k.at }
 
-pub steps_snoc : (xs : List CStep) (s : CStep) → step_indexes (xs ++ s ∷ []) ≡ step_indexes xs ++ step_indexes (s ∷ [])
-steps_snoc [] s = refl
-steps_snoc (step.Index e ∷ xs) s = ap (λ l. e ∷ l) (steps_snoc xs s)
-steps_snoc (step.Part number ∷ xs) s = steps_snoc xs s
-
 pub add_step_next : (all : List CStep) (k : ℕ) (s : CStep) (c c1 d : List Instr) → k < length all → s ≡ get_or all k s → AddsExprs (step_indexes (take k all)) c c1 → AddsExprs (step_indexes (s ∷ [])) c1 d
     → AddsExprs (step_indexes (take (k + 1) all)) c d
 add_step_next all k s c c1 d h is em en =
     subst (λ l. AddsExprs l c d) (sym (ap step_indexes (take_more all k s h ∙ ap (λ y. take k all ++ y ∷ []) (sym is)) ∙ steps_snoc (take k all) s))
     (exprs_then (step_indexes (take k all)) (step_indexes (s ∷ [])) c c1 d em en)
-
-append_nil : {A : Type 0} (xs : List A) → xs ++ [] ≡ xs
-append_nil [] = refl
-append_nil (x ∷ xs) = ap (λ l. x ∷ l) (append_nil xs)
-
-pub targets_snoc : (xs : List CTarget) (t : CTarget) → indexes_of (xs ++ t ∷ []) ≡ indexes_of xs ++ step_indexes t.steps
-targets_snoc [] t = append_nil (step_indexes t.steps)
-targets_snoc (x ∷ xs) t = ap (λ l. step_indexes x.steps ++ l) (targets_snoc xs t) ∙ sym (append_assoc (step_indexes x.steps) (indexes_of xs) (step_indexes t.steps))
 
 pub add_target_next : (all : List CTarget) (k : ℕ) (t : CTarget) (c c1 d : List Instr) → k < length all → t ≡ get_or all k t → AddsExprs (indexes_of (take k all)) c c1 → AddsExprs (step_indexes t.steps) c1 d
     → AddsExprs (indexes_of (take (k + 1) all)) c d

@@ -1,3 +1,4 @@
+pub mod Indexes
 pub mod MeasuredParts
 pub mod MeasuredStatements
 pub mod Measures

@@ -11,7 +11,7 @@ use Rattle.chi_core.specs.declared.target.CTarget.{CTarget}
 use Rattle.chi_code.specs.Aims.{step_indexes, indexes_of, some_indexes, is_spread}
 use Rattle.chi_code.specs.Sizes.{size, sizes, into_size, spread_size, element_step, element_size, elements_size}
 use Rattle.chi_code.proofs.Sized.{element_out}
-use Rattle.chi_gen_parts.proofs.AddedTargets.{steps_snoc, targets_snoc}
+use Rattle.chi_gen_sizes.proofs.Indexes.{steps_snoc, targets_snoc}
 
 sizes_append : (xs ys : List CExpr) → sizes (xs ++ ys) ≡ sizes xs + sizes ys
 sizes_append [] ys = omega arith
