@@ -18,6 +18,10 @@ itself n = n
 abbrev pub AreSmaller : List CExpr → CExpr → Type 0
 AreSmaller parts e = most size-CExpr parts < size-CExpr e
 
+-- each of them is smaller than some of the others
+abbrev pub AreSmallerThanSome : List CExpr → List CExpr → Type 0
+AreSmallerThanSome parts es = most size-CExpr parts < most size-CExpr es
+
 abbrev pub step_span : CStep → ℕ
 step_span (step.Index e) = size-CExpr e
 step_span (step.Part number) = 0

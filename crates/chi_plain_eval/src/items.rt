@@ -1,6 +1,10 @@
 //! The items of terms that functions and processes share.
 
-ghost use Rattle.std.specs.Prelude.{◌≡◌, ◌≢◌, Err, IfOk, IfErr, drop};
+ghost use Rattle.std.specs.Prelude.{◌≡◌, ◌≢◌, [], ◌∷◌, Err, None, IfOk, IfErr, IsTrue, drop};
+ghost use Rattle.std.specs.List.{list_all, list_any};
+ghost use Rattle.chi_core.specs.declared.expression.CExpr.TheVariants.{Op};
+ghost use Rattle.chi_core.specs.Variables.{value_at};
+ghost use Rattle.chi_plain_eval.specs.Settings.{is_whole, names};
 ghost use Rattle.chi_core.specs.Answer.{Gives, Amiss};
 ghost use Rattle.chi_core.specs.Terms.{act_stat, assigned, chosen, declared, tested, walking};
 ghost use Rattle.chi_core.specs.declared.statement.CStat.{out-CStat};
@@ -10,11 +14,12 @@ ghost use Rattle.chi_plain_eval.specs.Terms.{act_first, came_to};
 
 use crate::calls::Calls;
 use crate::expressions::{eval, eval_all};
+use crate::operators::operate_off;
 use crate::places::spots_of;
 use crate::reading::truth_of;
-use crate::setting::{set_to, whole_of};
+use crate::setting::{parted_of, set_to, store_parts, whole_of};
 use crate::surroundings::Surroundings;
-use chi_core::{Branch, CExpr, CStat, CTarget, View};
+use chi_core::{Branch, CExpr, CStat, CTarget, OpName, View};
 use chi_core_apply::elements_in;
 use chi_core_frame::{Head, Stop, Term, Variables, spread, store_each};
 use chi_value::Value;
@@ -249,8 +254,70 @@ fn assign(
             term.drop_first();
             Ok(None)
         }
+        None => assign_several(values, alloc, s, calls, targets, term, variables, view),
+    }
+}
+
+/// An assignment, which stands first, to several targets or to parts. Where the value is an operator that reads one of the
+/// variables that are set, that one is let go of once the operands are there.
+#[cycle(eval)]
+#[tactic(auto, using(chi_core_frame::proofs::Stopping::stopping))]
+fn assign_several(
+    values: &[CExpr],
+    alloc: Global,
+    s: &Surroundings<'_>,
+    calls: Calls,
+    targets: &[CTarget],
+    term: &mut Term<'_>,
+    variables: &mut Variables,
+    view: &mut View,
+) -> Result<Option<Value>, Stop>
+    requires { assigned (meaning calls s.now variables.old) variables.old targets.now values.now (drop 1 term.old) view.old ≢ Amiss }
+    ensures value { IfOk result (λ r. assigned (meaning calls s.now variables.old) variables.old targets.now values.now (drop 1 term.old) view.old ≡ Gives (came_to r variables.new term.new) view.new) }
+    ensures stops { IfErr result (λ stop. Stops stop (assigned (meaning calls s.now variables.old) variables.old targets.now values.now (drop 1 term.old) view.old)) }
+    ensures kept { result ≡ Err Stop.Spent → (variables.new ≡ variables.old) × (term.new ≡ term.old) }
+{
+    match parted_of(targets, values) {
+        Some((slot, name, parts)) => {
+            if variables.is_set(slot) {
+                assign_off(parts, alloc, s, calls, name, slot, targets, term, variables, view)
+            } else {
+                assign_all(values, alloc, s, calls, targets, term, variables, view)
+            }
+        }
         None => assign_all(values, alloc, s, calls, targets, term, variables, view),
     }
+}
+
+/// An assignment, which stands first, of what an operator makes to whole variables, of which this one, which is set, is let go
+/// of once the operands are there.
+#[cycle(eval)]
+#[tactic(auto, using(chi_core_frame::proofs::Stopping::stopping, crate::proofs::Released::releasing))]
+fn assign_off(
+    parts: &[CExpr],
+    alloc: Global,
+    s: &Surroundings<'_>,
+    calls: Calls,
+    name: OpName,
+    slot: u32,
+    targets: &[CTarget],
+    term: &mut Term<'_>,
+    variables: &mut Variables,
+    view: &mut View,
+) -> Result<Option<Value>, Stop>
+    requires set { value_at variables.old slot ≢ None }
+    requires whole { IsTrue (list_all is_whole targets.now) }
+    requires among { IsTrue (list_any (names slot) targets.now) }
+    requires there { assigned (meaning calls s.now variables.old) variables.old targets.now (Op name parts.now ∷ []) (drop 1 term.old) view.old ≢ Amiss }
+    ensures value { IfOk result (λ r. assigned (meaning calls s.now variables.old) variables.old targets.now (Op name parts.now ∷ []) (drop 1 term.old) view.old ≡ Gives (came_to r variables.new term.new) view.new) }
+    ensures stops { IfErr result (λ stop. Stops stop (assigned (meaning calls s.now variables.old) variables.old targets.now (Op name parts.now ∷ []) (drop 1 term.old) view.old)) }
+    ensures kept { result ≡ Err Stop.Spent → (variables.new ≡ variables.old) × (term.new ≡ term.old) }
+{
+    let spots = spots_of(targets, alloc, s, calls, variables, view)?;
+    let made = operate_off(parts, alloc, s, calls, name, slot, variables, view)?;
+    store_parts(alloc, targets, spots, made, variables, view)?;
+    term.drop_first();
+    Ok(None)
 }
 
 /// An assignment, which stands first, of any values to any targets.

@@ -29,13 +29,13 @@ abbrev pub decreases-bodies::call : goal.decreases-bodies::call
 decreases-bodies::call l = more_of l.calls * reach l.s.now.functions.now
 
 abbrev pub decreases-bodies::run_body : goal.decreases-bodies::run_body
-decreases-bodies::run_body l = (more_of l.calls * reach l.s.now.functions.now) + (3 * most span l.body.now) + 8
+decreases-bodies::run_body l = (more_of l.calls * reach l.s.now.functions.now) + (3 * most span l.body.now) + 9
 
 abbrev pub decreases-items::act : goal.decreases-items::act
-decreases-items::act l = (more_of l.calls * reach l.s.now.functions.now) + (3 * most item_span l.term.now) + 7
+decreases-items::act l = (more_of l.calls * reach l.s.now.functions.now) + (3 * most item_span l.term.now) + 8
 
 abbrev pub decreases-items::act_on : goal.decreases-items::act_on
-decreases-items::act_on l = (more_of l.calls * reach l.s.now.functions.now) + (3 * span l.statement.now) + 6
+decreases-items::act_on l = (more_of l.calls * reach l.s.now.functions.now) + (3 * span l.statement.now) + 7
 
 abbrev pub decreases-items::test_loop : goal.decreases-items::test_loop
 decreases-items::test_loop l = (more_of l.calls * reach l.s.now.functions.now) + (3 * size-CExpr l.test.now) + 1
@@ -57,7 +57,7 @@ invariant-items::choose-loop-branch l =
     × (chosen m l.variables l.branches l.otherwise (drop 1 l.fn.term) l.fn.view ≡ chosen m l.variables (drop l.branch-index l.branches) l.otherwise (drop 1 l.term) l.view)
 
 abbrev pub decreases-items::assign : goal.decreases-items::assign
-decreases-items::assign l = (more_of l.calls * reach l.s.now.functions.now) + (3 * max (most target_span l.targets.now) (most size-CExpr l.values.now)) + 5
+decreases-items::assign l = (more_of l.calls * reach l.s.now.functions.now) + (3 * max (most target_span l.targets.now) (most size-CExpr l.values.now)) + 6
 
 abbrev pub decreases-places::spots_of : goal.decreases-places::spots_of
 decreases-places::spots_of l = (more_of l.calls * reach l.s.now.functions.now) + (3 * most target_span l.targets.now) + 3
@@ -112,6 +112,12 @@ decreases-bodies::call_with l = (more_of l.calls * reach l.s.now.functions.now) 
 
 abbrev pub decreases-items::declare : goal.decreases-items::declare
 decreases-items::declare l = (more_of l.calls * reach l.s.now.functions.now) + (3 * size-CExpr l.e.now) + 2
+
+abbrev pub decreases-items::assign_several : goal.decreases-items::assign_several
+decreases-items::assign_several l = (more_of l.calls * reach l.s.now.functions.now) + (3 * max (most target_span l.targets.now) (most size-CExpr l.values.now)) + 5
+
+abbrev pub decreases-items::assign_off : goal.decreases-items::assign_off
+decreases-items::assign_off l = (more_of l.calls * reach l.s.now.functions.now) + (3 * max (most target_span l.targets.now) (most size-CExpr l.parts.now)) + 4
 
 abbrev pub decreases-items::assign_all : goal.decreases-items::assign_all
 decreases-items::assign_all l = (more_of l.calls * reach l.s.now.functions.now) + (3 * max (most target_span l.targets.now) (most size-CExpr l.values.now)) + 4
