@@ -4,8 +4,10 @@ use Rattle.std.specs.Prelude.{map, cond, nat_eq, int_lt}
 use Rattle.std.specs.List.{slice_get}
 use Rattle.chi_core.specs.declared.label.Label.{Label}
 use Rattle.chi_core.specs.declared.label.Label.TheVariants.{Pair as PairLabel, Wake as WakeLabel}
-use Rattle.chi_core.specs.Config.{Config, Instance, Act, State, Running, Waiting, Joining, Finished, offers_in}
-use Rattle.chi_core.specs.Config.{Offer as CoreOffer, Send as Sends, Receive as Receives, Delay as Delays}
+use Rattle.chi_core.specs.declared.act.Act.{Act}
+use Rattle.chi_core.specs.declared.act.Act.TheVariants.{Send as Sends, Receive as Receives, Delay as Delays}
+use Rattle.chi_core.specs.Config.{Config, Instance, State, Running, Waiting, Joining, Finished, offers_in}
+use Rattle.chi_core.specs.Config.{Offer as CoreOffer}
 use Rattle.chi_core.specs.Options.{receives_on as receives_act, receivers, pairs_with, options_for, options_in}
 use Rattle.chi_core.specs.Options.{options_by as core_options_by, options_of as core_options_of, options as core_options}
 use Rattle.chi_chan.specs.declared.offers.Offer.{Offer}

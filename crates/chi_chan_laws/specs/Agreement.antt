@@ -2,8 +2,10 @@
 use Rattle.std.specs.Prelude.{◌≡◌, ℕ, List, Option, Some, None, map, slice_get}
 use Rattle.chi_core.specs.declared.label.Label.{Label}
 use Rattle.chi_core.specs.declared.label.Label.TheVariants.{Pair as PairLabel, Wake as WakeLabel}
-use Rattle.chi_core.specs.Config.{Config, Instance, Act, State, Running, Waiting, Joining, Finished}
-use Rattle.chi_core.specs.Config.{Offer as CoreOffer, Send as Sends, Receive as Receives, Delay as Delays}
+use Rattle.chi_core.specs.declared.act.Act.{Act}
+use Rattle.chi_core.specs.declared.act.Act.TheVariants.{Send as Sends, Receive as Receives, Delay as Delays}
+use Rattle.chi_core.specs.Config.{Config, Instance, State, Running, Waiting, Joining, Finished}
+use Rattle.chi_core.specs.Config.{Offer as CoreOffer}
 use Rattle.chi_core.specs.Options.{options as core_options}
 use Rattle.chi_chan.specs.declared.offers.Offer.{Offer}
 use Rattle.chi_chan.specs.declared.offers.Offer.TheVariants.{Send, Receive, Delay}
