@@ -48,8 +48,8 @@ fn check_statement(
             place,
             alternatives,
         } => {
-            let inner = alternatives.as_slice();
-            check_select(alloc, home, *place, inner, loops, state, kept)
+            let offers = alternatives.as_slice();
+            check_select(alloc, home, *place, offers, loops, state, kept)
         }
         Statement::If {
             place,
@@ -66,8 +66,8 @@ fn check_statement(
             condition,
             block,
         } => {
-            let inner = block.as_slice();
-            check_while(alloc, home, *place, inner, condition, state, kept)
+            let body = block.as_slice();
+            check_while(alloc, home, *place, body, condition, state, kept)
         }
         Statement::For { place, walk, block } => {
             check_for(alloc, home, *place, walk, block.as_slice(), state, kept)

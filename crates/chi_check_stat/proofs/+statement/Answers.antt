@@ -144,7 +144,7 @@ statements::check_statement-returns-in-While-clause-next t c = grind (arith, com
 
 pub statements::check_statement-returns-in-While-clause-made : goal.statements::check_statement-returns-in-While-clause-made
 statements::check_statement-returns-in-While-clause-made t c =
-    let b = c.as_slice-inner-in-While.ensures.same in
+    let b = c.as_slice-body.ensures.same in
     IfOk-weaker c.check_while.result _ _ (λ r d. d ∙ (λ j. looped c.in-While.place.line (test_in c.args.home.now c.args.state.now.names c.in-While.condition).made (block (map (stepping_in c.args.home.now true) (b j)) c.args.state.now).made) ∙ sym (made_while c.args.home.now c.args.statement.now c.args.loops c.args.state.now _ _ _ c.in-While.is)) c.check_while.ensures.made
 
 pub statements::check_statement-returns-in-While-clause-noted : goal.statements::check_statement-returns-in-While-clause-noted
