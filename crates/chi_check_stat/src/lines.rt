@@ -97,16 +97,6 @@ fn check_jump(
         }
         Statement::Return { place, value } => return_in(alloc, home, names, *place, value, kept),
         Statement::Exit { place, value } => exit_in(alloc, home, names, *place, value, kept),
-        Statement::Declare { .. }
-        | Statement::Assign { .. }
-        | Statement::Communicate(_)
-        | Statement::Select { .. }
-        | Statement::If { .. }
-        | Statement::While { .. }
-        | Statement::For { .. }
-        | Statement::Run { .. }
-        | Statement::Start { .. }
-        | Statement::Finish { .. }
-        | Statement::Write { .. } => unreachable!(),
+        _ => unreachable!(),
     }
 }
