@@ -4,46 +4,46 @@ use Rattle.chi_check_stat.proofs.StatementSteps.{next_pass, made_pass, noted_pas
 use Rattle.chi_check_stat.proofs.lines.check_jump.Goals as goal
 
 pub returns-in-Pass-clause-next : goal.returns-in-Pass-clause-next
-returns-in-Pass-clause-next g c = grind (arith, common_steps, next_pass)
+returns-in-Pass-clause-next c = grind (arith, common_steps, next_pass)
 
 pub returns-in-Pass-clause-made : goal.returns-in-Pass-clause-made
-returns-in-Pass-clause-made g c = grind (arith, common_steps, made_pass)
+returns-in-Pass-clause-made c = grind (arith, common_steps, made_pass)
 
 pub returns-in-Pass-clause-noted : goal.returns-in-Pass-clause-noted
-returns-in-Pass-clause-noted g c = grind (arith, common_steps, noted_pass)
+returns-in-Pass-clause-noted c = grind (arith, common_steps, noted_pass)
 
 pub returns-in-Break-clause-next : goal.returns-in-Break-clause-next
-returns-in-Break-clause-next g c = grind (arith, common_steps, next_break)
+returns-in-Break-clause-next c = grind (arith, common_steps, next_break)
 
 pub returns-in-Break-clause-made : goal.returns-in-Break-clause-made
-returns-in-Break-clause-made g c = grind (arith, common_steps, made_break)
+returns-in-Break-clause-made c = grind (arith, common_steps, made_break)
 
 pub returns-in-Break-clause-noted : goal.returns-in-Break-clause-noted
-returns-in-Break-clause-noted g c = grind (arith, common_steps, noted_break)
+returns-in-Break-clause-noted c = grind (arith, common_steps, noted_break)
 
 pub returns-in-Continue-clause-next : goal.returns-in-Continue-clause-next
-returns-in-Continue-clause-next g c = grind (arith, common_steps, next_continue)
+returns-in-Continue-clause-next c = grind (arith, common_steps, next_continue)
 
 pub returns-in-Continue-clause-made : goal.returns-in-Continue-clause-made
-returns-in-Continue-clause-made g c = grind (arith, common_steps, made_continue)
+returns-in-Continue-clause-made c = grind (arith, common_steps, made_continue)
 
 pub returns-in-Continue-clause-noted : goal.returns-in-Continue-clause-noted
-returns-in-Continue-clause-noted g c = grind (arith, common_steps, noted_continue)
+returns-in-Continue-clause-noted c = grind (arith, common_steps, noted_continue)
 
 pub returns-in-Return-clause-next : goal.returns-in-Return-clause-next
-returns-in-Return-clause-next g c = grind (arith, common_steps, next_return)
+returns-in-Return-clause-next c = grind (arith, common_steps, next_return)
 
 pub returns-in-Return-clause-made : goal.returns-in-Return-clause-made
-returns-in-Return-clause-made g c = grind (arith, common_steps, made_return)
+returns-in-Return-clause-made c = grind (arith, common_steps, made_return)
 
 pub returns-in-Return-clause-noted : goal.returns-in-Return-clause-noted
-returns-in-Return-clause-noted g c = grind (arith, common_steps, noted_return)
+returns-in-Return-clause-noted c = grind (arith, common_steps, noted_return)
 
 pub returns-in-Exit-clause-next : goal.returns-in-Exit-clause-next
-returns-in-Exit-clause-next g c = grind (arith, common_steps, next_exit)
+returns-in-Exit-clause-next c = grind (arith, common_steps, next_exit)
 
 pub returns-in-Exit-clause-made : goal.returns-in-Exit-clause-made
-returns-in-Exit-clause-made g c = grind (arith, common_steps, made_exit)
+returns-in-Exit-clause-made c = grind (arith, common_steps, made_exit)
 
 pub returns-in-Exit-clause-noted : goal.returns-in-Exit-clause-noted
-returns-in-Exit-clause-noted g c = grind (arith, common_steps, noted_exit)
+returns-in-Exit-clause-noted c = grind (arith, common_steps, noted_exit)
