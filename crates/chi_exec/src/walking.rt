@@ -1,0 +1,47 @@
+//! Walks.
+
+use crate::machinery::{Machine, Turning};
+use crate::stacking::pop;
+use chi_core_apply::elements_in;
+use chi_core_frame::Stop;
+use std::alloc::Global;
+
+pub fn walk(m: &mut Machine, alloc: Global) -> Result<(), Stop> {
+    let x = pop(&mut m.stack);
+    let mut elements = elements_in(alloc, x)?;
+    elements.reverse();
+    m.frame.under.push(Turning::Walking(elements))?;
+    m.at += 1;
+    Ok(())
+}
+
+/// Binds the names to the next element, or ends the walk.
+#[inline(always)]
+pub fn next(m: &mut Machine, alloc: Global, end: u64, slots: &[u32]) -> Result<(), Stop> {
+    match m.frame.under.last_mut() {
+        Some(Turning::Walking(elements)) => match elements.pop() {
+            Some(element) => {
+                m.frame.variables.bind(alloc, slots, element)?;
+                m.at += 1;
+                return Ok(());
+            }
+            None => {
+                m.at = end as usize;
+            }
+        },
+        Some(Turning::Scanning(_, _, _)) => unreachable!(),
+        Some(Turning::Repeating(_, _)) => unreachable!(),
+        None => unreachable!(),
+    }
+    let _done = m.frame.under.pop();
+    Ok(())
+}
+
+pub fn leave(m: &mut Machine) {
+    match m.frame.under.pop() {
+        Some(Turning::Walking(_)) => m.at += 1,
+        Some(Turning::Scanning(_, _, _)) => unreachable!(),
+        Some(Turning::Repeating(_, _)) => unreachable!(),
+        None => unreachable!(),
+    }
+}
