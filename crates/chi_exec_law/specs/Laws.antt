@@ -74,18 +74,19 @@ Calls m run callers =
     (frame : Frame) (number : ℕ) (arguments : List Value) (a : ℕ) (stack : List Value) (view : View) → Has m.code.instrs a (i.Call number)
     → Brings (step m) view.left (state a (pushed arguments stack) frame callers view) (Just (on_stack (a + 1) stack frame callers)) (run number arguments view)
 
--- this code of a program, and so many callers that so many calls may still be within each other
-pub record Within (core : Core) (m : Setting) (callers : List Caller) (more : ℕ) : Type 0 where
+-- The machine runs the code of a program. So many callers wait that so many calls may still be within each other, and the
+-- run isn't one that a part of an expression stops.
+pub record InCode (core : Core) (m : Setting) (callers : List Caller) (more : ℕ) : Type 0 where
   pub codes : Codes core m.code
   pub free : halts m callers (m.stops Inner) ≡ false
   pub count : length callers + more ≡ MOST_CALLS
 
 abbrev pub CallsLead : Type 0
-CallsLead = (core : Core) (m : Setting) (callers : List Caller) (more : ℕ) → Within core m callers more → Calls m (run_at more core.funcs m.scene) callers
+CallsLead = (core : Core) (m : Setting) (callers : List Caller) (more : ℕ) → InCode core m callers more → Calls m (run_at more core.funcs m.scene) callers
 
 abbrev pub ExpressionsLead : Type 0
 ExpressionsLead =
-    (core : Core) (m : Setting) (callers : List Caller) (more : ℕ) → Within core m callers more → (es : List CExpr) (a z : ℕ) → ExprsAt m.code.instrs es a z
+    (core : Core) (m : Setting) (callers : List Caller) (more : ℕ) → InCode core m callers more → (es : List CExpr) (a z : ℕ) → ExprsAt m.code.instrs es a z
     → (variables : Variables) (under : List Turning) (stack : List Value) (view : View)
     → Brings (step m) view.left (state a stack (frame_of variables under) callers view) (All (length es) z stack (frame_of variables under) callers)
       (in_turn (map (eval (run_at more core.funcs m.scene) m.scene variables) es) view)
@@ -94,7 +95,7 @@ ExpressionsLead =
 -- What only an instance does is amiss here.
 abbrev pub ItemsLead : Type 0
 ItemsLead =
-    (core : Core) (m : Setting) (callers : List Caller) (more : ℕ) → Within core m callers more → halts m callers (m.stops Work) ≡ false
+    (core : Core) (m : Setting) (callers : List Caller) (more : ℕ) → InCode core m callers more → halts m callers (m.stops Work) ≡ false
     → (turn : ℕ → Instr) (slots : List Ty) (end : Instr) (around : List Around) (under : List Turning) (x : Item) (term : Term) (a : ℕ)
     → ReadyAt m.code.instrs turn slots end around under (x ∷ term) a → (variables : Variables) (stack : List Value) (view : View)
     → Brings (step m) view.left (state (a + 1) stack (frame_of variables under) callers view) (DidAt m.code.instrs turn slots end stack callers)
@@ -108,7 +109,7 @@ ItemsHaveLines =
 -- What is left of a function's body: its value comes back to the caller, which has what it had.
 abbrev pub BodiesLead : Type 0
 BodiesLead =
-    (core : Core) (m : Setting) (c : Caller) (callers : List Caller) (more : ℕ) → Within core m (c ∷ callers) more
+    (core : Core) (m : Setting) (c : Caller) (callers : List Caller) (more : ℕ) → InCode core m (c ∷ callers) more
     → (slots : List Ty) (around : List Around) (under : List Turning) (term : Term) (a : ℕ) → TermAt m.code.instrs in_function slots i.NoRet around under term a
     → (variables : Variables) (stack : List Value) (turns : ℕ) (view : View) → view.left ≤ turns
     → Brings (step m) view.left (state a stack (frame_of variables under) (c ∷ callers) view) (Just (on_stack c.back stack c.frame callers))
