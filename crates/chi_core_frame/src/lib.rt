@@ -5,6 +5,8 @@
 mod assigning;
 mod given;
 mod in_place;
+mod items;
+mod reusing;
 mod scalars;
 mod spots;
 mod stop;

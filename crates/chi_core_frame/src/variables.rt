@@ -14,7 +14,7 @@ use std::marker::Model;
 /// is set.
 #[derive(Debug, Drop)]
 pub struct Variables {
-    slots: Vec<Option<Value>>,
+    pub(crate) slots: Vec<Option<Value>>,
 }
 
 impl Model for Variables {
@@ -56,7 +56,7 @@ fn let_all_go(value: Value) {
 
 // Lets a value go, at once where it owns no memory.
 #[inline(always)]
-fn let_go(old: Option<Value>) {
+pub(crate) fn let_go(old: Option<Value>) {
     match old {
         None => {}
         Some(Value::Int(_)) => {}
@@ -135,49 +135,6 @@ impl Variables {
     {
         let old = std::mem::replace(&mut self.slots[slot as usize], Some(value));
         let_go(old);
-    }
-
-    /// The variables of a body that begins: as many arguments as there are parameters, from the end of a list, in the first
-    /// slots, and no other set.
-    #[inline(always)]
-    pub fn begin(&mut self, slots: usize, arity: usize, values: &mut Vec<Value>) -> Result<(), NoMemory> {
-        self.clear();
-        while self.slots.len() < slots {
-            self.slots.push(None)?;
-        }
-        for slot in (0..arity).rev() {
-            let none = std::mem::replace(&mut self.slots[slot], values.pop());
-            let_go(none);
-        }
-        Ok(())
-    }
-
-    /// Lets all values go. The slots are there no longer, but for their room.
-    #[inline(always)]
-    pub fn clear(&mut self) {
-        while let Some(old) = self.slots.pop() {
-            let_go(old);
-        }
-    }
-
-    /// Whether a slot has a list with an element there.
-    pub fn has_item(&self, slot: u32, i: i64) -> bool {
-        match &self.slots[slot as usize] {
-            Some(Value::ListOf(row)) => i >= 0 && (i as usize) < row.len(),
-            _ => false,
-        }
-    }
-
-    /// Stores an element of a list.
-    pub fn put_item(&mut self, alloc: Global, slot: u32, i: i64, value: Value) -> Result<(), NoMemory> {
-        match &mut self.slots[slot as usize] {
-            Some(Value::ListOf(row)) => {
-                let old = row.replace(alloc, i as usize, value)?;
-                let_go(Some(old));
-                Ok(())
-            }
-            _ => unreachable!(),
-        }
     }
 
     /// Binds the names of these slots to an element: one name to itself, several to its parts.

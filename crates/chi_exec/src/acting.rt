@@ -1,5 +1,11 @@
 //! What each instruction does.
 
+ghost use Rattle.std.specs.Prelude.{◌≡◌, ◌≢◌, ◌+◌, ◌<◌, ◌^◌, Some, IfErr, OnOk};
+ghost use Rattle.chi_core_apply.specs.Scenery.{scene_of};
+ghost use Rattle.chi_exec_law.specs.Runs.{Goes, Stuck};
+ghost use Rattle.chi_exec_law.specs.Instructions.{act};
+ghost use Rattle.chi_exec.specs.Views.{state_of, Ended};
+
 use crate::assigning::assign;
 use crate::calling::{call, ret};
 use crate::inserting::{found, place, probe, scan};
@@ -23,7 +29,12 @@ pub fn act(
     s: &Scenery<'_>,
     functions: &[Entry],
     instr: &Instr,
-) -> Result<(), Stop> {
+) -> Result<(), Stop>
+    requires place { m.old.at + 1 < 2 ^ 64 }
+    requires sound { act (scene_of s.now) functions.now (Some instr.now) (state_of m.old) ≢ Stuck }
+    ensures goes { OnOk result (act (scene_of s.now) functions.now (Some instr.now) (state_of m.old) ≡ Goes (state_of m.new)) }
+    ensures ends { IfErr result (λ stop. Ended stop (act (scene_of s.now) functions.now (Some instr.now) (state_of m.old))) }
+{
     match instr {
         Instr::Tick => tick(m),
         Instr::Push(x) => literal(m, alloc, x),

@@ -1,5 +1,13 @@
 //! Assignments.
 
+ghost use Rattle.std.specs.Prelude.{◌≡◌, ◌≢◌, ◌+◌, ◌<◌, ◌≤◌, ◌^◌, [], ◌∷◌, map, reverse, None, Some, IfOk, IfErr, OnOk};
+ghost use Rattle.chi_core_frame.specs.declared.stop.Stop.TheVariants.{NoMemory};
+ghost use Rattle.chi_core_frame.specs.Spots.{spot_in};
+ghost use Rattle.chi_ops.specs.Paths.{steps_of};
+ghost use Rattle.chi_exec_law.specs.Runs.{Goes, Stuck};
+ghost use Rattle.chi_exec_law.specs.Instructions.{assign_on, step_count, index_count, path_from, spots_from, store_values, with_keys};
+ghost use Rattle.chi_exec.specs.Views.{state_of, Ended};
+
 use crate::machinery::Machine;
 use crate::simple::store;
 use crate::stacking::pop_many;
@@ -10,7 +18,11 @@ use chi_value::Value;
 use std::alloc::Global;
 
 // How many indexes a target takes.
-fn step_count(steps: &[AimStep]) -> usize {
+#[tactic(auto, using(crate::proofs::Aims::counting_steps))]
+fn step_count(steps: &[AimStep]) -> usize
+    requires { step_count steps.now < 2 ^ 64 }
+    ensures { result ≡ step_count steps.now }
+{
     let mut count = 0usize;
     for step in steps {
         match step {
@@ -22,7 +34,11 @@ fn step_count(steps: &[AimStep]) -> usize {
 }
 
 // How many indexes targets take.
-fn index_count(aims: &[Aim]) -> usize {
+#[tactic(auto, using(crate::proofs::Aims::counting))]
+fn index_count(aims: &[Aim]) -> usize
+    requires { index_count aims.now < 2 ^ 64 }
+    ensures { result ≡ index_count aims.now }
+{
     let mut count = 0usize;
     for aim in aims {
         count += step_count(aim.steps.as_slice());
@@ -31,7 +47,12 @@ fn index_count(aims: &[Aim]) -> usize {
 }
 
 // The way into a variable, with its indexes, which are taken from the end.
-fn path_of(alloc: Global, steps: &[AimStep], left: &mut Vec<Value>) -> Result<Vec<Path>, Stop> {
+#[tactic(auto, using(crate::proofs::Aims::pathing))]
+fn path_of(alloc: Global, steps: &[AimStep], left: &mut Vec<Value>) -> Result<Vec<Path>, Stop>
+    requires { path_from steps.now (reverse left.old.items) ≢ None }
+    ensures path { IfOk result (λ path. path_from steps.now (reverse left.old.items) ≡ Some (steps_of path.items, reverse left.new.items)) }
+    ensures stops { IfErr result (λ stop. stop ≡ NoMemory) }
+{
     let mut path = Vec::new(alloc);
     for step in steps {
         match step {
@@ -46,7 +67,12 @@ fn path_of(alloc: Global, steps: &[AimStep], left: &mut Vec<Value>) -> Result<Ve
 }
 
 // The spots that targets name, with their indexes in order.
-fn spots_of(alloc: Global, aims: &[Aim], keys: Vec<Value>) -> Result<Vec<Spot>, Stop> {
+#[tactic(auto, using(crate::proofs::Aims::spotting))]
+fn spots_of(alloc: Global, aims: &[Aim], keys: Vec<Value>) -> Result<Vec<Spot>, Stop>
+    requires { spots_from aims.now keys.items ≢ None }
+    ensures spots { IfOk result (λ spots. spots_from aims.now keys.items ≡ Some (map spot_in spots.items)) }
+    ensures stops { IfErr result (λ stop. stop ≡ NoMemory) }
+{
     let mut left = keys;
     left.reverse();
     let mut spots = Vec::new(alloc);
@@ -59,40 +85,64 @@ fn spots_of(alloc: Global, aims: &[Aim], keys: Vec<Value>) -> Result<Vec<Spot>, 
 }
 
 // The values go to their spots.
+#[tactic(auto, using(crate::proofs::Turns::ended, crate::proofs::Turns::not_amiss))]
 fn store_values(
     m: &mut Machine,
     alloc: Global,
     spots: Vec<Spot>,
     values: Vec<Value>,
-) -> Result<(), Stop> {
+) -> Result<(), Stop>
+    requires place { m.old.at + 1 < 2 ^ 64 }
+    requires sound { store_values (Some (map spot_in spots.items)) values.items (reverse m.old.stack.items) (state_of m.old) ≢ Stuck }
+    ensures goes { OnOk result (store_values (Some (map spot_in spots.items)) values.items (reverse m.old.stack.items) (state_of m.old) ≡ Goes (state_of m.new)) }
+    ensures ends { IfErr result (λ stop. Ended stop (store_values (Some (map spot_in spots.items)) values.items (reverse m.old.stack.items) (state_of m.old))) }
+{
     store_each(alloc, spots, values, &mut m.frame.variables, &m.view)?;
     m.at += 1;
     Ok(())
 }
 
+#[tactic(auto, using(crate::proofs::Aims::spots_wanted))]
 fn assign_spots(
     m: &mut Machine,
     alloc: Global,
     aims: &[Aim],
     keys: Vec<Value>,
     values: Vec<Value>,
-) -> Result<(), Stop> {
+) -> Result<(), Stop>
+    requires place { m.old.at + 1 < 2 ^ 64 }
+    requires sound { store_values (spots_from aims.now keys.items) values.items (reverse m.old.stack.items) (state_of m.old) ≢ Stuck }
+    ensures goes { OnOk result (store_values (spots_from aims.now keys.items) values.items (reverse m.old.stack.items) (state_of m.old) ≡ Goes (state_of m.new)) }
+    ensures ends { IfErr result (λ stop. Ended stop (store_values (spots_from aims.now keys.items) values.items (reverse m.old.stack.items) (state_of m.old))) }
+{
     let spots = spots_of(alloc, aims, keys)?;
     store_values(m, alloc, spots, values)
 }
 
+#[tactic(auto, using(crate::proofs::Turns::enough, crate::proofs::Turns::many_last))]
 fn assign_values(
     m: &mut Machine,
     alloc: Global,
     aims: &[Aim],
     keys: Vec<Value>,
-) -> Result<(), Stop> {
+) -> Result<(), Stop>
+    requires place { m.old.at + 1 < 2 ^ 64 }
+    requires sound { with_keys aims.now keys.items (reverse m.old.stack.items) (state_of m.old) ≢ Stuck }
+    ensures goes { OnOk result (with_keys aims.now keys.items (reverse m.old.stack.items) (state_of m.old) ≡ Goes (state_of m.new)) }
+    ensures ends { IfErr result (λ stop. Ended stop (with_keys aims.now keys.items (reverse m.old.stack.items) (state_of m.old))) }
+{
     let values = pop_many(&mut m.stack, aims.len())?;
     assign_spots(m, alloc, aims, keys, values)
 }
 
 #[inline(never)]
-fn assign_parts(m: &mut Machine, alloc: Global, aims: &[Aim]) -> Result<(), Stop> {
+#[tactic(auto, using(crate::proofs::Turns::enough, crate::proofs::Turns::many_last))]
+fn assign_parts(m: &mut Machine, alloc: Global, aims: &[Aim]) -> Result<(), Stop>
+    requires place { m.old.at + 1 < 2 ^ 64 }
+    requires sound { assign_on aims.now (state_of m.old) ≢ Stuck }
+    ensures goes { OnOk result (assign_on aims.now (state_of m.old) ≡ Goes (state_of m.new)) }
+    ensures ends { IfErr result (λ stop. Ended stop (assign_on aims.now (state_of m.old))) }
+{
     let keys = pop_many(&mut m.stack, index_count(aims))?;
     assign_values(m, alloc, aims, keys)
 }
@@ -122,7 +172,13 @@ fn assign_item(m: &mut Machine, alloc: Global, aims: &[Aim]) -> Result<(), Stop>
 }
 
 #[inline(always)]
-pub fn assign(m: &mut Machine, alloc: Global, aims: &[Aim]) -> Result<(), Stop> {
+#[tactic(auto, using(crate::proofs::Aims::whole))]
+pub fn assign(m: &mut Machine, alloc: Global, aims: &[Aim]) -> Result<(), Stop>
+    requires place { m.old.at + 1 < 2 ^ 64 }
+    requires sound { assign_on aims.now (state_of m.old) ≢ Stuck }
+    ensures goes { OnOk result (assign_on aims.now (state_of m.old) ≡ Goes (state_of m.new)) }
+    ensures ends { IfErr result (λ stop. Ended stop (assign_on aims.now (state_of m.old))) }
+{
     if let [aim] = aims {
         if aim.steps.as_slice().is_empty() {
             store(m, aim.slot);
@@ -130,16 +186,4 @@ pub fn assign(m: &mut Machine, alloc: Global, aims: &[Aim]) -> Result<(), Stop> 
         }
     }
     assign_item(m, alloc, aims)
-}
-
-/// The slot of the one variable that an instruction assigns to as a whole, if it is such an assignment.
-pub fn whole_target(instr: Option<&chi_code::Instr>) -> Option<u32> {
-    if let Some(chi_code::Instr::Assign(aims)) = instr {
-        if let [aim] = aims.as_slice() {
-            if aim.steps.as_slice().is_empty() {
-                return Some(aim.slot);
-            }
-        }
-    }
-    None
 }

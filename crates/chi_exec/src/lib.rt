@@ -4,8 +4,12 @@
 mod acting;
 mod assigning;
 mod calling;
+mod extent;
+mod frequent;
+mod fused;
 mod hinting;
 mod inserting;
+mod ints;
 mod machinery;
 mod making;
 mod operating;
@@ -13,10 +17,12 @@ mod repeating;
 mod running;
 mod scalars;
 mod simple;
+mod soon;
 mod stacking;
 mod walking;
 
-pub use hinting::{OUTER, WORK, hints_of};
+pub use extent::Extent;
+pub use hinting::{hints_of, stops};
 pub use machinery::{Caller, Frame, Machine, Turning, fresh_frame};
-pub use running::{act_soon, run_on};
+pub use running::run_on;
 pub use stacking::{pop, pop_many, put};

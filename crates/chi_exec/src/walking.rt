@@ -1,12 +1,22 @@
 //! Walks.
 
+ghost use Rattle.std.specs.Prelude.{◌≡◌, ◌≢◌, ◌+◌, ◌<◌, ◌^◌, IfErr, OnOk};
+ghost use Rattle.chi_exec_law.specs.Runs.{Goes, Stuck};
+ghost use Rattle.chi_exec_law.specs.Instructions.{walk_on, next_on, drop_on};
+ghost use Rattle.chi_exec.specs.Views.{state_of, Ended};
+
 use crate::machinery::{Machine, Turning};
 use crate::stacking::pop;
 use chi_core_apply::elements_in;
 use chi_core_frame::Stop;
 use std::alloc::Global;
 
-pub fn walk(m: &mut Machine, alloc: Global) -> Result<(), Stop> {
+pub fn walk(m: &mut Machine, alloc: Global) -> Result<(), Stop>
+    requires place { m.old.at + 1 < 2 ^ 64 }
+    requires sound { walk_on (state_of m.old) ≢ Stuck }
+    ensures goes { OnOk result (walk_on (state_of m.old) ≡ Goes (state_of m.new)) }
+    ensures ends { IfErr result (λ stop. Ended stop (walk_on (state_of m.old))) }
+{
     let x = pop(&mut m.stack);
     let mut elements = elements_in(alloc, x)?;
     elements.reverse();
@@ -17,7 +27,12 @@ pub fn walk(m: &mut Machine, alloc: Global) -> Result<(), Stop> {
 
 /// Binds the names to the next element, or ends the walk.
 #[inline(always)]
-pub fn next(m: &mut Machine, alloc: Global, end: u64, slots: &[u32]) -> Result<(), Stop> {
+pub fn next(m: &mut Machine, alloc: Global, end: u64, slots: &[u32]) -> Result<(), Stop>
+    requires place { m.old.at + 1 < 2 ^ 64 }
+    requires sound { next_on end slots.now (state_of m.old) ≢ Stuck }
+    ensures goes { OnOk result (next_on end slots.now (state_of m.old) ≡ Goes (state_of m.new)) }
+    ensures ends { IfErr result (λ stop. Ended stop (next_on end slots.now (state_of m.old))) }
+{
     match m.frame.under.last_mut() {
         Some(Turning::Walking(elements)) => match elements.pop() {
             Some(element) => {
@@ -37,7 +52,11 @@ pub fn next(m: &mut Machine, alloc: Global, end: u64, slots: &[u32]) -> Result<(
     Ok(())
 }
 
-pub fn leave(m: &mut Machine) {
+pub fn leave(m: &mut Machine)
+    requires place { m.old.at + 1 < 2 ^ 64 }
+    requires sound { drop_on (state_of m.old) ≢ Stuck }
+    ensures { drop_on (state_of m.old) ≡ Goes (state_of m.new) }
+{
     match m.frame.under.pop() {
         Some(Turning::Walking(_)) => m.at += 1,
         Some(Turning::Scanning(_, _, _)) => unreachable!(),

@@ -1,0 +1,57 @@
+-- Variables of a body that begins, as its arguments come off the end of a list, the last one first.
+use Rattle.std.proofs.Common.{◌≡◌, ℕ, zero, suc, ◌+◌, ◌-◌, ◌<◌, ◌≤◌, slice_set, List, [], ◌∷◌, ◌++◌, Option, Some, None, length, take, drop, sym, ◌∙◌, ap, subst, refl, arith, length-append}
+use Rattle.std.specs.Prelude.{map, replicate}
+use Rattle.std.proofs.lemmas.List.{append-nil, append_assoc, length-map, length-drop, replicate_more}
+use Rattle.std.proofs.Math.Seq.{drop-append_seam, take-append_seam}
+use Rattle.chi_value.specs.declared.value.Value.{Value}
+use Rattle.chi_core.specs.Variables.{Variables, variables_of}
+
+set_last : (k : ℕ) (y : Option Value) (ys : Variables) → slice_set (replicate k None ++ None ∷ ys) k y ≡ replicate k None ++ y ∷ ys
+set_last zero y ys = refl
+set_last (suc k) y ys = ap (λ l. None ∷ l) (set_last k y ys)
+
+-- How far the filling has come: so many slots wait yet, and behind them stand the last values of the list.
+pub record Filled (arity left : ℕ) (slots : Variables) (old now : List Value) : Type 0 where
+  pub last : List Value
+  pub split : old ≡ now ++ last
+  pub size : left + length last ≡ arity
+  pub slots : slots ≡ replicate left None ++ map Some last
+
+pub fill_begins : (arity : ℕ) (slots : Variables) (values : List Value) → slots ≡ replicate arity None → Filled arity arity slots values values
+fill_begins arity slots values e = record {
+  last = [];
+  split = sym (append-nil values);
+  size = omega arith;
+  slots = e ∙ sym (append-nil (replicate arity None));
+}
+
+pub fill_goes : (arity left : ℕ) (slots new : Variables) (old now later : List Value) (x : Value) → Filled arity (left + 1) slots old now → now ≡ later ++ x ∷ [] → new ≡ slice_set slots left (Some x)
+    → Filled arity left new old later
+fill_goes arity left slots new old now later x f e is = record {
+  last = x ∷ f.last;
+  split = f.split ∙ ap (λ l. l ++ f.last) e ∙ append_assoc later (x ∷ []) f.last;
+  size = let s = f.size in omega (arith, s);
+  slots =
+      is
+      ∙ ap (λ l. slice_set l left (Some x)) (f.slots ∙ ap (λ l. l ++ map Some f.last) (sym (replicate_more left None)) ∙ append_assoc (replicate left None) (None ∷ []) (map Some f.last))
+      ∙ set_last left (Some x) (map Some f.last);
+}
+
+module _ (arity : ℕ) (slots : Variables) (old now : List Value) (f : Filled arity 0 slots old now) where
+  front : length old - arity ≡ length now
+  front = let s = f.size in let l : length old ≡ length now + length f.last = ap length f.split ∙ length-append now f.last in omega (arith, s, l)
+
+  pub filled_slots : slots ≡ map Some (drop (length old - arity) old)
+  filled_slots = f.slots ∙ ap (map Some) (sym (ap (λ n. drop n old) front ∙ ap (drop (length now)) f.split ∙ drop-append_seam now f.last))
+
+  pub filled_rest : now ≡ take (length old - arity) old
+  filled_rest = sym (ap (λ n. take n old) front ∙ ap (take (length now)) f.split ∙ take-append_seam now f.last)
+
+pub all_wait : (slots : Variables) (arity : ℕ) → slots ≡ [] → slots ++ replicate (arity - length slots) None ≡ replicate arity None
+all_wait slots arity e = ap (λ (l : Variables). l ++ replicate (arity - length l) None) e ∙ ap (λ n. replicate n None) (let s : arity - 0 ≡ arity = omega arith in s)
+
+pub begun_is : (slots : ℕ) (arguments : List Value) (variables : Variables) → variables ≡ map Some arguments → variables ++ replicate (slots - length variables) None ≡ variables_of slots arguments
+begun_is slots arguments variables e =
+    ap (λ (l : Variables). l ++ replicate (slots - length l) None) e ∙ ap (λ n. map Some arguments ++ replicate (slots - n) None) (length-map arguments Some)
+
+pub ruleset beginning = (all_wait, begun_is)

@@ -1,0 +1,70 @@
+//! Variables of calls that are over, for calls to come: their room is used again.
+
+ghost use Rattle.std.specs.Prelude.{◌≡◌, ◌≤◌, ◌-◌, ◌++◌, [], None, Some, length, map, replicate, take, drop, OnOk};
+ghost use Rattle.chi_core.specs.Variables.{variables_of};
+
+use crate::variables::{Variables, let_go};
+use chi_base::NoMemory;
+use chi_value::Value;
+use std::mem;
+
+impl Variables {
+    /// Lets all values go. No slot is there, but there is room for those that were.
+    #[inline(always)]
+    pub fn clear(&mut self)
+        ensures { self.new ≡ [] }
+    {
+        while let Some(old) = self.slots.pop() {
+            let_go(old);
+        }
+    }
+
+    // More slots, which aren't set, until there are so many.
+    #[inline(always)]
+    #[tactic(auto, using(crate::proofs::Slots::slots))]
+    fn widen(&mut self, slots: usize) -> Result<(), NoMemory>
+        ensures { OnOk result (self.new ≡ self.old ++ replicate (slots - length self.old) None) }
+    {
+        while self.slots.len() < slots {
+            self.slots.push(None)?;
+        }
+        Ok(())
+    }
+
+    // All slots, none of which is set, get the values at the end of a list.
+    #[inline(always)]
+    fn fill(&mut self, arity: usize, values: &mut Vec<Value>)
+        requires enough { arity ≤ length values.old.items }
+        requires unset { self.old ≡ replicate arity None }
+        ensures filled { self.new ≡ map Some (drop (length values.old.items - arity) values.old.items) }
+        ensures rest { values.new.items ≡ take (length values.old.items - arity) values.old.items }
+    {
+        let mut left = arity;
+        while left > 0 {
+            left -= 1;
+            let none = mem::replace(&mut self.slots[left], values.pop());
+            let_go(none);
+        }
+    }
+
+    /// The variables of a body that begins: so many arguments, taken from the end of a list, in the first slots, and no
+    /// other set.
+    #[inline(always)]
+    #[tactic(auto, using(crate::proofs::Reusing::beginning))]
+    pub fn begin(
+        &mut self,
+        slots: usize,
+        arity: usize,
+        values: &mut Vec<Value>,
+    ) -> Result<(), NoMemory>
+        requires enough { arity ≤ length values.old.items }
+        ensures begun { OnOk result (self.new ≡ variables_of slots (drop (length values.old.items - arity) values.old.items)) }
+        ensures rest { OnOk result (values.new.items ≡ take (length values.old.items - arity) values.old.items) }
+    {
+        self.clear();
+        self.widen(arity)?;
+        self.fill(arity, values);
+        self.widen(slots)?;
+        Ok(())
+    }
+}
