@@ -1,4 +1,4 @@
-ghost use Rattle.chi_exec_law.specs.Laws.{BodiesLead, CallsLead, ConstantsRun, ExpressionsLead, ExpressionsRun, ItemsHaveLines, ItemsLead, OneEnd};
+ghost use Rattle.chi_exec_law.specs.Laws.{BodiesLead, CallsLead, ConstantsRun, ConstantsSet, ExpressionsLead, ExpressionsRun, ItemsHaveLines, ItemsLead, OneEnd};
 
 /// A run from the first instruction of a list of expressions, whose code ends before an instruction that is no part of
 /// one, ends in exactly what the list comes to. Anywhere else the machine comes from there to where the values are on top.
@@ -8,10 +8,12 @@ pub fn expressions_law()
     ensures lead { ExpressionsLead }
 {}
 
-/// A run of a constant's code, which calls nothing, rests before the instruction that sets it, with its value.
-#[tactic(auto, using(crate::proofs::Stated::constants_run))]
+/// A run of a constant's code, which calls nothing, rests before the instruction that sets it, with its value, which then
+/// joins those of the constants before it.
+#[tactic(auto, using(crate::proofs::Stated::constants_run, crate::proofs::Stated::constants_set))]
 pub fn constants_law()
     ensures run { ConstantsRun }
+    ensures set { ConstantsSet }
 {}
 
 /// From a call with its arguments on top the machine comes to where the value is on top, behind the call; or the run ends
