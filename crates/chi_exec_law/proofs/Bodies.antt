@@ -1,32 +1,25 @@
 -- Bodies of functions and calls: what their code does is what they mean.
-use Rattle.std.proofs.Common.{◌≡◌, ℕ, zero, suc, ◌+◌, ◌≤◌, ◌<◌, List, [], ◌∷◌, ◌++◌, map, length, reverse, Option, Some, None, Bool, true, false, cond, refl, sym, ap, subst, ◌∙◌, arith}
+use Rattle.std.proofs.Common.{◌≡◌, ℕ, zero, suc, ◌+◌, ◌≤◌, List, [], ◌∷◌, map, length, Some, None, Bool, true, false, cond, refl, sym, ap, subst, ◌∙◌, arith}
 use Rattle.std.proofs.lemmas.List.{append-nil}
 use Rattle.std.specs.Prelude.{slice_get, nat_eq}
 use Rattle.std.specs.Option.{option_and_then}
 use Rattle.chi_types.specs.declared.ty.Ty.{Ty}
 use Rattle.chi_value.specs.declared.value.Value.{Value}
-use Rattle.chi_core.specs.declared.expression.CExpr.{CExpr, out-CExpr}
-use Rattle.chi_core.specs.declared.fault.FaultKind.TheVariants.{NoReturn, CallDepth}
+use Rattle.chi_core.specs.declared.fault.FaultKind.TheVariants.{CallDepth}
 use Rattle.chi_core.specs.declared.limits.TheConstants.{MOST_CALLS}
-use Rattle.chi_core.specs.declared.program.Core.{Core}
 use Rattle.chi_core.specs.declared.program.FuncDef.{FuncDef}
-use Rattle.chi_core.specs.declared.scene.Scene.{Scene}
-use Rattle.chi_core.specs.declared.statement.CStat.{CStat}
 use Rattle.chi_core.specs.declared.view.View.{View}
-use Rattle.chi_core.specs.Answer.{Answer, Gives, Fails, Spent, Amiss, Does, then_do, tick, ticked, in_turn}
-use Rattle.chi_core.specs.Beginning.{no_call}
+use Rattle.chi_core.specs.Answer.{Gives, then_do, tick, ticked}
 use Rattle.chi_core.specs.Evaluation.{Run, eval}
 use Rattle.chi_core.specs.Functions.{exec, run_at, body_run, callee, taking, did_then, calls}
-use Rattle.chi_core.specs.Terms.{Item, Do, Term, Did, On, Returns, act}
+use Rattle.chi_core.specs.Terms.{Item, Do, Term, Did, act}
 use Rattle.chi_core.specs.Variables.{Variables, variables_of}
-use Rattle.chi_core.proofs.Bodies.{exec_empty, exec_on, exec_over, run_none, run_more}
+use Rattle.chi_core.proofs.Bodies.{exec_empty, exec_on, exec_over, run_none}
 use Rattle.chi_code.specs.declared.code.Around.{Around}
-use Rattle.chi_code.specs.declared.code.Code.{Code}
 use Rattle.chi_code.specs.declared.code.Entry.{Entry}
-use Rattle.chi_code.specs.declared.instr.Instr.{Instr}
 use Rattle.chi_code.specs.declared.instr.Instr.TheVariants as i
-use Rattle.chi_code.specs.Codes.{in_function, FuncsAt, no_function, one_function, function_entry, Codes}
-use Rattle.chi_code.specs.ExpressionLayout.{Has, ExprAt, ExprsAt, no_expression, one_expression}
+use Rattle.chi_code.specs.Codes.{in_function, FuncsAt, no_function, one_function, function_entry}
+use Rattle.chi_code.specs.ExpressionLayout.{Has}
 use Rattle.chi_code.specs.StatementLayout.{BlockAt}
 use Rattle.chi_exec_law.specs.Runs.{Faults, Goes, Ends, taken, Goal, Just, Brings}
 use Rattle.chi_exec_law.specs.State.{Turning, Frame, Caller, State, state, frame_of, on_stack, pushed}
@@ -83,9 +76,9 @@ module _ (m : Setting) where
             after (step m) view.left _ (Inside (a + 1) variables under now) Returned _
             (leads_step (step m) _ _ (acts m i.Tick a stack (frame_of variables under) (c ∷ cs) view turn refl ∙ ap (λ left. taken (ticked left view) (λ u now. Inside (a + 1) variables under now)) e))
             (fewer (step m) left view.left _ Returned _ (omega (arith, e))
-                (then_brings (step m) left _ (DidAt m.code.instrs in_function slots i.NoRet stack (c ∷ cs)) Returned _ (did_then (exec n run m.scene))
-                (item_runs m in_function slots i.NoRet (c ∷ cs) stack run refl refl calls around under x term a h variables now)
-                (goes_on n left (omega (arith, e, le)) next)))
+            (then_brings (step m) left _ (DidAt m.code.instrs in_function slots i.NoRet stack (c ∷ cs)) Returned _ (did_then (exec n run m.scene))
+            (item_runs m in_function slots i.NoRet (c ∷ cs) stack run refl refl calls around under x term a h variables now)
+            (goes_on n left (omega (arith, e, le)) next)))
 
     over_runs : (n : ℕ) (around : List Around) (under : List Turning) (a : ℕ) → ReadyAt m.code.instrs in_function slots i.NoRet around under [] a → (variables : Variables) (view : View)
         → Brings (step m) view.left (Inside a variables under view) Returned (exec n run m.scene variables [] view)
@@ -177,4 +170,4 @@ module _ (m : Setting) where
         let free : nat_eq (length callers) MOST_CALLS ≡ false = grind arith in
         subst (Brings (step m) view.left _ (Just (on_stack (a + 1) stack frame callers))) (sym (one_more more k xs view))
         (entered functions (run_at more functions m.scene) callers frame k xs a stack view
-            (calls_run more (caller functions (run_at more functions m.scene) callers frame k xs a stack view ∷ callers) (omega (arith, e)) refl) free h inner (find functions m.code.funcs k from upto codes))
+        (calls_run more (caller functions (run_at more functions m.scene) callers frame k xs a stack view ∷ callers) (omega (arith, e)) refl) free h inner (find functions m.code.funcs k from upto codes))

@@ -1,31 +1,31 @@
 -- What an item of a term does, its code does: from behind the first instruction of a turn.
-use Rattle.std.proofs.Common.{◌≡◌, ◌⊎◌, inl, inr, ℕ, zero, suc, ◌+◌, ◌≤◌, List, [], ◌∷◌, ◌++◌, map, length, Option, Some, None, Bool, true, false, refl, sym, ap, subst, ◌∙◌, arith}
+use Rattle.std.proofs.Common.{◌≡◌, ◌⊎◌, inl, inr, ℕ, suc, ◌+◌, ◌≤◌, List, [], ◌∷◌, map, length, Option, Some, None, true, false, refl, sym, ap, subst, ◌∙◌, arith}
 use Rattle.std.proofs.lemmas.List.{append-nil, length-map}
-use Rattle.std.specs.Prelude.{slice_get, option_map}
+use Rattle.std.specs.Prelude.{option_map}
 use Rattle.chi_types.specs.declared.ty.Ty.{Ty}
 use Rattle.chi_value.specs.declared.value.Value.{Value}
 use Rattle.chi_core.specs.declared.expression.CExpr.{CExpr, out-CExpr}
 use Rattle.chi_core.specs.declared.statement.Branch.{Branch, out-Branch}
-use Rattle.chi_core.specs.declared.statement.CStat.{CStat, CStat-F, out-CStat}
+use Rattle.chi_core.specs.declared.statement.CStat.{CStat, out-CStat}
 use Rattle.chi_core.specs.declared.target.CTarget.{CTarget}
 use Rattle.chi_core.specs.declared.view.View.{View}
-use Rattle.chi_core.specs.Answer.{Answer, Gives, Fails, Spent, Amiss, Does, then_do, gives, wanted, giving, in_turn, through}
+use Rattle.chi_core.specs.Answer.{Gives, Does, then_do, gives, wanted, giving, in_turn, through}
 use Rattle.chi_core.specs.Evaluation.{Run, eval, on_truth}
 use Rattle.chi_core.specs.Reading.{truth_of, parts_of, elements_of}
 use Rattle.chi_core.specs.SetSlots.{StatLayer}
 use Rattle.chi_core.specs.Spots.{Spot, spot_of, store}
-use Rattle.chi_core.specs.Terms.{Item, Do, Loop, Walk, Term, Did, On, Returns, on_with, first_the, after_loop, from_loop, goes_on, walked, spread, chosen, tested, assigned, act_stat, act}
+use Rattle.chi_core.specs.Terms.{Item, Loop, Walk, Term, Did, On, Returns, on_with, first_the, goes_on, walked, spread, chosen, tested, assigned, act_stat, act}
 use Rattle.chi_core.specs.Variables.{Variables, with_slot, side_by_side, bound}
 use Rattle.chi_code.specs.declared.code.Around.{Around}
 use Rattle.chi_code.specs.declared.instr.Instr.{Instr}
 use Rattle.chi_code.specs.declared.instr.Instr.TheVariants as i
 use Rattle.chi_code.specs.Aims.{aim_of, indexes_of, is_spread}
 use Rattle.chi_code.specs.ExpressionLayout.{Has, ExprAt, ExprsAt}
-use Rattle.chi_code.specs.StatementLayout.{looping, walking, SpreadAt, no_spread, a_spread, StatAt, declares, assigns, chooses, loops, walks, breaks, leaves, continues, passes, returns, exits_with, exits, writes, selects, runs as runs_at, starts, finishes, LoopAt, loop, WalkAt, walk, BranchesAt, last, branch, BlockAt}
-use Rattle.chi_core.proofs.Used.{Within, Uses, within-then, uses-wanted, uses-through}
+use Rattle.chi_code.specs.StatementLayout.{looping, walking, SpreadAt, no_spread, a_spread, StatAt, declares, assigns, chooses, loops, walks, breaks, leaves, continues, passes, returns, exits_with, exits, writes, selects, runs as runs_at, starts, finishes, LoopAt, loop, WalkAt, walk, BranchesAt, last, branch}
+use Rattle.chi_core.proofs.Used.{within-then, uses-wanted, uses-through}
 use Rattle.chi_core.proofs.UsedByTerms.{uses-store}
 use Rattle.chi_exec_law.specs.Runs.{taken, Goal, Just, Brings}
-use Rattle.chi_exec_law.specs.State.{Turning, Walking, Frame, Caller, State, state, frame_of, on_stack, pushed}
+use Rattle.chi_exec_law.specs.State.{Turning, Walking, Caller, State, state, frame_of, on_stack, pushed}
 use Rattle.chi_exec_law.specs.Instructions.{stored, spots_from, index_count}
 use Rattle.chi_exec_law.specs.Machine.{Inner, Work, Setting, halts, step}
 use Rattle.chi_exec_law.specs.Standing.{TermAt, here, jumps, ReadyAt, does, again, walks_on, DidAt, went, gave}
@@ -101,10 +101,10 @@ module _ (m : Setting) (turn : ℕ → Instr) (slots : List Ty) (end : Instr) (c
         (λ v. on_truth (truth_of v) (gives (On variables (first_the (out-Branch x).block term))) (chosen value_of variables xs otherwise term))
         (expr (out-Branch x).test a c h stack view)
         (λ v now le. truth_brings (step m) view.left _ (At (c + 1) stack now) (At (d + 1) stack now) DidHere (truth_of v) (gives (On variables (first_the (out-Branch x).block term)))
-            (chosen value_of variables xs otherwise term) now (acts m (i.IfFalse (d + 1)) c (v ∷ stack) (frame_of variables under) callers now k work)
-            (on_here view.left around under variables (first_the (out-Branch x).block term) (c + 1) now le
-                (block_term m.code.instrs turn slots end around under (out-Branch x).block term (c + 1) d l (jumps around under term d z j t)))
-            (fewer (step m) now.left view.left _ DidHere _ le (branches_run around xs otherwise (d + 1) z r term t now)))
+        (chosen value_of variables xs otherwise term) now (acts m (i.IfFalse (d + 1)) c (v ∷ stack) (frame_of variables under) callers now k work)
+        (on_here view.left around under variables (first_the (out-Branch x).block term) (c + 1) now le
+        (block_term m.code.instrs turn slots end around under (out-Branch x).block term (c + 1) d l (jumps around under term d z j t)))
+        (fewer (step m) now.left view.left _ DidHere _ le (branches_run around xs otherwise (d + 1) z r term t now)))
 
     loop_runs : (around : List Around) (line : ℕ) (test : CExpr) (block : List CStat) (a z : ℕ) → LoopAt m.code.instrs turn slots around line test block a z → (term : Term) → Stands around under term z → (view : View)
         → Brings (step m) view.left (At (a + 1) stack view) DidHere (tested value_of variables line test block term view)
@@ -113,16 +113,16 @@ module _ (m : Setting) (turn : ℕ → Instr) (slots : List Ty) (end : Instr) (c
         (λ v. on_truth (truth_of v) (gives (On variables (first_the block (Loop line test block ∷ term)))) (gives (On variables term)))
         (expr test (a + 1) c h stack view)
         (λ v now le. truth_brings (step m) view.left _ (At (c + 1) stack now) (At (d + 1) stack now) DidHere (truth_of v) (gives (On variables (first_the block (Loop line test block ∷ term))))
-            (gives (On variables term)) now (acts m (i.IfFalse (d + 1)) c (v ∷ stack) (frame_of variables under) callers now k work)
-            (on_here view.left (looping a (d + 1) ∷ around) under variables (first_the block (Loop line test block ∷ term)) (c + 1) now le
-                (block_term m.code.instrs turn slots end (looping a (d + 1) ∷ around) under block (Loop line test block ∷ term) (c + 1) d l
-                (jumps _ _ _ d a j (here _ _ _ a (again around under line test block term a (d + 1) (loop around line test block a c d s h k l j) t)))))
-            (on_here view.left around under variables term (d + 1) now le t))
+        (gives (On variables term)) now (acts m (i.IfFalse (d + 1)) c (v ∷ stack) (frame_of variables under) callers now k work)
+        (on_here view.left (looping a (d + 1) ∷ around) under variables (first_the block (Loop line test block ∷ term)) (c + 1) now le
+        (block_term m.code.instrs turn slots end (looping a (d + 1) ∷ around) under block (Loop line test block ∷ term) (c + 1) d l
+        (jumps _ _ _ d a j (here _ _ _ a (again around under line test block term a (d + 1) (loop around line test block a c d s h k l j) t)))))
+        (on_here view.left around under variables term (d + 1) now le t))
 
     -- the values are on the stack: the indexes, and the stores
     stores_run : (around : List Around) (ts : List CTarget) (xs : List Value) (c d : ℕ) → ExprsAt m.code.instrs (indexes_of ts) c d → Has m.code.instrs d (i.Assign (map aim_of ts)) → (term : Term) → Stands around under term (d + 1)
         → (view : View) → Brings (step m) view.left (At c (pushed xs stack) view) DidHere
-          (then_do (in_turn (map (spot_of value_of) ts) view) (λ spots new. then_do (wanted (side_by_side spots xs) new) (λ stores later. giving (on_with term) (through store stores variables later))))
+        (then_do (in_turn (map (spot_of value_of) ts) view) (λ spots new. then_do (wanted (side_by_side spots xs) new) (λ stores later. giving (on_with term) (through store stores variables later))))
     stores_run around ts xs c d h k term t view =
         then_brings (step m) view.left _ (λ spots now u. FitTargets ts spots × (u ≡ state d (pushed (spots_keys spots) (pushed xs stack)) (frame_of variables under) callers now)) DidHere _ (storing)
         (targets_run m run callers free calls variables (pushed xs stack) under ts c d h view)
@@ -139,14 +139,14 @@ module _ (m : Setting) (turn : ℕ → Instr) (slots : List Ty) (end : Instr) (c
             fewer (step m) new.left view.left _ DidHere _ le
             (subst (Brings (step m) new.left (At d (pushed (spots_keys spots) (pushed xs stack)) new) DidHere) (sym (as_stored (side_by_side spots xs) new))
             (just_brings (step m) new.left _ (λ after. state (d + 1) stack (frame_of after under) callers) DidHere (stored (Some spots) xs variables new) (λ after. gives (On after term))
-                (taken_brings (step m) new.left _ (λ after. state (d + 1) stack (frame_of after under) callers) (stored (Some spots) xs variables new)
-                    (within-then new.left (wanted (side_by_side spots xs) new) (λ stores. through store stores variables) (uses-wanted (side_by_side spots xs) new) (λ stores. uses-through store uses-store stores variables))
-                    (acts m (i.Assign (map aim_of ts)) d (pushed (spots_keys spots) (pushed xs stack)) (frame_of variables under) callers new k work
-                    ∙ many (spots_keys spots) (pushed xs stack) [] (index_count (map aim_of ts)) 0 _ (omega (arith, keys_counted ts spots fits))
-                    ∙ many xs stack [] (length (map aim_of ts)) 0 _ (omega (arith, e, as_many_spots ts spots fits, length-map ts aim_of))
-                    ∙ (λ j. taken (stored (spots_from (map aim_of ts) (append-nil (spots_keys spots) j)) (append-nil xs j) variables new) (λ after. state (d + 1) stack (frame_of after under) callers))
-                    ∙ ap (λ o. taken (stored o xs variables new) (λ after. state (d + 1) stack (frame_of after under) callers)) (spots_back ts spots fits)))
-                (λ after last le'. on_here new.left around under after term (d + 1) last le' t)))
+            (taken_brings (step m) new.left _ (λ after. state (d + 1) stack (frame_of after under) callers) (stored (Some spots) xs variables new)
+            (within-then new.left (wanted (side_by_side spots xs) new) (λ stores. through store stores variables) (uses-wanted (side_by_side spots xs) new) (λ stores. uses-through store uses-store stores variables))
+            (acts m (i.Assign (map aim_of ts)) d (pushed (spots_keys spots) (pushed xs stack)) (frame_of variables under) callers new k work
+            ∙ many (spots_keys spots) (pushed xs stack) [] (index_count (map aim_of ts)) 0 _ (omega (arith, keys_counted ts spots fits))
+            ∙ many xs stack [] (length (map aim_of ts)) 0 _ (omega (arith, e, as_many_spots ts spots fits, length-map ts aim_of))
+            ∙ (λ j. taken (stored (spots_from (map aim_of ts) (append-nil (spots_keys spots) j)) (append-nil xs j) variables new) (λ after. state (d + 1) stack (frame_of after under) callers))
+            ∙ ap (λ o. taken (stored o xs variables new) (λ after. state (d + 1) stack (frame_of after under) callers)) (spots_back ts spots fits)))
+            (λ after last le'. on_here new.left around under after term (d + 1) last le' t)))
           where
             as_stored : (o : Option (List (Spot × Value))) (new : View) → then_do (wanted o new) (λ stores later. giving (on_with term) (through store stores variables later))
                 ≡ giving (on_with term) (then_do (wanted o new) (λ stores. through store stores variables))
@@ -174,9 +174,9 @@ module _ (m : Setting) (turn : ℕ → Instr) (slots : List Ty) (end : Instr) (c
                 subst (λ o. Brings (step m) now.left (At a (pushed xs stack) now) DidHere (then_do (wanted o now) storing)) (sym parts)
                 (subst (λ xs. Brings (step m) now.left (At a (pushed xs stack) now) DidHere (then_do (wanted (parts_of x) now) storing)) (sym is)
                 (just_brings (step m) now.left _ (λ parts new. At (a + 1) (pushed parts stack) new) DidHere (wanted (parts_of x) now) storing
-                    (taken_brings (step m) now.left _ (λ parts new. At (a + 1) (pushed parts stack) new) (wanted (parts_of x) now) (uses-wanted (parts_of x) now)
-                        (acts m (i.Spread (length ts)) a (x ∷ stack) (frame_of variables under) callers now p work))
-                    (λ parts new le. fewer (step m) new.left now.left _ DidHere _ le (stores_run around ts parts (a + 1) d k j term t new))))
+                (taken_brings (step m) now.left _ (λ parts new. At (a + 1) (pushed parts stack) new) (wanted (parts_of x) now) (uses-wanted (parts_of x) now)
+                (acts m (i.Spread (length ts)) a (x ∷ stack) (frame_of variables under) callers now p work))
+                (λ parts new le. fewer (step m) new.left now.left _ DidHere _ le (stores_run around ts parts (a + 1) d k j term t new))))
 
     pub stat_runs : (around : List Around) (o : StatLayer) (a z : ℕ) → StatAt m.code.instrs turn slots around o a z → (term : Term) → Stands around under term z → (view : View)
         → Brings (step m) view.left (At (a + 1) stack view) DidHere (act_stat value_of variables o term view)
@@ -184,10 +184,10 @@ module _ (m : Setting) (turn : ℕ → Instr) (slots : List Ty) (end : Instr) (c
         just_brings (step m) view.left _ (on_stack c stack (frame_of variables under) callers) DidHere _ (λ x now. giving (on_with term) (wanted (with_slot slot x variables) now))
         (expr e (a + 1) c h stack view)
         (λ x now le. just_brings (step m) view.left _ (λ after. state (c + 1) stack (frame_of after under) callers) DidHere (wanted (with_slot slot x variables) now) (λ after. gives (On after term))
-            (fewer (step m) now.left view.left _ (Just (λ after. state (c + 1) stack (frame_of after under) callers)) _ le
-                (taken_brings (step m) now.left _ (λ after. state (c + 1) stack (frame_of after under) callers) _ (uses-wanted (with_slot slot x variables) now)
-                (acts m (i.Store slot) c (x ∷ stack) (frame_of variables under) callers now k work)))
-            (λ after new le'. on_here view.left around under after term (c + 1) new le' t))
+        (fewer (step m) now.left view.left _ (Just (λ after. state (c + 1) stack (frame_of after under) callers)) _ le
+        (taken_brings (step m) now.left _ (λ after. state (c + 1) stack (frame_of after under) callers) _ (uses-wanted (with_slot slot x variables) now)
+        (acts m (i.Store slot) c (x ∷ stack) (frame_of variables under) callers now k work)))
+        (λ after new le'. on_here view.left around under after term (c + 1) new le' t))
     stat_runs _ _ _ _ (assigns around line ts es a b c d s h p k j) term t view = assign_runs around line ts es a b c d h p k j term t view
     stat_runs _ _ _ _ (chooses around line bs otherwise a z s h) term t view = branches_run around bs otherwise (a + 1) z h term t view
     stat_runs _ _ _ _ (loops around line test block a z h) term t view = loop_runs around line test block a z h term t view
@@ -195,12 +195,12 @@ module _ (m : Setting) (turn : ℕ → Instr) (slots : List Ty) (end : Instr) (c
         just_brings (step m) view.left _ (on_stack c stack (frame_of variables under) callers) DidHere _
         (λ x now. giving (λ elements. On variables (Walk line names elements block ∷ term)) (wanted (elements_of x) now)) (expr e (a + 1) c h stack view)
         (λ x now le. just_brings (step m) view.left _ (λ xs. state (c + 1) stack (frame_of variables (Walking xs ∷ under)) callers) DidHere (wanted (elements_of x) now)
-            (λ xs. gives (On variables (Walk line names xs block ∷ term)))
-            (fewer (step m) now.left view.left _ (Just (λ xs. state (c + 1) stack (frame_of variables (Walking xs ∷ under)) callers)) _ le
-                (taken_brings (step m) now.left _ (λ xs. state (c + 1) stack (frame_of variables (Walking xs ∷ under)) callers) _ (uses-wanted (elements_of x) now)
-                (acts m i.Walk c (x ∷ stack) (frame_of variables under) callers now k work)))
-            (λ xs new le'. on_here view.left (walking (c + 1) z ∷ around) (Walking xs ∷ under) variables (Walk line names xs block ∷ term) (c + 1) new le'
-                (here _ _ _ (c + 1) (walks_on around under line names xs block term (c + 1) z w t))))
+        (λ xs. gives (On variables (Walk line names xs block ∷ term)))
+        (fewer (step m) now.left view.left _ (Just (λ xs. state (c + 1) stack (frame_of variables (Walking xs ∷ under)) callers)) _ le
+        (taken_brings (step m) now.left _ (λ xs. state (c + 1) stack (frame_of variables (Walking xs ∷ under)) callers) _ (uses-wanted (elements_of x) now)
+        (acts m i.Walk c (x ∷ stack) (frame_of variables under) callers now k work)))
+        (λ xs new le'. on_here view.left (walking (c + 1) z ∷ around) (Walking xs ∷ under) variables (Walk line names xs block ∷ term) (c + 1) new le'
+        (here _ _ _ (c + 1) (walks_on around under line names xs block term (c + 1) z w t))))
     stat_runs _ _ _ _ (breaks around line top out a s k) term t view =
         let r = broken m.code.instrs turn slots end (looping top out) around under term (a + 1 + 1) t in
         subst (λ o. Brings (step m) view.left (At (a + 1) stack view) DidHere (goes_on variables o view)) (sym r.is)
@@ -247,10 +247,10 @@ module _ (m : Setting) (turn : ℕ → Instr) (slots : List Ty) (end : Instr) (c
         just_brings (step m) view.left _ (λ after. state (a + 1 + 1) stack (frame_of after (Walking xs ∷ under)) callers) DidHere (wanted (bound names x variables) view)
         (λ bound. gives (On bound (first_the block (Walk line names xs block ∷ term))))
         (taken_brings (step m) view.left _ (λ after. state (a + 1 + 1) stack (frame_of after (Walking xs ∷ under)) callers) _ (uses-wanted (bound names x variables) view)
-            (acts m (i.Next (c + 1) names) (a + 1) stack (frame_of variables (Walking (x ∷ xs) ∷ under)) callers view k work))
+        (acts m (i.Next (c + 1) names) (a + 1) stack (frame_of variables (Walking (x ∷ xs) ∷ under)) callers view k work))
         (λ after new le. brings_here (step m) view.left _ DidHere _ new le (went (walking a (c + 1) ∷ around) (Walking xs ∷ under) after (first_the block (Walk line names xs block ∷ term)) (a + 1 + 1) new
-            (block_term m.code.instrs turn slots end (walking a (c + 1) ∷ around) (Walking xs ∷ under) block (Walk line names xs block ∷ term) (a + 1 + 1) c l
-            (jumps _ _ _ c a j (here _ _ _ a (walks_on around under line names xs block term a (c + 1) (walk around line names block a c s k l j) t))))))
+        (block_term m.code.instrs turn slots end (walking a (c + 1) ∷ around) (Walking xs ∷ under) block (Walk line names xs block ∷ term) (a + 1 + 1) c l
+        (jumps _ _ _ c a j (here _ _ _ a (walks_on around under line names xs block term a (c + 1) (walk around line names block a c s k l j) t))))))
 
   module _ (run : Run) (free : halts m callers (m.stops Inner) ≡ false) (work : halts m callers (m.stops Work) ≡ false) (calls : Calls m run callers) where
     -- the law of an item, for functions and for processes

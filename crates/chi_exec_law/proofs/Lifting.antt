@@ -1,9 +1,8 @@
 -- A machine over another goes where the other goes, with what is beside as it was.
-use Rattle.std.proofs.Common.{◌≡◌, ℕ, zero, suc, Option, Some, None, refl, sym, ap, subst, ◌∙◌}
-use Rattle.chi_core.specs.declared.view.View.{View}
-use Rattle.chi_core.specs.Answer.{Answer, Gives, Fails, Spent, Amiss, Does, then_do}
-use Rattle.chi_exec_law.specs.Runs.{End, Rests, Faults, Spends, Next, Goes, Ends, Stuck, Goal, Just, go_on, runs, Reaches, Leads, stays, goes, Comes, Brings, above}
-use Rattle.chi_exec_law.proofs.Going.{leads_same, leads_step, leads_on, reaches_step, reaches_on, after, then_brings}
+use Rattle.std.proofs.Common.{◌≡◌, ℕ, zero, suc, Some, refl, ap, ◌∙◌}
+use Rattle.chi_core.specs.Answer.{Answer, Gives, Fails, Spent, Amiss}
+use Rattle.chi_exec_law.specs.Runs.{End, Rests, Faults, Spends, Next, Goes, Ends, Stuck, Goal, go_on, runs, Reaches, Leads, stays, goes, Brings, above}
+use Rattle.chi_exec_law.proofs.Going.{leads_same, leads_step, leads_on, reaches_step, reaches_on}
 
 module _ {S R B Q : Type 0} (step : S → Next S R) (itself : R → B → Next (S × B) Q) where
   -- a step of the machine over the other

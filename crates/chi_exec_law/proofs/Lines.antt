@@ -1,5 +1,5 @@
 -- Where an item is first, its turn begins with the instruction that has its line.
-use Rattle.std.proofs.Common.{◌≡◌, ℕ, List, ◌∷◌}
+use Rattle.std.proofs.Common.{ℕ, List, ◌∷◌}
 use Rattle.chi_types.specs.declared.ty.Ty.{Ty}
 use Rattle.chi_core.specs.SetSlots.{StatLayer}
 use Rattle.chi_core.specs.Step.{line_in, line_of}
@@ -7,7 +7,7 @@ use Rattle.chi_core.specs.Terms.{Item, Term}
 use Rattle.chi_code.specs.declared.code.Around.{Around}
 use Rattle.chi_code.specs.declared.instr.Instr.{Instr}
 use Rattle.chi_code.specs.ExpressionLayout.{Has}
-use Rattle.chi_code.specs.StatementLayout.{StatAt, declares, assigns, chooses, loops, walks, breaks, leaves, continues, passes, returns, exits_with, exits, writes, selects, runs, starts, finishes, LoopAt, loop, WalkAt, walk}
+use Rattle.chi_code.specs.StatementLayout.{StatAt, declares, assigns, chooses, loops, walks, breaks, leaves, continues, passes, returns, exits_with, exits, writes, selects, runs, starts, finishes, loop, walk}
 use Rattle.chi_exec_law.specs.State.{Turning}
 use Rattle.chi_exec_law.specs.Standing.{ReadyAt, does, again, walks_on}
 

@@ -1,9 +1,9 @@
 -- How many steps a run still takes: the measure of a loop that runs a machine.
-use Rattle.std.proofs.Common.{◌≡◌, ℕ, zero, suc, ◌+◌, ◌≤◌, ◌<◌, Option, Some, None, Bool, true, false, refl, sym, ap, subst, ◌∙◌, arith}
+use Rattle.std.proofs.Common.{◌≡◌, ℕ, zero, suc, ◌≤◌, ◌<◌, Option, Some, None, Bool, true, false, refl, sym, ap, ◌∙◌, arith}
 use Rattle.std.proofs.Math.Logic.{∥∥₁_elim, ∥∥₁_prop}
 use mathlib.Core.HLevel.{is_prop→PathP}
 use Rattle.std.specs.Coded.{Coded-set, coded_ℕ, coded_bool}
-use Rattle.chi_exec_law.specs.Runs.{End, Next, Goes, Ends, Stuck, go_on, runs, Reaches, Halts}
+use Rattle.chi_exec_law.specs.Runs.{End, Next, Goes, Ends, Stuck, go_on, runs, Halts}
 
 abbrev counted : {S R : Type 0} → Next S R → (S → ℕ) → ℕ
 counted (Goes s) next = suc (next s)

@@ -1,20 +1,19 @@
 -- A place in the code stands for a term: blocks, breaks, and the jumps on the way.
-use Rattle.std.proofs.Common.{◌≡◌, ℕ, ◌+◌, List, [], ◌∷◌, ◌++◌, map, Option, Some, None, Bool, true, false, refl}
+use Rattle.std.proofs.Common.{◌≡◌, ℕ, List, ◌∷◌, Some, Bool, true, false, refl}
 use Rattle.chi_types.specs.declared.ty.Ty.{Ty}
 use Rattle.chi_value.specs.declared.value.Value.{Value}
 use Rattle.chi_core.specs.declared.statement.CStat.{CStat}
 use Rattle.chi_core.specs.declared.view.View.{View}
-use Rattle.chi_core.specs.Terms.{Item, Do, Loop, Walk, Term, first_the, after_loop, from_loop}
+use Rattle.chi_core.specs.Terms.{Term, first_the, after_loop, from_loop}
 use Rattle.chi_code.specs.declared.code.Around.{Around}
 use Rattle.chi_code.specs.declared.instr.Instr.{Instr}
 use Rattle.chi_code.specs.declared.instr.Instr.TheVariants as i
-use Rattle.chi_code.specs.ExpressionLayout.{Has}
-use Rattle.chi_code.specs.StatementLayout.{looping, walking, BlockAt, no_statement, one_statement}
+use Rattle.chi_code.specs.StatementLayout.{BlockAt, no_statement, one_statement}
 use Rattle.chi_exec_law.specs.Runs.{Leads}
 use Rattle.chi_exec_law.specs.State.{Turning, Walking, Frame, Caller, state}
 use Rattle.chi_exec_law.specs.Machine.{Inner, Setting, halts, step}
 use Rattle.chi_exec_law.specs.Standing.{TermAt, here, jumps, ReadyAt, does, again, walks_on}
-use Rattle.chi_exec_law.proofs.Going.{leads_same, leads_on, leads_step, after}
+use Rattle.chi_exec_law.proofs.Going.{leads_same, leads_on, leads_step}
 use Rattle.chi_exec_law.proofs.Moving.{acts}
 
 -- what is under way once a loop, or a walk, is left

@@ -2,10 +2,11 @@
 use Rattle.std.proofs.Common.{◌≡◌, ℕ, ◌+◌, List, [], ◌∷◌, map, length, reverse, true, false, refl, ap, subst, ◌∙◌}
 use Rattle.std.specs.Prelude.{slice_get}
 use Rattle.chi_value.specs.declared.value.Value.{Value}
-use Rattle.chi_core.specs.declared.expression.CExpr.{CExpr, out-CExpr}
+use Rattle.chi_core.specs.declared.expression.CExpr.{CExpr}
 use Rattle.chi_core.specs.declared.view.View.{View}
-use Rattle.chi_core.specs.Answer.{Answer, Gives, Fails, Spent, Amiss, in_turn}
-use Rattle.chi_core.specs.Beginning.{no_call}
+use Rattle.chi_core.specs.declared.scene.Scene.{Scene}
+use Rattle.chi_core.specs.Answer.{Answer, Gives, Fails, Spent, Amiss, giving, in_turn}
+use Rattle.chi_core.specs.Beginning.{no_call, constant_scene, constant_view}
 use Rattle.chi_core.specs.Evaluation.{Run, eval}
 use Rattle.chi_core.specs.Functions.{calls, run_at}
 use Rattle.chi_core.specs.Variables.{Variables}
@@ -14,7 +15,7 @@ use Rattle.chi_code.specs.ExpressionLayout.{ExprsAt, no_expression, one_expressi
 use Rattle.chi_exec_law.specs.Runs.{Leads, Brings}
 use Rattle.chi_exec_law.specs.State.{state, frame_of}
 use Rattle.chi_exec_law.specs.Machine.{Setting, Inner, in_expressions, stops_at, step}
-use Rattle.chi_exec_law.specs.Laws.{begun, Values, ExpressionsRun, ConstantsRun, All, Calls, InCode, CallsLead, ExpressionsLead, ItemsLead, ItemsHaveLines, BodiesLead}
+use Rattle.chi_exec_law.specs.Laws.{begun, Values, ExpressionsRun, ConstantsRun, SetsTo, ConstantsSet, All, Calls, CallsLead, ExpressionsLead, ItemsLead, ItemsHaveLines, BodiesLead}
 use Rattle.chi_exec_law.proofs.Going.{reaches_step, reaches_on}
 use Rattle.chi_exec_law.proofs.Moving.{pushed_all, rests_at}
 use Rattle.chi_exec_law.proofs.Expressions.{exprs_run}
@@ -64,3 +65,16 @@ pub constants_run : ConstantsRun
 constants_run code scene c number a z h k variables view =
     whole (in_expressions code scene) no_call (λ frame k xs a stack view h. tt) (c.value ∷ []) a z (one_expression c.value [] a z z h (no_expression z)) refl
     (ap (stops_at (in_expressions code scene)) k) variables view
+
+pub constants_set : ConstantsSet
+constants_set core code c number a z h k seed before = told _ (constants_run code scene c number a z h k [] constant_view)
+  where
+    scene : Scene
+    scene = constant_scene core seed before
+
+    told : (o : Answer Value) → Values (in_expressions code scene) z [] (begun a [] constant_view) (giving (λ v. v ∷ []) o)
+        → SetsTo (in_expressions code scene) (begun a [] constant_view) number c.line before o
+    told (Gives v view) r = (state z (v ∷ []) (frame_of [] []) [] view, r, k, refl)
+    told (Fails kind) r = r
+    told Spent r = r
+    told Amiss r = tt

@@ -1,5 +1,5 @@
 -- The indexes of targets are evaluated one after another; with them an assignment knows its spots.
-use Rattle.std.proofs.Common.{◌≡◌, ℕ, zero, suc, ◌+◌, ◌≤◌, List, [], ◌∷◌, ◌++◌, map, length, length-append, append_assoc, Option, Some, None, Bool, true, false, refl, sym, ap, subst, ◌∙◌, arith}
+use Rattle.std.proofs.Common.{◌≡◌, ℕ, suc, List, [], ◌∷◌, ◌++◌, map, length, length-append, append_assoc, Some, false, refl, sym, ap, subst, ◌∙◌, arith}
 use Rattle.std.proofs.lemmas.List.{append-nil}
 use Rattle.std.specs.Prelude.{option_map}
 use Rattle.chi_value.specs.declared.value.Value.{Value}
@@ -15,12 +15,12 @@ use Rattle.chi_core.specs.Spots.{Spot, step_at, spot_of}
 use Rattle.chi_core.specs.Variables.{Variables}
 use Rattle.chi_code.specs.Aims.{aim_step, aim_of, step_indexes, indexes_of}
 use Rattle.chi_code.specs.ExpressionLayout.{ExprsAt, no_expression, one_expression}
-use Rattle.chi_exec_law.specs.Runs.{Goal, runs, Brings}
+use Rattle.chi_exec_law.specs.Runs.{Goal, Brings}
 use Rattle.chi_exec_law.specs.State.{Turning, Caller, State, state, frame_of, on_stack, pushed}
 use Rattle.chi_exec_law.specs.Instructions.{spots_from, index_count, step_count, path_from, spot_at}
 use Rattle.chi_exec_law.specs.Machine.{Inner, Setting, halts, step}
 use Rattle.chi_exec_law.specs.Laws.{Calls}
-use Rattle.chi_exec_law.proofs.Going.{after, then_brings, just_brings, fewer, weaker, brings_here}
+use Rattle.chi_exec_law.proofs.Going.{then_brings, just_brings, fewer, weaker, brings_here}
 use Rattle.chi_exec_law.proofs.Moving.{pushed_more}
 use Rattle.chi_exec_law.proofs.Expressions.{expr_runs}
 
@@ -121,7 +121,7 @@ module _ (m : Setting) (run : Run) (callers : List Caller) (free : halts m calle
             weaker (step m) view.left _ (After steps r.between keys (done ++ part n ∷ [])) (After (into.Part n ∷ steps) r.between keys done) _
             (λ path now u g. (part n ∷ g.0, g.1 ∙ append_assoc done (part n ∷ []) g.0, fits_part n steps g.0 g.2, g.3))
             (subst (λ ks. Brings (step m) view.left (At a (keys ++ ks) view) (After steps r.between keys (done ++ part n ∷ [])) (gathered (done ++ part n ∷ []) (map (step_at value_of) steps) view)) same
-                (r.runs keys (done ++ part n ∷ []) view));
+            (r.runs keys (done ++ part n ∷ []) view));
       }
   steps_run (into.Index e ∷ steps) rest _ _ (one_expression _ _ a c z h k) =
       let r = steps_run steps rest c z k in
@@ -132,13 +132,13 @@ module _ (m : Setting) (run : Run) (callers : List Caller) (free : halts m calle
             subst (Brings (step m) view.left (At a (keys ++ path_keys done) view) (After (into.Index e ∷ steps) r.between keys done))
             (sym (giving_then by (value_of e view) (λ s. gathered (done ++ s ∷ []) (map (step_at value_of) steps))))
             (just_brings (step m) view.left _ (on_stack c (pushed (keys ++ path_keys done) stack) (frame_of variables under) callers) (After (into.Index e ∷ steps) r.between keys done) (value_of e view)
-                (λ k. gathered (done ++ by k ∷ []) (map (step_at value_of) steps))
-                (expr_runs m run callers free calls variables e a c h (pushed (keys ++ path_keys done) stack) under view)
-                (λ k now le. fewer (step m) now.left view.left _ (After (into.Index e ∷ steps) r.between keys done) _ le
-                    (weaker (step m) now.left _ (After steps r.between keys (done ++ by k ∷ [])) (After (into.Index e ∷ steps) r.between keys done) _
-                    (λ path new u g. (by k ∷ g.0, g.1 ∙ append_assoc done (by k ∷ []) g.0, fits_index e k steps g.0 g.2, g.3))
-                    (subst (λ u. Brings (step m) now.left u (After steps r.between keys (done ++ by k ∷ [])) (gathered (done ++ by k ∷ []) (map (step_at value_of) steps) now))
-                        (sym (key_added c keys done k now)) (r.runs keys (done ++ by k ∷ []) now)))));
+            (λ k. gathered (done ++ by k ∷ []) (map (step_at value_of) steps))
+            (expr_runs m run callers free calls variables e a c h (pushed (keys ++ path_keys done) stack) under view)
+            (λ k now le. fewer (step m) now.left view.left _ (After (into.Index e ∷ steps) r.between keys done) _ le
+            (weaker (step m) now.left _ (After steps r.between keys (done ++ by k ∷ [])) (After (into.Index e ∷ steps) r.between keys done) _
+            (λ path new u g. (by k ∷ g.0, g.1 ∙ append_assoc done (by k ∷ []) g.0, fits_index e k steps g.0 g.2, g.3))
+            (subst (λ u. Brings (step m) now.left u (After steps r.between keys (done ++ by k ∷ [])) (gathered (done ++ by k ∷ []) (map (step_at value_of) steps) now))
+            (sym (key_added c keys done k now)) (r.runs keys (done ++ by k ∷ []) now)))));
       }
 
   -- after some targets
@@ -157,19 +157,19 @@ module _ (m : Setting) (run : Run) (callers : List Caller) (free : halts m calle
       subst (Brings (step m) view.left (At a (spots_keys done) view) (Spotted (t ∷ ts) z done))
       (sym (giving_then (spot_at t.slot) (in_turn (map (step_at value_of) t.steps) view) (λ s. gathered (done ++ s ∷ []) (map (spot_of value_of) ts))))
       (then_brings (step m) view.left _ (After t.steps r.between (spots_keys done) []) (Spotted (t ∷ ts) z done) (in_turn (map (step_at value_of) t.steps) view)
-          (λ path. gathered (done ++ spot_at t.slot path ∷ []) (map (spot_of value_of) ts))
-          (subst (λ ks. Brings (step m) view.left (At a ks view) (After t.steps r.between (spots_keys done) []) (in_turn (map (step_at value_of) t.steps) view)) (sym none) (r.runs (spots_keys done) [] view))
-          (λ path now u le g. fewer (step m) now.left view.left _ (Spotted (t ∷ ts) z done) _ le
-              (weaker (step m) now.left _ (Spotted ts z (done ++ spot_at t.slot path ∷ [])) (Spotted (t ∷ ts) z done) _
-              (λ spots new v f. (spot_at t.slot path ∷ f.0, f.1 ∙ append_assoc done (spot_at t.slot path ∷ []) f.0, one_spot t ts path f.0 (subst (FitSteps t.steps) (sym g.1) g.2) f.2, f.3))
-              (subst (λ u. Brings (step m) now.left u (Spotted ts z (done ++ spot_at t.slot path ∷ [])) (gathered (done ++ spot_at t.slot path ∷ []) (map (spot_of value_of) ts) now))
-                  (sym (g.3 ∙ ap (λ ks. At r.between ks now) (spot_added done (spot_at t.slot path))))
-                  (targets_gather ts r.between z r.others (done ++ spot_at t.slot path ∷ []) now)))))
+      (λ path. gathered (done ++ spot_at t.slot path ∷ []) (map (spot_of value_of) ts))
+      (subst (λ ks. Brings (step m) view.left (At a ks view) (After t.steps r.between (spots_keys done) []) (in_turn (map (step_at value_of) t.steps) view)) (sym none) (r.runs (spots_keys done) [] view))
+      (λ path now u le g. fewer (step m) now.left view.left _ (Spotted (t ∷ ts) z done) _ le
+      (weaker (step m) now.left _ (Spotted ts z (done ++ spot_at t.slot path ∷ [])) (Spotted (t ∷ ts) z done) _
+      (λ spots new v f. (spot_at t.slot path ∷ f.0, f.1 ∙ append_assoc done (spot_at t.slot path ∷ []) f.0, one_spot t ts path f.0 (subst (FitSteps t.steps) (sym g.1) g.2) f.2, f.3))
+      (subst (λ u. Brings (step m) now.left u (Spotted ts z (done ++ spot_at t.slot path ∷ [])) (gathered (done ++ spot_at t.slot path ∷ []) (map (spot_of value_of) ts) now))
+      (sym (g.3 ∙ ap (λ ks. At r.between ks now) (spot_added done (spot_at t.slot path))))
+      (targets_gather ts r.between z r.others (done ++ spot_at t.slot path ∷ []) now)))))
 
   -- the indexes of the targets come on top
   pub targets_run : (ts : List CTarget) (a z : ℕ) → ExprsAt m.code.instrs (indexes_of ts) a z → (view : View)
       → Brings (step m) view.left (state a stack (frame_of variables under) callers view)
-        (λ spots now u. FitTargets ts spots × (u ≡ state z (pushed (spots_keys spots) stack) (frame_of variables under) callers now)) (in_turn (map (spot_of value_of) ts) view)
+      (λ spots now u. FitTargets ts spots × (u ≡ state z (pushed (spots_keys spots) stack) (frame_of variables under) callers now)) (in_turn (map (spot_of value_of) ts) view)
   targets_run ts a z h view =
       weaker (step m) view.left _ (Spotted ts z []) (λ spots now u. FitTargets ts spots × (u ≡ At z (spots_keys spots) now)) _ (λ spots now u g. (subst (FitTargets ts) (sym g.1) g.2, g.3)) (targets_gather ts a z h [] view)
 
@@ -179,7 +179,7 @@ module _ (m : Setting) (run : Run) (callers : List Caller) (free : halts m calle
   -- the indexes of one target
   pub target_runs : (t : CTarget) (a z : ℕ) → ExprsAt m.code.instrs (step_indexes t.steps) a z → (view : View)
       → Brings (step m) view.left (state a stack (frame_of variables under) callers view)
-        (λ spot now u. FitTargets (t ∷ []) (spot ∷ []) × (u ≡ state z (pushed (path_keys spot.path) stack) (frame_of variables under) callers now)) (spot_of value_of t view)
+      (λ spot now u. FitTargets (t ∷ []) (spot ∷ []) × (u ≡ state z (pushed (path_keys spot.path) stack) (frame_of variables under) callers now)) (spot_of value_of t view)
   target_runs t a z h view =
       let r = steps_run t.steps [] a z (subst (λ es. ExprsAt m.code.instrs es a z) (sym (append-nil (step_indexes t.steps))) h) in
       then_brings (step m) view.left _ (After t.steps r.between [] [])
@@ -187,6 +187,6 @@ module _ (m : Setting) (run : Run) (callers : List Caller) (free : halts m calle
       (in_turn (map (step_at value_of) t.steps) view) (λ path. gives (spot_at t.slot path))
       (r.runs [] [] view)
       (λ path now u le g. brings_here (step m) view.left u
-          (λ spot now u. FitTargets (t ∷ []) (spot ∷ []) × (u ≡ state z (pushed (path_keys spot.path) stack) (frame_of variables under) callers now))
-          (spot_at t.slot path) now le
-          (one_spot t [] path [] (subst (FitSteps t.steps) (sym g.1) g.2) no_spot, g.3 ∙ ap (λ a. At a (path_keys path) now) (ends_there r.between z r.others)))
+      (λ spot now u. FitTargets (t ∷ []) (spot ∷ []) × (u ≡ state z (pushed (path_keys spot.path) stack) (frame_of variables under) callers now))
+      (spot_at t.slot path) now le
+      (one_spot t [] path [] (subst (FitSteps t.steps) (sym g.1) g.2) no_spot, g.3 ∙ ap (λ a. At a (path_keys path) now) (ends_there r.between z r.others)))

@@ -1,5 +1,5 @@
 -- What is said of the machine: its code does what expressions, items, bodies, calls and constants mean.
-use Rattle.std.specs.Prelude.{◌≡◌, ℕ, ◌+◌, ◌≤◌, List, [], ◌∷◌, map, length, reverse, true, false, slice_get}
+use Rattle.std.specs.Prelude.{◌≡◌, ℕ, ◌+◌, ◌≤◌, Some, List, [], ◌∷◌, ◌++◌, map, length, reverse, true, false, slice_get}
 use Rattle.chi_types.specs.declared.ty.Ty.{Ty}
 use Rattle.chi_value.specs.declared.value.Value.{Value}
 use Rattle.chi_core.specs.declared.expression.CExpr.{CExpr, out-CExpr}
@@ -9,7 +9,7 @@ use Rattle.chi_core.specs.declared.program.Core.{Core}
 use Rattle.chi_core.specs.declared.scene.Scene.{Scene}
 use Rattle.chi_core.specs.declared.view.View.{View}
 use Rattle.chi_core.specs.Answer.{Answer, Gives, Fails, Spent, Amiss, giving, in_turn}
-use Rattle.chi_core.specs.Beginning.{no_call}
+use Rattle.chi_core.specs.Beginning.{no_call, constant_scene, constant_view, constant_value}
 use Rattle.chi_core.specs.Evaluation.{Run, eval}
 use Rattle.chi_core.specs.Functions.{calls, run_at, exec}
 use Rattle.chi_core.specs.Step.{line_of}
@@ -23,6 +23,7 @@ use Rattle.chi_code.specs.Codes.{in_function, Codes}
 use Rattle.chi_code.specs.ExpressionLayout.{Has, ExprAt, ExprsAt}
 use Rattle.chi_exec_law.specs.Runs.{End, Rests, Faults, Spends, Goal, Just, Reaches, Brings}
 use Rattle.chi_exec_law.specs.State.{Turning, Frame, Caller, State, state, frame_of, on_stack, pushed}
+use Rattle.chi_exec_law.specs.Instructions.{set_const_on}
 use Rattle.chi_exec_law.specs.Machine.{Setting, Inner, Work, in_expressions, stops_at, halts, step}
 use Rattle.chi_exec_law.specs.Standing.{TermAt, ReadyAt, DidAt}
 
@@ -49,13 +50,26 @@ ExpressionsRun =
     → stops_at (in_expressions code scene) (slice_get code.instrs z) ≡ true → (variables : Variables) (view : View)
     → Values (in_expressions code scene) z variables (begun a variables view) (evaluated core scene variables es view)
 
--- A constant's code from a on, which calls nothing, up to the instruction that sets it at z. At the beginning of a run its
--- value is the constant's: with that scene, and that view.
+-- A constant's code from a on, which calls nothing, up to the instruction that sets it at z.
 abbrev pub ConstantsRun : Type 0
 ConstantsRun =
     (code : Code) (scene : Scene) (c : ConstDef) (number a z : ℕ) → ExprAt code.instrs (out-CExpr c.value) a z → Has code.instrs z (i.SetConst number c.line)
     → (variables : Variables) (view : View)
     → Values (in_expressions code scene) z variables (begun a variables view) (giving (λ v. v ∷ []) (eval no_call scene variables c.value view))
+
+-- What the constants are once that one is set, after those whose values these are: its value joins them.
+abbrev pub SetsTo : Setting → State → ℕ → ℕ → List Value → Answer Value → Type 0
+SetsTo m s number line before (Gives v view) =
+    (t : State) × Reaches (step m) s (Rests t) × Has m.code.instrs t.at (i.SetConst number line) × (set_const_on t before ≡ Some (before ++ v ∷ []))
+SetsTo m s number line before (Fails kind) = Reaches (step m) s (Faults kind)
+SetsTo m s number line before Spent = Reaches (step m) s Spends
+SetsTo m s number line before Amiss = Unit {0}
+
+abbrev pub ConstantsSet : Type 0
+ConstantsSet =
+    (core : Core) (code : Code) (c : ConstDef) (number a z : ℕ) → ExprAt code.instrs (out-CExpr c.value) a z → Has code.instrs z (i.SetConst number c.line)
+    → (seed : ℕ) (before : List Value)
+    → SetsTo (in_expressions code (constant_scene core seed before)) (begun a [] constant_view) number c.line before (constant_value core seed before c)
 
 -- a run has one end at most
 abbrev pub OneEnd : Type 0
@@ -89,7 +103,7 @@ ExpressionsLead =
     (core : Core) (m : Setting) (callers : List Caller) (more : ℕ) → InCode core m callers more → (es : List CExpr) (a z : ℕ) → ExprsAt m.code.instrs es a z
     → (variables : Variables) (under : List Turning) (stack : List Value) (view : View)
     → Brings (step m) view.left (state a stack (frame_of variables under) callers view) (All (length es) z stack (frame_of variables under) callers)
-      (in_turn (map (eval (run_at more core.funcs m.scene) m.scene variables) es) view)
+    (in_turn (map (eval (run_at more core.funcs m.scene) m.scene variables) es) view)
 
 -- An item of a term, in a function or in a process, from behind the instruction that begins its turn, which has its line.
 -- What only an instance does is amiss here.
@@ -99,7 +113,7 @@ ItemsLead =
     → (turn : ℕ → Instr) (slots : List Ty) (end : Instr) (around : List Around) (under : List Turning) (x : Item) (term : Term) (a : ℕ)
     → ReadyAt m.code.instrs turn slots end around under (x ∷ term) a → (variables : Variables) (stack : List Value) (view : View)
     → Brings (step m) view.left (state (a + 1) stack (frame_of variables under) callers view) (DidAt m.code.instrs turn slots end stack callers)
-      (act (eval (run_at more core.funcs m.scene) m.scene variables) variables x term view)
+    (act (eval (run_at more core.funcs m.scene) m.scene variables) variables x term view)
 
 abbrev pub ItemsHaveLines : Type 0
 ItemsHaveLines =
@@ -113,4 +127,4 @@ BodiesLead =
     → (slots : List Ty) (around : List Around) (under : List Turning) (term : Term) (a : ℕ) → TermAt m.code.instrs in_function slots i.NoRet around under term a
     → (variables : Variables) (stack : List Value) (turns : ℕ) (view : View) → view.left ≤ turns
     → Brings (step m) view.left (state a stack (frame_of variables under) (c ∷ callers) view) (Just (on_stack c.back stack c.frame callers))
-      (exec turns (run_at more core.funcs m.scene) m.scene variables term view)
+    (exec turns (run_at more core.funcs m.scene) m.scene variables term view)

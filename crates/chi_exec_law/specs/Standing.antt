@@ -1,11 +1,11 @@
 -- A place in the code, and what is under way there, stand for a term.
-use Rattle.std.specs.Prelude.{◌≡◌, ℕ, List, [], ◌∷◌}
+use Rattle.std.specs.Prelude.{ℕ, List, [], ◌∷◌}
 use Rattle.chi_types.specs.declared.ty.Ty.{Ty}
 use Rattle.chi_value.specs.declared.value.Value.{Value}
 use Rattle.chi_core.specs.declared.expression.CExpr.{CExpr}
 use Rattle.chi_core.specs.declared.statement.CStat.{CStat, out-CStat}
 use Rattle.chi_core.specs.declared.view.View.{View}
-use Rattle.chi_core.specs.Terms.{Item, Do, Loop, Walk, Term, Did, On, Returns}
+use Rattle.chi_core.specs.Terms.{Do, Loop, Walk, Term, Did, On, Returns}
 use Rattle.chi_core.specs.Variables.{Variables}
 use Rattle.chi_code.specs.declared.code.Around.{Around}
 use Rattle.chi_code.specs.declared.instr.Instr.{Instr}

@@ -4,6 +4,4 @@
 
 mod laws;
 
-pub use laws::{
-    bodies_law, calls_law, constants_law, ends_law, expressions_law, items_law,
-};
+pub use laws::{bodies_law, calls_law, constants_law, ends_law, expressions_law, items_law};
