@@ -1,5 +1,6 @@
 pub mod Binding
 pub mod InPlace
+pub mod Items
 pub mod Reusing
 pub mod Slots
 pub mod Spreading

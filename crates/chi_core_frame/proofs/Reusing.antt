@@ -1,7 +1,7 @@
 -- Variables of a body that begins, as its arguments come off the end of a list, the last one first.
-use Rattle.std.proofs.Common.{◌≡◌, ℕ, zero, suc, ◌+◌, ◌-◌, ◌<◌, ◌≤◌, slice_set, List, [], ◌∷◌, ◌++◌, Option, Some, None, length, take, drop, sym, ◌∙◌, ap, subst, refl, arith, length-append}
+use Rattle.std.proofs.Common.{◌≡◌, ◌≢◌, ℕ, zero, suc, ◌+◌, ◌-◌, ◌<◌, ◌≤◌, slice_set, List, [], ◌∷◌, ◌++◌, Option, Some, None, length, take, drop, sym, ◌∙◌, ap, subst, refl, arith, length-append}
 use Rattle.std.specs.Prelude.{map, replicate}
-use Rattle.std.proofs.lemmas.List.{append-nil, append_assoc, length-map, length-drop, replicate_more}
+use Rattle.std.proofs.lemmas.List.{append-nil, append_assoc, length-map, length-replicate, replicate_more}
 use Rattle.std.proofs.Math.Seq.{drop-append_seam, take-append_seam}
 use Rattle.chi_value.specs.declared.value.Value.{Value}
 use Rattle.chi_core.specs.Variables.{Variables, variables_of}
@@ -25,17 +25,29 @@ fill_begins arity slots values e = record {
   slots = e ∙ sym (append-nil (replicate arity None));
 }
 
-pub fill_goes : (arity left : ℕ) (slots new : Variables) (old now later : List Value) (x : Value) → Filled arity (left + 1) slots old now → now ≡ later ++ x ∷ [] → new ≡ slice_set slots left (Some x)
-    → Filled arity left new old later
-fill_goes arity left slots new old now later x f e is = record {
-  last = x ∷ f.last;
-  split = f.split ∙ ap (λ l. l ++ f.last) e ∙ append_assoc later (x ∷ []) f.last;
-  size = let s = f.size in omega (arith, s);
-  slots =
-      is
-      ∙ ap (λ l. slice_set l left (Some x)) (f.slots ∙ ap (λ l. l ++ map Some f.last) (sym (replicate_more left None)) ∙ append_assoc (replicate left None) (None ∷ []) (map Some f.last))
-      ∙ set_last left (Some x) (map Some f.last);
-}
+-- the next slot is there, and so is the value for it
+module _ (arity left : ℕ) (slots : Variables) (old now : List Value) (f : Filled arity left slots old now) where
+  pub fill_there : 0 < left → left - 1 < length slots
+  fill_there h =
+      let n : length slots ≡ left + length f.last = ap length f.slots ∙ length-append (replicate left None) (map Some f.last) ∙ (λ j. length-replicate left None j + length-map f.last Some j) in
+      omega (arith, h, n)
+
+  pub fill_enough : 0 < left → arity ≤ length old → now ≢ []
+  fill_enough h enough e =
+      let n : length old ≡ length f.last = ap length (f.split ∙ ap (λ l. l ++ f.last) e) in
+      let s = f.size in
+      absurd (omega (arith, h, enough, n, s))
+
+  pub fill_goes : (less : ℕ) (new : Variables) (later : List Value) (x : Value) → left ≡ less + 1 → now ≡ later ++ x ∷ [] → new ≡ slice_set slots less (Some x) → Filled arity less new old later
+  fill_goes less new later x n e is = record {
+    last = x ∷ f.last;
+    split = f.split ∙ ap (λ l. l ++ f.last) e ∙ append_assoc later (x ∷ []) f.last;
+    size = let s = f.size in omega (arith, s, n);
+    slots =
+        is
+        ∙ ap (λ l. slice_set l less (Some x)) (f.slots ∙ ap (λ n. replicate n None ++ map Some f.last) n ∙ ap (λ l. l ++ map Some f.last) (sym (replicate_more less None)) ∙ append_assoc (replicate less None) (None ∷ []) (map Some f.last))
+        ∙ set_last less (Some x) (map Some f.last);
+  }
 
 module _ (arity : ℕ) (slots : Variables) (old now : List Value) (f : Filled arity 0 slots old now) where
   front : length old - arity ≡ length now
@@ -55,3 +67,5 @@ begun_is slots arguments variables e =
     ap (λ (l : Variables). l ++ replicate (slots - length l) None) e ∙ ap (λ n. map Some arguments ++ replicate (slots - n) None) (length-map arguments Some)
 
 pub ruleset beginning = (all_wait, begun_is)
+
+pub ruleset filling = (fill_begins, fill_there, fill_goes, filled_slots, filled_rest)

@@ -4,4 +4,7 @@ pub mod Stepped
 pub mod Counts
 pub mod Aims
 pub mod Hinting
+pub mod Fusing
 pub mod Loops
+pub mod Walks
+pub mod Answers

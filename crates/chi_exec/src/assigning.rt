@@ -4,15 +4,17 @@ ghost use Rattle.std.specs.Prelude.{◌≡◌, ◌≢◌, ◌+◌, ◌<◌, ◌�
 ghost use Rattle.chi_core_frame.specs.declared.stop.Stop.TheVariants.{NoMemory};
 ghost use Rattle.chi_core_frame.specs.Spots.{spot_in};
 ghost use Rattle.chi_ops.specs.Paths.{steps_of};
+ghost use Rattle.chi_ops.specs.Store.{by};
 ghost use Rattle.chi_exec_law.specs.Runs.{Goes, Stuck};
 ghost use Rattle.chi_exec_law.specs.Instructions.{assign_on, step_count, index_count, path_from, spots_from, store_values, with_keys};
+ghost use Rattle.chi_exec.specs.Assigned.{item_on, assign_item_on};
 ghost use Rattle.chi_exec.specs.Views.{state_of, Ended};
 
 use crate::machinery::Machine;
-use crate::simple::store;
-use crate::stacking::pop_many;
+use crate::simple::store as store_slot;
+use crate::stacking::{pop, pop_many};
 use chi_code::{Aim, AimStep};
-use chi_core_frame::{Spot, Stop, store_each};
+use chi_core_frame::{Spot, Stop, store, store_each};
 use chi_ops::Path;
 use chi_value::Value;
 use std::alloc::Global;
@@ -147,28 +149,55 @@ fn assign_parts(m: &mut Machine, alloc: Global, aims: &[Aim]) -> Result<(), Stop
     assign_values(m, alloc, aims, keys)
 }
 
-// One element of a list is stored at once.
-#[inline(never)]
-fn assign_item(m: &mut Machine, alloc: Global, aims: &[Aim]) -> Result<(), Stop> {
-    if let [aim] = aims {
-        if let [AimStep::Index] = aim.steps.as_slice() {
-            let n = m.stack.len();
-            if n >= 2 {
-                if let Value::Int(i) = &m.stack[n - 1] {
-                    let i = *i;
-                    if m.frame.variables.has_item(aim.slot, i) {
-                        let _key = m.stack.pop();
-                        if let Some(value) = m.stack.pop() {
-                            m.frame.variables.put_item(alloc, aim.slot, i, value)?;
-                        }
-                        m.at += 1;
-                        return Ok(());
-                    }
-                }
-            }
+// The way to what a key leads to.
+fn key_path(alloc: Global, key: Value) -> Result<Vec<Path>, Stop>
+    ensures path { IfOk result (λ path. steps_of path.items ≡ by key ∷ []) }
+    ensures stops { IfErr result (λ stop. stop ≡ NoMemory) }
+{
+    let mut path = Vec::new(alloc);
+    path.push(Path::Key(key))?;
+    Ok(path)
+}
+
+// The value on top goes to an element of what a variable has: at once, if that is a list.
+#[inline(always)]
+#[tactic(auto, using(crate::proofs::Turns::ended, crate::proofs::Turns::not_amiss))]
+fn store_item(
+    m: &mut Machine,
+    alloc: Global,
+    slot: u32,
+    key: Value,
+    value: Value,
+) -> Result<(), Stop>
+    requires place { m.old.at + 1 < 2 ^ 64 }
+    requires sound { item_on slot key value (reverse m.old.stack.items) (state_of m.old) ≢ Stuck }
+    ensures goes { OnOk result (item_on slot key value (reverse m.old.stack.items) (state_of m.old) ≡ Goes (state_of m.new)) }
+    ensures ends { IfErr result (λ stop. Ended stop (item_on slot key value (reverse m.old.stack.items) (state_of m.old))) }
+{
+    match m.frame.variables.put_item(alloc, slot, &key, value, &m.view)? {
+        None => {
+            m.at += 1;
+            Ok(())
+        }
+        Some(value) => {
+            let path = key_path(alloc, key)?;
+            store(alloc, &mut m.frame.variables, Spot { slot, path }, value, &m.view)?;
+            m.at += 1;
+            Ok(())
         }
     }
-    assign_parts(m, alloc, aims)
+}
+
+#[inline(never)]
+fn assign_item(m: &mut Machine, alloc: Global, slot: u32) -> Result<(), Stop>
+    requires place { m.old.at + 1 < 2 ^ 64 }
+    requires sound { assign_item_on slot (state_of m.old) ≢ Stuck }
+    ensures goes { OnOk result (assign_item_on slot (state_of m.old) ≡ Goes (state_of m.new)) }
+    ensures ends { IfErr result (λ stop. Ended stop (assign_item_on slot (state_of m.old))) }
+{
+    let key = pop(&mut m.stack);
+    let value = pop(&mut m.stack);
+    store_item(m, alloc, slot, key, value)
 }
 
 #[inline(always)]
@@ -180,10 +209,14 @@ pub fn assign(m: &mut Machine, alloc: Global, aims: &[Aim]) -> Result<(), Stop>
     ensures ends { IfErr result (λ stop. Ended stop (assign_on aims.now (state_of m.old))) }
 {
     if let [aim] = aims {
-        if aim.steps.as_slice().is_empty() {
-            store(m, aim.slot);
-            return Ok(());
+        match aim.steps.as_slice() {
+            [] => {
+                store_slot(m, aim.slot);
+                return Ok(());
+            }
+            [AimStep::Index] => return assign_item(m, alloc, aim.slot),
+            _ => {}
         }
     }
-    assign_item(m, alloc, aims)
+    assign_parts(m, alloc, aims)
 }

@@ -4,6 +4,7 @@
 mod acting;
 mod assigning;
 mod calling;
+mod evaluating;
 mod extent;
 mod frequent;
 mod fused;
@@ -21,6 +22,7 @@ mod soon;
 mod stacking;
 mod walking;
 
+pub use evaluating::{Exec, Outlook, Ran};
 pub use extent::Extent;
 pub use hinting::{hints_of, stops};
 pub use machinery::{Caller, Frame, Machine, Turning, fresh_frame};

@@ -1,3 +1,6 @@
+ghost use Rattle.std.specs.Prelude.{◌≡◌, [], IfOk, IfErr};
+ghost use Rattle.chi_core_frame.specs.declared.stop.Stop.TheVariants.{NoMemory};
+
 use chi_core::View;
 use chi_core_frame::{Stop, Variables};
 use chi_value::Value;
@@ -47,7 +50,11 @@ pub struct Machine {
 }
 
 /// A frame with nothing in it.
-pub fn fresh_frame(alloc: Global) -> Result<Box<Frame>, Stop> {
+pub fn fresh_frame(alloc: Global) -> Result<Box<Frame>, Stop>
+    ensures idle { IfOk result (λ frame. frame.value.under.items ≡ []) }
+    ensures none { IfOk result (λ frame. frame.value.variables ≡ []) }
+    ensures stops { IfErr result (λ stop. stop ≡ NoMemory) }
+{
     let variables = Variables::new(alloc, 0, Vec::new(alloc))?;
     let under = Vec::new(alloc);
     Ok(Box::new(alloc, Frame { variables, under })?)

@@ -1,14 +1,16 @@
 //! Walks.
 
-ghost use Rattle.std.specs.Prelude.{◌≡◌, ◌≢◌, ◌+◌, ◌<◌, ◌^◌, IfErr, OnOk};
+ghost use Rattle.std.specs.Prelude.{◌≡◌, ◌≢◌, ◌+◌, ◌<◌, ◌^◌, IfSome, IfNone, IfErr, OnOk};
 ghost use Rattle.chi_exec_law.specs.Runs.{Goes, Stuck};
 ghost use Rattle.chi_exec_law.specs.Instructions.{walk_on, next_on, drop_on};
-ghost use Rattle.chi_exec.specs.Views.{state_of, Ended};
+ghost use Rattle.chi_exec.specs.Views.{state_of, under_of, Ended};
+ghost use Rattle.chi_exec.specs.Walks.{Walks, Walked, WalkedOut};
 
 use crate::machinery::{Machine, Turning};
 use crate::stacking::pop;
 use chi_core_apply::elements_in;
 use chi_core_frame::Stop;
+use chi_value::Value;
 use std::alloc::Global;
 
 pub fn walk(m: &mut Machine, alloc: Global) -> Result<(), Stop>
@@ -25,31 +27,46 @@ pub fn walk(m: &mut Machine, alloc: Global) -> Result<(), Stop>
     Ok(())
 }
 
+// The next element of the innermost walk, if it has one left.
+#[inline(always)]
+#[tactic(auto, using(crate::proofs::Walks::elements))]
+fn next_element(under: &mut Vec<Turning>) -> Option<Value>
+    requires { Walks (under_of under.old.items) }
+    ensures some { IfSome result (λ x. Walked x (under_of under.old.items) (under_of under.new.items)) }
+    ensures none { IfNone result (WalkedOut (under_of under.old.items) (under_of under.new.items)) }
+{
+    let last = under.len() - 1;
+    match &mut under[last] {
+        Turning::Walking(elements) => match elements.pop() {
+            Some(element) => Some(element),
+            None => None,
+        },
+        Turning::Scanning(_, _, _) => unreachable!(),
+        Turning::Repeating(_, _) => unreachable!(),
+    }
+}
+
 /// Binds the names to the next element, or ends the walk.
 #[inline(always)]
+#[tactic(auto, using(crate::proofs::Walks::turns))]
 pub fn next(m: &mut Machine, alloc: Global, end: u64, slots: &[u32]) -> Result<(), Stop>
     requires place { m.old.at + 1 < 2 ^ 64 }
     requires sound { next_on end slots.now (state_of m.old) ≢ Stuck }
     ensures goes { OnOk result (next_on end slots.now (state_of m.old) ≡ Goes (state_of m.new)) }
     ensures ends { IfErr result (λ stop. Ended stop (next_on end slots.now (state_of m.old))) }
 {
-    match m.frame.under.last_mut() {
-        Some(Turning::Walking(elements)) => match elements.pop() {
-            Some(element) => {
-                m.frame.variables.bind(alloc, slots, element)?;
-                m.at += 1;
-                return Ok(());
-            }
-            None => {
-                m.at = end as usize;
-            }
-        },
-        Some(Turning::Scanning(_, _, _)) => unreachable!(),
-        Some(Turning::Repeating(_, _)) => unreachable!(),
-        None => unreachable!(),
+    match next_element(&mut m.frame.under) {
+        Some(element) => {
+            m.frame.variables.bind(alloc, slots, element)?;
+            m.at += 1;
+            Ok(())
+        }
+        None => {
+            let _over = m.frame.under.pop();
+            m.at = end as usize;
+            Ok(())
+        }
     }
-    let _done = m.frame.under.pop();
-    Ok(())
 }
 
 pub fn leave(m: &mut Machine)

@@ -1,5 +1,0 @@
-use Rattle.std.proofs.Common.{length}
-use Rattle.chi_core_frame.proofs.reusing.Variables.clear.Given as goal
-
-abbrev pub decreases-loop-old : goal.decreases-loop-old
-decreases-loop-old l = length l.self.slots.items
