@@ -45,7 +45,7 @@ module _ (slot place : ℕ) (key x : Value) (variables : Variables) (view : View
   unfolding then_set
   stored_is new fits is =
       let goes : done (put (by (value.Int (pos place)) ∷ []) x (value.ListOf h.items)) view ≡ Gives (value.ListOf (slice_set h.items place x)) view =
-          put_is (may_put (by (value.Int (pos place)) ∷ []) x (value.ListOf h.items)) (λ a. fits (store_is ∙ ap (λ a. then_do a then_set) a)) in
+      put_is (may_put (by (value.Int (pos place)) ∷ []) x (value.ListOf h.items)) (λ a. fits (store_is ∙ ap (λ a. then_do a then_set) a)) in
       store_is ∙ ap (λ a. then_do a then_set) goes ∙ ap (λ o. wanted o view) is
 
 module _ (slot place : ℕ) (key : Value) (variables : Variables) (h : HasItem variables slot key place) where

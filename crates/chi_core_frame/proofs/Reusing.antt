@@ -2,13 +2,12 @@
 use Rattle.std.proofs.Common.{◌≡◌, ◌≢◌, ℕ, zero, suc, ◌+◌, ◌-◌, ◌<◌, ◌≤◌, slice_set, List, [], ◌∷◌, ◌++◌, Option, Some, None, length, take, drop, sym, ◌∙◌, ap, subst, refl, arith, length-append}
 use Rattle.std.specs.Prelude.{map, replicate}
 use Rattle.std.proofs.lemmas.List.{append-nil, append_assoc, length-map, length-replicate, replicate_more}
-use Rattle.std.proofs.Math.Seq.{drop-append_seam, take-append_seam}
+use Rattle.std.proofs.Math.Seq.{drop-append_seam, take-append_seam, set-append_seam}
 use Rattle.chi_value.specs.declared.value.Value.{Value}
 use Rattle.chi_core.specs.Variables.{Variables, variables_of}
 
 set_last : (k : ℕ) (y : Option Value) (ys : Variables) → slice_set (replicate k None ++ None ∷ ys) k y ≡ replicate k None ++ y ∷ ys
-set_last zero y ys = refl
-set_last (suc k) y ys = ap (λ l. None ∷ l) (set_last k y ys)
+set_last k y ys = ap (λ n. slice_set (replicate k None ++ None ∷ ys) n y) (sym (length-replicate k None)) ∙ set-append_seam (replicate k None) None ys y
 
 -- How far the filling has come: so many slots wait yet, and behind them stand the last values of the list.
 pub record Filled (arity left : ℕ) (slots : Variables) (old now : List Value) : Type 0 where
@@ -49,12 +48,19 @@ module _ (arity left : ℕ) (slots : Variables) (old now : List Value) (f : Fill
         ∙ set_last less (Some x) (map Some f.last);
   }
 
-module _ (arity : ℕ) (slots : Variables) (old now : List Value) (f : Filled arity 0 slots old now) where
+-- no slot waits any longer
+module _ (arity left : ℕ) (slots : Variables) (old now : List Value) (f : Filled arity left slots old now) (over : left ≤ 0) where
+  none : left ≡ 0
+  none = omega (arith, over)
+
   front : length old - arity ≡ length now
-  front = let s = f.size in let l : length old ≡ length now + length f.last = ap length f.split ∙ length-append now f.last in omega (arith, s, l)
+  front = let s = f.size in let l : length old ≡ length now + length f.last = ap length f.split ∙ length-append now f.last in omega (arith, s, l, over)
 
   pub filled_slots : slots ≡ map Some (drop (length old - arity) old)
-  filled_slots = f.slots ∙ ap (map Some) (sym (ap (λ n. drop n old) front ∙ ap (drop (length now)) f.split ∙ drop-append_seam now f.last))
+  filled_slots =
+      f.slots
+      ∙ ap (λ n. replicate n None ++ map Some f.last) none
+      ∙ ap (map Some) (sym (ap (λ n. drop n old) front ∙ ap (drop (length now)) f.split ∙ drop-append_seam now f.last))
 
   pub filled_rest : now ≡ take (length old - arity) old
   filled_rest = sym (ap (λ n. take n old) front ∙ ap (take (length now)) f.split ∙ take-append_seam now f.last)

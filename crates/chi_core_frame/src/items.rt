@@ -1,6 +1,6 @@
 //! Elements of lists that variables have, stored at once.
 
-ghost use Rattle.std.specs.Prelude.{◌≡◌, ◌≢◌, ◌<◌, [], ◌∷◌, IfOk, IfNone, IfSome, length, slice_set};
+ghost use Rattle.std.specs.Prelude.{◌≡◌, ◌≢◌, ◌<◌, [], ◌∷◌, IfOk, IfNone, IfSome, length, pos, slice_set};
 ghost use Rattle.chi_value.specs.declared.value.Value.TheVariants as values;
 ghost use Rattle.chi_ops.specs.Store.{by};
 ghost use Rattle.chi_core.specs.Answer.{Gives, Amiss};
@@ -12,6 +12,18 @@ use chi_base::NoMemory;
 use chi_core::View;
 use chi_value::{Row, Value};
 use std::alloc::Global;
+
+// The place that an index names among so many, if it is none that is counted from the end.
+fn place_within(i: i64, size: usize) -> Option<usize>
+    ensures named { IfSome result (λ place. i ≡ pos place) }
+    ensures inside { IfSome result (λ place. place < size) }
+{
+    if i < 0 {
+        return None;
+    }
+    let place = i as usize;
+    if place < size { Some(place) } else { None }
+}
 
 // The list with another element at a place.
 fn replaced(alloc: Global, row: Row, place: usize, value: Value) -> Result<Value, NoMemory>
@@ -32,14 +44,8 @@ impl Variables {
         ensures { IfSome result (λ place. HasItem self.now slot key.now place) }
     {
         if let Value::Int(i) = key {
-            if *i < 0 {
-                return None;
-            }
-            let place = *i as usize;
             if let Some(Some(Value::ListOf(row))) = self.slots.get(slot as usize) {
-                if place < row.len() {
-                    return Some(place);
-                }
+                return place_within(*i, row.len());
             }
         }
         None

@@ -122,12 +122,7 @@ fn assign_spots(
 }
 
 #[tactic(auto, using(crate::proofs::Turns::enough, crate::proofs::Turns::many_last))]
-fn assign_values(
-    m: &mut Machine,
-    alloc: Global,
-    aims: &[Aim],
-    keys: Vec<Value>,
-) -> Result<(), Stop>
+fn assign_values(m: &mut Machine, alloc: Global, aims: &[Aim], keys: Vec<Value>) -> Result<(), Stop>
     requires place { m.old.at + 1 < 2 ^ 64 }
     requires sound { with_keys aims.now keys.items (reverse m.old.stack.items) (state_of m.old) ≢ Stuck }
     ensures goes { OnOk result (with_keys aims.now keys.items (reverse m.old.stack.items) (state_of m.old) ≡ Goes (state_of m.new)) }
@@ -174,14 +169,24 @@ fn store_item(
     ensures goes { OnOk result (item_on slot key value (reverse m.old.stack.items) (state_of m.old) ≡ Goes (state_of m.new)) }
     ensures ends { IfErr result (λ stop. Ended stop (item_on slot key value (reverse m.old.stack.items) (state_of m.old))) }
 {
-    match m.frame.variables.put_item(alloc, slot, &key, value, &m.view)? {
+    match m
+        .frame
+        .variables
+        .put_item(alloc, slot, &key, value, &m.view)?
+    {
         None => {
             m.at += 1;
             Ok(())
         }
         Some(value) => {
             let path = key_path(alloc, key)?;
-            store(alloc, &mut m.frame.variables, Spot { slot, path }, value, &m.view)?;
+            store(
+                alloc,
+                &mut m.frame.variables,
+                Spot { slot, path },
+                value,
+                &m.view,
+            )?;
             m.at += 1;
             Ok(())
         }

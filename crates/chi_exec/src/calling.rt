@@ -13,6 +13,7 @@ use chi_core_frame::Stop;
 use std::alloc::Global;
 use std::mem;
 
+#[inline(never)]
 #[tactic(auto, using(crate::proofs::Turns::depths))]
 pub fn call(m: &mut Machine, alloc: Global, functions: &[Entry], k: u32) -> Result<(), Stop>
     requires place { m.old.at + 1 < 2 ^ 64 }
@@ -56,6 +57,7 @@ fn frame_for(spare: &mut Vec<Box<Frame>>, alloc: Global) -> Result<Box<Frame>, S
 }
 
 #[tactic(auto, using(crate::proofs::Turns::enough, crate::proofs::Turns::many_off))]
+#[inline(always)]
 fn enter(m: &mut Machine, alloc: Global, f: &Entry) -> Result<(), Stop>
     requires place { m.old.at + 1 < 2 ^ 64 }
     requires sound { enter (Some f.now) (state_of m.old) ≢ Stuck }
@@ -82,6 +84,7 @@ fn keep(spare: &mut Vec<Box<Frame>>, frame: Box<Frame>) {
     let _ = spare.push(frame);
 }
 
+#[inline(never)]
 pub fn ret(m: &mut Machine) -> Result<(), Stop>
     requires sound { ret_on (state_of m.old) ≢ Stuck }
     ensures goes { OnOk result (ret_on (state_of m.old) ≡ Goes (state_of m.new)) }
