@@ -1,5 +1,6 @@
 pub mod Advancing
 pub mod Assigned
+pub mod Constants
 pub mod Evaluations
 pub mod Extents
 pub mod Fused

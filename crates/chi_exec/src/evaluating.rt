@@ -1,6 +1,13 @@
 //! Lists of expressions, and constants, by their code.
 
-ghost use Rattle.std.specs.Prelude.{◌≡◌, [], IfOk, List};
+ghost use Rattle.std.specs.Prelude.{◌≡◌, [], IfOk, IfErr, OnOk, List};
+ghost use Rattle.chi_core.specs.declared.program.ConstDef.{ConstDef};
+ghost use Rattle.chi_core.specs.declared.view.View.{View};
+ghost use Rattle.chi_value.specs.declared.value.Value.{Value};
+ghost use Rattle.chi_core.specs.Answer.{Answer};
+ghost use Rattle.chi_core.specs.Beginning.{constant_view, constant_value};
+ghost use Rattle.chi_core_frame.specs.Stops.{Stops};
+ghost use Rattle.chi_exec.specs.Constants.{ConstantAt, ConstantReady, Sets};
 ghost use Rattle.chi_core.specs.declared.expression.CExpr.{CExpr};
 ghost use Rattle.chi_core.specs.declared.program.Core.{Core};
 ghost use Rattle.chi_exec_law.specs.Laws.{begun, evaluated};
@@ -12,6 +19,7 @@ use crate::extent::Extent;
 use crate::hinting::hints_of;
 use crate::machinery::{Machine, fresh_frame};
 use crate::running::run_on;
+use crate::stacking::pop;
 use chi_base::NoMemory;
 use chi_code::Code;
 use chi_core::{FaultKind, View};
@@ -66,7 +74,22 @@ fn set_out(m: &mut Machine, at: u64, variables: &mut Variables, view: View)
     mem::swap(&mut m.frame.variables, variables);
 }
 
-fn ran(stop: Stop) -> Ran {
+// Constants use nothing up.
+fn first_view() -> View
+    ensures { result ≡ constant_view }
+{
+    View {
+        left: 0,
+        draws: [0; 64],
+        channels: 0,
+        instances: 0,
+    }
+}
+
+fn ran(stop: Stop) -> Ran
+    ensures { (view : View) (answer : Answer (List Value)) → Stops stop answer → Says result view answer }
+    ensures { IsVal result → ⊥ }
+{
     match stop {
         Stop::Fault(kind) => Ran::Fault(kind),
         Stop::Spent => Ran::Spent,
@@ -88,12 +111,7 @@ impl Exec {
             frame,
             callers: Vec::new(alloc),
             spare: Vec::new(alloc),
-            view: View {
-                left: 0,
-                draws: [0; 64],
-                channels: 0,
-                instances: 0,
-            },
+            view: first_view(),
             stop: Stop::NoMemory,
         };
         Ok(Exec {
@@ -136,6 +154,40 @@ impl Exec {
             Ran::Val(mem::replace(&mut m.stack, Vec::new(alloc)))
         } else {
             ran(m.stop)
+        }
+    }
+
+    /// Sets the next constant, whose code begins at a place: its value joins those that are set.
+    pub fn set_constant(
+        &mut self,
+        alloc: Global,
+        code: &Code,
+        at: u64,
+        seed: u64,
+    ) -> Result<(), Stop>
+        requires right { AreRight self.old.hints.items code.now.instrs }
+        requires ready { ConstantReady code.now at seed self.old.constants.items }
+        ensures sets { OnOk result ((core : Core) (c : ConstDef) → ConstantAt code.now at seed self.old.constants.items core c → Sets self.old.constants.items self.new.constants.items (constant_value core seed self.old.constants.items c)) }
+        ensures stops { IfErr result (λ stop. (core : Core) (c : ConstDef) → ConstantAt code.now at seed self.old.constants.items core c → Stops stop (constant_value core seed self.old.constants.items c)) }
+        ensures still { AreRight self.new.hints.items code.now.instrs }
+    {
+        let mut variables = Variables::new(alloc, 0, Vec::new(alloc))?;
+        set_out(&mut self.machine, at, &mut variables, first_view());
+        let scenery = Scenery {
+            names: &code.names,
+            seed,
+            clock: 0,
+            constants: self.constants.as_slice(),
+            finished: &[],
+        };
+        let hints = self.hints.as_slice();
+        let m = &mut self.machine;
+        if run_on(m, alloc, &scenery, code, hints, Extent::Expressions) {
+            let value = pop(&mut m.stack);
+            self.constants.push(value)?;
+            Ok(())
+        } else {
+            Err(m.stop)
         }
     }
 }
