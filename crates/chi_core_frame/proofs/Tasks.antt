@@ -1,6 +1,6 @@
 -- What tasks stand for, as they are put there and taken.
 use Rattle.std.proofs.Common.{◌≡◌, ◌≢◌, ℕ, zero, suc, ◌+◌, ◌-◌, ◌<◌, ◌≤◌, List, [], ◌∷◌, ◌++◌, Option, Some, None, length, get_or, drop, sym, ◌∙◌, ap, refl, arith, slice_get}
-use Rattle.std.specs.Prelude.{option_map, map, reverse, IsSome, ◌↔◌, MatchOption}
+use Rattle.std.specs.Prelude.{option_map, map, IsSome, ◌↔◌, MatchOption}
 use Rattle.std.specs.Borrow.{Bor}
 use Rattle.std.specs.Option.{option_to_list, option_copied}
 use Rattle.std.proofs.lemmas.Bool.{false≢true}

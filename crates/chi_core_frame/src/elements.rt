@@ -86,7 +86,7 @@ impl Elements {
     }
 
     /// Takes the next element, if one is left.
-    #[tactic(auto, using(crate::proofs::Leaving::taking))]
+    #[tactic(auto, using(crate::proofs::Leaving::next_left))]
     pub fn next(&mut self, alloc: Global) -> Result<Option<Value>, NoMemory>
         ensures { IfOk result (λ next. MatchOption next (self.old ≡ []) (λ x. self.old ≡ x ∷ self.new)) }
     {

@@ -158,7 +158,8 @@ impl<'a> Term<'a> {
         match self.tasks.pop() {
             Some(Task::Walk(line, slots, elements, block)) => {
                 let mut elements = elements;
-                match elements.next(alloc)? {
+                let next = elements.next(alloc)?;
+                match next {
                     Some(element) => {
                         variables.bind(alloc, slots, element)?;
                         self.tasks.push(Task::Walk(line, slots, elements, block))?;

@@ -90,14 +90,17 @@ module _ (m : Evaluates) (run : Run) (k : ℕ) (a b : CExpr) (view : View) where
 pub ruleset inserting = (list_first, list_stops, element_there, element_stops, items_there, place_there, place_stops, place_goes)
 
 -- what was found to go where is put there
-module _ (whole it : Answer Value) (is : whole ≡ it) where
-  pub put_there : whole ≢ Amiss → it ≢ Amiss
+module _ (m : Evaluates) (run : Run) (k : ℕ) (a b : CExpr) (view : View) (xs x : Value) (n : ℕ) (new : View) (is : inserted_by m run k a b view ≡ done (insert_at xs n x) new) where
+  pub put_there : inserted_by m run k a b view ≢ Amiss → done (insert_at xs n x) new ≢ Amiss
   put_there h e = h (is ∙ e)
 
-  pub put_stops : (stop : Stop) → Stops stop it → Stops stop whole
+  pub put_goes : (v : Value) → done (insert_at xs n x) new ≡ Gives v new → inserted_by m run k a b view ≡ Gives v new
+  put_goes v e = is ∙ e
+
+  pub put_stops : (stop : Stop) → Stops stop (done (insert_at xs n x) new) → Stops stop (inserted_by m run k a b view)
   put_stops stop s = let P : Answer Value → Type 0 = Stops stop in subst P (sym is) s
 
-pub ruleset putting = (put_there, put_stops)
+pub ruleset putting = (put_there, put_goes, put_stops)
 
 -- one more is passed
 added : (i : ℕ) (it : Answer ℕ) → giving (λ n. i + n) (giving suc it) ≡ giving (λ n. (i + 1) + n) it
