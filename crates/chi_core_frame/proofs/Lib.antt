@@ -1,9 +1,10 @@
 pub mod Binding
-pub mod InPlace
 pub mod Items
+pub mod Leaving
 pub mod Reusing
 pub mod Slots
 pub mod Spreading
 pub mod Stopping
 pub mod Storing
 pub mod Tasks
+pub mod Unspent

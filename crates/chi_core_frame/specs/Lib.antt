@@ -1,8 +1,10 @@
+pub mod Alike
 pub mod Assignments
 pub mod Bindings
+pub mod Elements
 pub mod Heads
-pub mod InPlace
 pub mod Items
+pub mod Operators
 pub mod Spots
 pub mod Stops
 pub mod Terms
