@@ -105,7 +105,7 @@ impl Variables {
     /// Whether a slot is there and set.
     #[inline(always)]
     #[tactic(auto, using(crate::proofs::Slots::set))]
-    fn is_set(&self, slot: u32) -> bool
+    pub fn is_set(&self, slot: u32) -> bool
         ensures { IsTrue result ↔ (value_at self.now slot ≢ None) }
     {
         match self.slots.get(slot as usize) {

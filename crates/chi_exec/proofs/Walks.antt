@@ -1,5 +1,5 @@
 -- The innermost walk, which is kept last.
-use Rattle.std.proofs.Common.{◌≡◌, ◌≢◌, ℕ, zero, suc, ◌+◌, ◌-◌, ◌≤◌, ◌<◌, List, [], ◌∷◌, ◌++◌, reverse, length, take, drop, get_or, Option, Some, None, Vec, Global, refl, sym, ap, subst, ◌∙◌, arith}
+use Rattle.std.proofs.Common.{◌≡◌, ◌≢◌, ℕ, zero, suc, ◌+◌, ◌-◌, ◌≤◌, ◌<◌, List, [], ◌∷◌, ◌++◌, reverse, length, take, drop, get_or, Option, Some, None, refl, sym, ap, subst, ◌∙◌, arith}
 use Rattle.std.specs.Prelude.{map, slice_set}
 use Rattle.std.proofs.lemmas.List.{reverse-append, reverse-reverse, append-nil, take-append-drop, drop_more, drop_all, length-take, length-reverse, length-map}
 use Rattle.std.proofs.Math.Seq.{set-append_seam}
@@ -54,28 +54,30 @@ module _ (xs : List Turning) (n : ℕ) (w : Walks (under_of xs)) (e : n ≡ leng
   pub no_scan : (ys y : Value) (place : ℕ) → Scanning ys y place ≡ get_or xs n (Scanning ys y place) → ⊥
   no_scan ys y place is = let p = walk_last (Scanning ys y place) is in cc
 
-  pub walk_goes : (elements later : Vec Value Global) (x : Value) → Walking elements ≡ get_or xs n (Walking elements) → elements.items ≡ later.items ++ x ∷ []
+  set_is : (elements later : List Value) → xs ≡ take n xs ++ Walking elements ∷ [] → under_of (slice_set xs n (Walking later)) ≡ law.Walking later ∷ under_of (take n xs)
+  set_is elements later split =
+      ap under_of (ap (λ l. slice_set l n (Walking later)) split ∙ set_last (take n xs) n (Walking elements) (Walking later) front_size) ∙ under_last (take n xs) (Walking later)
+
+  pub walk_goes : (elements later : List Value) (x : Value) → Walking elements ≡ get_or xs n (Walking elements) → elements ≡ x ∷ later
       → Walked x (under_of xs) (under_of (slice_set xs n (Walking later)))
-  walk_goes elements later x is popped =
+  walk_goes elements later x is more =
       let split : xs ≡ take n xs ++ Walking elements ∷ [] = split_last xs n (Walking elements) size is in
       record {
-        elements = reverse later.items;
+        elements = later;
         rest = under_of (take n xs);
-        was = under_taken xs (take n xs) (Walking elements) split ∙ ap (λ l. law.Walking l ∷ under_of (take n xs)) (ap reverse popped ∙ reverse-append later.items (x ∷ []));
-        now = ap under_of (ap (λ l. slice_set l n (Walking later)) split ∙ set_last (take n xs) n (Walking elements) (Walking later) front_size) ∙ under_last (take n xs) (Walking later);
+        was = under_taken xs (take n xs) (Walking elements) split ∙ ap (λ l. law.Walking l ∷ under_of (take n xs)) more;
+        now = set_is elements later split;
       }
 
-  pub walk_over : (elements later : Vec Value Global) → Walking elements ≡ get_or xs n (Walking elements) → elements.items ≡ [] → later.items ≡ []
+  pub walk_over : (elements later : List Value) → Walking elements ≡ get_or xs n (Walking elements) → elements ≡ []
       → WalkedOut (under_of xs) (under_of (slice_set xs n (Walking later)))
-  walk_over elements later is none same =
+  walk_over elements later is none =
       let split : xs ≡ take n xs ++ Walking elements ∷ [] = split_last xs n (Walking elements) size is in
       record {
         rest = under_of (take n xs);
-        was = under_taken xs (take n xs) (Walking elements) split ∙ ap (λ l. law.Walking (reverse l) ∷ under_of (take n xs)) none;
-        now =
-            ap under_of (ap (λ l. slice_set l n (Walking later)) split ∙ set_last (take n xs) n (Walking elements) (Walking later) front_size)
-            ∙ under_last (take n xs) (Walking later)
-            ∙ ap (λ l. law.Walking (reverse l) ∷ under_of (take n xs)) same;
+        last = later;
+        was = under_taken xs (take n xs) (Walking elements) split ∙ ap (λ l. law.Walking l ∷ under_of (take n xs)) none;
+        now = set_is elements later split;
       }
 
 pub ruleset elements = (walk_there, walk_goes, walk_over)
@@ -107,7 +109,7 @@ module _ (before after : List law.Turning) (goal : ℕ) (slots : List ℕ) (s : 
   pub next_ends : (t : law.Turning) (rest : List law.Turning) → WalkedOut before after → after ≡ t ∷ rest
       → next_of before goal slots s ≡ Goes (state goal s.stack (frame_of s.frame.variables rest) s.callers s.view)
   next_ends t rest w e =
-      let same : rest ≡ w.rest = let both : t ∷ rest ≡ law.Walking [] ∷ w.rest = sym e ∙ w.now in cc in
+      let same : rest ≡ w.rest = let both : t ∷ rest ≡ law.Walking w.last ∷ w.rest = sym e ∙ w.now in cc in
       ap (λ u. next_of u goal slots s) w.was ∙ ap (λ u. Goes (state goal s.stack (frame_of s.frame.variables u) s.callers s.view)) (sym same)
 
 pub ruleset turns = (walks_by, next_bound, next_goes, next_ends, under_taken)

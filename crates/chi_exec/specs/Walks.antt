@@ -15,8 +15,9 @@ pub record Walked (x : Value) (before after : List Turning) : Type 0 where
   pub was : before ≡ Walking (x ∷ elements) ∷ rest
   pub now : after ≡ Walking elements ∷ rest
 
--- it has no element left
+-- it had no element left
 pub record WalkedOut (before after : List Turning) : Type 0 where
   pub rest : List Turning
+  pub last : List Value
   pub was : before ≡ Walking [] ∷ rest
-  pub now : after ≡ Walking [] ∷ rest
+  pub now : after ≡ Walking last ∷ rest

@@ -68,7 +68,7 @@ pub fn act(
             if_false(m, *to);
             Ok(())
         }
-        Instr::Walk => walk(m, alloc),
+        Instr::Walk => walk(m),
         Instr::Next(end, slots) => next(m, alloc, *end, slots.as_slice()),
         Instr::Drop => {
             leave(m);

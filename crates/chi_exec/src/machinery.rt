@@ -2,15 +2,15 @@ ghost use Rattle.std.specs.Prelude.{◌≡◌, [], IfOk, IfErr};
 ghost use Rattle.chi_core_frame.specs.declared.stop.Stop.TheVariants.{NoMemory};
 
 use chi_core::View;
-use chi_core_frame::{Stop, Variables};
+use chi_core_frame::{Elements, Stop, Variables};
 use chi_value::Value;
 use std::alloc::Global;
 
 /// What is under way within a body.
 #[derive(Debug, Drop)]
 pub enum Turning {
-    /// A walk, with the elements that are left, the next one last.
-    Walking(Vec<Value>),
+    /// A walk, with the elements that are left.
+    Walking(Elements),
     /// An insertion: the list, the element, and how many elements were passed.
     Scanning(Value, Value, usize),
     /// A repetition: how many values are wanted yet, and those that are there.
