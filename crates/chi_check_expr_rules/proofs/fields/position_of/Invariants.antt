@@ -1,6 +1,6 @@
 use Rattle.std.proofs.Common.{◌≡◌, drop}
 use Rattle.chi_check_expr_rules.specs.Parts.{position_from}
-use Rattle.chi_check_stat_targets.proofs.targets.position_of.Given as goal
+use Rattle.chi_check_expr_rules.proofs.fields.position_of.Given as goal
 
 -- the parts before this one have other names
 abbrev pub invariant-loop-number : goal.invariant-loop-number
