@@ -1,8 +1,9 @@
 -- When expressions of a sound program can be evaluated: what they read is there, and of its kind.
-use Rattle.std.specs.Prelude.{◌≡◌, ◌≢◌, ℕ, Some, List, true, slice_get, IsTrue}
+use Rattle.std.specs.Prelude.{◌≡◌, ◌≢◌, ℕ, ◌<◌, Some, List, [], ◌∷◌, true, slice_get, IsTrue}
 use Rattle.std.specs.Option.{IsSomeAnd}
 use Rattle.chi_core.specs.declared.expression.CExpr.{CExpr}
 use Rattle.chi_core.specs.declared.program.ConstDef.{ConstDef}
+use Rattle.chi_core.specs.declared.program.Core.{Core}
 use Rattle.chi_core.specs.declared.scene.Scene.{Scene}
 use Rattle.chi_core.specs.declared.view.View.{View}
 use Rattle.chi_core.specs.Answer.{Amiss}
@@ -40,18 +41,37 @@ EvaluationsAreWell =
     → (scene : Scene) (w : World) (variables : Variables) (view : View) → Evaluable scope known scene w variables view
     → Kept w (Same w (λ v values. AreOf v values Ts)) (evaluated scope.core scene variables es view)
 
+-- Expressions of a program can be evaluated here: they have kinds in a definition of it, it is sound, and what they read is
+-- there and of its kind.
+pub record CanBeEvaluated (core : Core) (es : List CExpr) (scene : Scene) (variables : Variables) (view : View) : Type 0 where
+  pub scope : Scope
+  pub is : scope.core ≡ core
+  pub sound : Sound scope.core
+  pub known : Known
+  pub kinds : List Kind
+  pub have : HaveKinds scope known es kinds
+  pub world : World
+  pub evaluable : Evaluable scope known scene world variables view
+
 -- so they are never amiss
 abbrev pub EvaluationsAreNotAmiss : Type 0
 EvaluationsAreNotAmiss =
-    (scope : Scope) → Sound scope.core → (known : Known) (es : List CExpr) (Ts : List Kind) → HaveKinds scope known es Ts
-    → (scene : Scene) (w : World) (variables : Variables) (view : View) → Evaluable scope known scene w variables view
-    → evaluated scope.core scene variables es view ≢ Amiss
+    (core : Core) (es : List CExpr) (scene : Scene) (variables : Variables) (view : View) → CanBeEvaluated core es scene variables view
+    → evaluated core scene variables es view ≢ Amiss
 
 -- and a run of their code comes to an end, and is nowhere stuck on the way
 abbrev pub RunsEnd : Type 0
 RunsEnd =
-    (scope : Scope) → Sound scope.core → (known : Known) (es : List CExpr) (Ts : List Kind) → HaveKinds scope known es Ts
-    → (scene : Scene) (w : World) (variables : Variables) (view : View) → Evaluable scope known scene w variables view
-    → (code : Code) → Codes scope.core code → (a z : ℕ) → ExprsAt code.instrs es a z → stops_at (in_expressions code scene) (slice_get code.instrs z) ≡ true
+    (core : Core) (es : List CExpr) (scene : Scene) (variables : Variables) (view : View) → CanBeEvaluated core es scene variables view
+    → (code : Code) → Codes core code → (a z : ℕ) → ExprsAt code.instrs es a z → stops_at (in_expressions code scene) (slice_get code.instrs z) ≡ true
     → Halts (step (in_expressions code scene)) (begun a variables view)
-      × ((s : State) → Leads (step (in_expressions code scene)) (begun a variables view) s → step (in_expressions code scene) s ≢ Stuck)
+    × ((s : State) → Leads (step (in_expressions code scene)) (begun a variables view) s → step (in_expressions code scene) s ≢ Stuck)
+
+-- The expression of a constant can be evaluated once those before it are set, each to a value of its kind.
+abbrev pub ConstantsCanBeEvaluated : Type 0
+ConstantsCanBeEvaluated =
+    (core : Core) → Sound core → (number : ℕ) (c : ConstDef) → slice_get core.consts number ≡ Some c
+    → (scene : Scene) → scene.names.kinds ≡ core.names.kinds
+    → ((other : ℕ) (d : ConstDef) → slice_get core.consts other ≡ Some d → other < number → IsSomeAnd (slice_get scene.constants other) (IsOf (nowhere core.names.kinds) (kind_of d.ty)))
+    → (w : World) → w.names ≡ core.names.kinds → (view : View) → FitsView w view
+    → CanBeEvaluated core (c.value ∷ []) scene [] view

@@ -1,4 +1,4 @@
-ghost use Rattle.chi_exec_kinds.specs.Evaluable.{EvaluationsAreNotAmiss, EvaluationsAreWell, RunsEnd};
+ghost use Rattle.chi_exec_kinds.specs.Evaluable.{ConstantsCanBeEvaluated, EvaluationsAreNotAmiss, EvaluationsAreWell, RunsEnd};
 
 use chi_core_kinds::{
     defaults_keep_kinds, literal_values, literals_keep_kinds, operators_keep_kinds,
@@ -21,3 +21,9 @@ pub fn evaluations_law()
     texts_are_there();
     expressions_law();
 }
+
+/// The expression of a constant of a sound program can be evaluated once those before it are set.
+#[tactic(auto, using(crate::proofs::Evaluations::constants_can))]
+pub fn constants_law()
+    ensures ready { ConstantsCanBeEvaluated }
+{}

@@ -4,4 +4,4 @@
 
 mod laws;
 
-pub use laws::evaluations_law;
+pub use laws::{constants_law, evaluations_law};

@@ -1,5 +1,5 @@
 -- Several whole variables that are set at once: it comes to the same where one of them was let go of before.
-use Rattle.std.proofs.Common.{◌≡◌, ◌≢◌, ℕ, ◌<◌, Bool, true, false, nat_lt, nat_eq, IsTrue, List, [], ◌∷◌, ◌++◌, Option, Some, None, length, map, ap, sym, subst, refl, ◌∙◌, arith, rules, slice_set}
+use Rattle.std.proofs.Common.{◌≡◌, ◌≢◌, ℕ, Bool, true, false, nat_lt, nat_eq, IsTrue, List, [], ◌∷◌, ◌++◌, Option, Some, None, length, map, ap, sym, subst, refl, ◌∙◌, arith, slice_set}
 use Rattle.std.specs.Prelude.{if◌then◌else◌, ◌&&◌, ◌||◌, option_map}
 use Rattle.std.specs.List.{list_all, list_any}
 use Rattle.std.proofs.lemmas.Bool.{eqb-true, eqb-false}
@@ -73,20 +73,26 @@ module _ (s : ℕ) (view : View) where
       → each_stored (side_by_side (map whole_spot ts) xs) u view ≡ each_stored (side_by_side (map whole_spot ts) xs) v view
   all_stored [] xs v u alike among = absurd (cc)
   all_stored (t ∷ ts) [] v u alike among = refl
-  all_stored (t ∷ ts) (x ∷ xs) v u alike among = by_rest (side_by_side (map whole_spot ts) xs) refl
+  all_stored (t ∷ ts) (x ∷ xs) v u alike among =
+      by_rest (λ v2 u2 later rest. all_stored ts xs v2 u2 later rest) (side_by_side (map whole_spot ts) xs) refl
     where
-      by_slot : (stores : List (Spot × Value)) → side_by_side (map whole_spot ts) xs ≡ Some stores → (b : Bool) → nat_eq t.slot s ≡ b
+      by_slot : ((v2 u2 : Variables) → AreAlikeBut s v2 u2 → list_any (names s) ts ≡ true
+          → each_stored (side_by_side (map whole_spot ts) xs) u2 view ≡ each_stored (side_by_side (map whole_spot ts) xs) v2 view)
+          → (stores : List (Spot × Value)) → side_by_side (map whole_spot ts) xs ≡ Some stores → (b : Bool) → nat_eq t.slot s ≡ b
           → each_stored (Some ((whole_spot t, x) ∷ stores)) u view ≡ each_stored (Some ((whole_spot t, x) ∷ stores)) v view
-      by_slot stores e true is = same_stored t x stores v u alike (eqb-true t.slot s is)
-      by_slot stores e false is =
+      by_slot later_same stores e true is = same_stored t x stores v u alike (eqb-true t.slot s is)
+      by_slot later_same stores e false is =
           let ne : t.slot ≢ s = eqb-false t.slot s is in
           let rest : list_any (names s) ts ≡ true = ap (λ b. b || list_any (names s) ts) (sym is) ∙ among in
           other_stored t x stores v u alike ne
-          (λ v2 u2 later. ap (λ o. each_stored o u2 view) (sym e) ∙ all_stored ts xs v2 u2 later rest ∙ ap (λ o. each_stored o v2 view) e)
-      by_rest : (o : Option (List (Spot × Value))) → side_by_side (map whole_spot ts) xs ≡ o
+          (λ v2 u2 later. ap (λ o. each_stored o u2 view) (sym e) ∙ later_same v2 u2 later rest ∙ ap (λ o. each_stored o v2 view) e)
+
+      by_rest : ((v2 u2 : Variables) → AreAlikeBut s v2 u2 → list_any (names s) ts ≡ true
+          → each_stored (side_by_side (map whole_spot ts) xs) u2 view ≡ each_stored (side_by_side (map whole_spot ts) xs) v2 view)
+          → (o : Option (List (Spot × Value))) → side_by_side (map whole_spot ts) xs ≡ o
           → each_stored (option_map (λ stores. (whole_spot t, x) ∷ stores) o) u view ≡ each_stored (option_map (λ stores. (whole_spot t, x) ∷ stores) o) v view
-      by_rest None e = refl
-      by_rest (Some stores) e = by_slot stores e (nat_eq t.slot s) refl
+      by_rest later_same None e = refl
+      by_rest later_same (Some stores) e = by_slot later_same stores e (nat_eq t.slot s) refl
 
 -- the spots of whole variables
 steps_nothing : (steps : List CStep) → nat_eq (length steps) 0 ≡ true → steps ≡ []
@@ -185,6 +191,7 @@ module _ (m : Evaluates) (variables : Variables) (ts : List CTarget) (e : CExpr)
       by_parts (Some xs) now =
           ap (λ a. then_do a (last xs)) (spots_are m ts now whole)
           ∙ given_last (wanted (side_by_side (map whole_spot ts) xs) now) (on_with rest) (λ stores. through store stores variables)
+
       by_value : (it : Answer Value) → then_do (then_do it (λ x now. Gives (x ∷ []) now)) spread_over ≡ giving (on_with rest) (then_do it (λ x. parted ts x variables))
       by_value (Gives x now) = by_parts (spread ts (x ∷ [])) now
       by_value (Fails kind) = refl

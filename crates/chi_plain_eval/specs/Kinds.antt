@@ -1,6 +1,6 @@
 -- What expressions with parts do, by their kinds, where the evaluation of the parts is given. Private to proofs.
 use Rattle.std.specs.Prelude.{ℕ, Bool, true, false, List, Option, Some, None}
-use Rattle.chi_value.specs.declared.value.Value.{Value, out-Value}
+use Rattle.chi_value.specs.declared.value.Value.{Value, Value-F, out-Value}
 use Rattle.chi_core.specs.declared.expression.CExpr.{CExpr}
 use Rattle.chi_core.specs.Answer.{Does, then_do, gives, wanted}
 use Rattle.chi_core.specs.Reading.{truth_of, part_of}

@@ -1,7 +1,7 @@
 -- The greatest expression in a statement. Private to proofs.
 use Rattle.std.specs.Prelude.{ℕ, ◌+◌, ◌*◌, max, List}
 use denote.Param.Weighed.{most}
-use Rattle.chi_core.specs.declared.expression.CExpr.{CExpr, size-CExpr}
+use Rattle.chi_core.specs.declared.expression.CExpr.{size-CExpr}
 use Rattle.chi_core.specs.declared.statement.CStat.{CStat, CStat-F, fold-CStat}
 use Rattle.chi_core.specs.declared.statement.CAlt.{CAlt-F}
 use Rattle.chi_core.specs.declared.statement.Branch.{Branch, Branch-F, fold-Branch}

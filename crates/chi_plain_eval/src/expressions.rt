@@ -85,7 +85,9 @@ pub fn eval_off(
         CExpr::InsertBy(a, b, number) => {
             let list = a.get();
             let element = b.get();
-            insert_off(list, alloc, s, calls, element, *number, slot, variables, view)
+            insert_off(
+                list, alloc, s, calls, element, *number, slot, variables, view,
+            )
         }
         _ => eval(e, alloc, s, calls, variables, view),
     }
