@@ -65,24 +65,24 @@ module _ (m : Setting) where
   used_up z variables s Spent h v r = refl
   used_up z variables s Amiss h v r = absurd (h refl)
 
-module _ (code : Code) (scene : Scene) (at upto : ℕ) (variables : Variables) (view : View) (s : State) (is : s ≡ begun at variables view) where
-  comes_to : (core : Core) (es : List CExpr) → Stretch code scene at upto variables view core es → Values (in_expressions code scene) upto variables s (evaluated core scene variables es view)
-  comes_to core es r = subst (λ s. Values (in_expressions code scene) upto variables s (evaluated core scene variables es view)) (sym is)
-      (expressions_run core code r.codes scene es at upto r.laid r.stops variables view)
+module _ (code : Code) (scene : Scene) (at : ℕ) (variables : Variables) (view : View) (s : State) (is : s ≡ begun at variables view) where
+  comes_to : (core : Core) (es : List CExpr) (r : Stretch code scene at variables view core es) → Values (in_expressions code scene) r.upto variables s (evaluated core scene variables es view)
+  comes_to core es r = subst (λ s. Values (in_expressions code scene) r.upto variables s (evaluated core scene variables es view)) (sym is)
+      (expressions_run core code r.codes scene es at r.upto r.laid r.stops variables view)
 
-  pub starts : Ready code scene at upto variables view → Halts (step (in_expressions code scene)) s
-  starts r = halting (in_expressions code scene) upto variables s _ r.stretch.right (comes_to r.core r.es r.stretch)
+  pub starts : Ready code scene at variables view → Halts (step (in_expressions code scene)) s
+  starts r = halting (in_expressions code scene) r.stretch.upto variables s _ r.stretch.right (comes_to r.core r.es r.stretch)
 
-  module _ (core : Core) (es : List CExpr) (r : Stretch code scene at upto variables view core es) where
+  module _ (core : Core) (es : List CExpr) (r : Stretch code scene at variables view core es) where
     pub values_are : (t : State) → Reaches (step (in_expressions code scene)) s (Rests t) → evaluated core scene variables es view ≡ Gives (reverse t.stack) t.view
-    values_are t h = (told (in_expressions code scene) upto variables s _ r.right (comes_to core es r) t h).gives
+    values_are t h = (told (in_expressions code scene) r.upto variables s _ r.right (comes_to core es r) t h).gives
 
     pub variables_stay : (t : State) → Reaches (step (in_expressions code scene)) s (Rests t) → t.frame.variables ≡ variables
-    variables_stay t h = (told (in_expressions code scene) upto variables s _ r.right (comes_to core es r) t h).same
+    variables_stay t h = (told (in_expressions code scene) r.upto variables s _ r.right (comes_to core es r) t h).same
 
     pub stops_so : (why : Stop) → EndedAt (step (in_expressions code scene)) s why → Stops why (evaluated core scene variables es view)
-    stops_so (stop.Fault kind) h = faulted (in_expressions code scene) upto variables s _ r.right (comes_to core es r) kind h
-    stops_so stop.Spent h = used_up (in_expressions code scene) upto variables s _ r.right (comes_to core es r) h
+    stops_so (stop.Fault kind) h = faulted (in_expressions code scene) r.upto variables s _ r.right (comes_to core es r) kind h
+    stops_so stop.Spent h = used_up (in_expressions code scene) r.upto variables s _ r.right (comes_to core es r) h
     stops_so stop.NoMemory h = tt
 
 -- Constants.

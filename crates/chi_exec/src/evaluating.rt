@@ -121,19 +121,12 @@ impl Exec {
         })
     }
 
-    /// The values of a list of expressions, whose code stands from a place to before another. What the outlook has after
-    /// any other answer is worth nothing further.
-    pub fn run_expr(
-        &mut self,
-        alloc: Global,
-        code: &Code,
-        at: u64,
-        upto: u64,
-        outlook: &mut Outlook,
-    ) -> Ran
+    /// The values of a list of expressions, whose code begins at a place. What the outlook has after any other answer is
+    /// worth nothing further.
+    pub fn run_expr(&mut self, alloc: Global, code: &Code, at: u64, outlook: &mut Outlook) -> Ran
         requires right { AreRight self.old.hints.items code.now.instrs }
-        requires ready { Ready code.now (scene_in code.now.names self.old.constants.items outlook.old) at upto outlook.old.variables outlook.old.view }
-        ensures says { (core : Core) (es : List CExpr) → Stretch code.now (scene_in code.now.names self.old.constants.items outlook.old) at upto outlook.old.variables outlook.old.view core es → Says result outlook.new.view (evaluated core (scene_in code.now.names self.old.constants.items outlook.old) outlook.old.variables es outlook.old.view) }
+        requires ready { Ready code.now (scene_in code.now.names self.old.constants.items outlook.old) at outlook.old.variables outlook.old.view }
+        ensures says { (core : Core) (es : List CExpr) → Stretch code.now (scene_in code.now.names self.old.constants.items outlook.old) at outlook.old.variables outlook.old.view core es → Says result outlook.new.view (evaluated core (scene_in code.now.names self.old.constants.items outlook.old) outlook.old.variables es outlook.old.view) }
         ensures kept { IsVal result → outlook.new.variables ≡ outlook.old.variables }
         ensures constants { self.new.constants.items ≡ self.old.constants.items }
         ensures still { AreRight self.new.hints.items code.now.instrs }
