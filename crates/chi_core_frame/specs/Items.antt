@@ -1,4 +1,4 @@
--- Elements of lists that variables have.
+-- Elements of lists that variables have. Private to proofs.
 use Rattle.std.specs.Prelude.{◌≡◌, ℕ, ◌<◌, pos, List, length, Some}
 use Rattle.chi_value.specs.declared.value.Value.{Value}
 use Rattle.chi_value.specs.declared.value.Value.TheVariants as value
