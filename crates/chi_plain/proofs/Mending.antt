@@ -29,24 +29,29 @@ marked-past (m ∷ ms) (suc p) h = marked-past ms p (omega (arith, h))
 pub set-length : (marks new : List Bool) (k : ℕ) (mark : Bool) → new ≡ slice_set marks k mark → length new ≡ length marks
 set-length marks new k mark e = ap length e ∙ length-set marks k mark
 
-pub set-marked : (config : Config) (marks new : List Bool) (p : ℕ) (mark : Bool) → new ≡ slice_set marks p mark → p < length marks → acts config p ≡ mark
-    → is_marked new p ≡ acts config p
-set-marked config marks new p mark e h is = ap (λ l. is_marked l p) e ∙ get_or-set_same marks p mark false h ∙ sym is
+pub set-marked : (config : Config) (marks new : List Bool) (p : ℕ) (mark has : Bool) → new ≡ slice_set marks p mark → p < length marks → has ≡ acts config p
+    → has ≡ mark → is_marked new p ≡ acts config p
+set-marked config marks new p mark has e h is same = ap (λ l. is_marked l p) e ∙ get_or-set_same marks p mark false h ∙ sym same ∙ is
+
+pub none-marked : (config : Config) (marks : List Bool) (p : ℕ) (has mark : Bool) → has ≡ acts config p → has ≡ false → mark ≡ is_marked marks p → mark ≡ false
+    → is_marked marks p ≡ acts config p
+none-marked config marks p has mark is none marked unmarked = sym marked ∙ unmarked ∙ sym none ∙ is
 
 -- who is marked, or has an option, is within the room
-pub marked-within : (marks : List Bool) (p : ℕ) → is_marked marks p ≡ true → p < length marks
-marked-within marks p e = by_place (let c : (p < length marks) ⊎ (length marks ≤ p) = grind arith in c)
+pub marked-within : (marks : List Bool) (p : ℕ) (mark : Bool) → mark ≡ is_marked marks p → mark ≡ true → p < length marks
+marked-within marks p mark is marked = by_place (let c : (p < length marks) ⊎ (length marks ≤ p) = grind arith in c)
   where
     by_place : (p < length marks) ⊎ (length marks ≤ p) → p < length marks
     by_place (inl l) = l
-    by_place (inr g) = absurd (false≢true (sym (marked-past marks p g) ∙ e))
+    by_place (inr g) = absurd (false≢true (sym (marked-past marks p g) ∙ sym is ∙ marked))
 
-pub acts-within : (config : Config) (marks : List Bool) (p : ℕ) → length config.instances ≤ length marks → acts config p ≡ true → p < length marks
-acts-within config marks p room e = by_place (let c : (p < length config.instances) ⊎ (length config.instances ≤ p) = grind arith in c)
+pub acts-within : (config : Config) (marks : List Bool) (p : ℕ) (has : Bool) → length config.instances ≤ length marks → has ≡ acts config p → has ≡ true
+    → p < length marks
+acts-within config marks p has room is some = by_place (let c : (p < length config.instances) ⊎ (length config.instances ≤ p) = grind arith in c)
   where
     by_place : (p < length config.instances) ⊎ (length config.instances ≤ p) → p < length marks
     by_place (inl l) = omega (arith, l, room)
-    by_place (inr g) = absurd (false≢true (sym (acts-none config p (slice_get_past config.instances p g)) ∙ e))
+    by_place (inr g) = absurd (false≢true (sym (acts-none config p (slice_get_past config.instances p g)) ∙ sym is ∙ some))
 
 pub set-others : (marks new : List Bool) (k p : ℕ) (mark : Bool) → new ≡ slice_set marks k mark → p ≢ k → is_marked new p ≡ is_marked marks p
 set-others marks new k p mark e other = ap (λ l. is_marked l p) e ∙ get_or-set_other marks k p mark false other
@@ -161,4 +166,4 @@ module _ (label : Label) (old new : Config) (leads : Leads label old new) where
   pub settles_later : (some : List ℕ) → ((p : ℕ) → p < length new.instances → Contains some p) → Settles old new some
   settles_later some all = settles-all old new some leads.others.grown all
 
-pub ruleset renewing = (set-length, set-marked, marked-within, acts-within, set-others, right-step, right-none, right-new, all-more)
+pub ruleset renewing = (set-length, set-marked, none-marked, marked-within, acts-within, set-others, right-step, right-none, right-new, all-more)
