@@ -106,6 +106,7 @@ const CORES: [(&str, &str); 65] = [
     ),
     ("constant(i)", "Op(Constant, [Var(1)])"),
     ("bernoulli(i)", "Op(Bernoulli, [Op(Widen, [Var(1)])])"),
+    ("exponential(i)", "Op(Exponential, [Op(Widen, [Var(1)])])"),
     ("int(i)", "Op(ToInt, [Var(1)])"),
     ("timer(i)", "Op(ToTimer, [Op(Widen, [Var(1)])])"),
     (

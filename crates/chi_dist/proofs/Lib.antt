@@ -1,5 +1,8 @@
 mod Between
+mod Exponential
+mod ExponentialRows
 mod Kept
+mod Logarithm
 mod Period
 mod Rows
 mod Sampled

@@ -1,8 +1,10 @@
-use crate::{DistFault, Drawn, Generator, sample_after};
+use crate::{DistFault, Drawn, Generator, exponential_units, sample_after};
 use chi_num::{Dist, Real};
 use std::process::Abort;
 
 const ONE: i64 = 1_000_000_000;
+
+const MOST_MEAN: i64 = 100_000_000 * ONE;
 
 fn real(units: i64) -> Real {
     Real::from_units(units)
@@ -82,6 +84,15 @@ fn samples(rt: &impl Abort) {
         (Dist::Binomial(4, real(ONE), 0), Ok(Drawn::Int(4))),
         (Dist::Binomial(0, real(ONE), 0), Ok(Drawn::Int(0))),
         (Dist::Binomial(10_000, real(0), 0), Ok(Drawn::Int(0))),
+        // By an independent program, of that draw.
+        (
+            Dist::Exponential(real(ONE), 0),
+            Ok(Drawn::Real(real(2_027_199_894))),
+        ),
+        (
+            Dist::Exponential(real(MOST_MEAN), 0),
+            Ok(Drawn::Real(real(202_719_989_400_000_000))),
+        ),
         (Dist::UniformInt(7, 7, 0), Err(DistFault::BadBounds)),
         (
             Dist::UniformReal(real(1), real(0), 0),
@@ -101,6 +112,11 @@ fn samples(rt: &impl Abort) {
             Dist::Binomial(10_000, real(ONE + 1), 0),
             Err(DistFault::BadChance),
         ),
+        (Dist::Exponential(real(0), 0), Err(DistFault::BadBounds)),
+        (
+            Dist::Exponential(real(MOST_MEAN + 1), 0),
+            Err(DistFault::BadBounds),
+        ),
     ] {
         let mut generator = Generator::new(42);
         assert_eq!(rt; generator.sample(&dist), wanted, "{dist:?}");
@@ -115,6 +131,8 @@ fn draws_taken(rt: &impl Abort) {
         (Dist::Binomial(10_001, real(ONE), 0), 0),
         (Dist::UniformInt(0, 9, 0), 1),
         (Dist::Binomial(5, real(ONE / 2), 0), 5),
+        (Dist::Exponential(real(ONE), 0), 1),
+        (Dist::Exponential(real(0), 0), 0),
     ] {
         let mut generator = Generator::new(42);
         let _ = generator.sample(&dist);
@@ -136,6 +154,7 @@ fn samples_by_counts(rt: &impl Abort) {
         Dist::UniformInt(7, 7, 3),
         Dist::Bernoulli(real(ONE / 2), 60),
         Dist::UniformReal(real(0), real(ONE), 3),
+        Dist::Exponential(real(ONE), 5),
         Dist::ConstInt(1),
     ] {
         assert_eq!(rt;
@@ -157,6 +176,45 @@ fn samples_by_counts(rt: &impl Abort) {
         sample_after(42, &mut taken, &Dist::UniformInt(i64::MIN, i64::MAX, 54)),
         Ok(Drawn::Int(0x3fa4784bcbed606d))
     );
+}
+
+// The least mean, 1.0 and the greatest, with words at both ends, by an independent program.
+#[test]
+fn exponential_draws(rt: HostRuntime) {
+    let words = [0, 1, (1 << 62) - 1, (1 << 63) - 1, u64::MAX - 1, u64::MAX];
+    for (mean, wanted) in [
+        (1, [44, 43, 1, 0, 0, 0]),
+        (
+            ONE,
+            [
+                44_361_419_584,
+                43_668_272_403,
+                1_386_294_362,
+                693_147_181,
+                0,
+                0,
+            ],
+        ),
+        (
+            MOST_MEAN,
+            [
+                4_436_141_958_400_000_000,
+                4_366_827_240_300_000_000,
+                138_629_436_200_000_000,
+                69_314_718_100_000_000,
+                0,
+                0,
+            ],
+        ),
+    ] {
+        for (word, units) in words.into_iter().zip(wanted) {
+            assert_eq!(&rt;
+                exponential_units(real(mean), word).units(),
+                units,
+                "mean {mean}, word {word}"
+            );
+        }
+    }
 }
 
 #[test]
