@@ -89,7 +89,9 @@ impl<T: Drop + Copied> Row<T> {
         }
     }
 
-    /// Sees to it that nobody else has the elements, so that `Rc::get_mut` lends them.
+    /// Sees to it that nobody else has the elements, so that `Rc::get_mut` lends them. No contract of `Rc` says so: how
+    /// many owners there are is no part of what contracts see. Where it lent them not, that would be told as want of
+    /// memory, which is the one answer that no clause ties to a cause.
     fn make_own(&mut self, alloc: Global) -> Result<(), NoMemory>
         ensures same { self.new ≡ self.old }
     {
@@ -227,7 +229,7 @@ impl<T: Drop + Copied> Row<T> {
         match Rc::get_mut(&mut self.shared) {
             Some(values) => match values.remove(place) {
                 Some(old) => Ok(old),
-                None => Err(NoMemory),
+                None => unreachable!(),
             },
             None => Err(NoMemory),
         }
@@ -242,7 +244,7 @@ impl<T: Drop + Copied> Row<T> {
         match Rc::get_mut(&mut self.shared) {
             Some(values) => match values.pop_front() {
                 Some(first) => Ok(first),
-                None => Err(NoMemory),
+                None => unreachable!(),
             },
             None => Err(NoMemory),
         }

@@ -71,7 +71,8 @@ impl<T: Drop + Copied> Shared<T> {
         }
     }
 
-    /// Sees to it that nobody else has the elements, so that `Rc::get_mut` lends them.
+    /// Sees to it that nobody else has the elements, so that `Rc::get_mut` lends them; where it didn't, that would be told
+    /// as want of memory, as `Row` says.
     fn make_own(&mut self, alloc: Global) -> Result<(), NoMemory>
         ensures same { self.new ≡ self.old }
     {
