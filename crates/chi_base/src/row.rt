@@ -1,7 +1,7 @@
 ghost use Rattle.std.specs.Prelude.{◌≡◌, ◌<◌, ◌≤◌, ◌++◌, ◌+◌, ◌∷◌, [], drop, insert, length, remove, slice_get, slice_index_or, slice_set, take, Some, IfOk, IfSome, IsSome, OnOk, option_copied, ◌↔◌};
 
 use crate::NoMemory;
-use crate::shared::{Copied, copies_of};
+use crate::shared::{Copied, copies_of, has_other_owners};
 use std::alloc::Global;
 use std::collections::VecDeque;
 use std::marker::Model;
@@ -50,10 +50,6 @@ impl<T> Row<T> {
     {
         self.shared.as_ref().get(place)
     }
-
-    fn has_other_owners(&self) -> bool {
-        Rc::strong_count(&self.shared) != 1
-    }
 }
 
 impl<T: Drop> Row<T> {
@@ -95,7 +91,7 @@ impl<T: Drop + Copied> Row<T> {
     fn make_own(&mut self, alloc: Global) -> Result<(), NoMemory>
         ensures same { self.new ≡ self.old }
     {
-        if self.has_other_owners() {
+        if has_other_owners(&self.shared) {
             let (first, second) = self.shared.as_ref().as_slices();
             let copies = copies_of_both(alloc, first, second)?;
             self.shared = Rc::new(alloc, VecDeque::from_vec(copies))?;
@@ -156,7 +152,7 @@ impl<T: Drop + Copied> Row<T> {
         requires inside { from + size ≤ length self }
         ensures part { IfOk result (λ row. row ≡ take size (drop from self)) }
     {
-        if self.has_other_owners() {
+        if has_other_owners(&self.shared) {
             return Ok(self.copied_part(alloc, from, size)?);
         }
         let mut row = self;
