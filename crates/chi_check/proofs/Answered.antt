@@ -1,25 +1,16 @@
 -- Private to proofs. The answer for a whole program, by what was kept of its broken rules.
-use Rattle.std.proofs.Common.{◌≡◌, List, [], ◌∷◌, map, Option, Some, None, refl, ap, sym, ◌∙◌}
+use Rattle.std.proofs.Common.{◌≡◌, List, map, Option, Some, None, ap, sym, ◌∙◌}
 use Rattle.std.specs.Prelude.{Ok, Err, option_map}
 use Rattle.chi_tree.specs.declared.definition.Item.{Item}
 use Rattle.chi_tree.specs.declared.definition.Program.{Program}
 use Rattle.chi_core.specs.declared.program.Core.{Core}
 use Rattle.chi_check_types.specs.declared.fault.Fault.{Fault}
 use Rattle.chi_check_types.specs.declared.fault.TypeFault.TheVariants.{Broken}
-use Rattle.chi_check_types.specs.Faults.{first_of, sooner_of}
+use Rattle.chi_check_types.specs.Faults.{first_of}
 use Rattle.chi_check_types.specs.Typed.{Typed}
+use Rattle.chi_check_types.proofs.FirstLaws.{none_first}
 use Rattle.chi_check_streams.specs.Streams.{with_streams}
 use Rattle.chi_check.specs.Programs.{Answers, checked, definitions_checked}
-
-kept_stays : (k : Fault) (fs : List Fault) → first_of (Some k) fs ≡ None → ⊥
-unfolding first_of
-kept_stays k [] e = absurd (cc)
-kept_stays k (f ∷ fs) e = kept_stays (sooner_of (Some k) f) fs e
-
-none_broken : (fs : List Fault) → first_of None fs ≡ None → fs ≡ []
-unfolding first_of
-none_broken [] e = refl
-none_broken (f ∷ fs) e = absurd (kept_stays (sooner_of None f) fs e)
 
 module _ (tree : Program) (items : List Item) (same : items ≡ tree.items) (kept : Option Fault) (noted : kept ≡ first_of None (definitions_checked (map (λ item. item.definition) items) tree.last).faults) where
   is_checked : definitions_checked (map (λ item. item.definition) items) tree.last ≡ checked tree
@@ -34,4 +25,4 @@ module _ (tree : Program) (items : List Item) (same : items ≡ tree.items) (kep
 
   pub accepted : (made : Option Core) (core result : Core) → kept ≡ None → made ≡ (definitions_checked (map (λ item. item.definition) items) tree.last).made → made ≡ Some core → result ≡ with_streams core → Answers (Ok result) (checked tree)
   accepted made core result n m h s =
-      (none_broken (checked tree).faults (sym kept_is ∙ n), ap (option_map with_streams) (sym (m ∙ ap (λ (t : Typed Core). t.made) is_checked) ∙ h) ∙ ap Some (sym s))
+      (none_first (checked tree).faults (sym kept_is ∙ n), ap (option_map with_streams) (sym (m ∙ ap (λ (t : Typed Core). t.made) is_checked) ∙ h) ∙ ap Some (sym s))

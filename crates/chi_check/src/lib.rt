@@ -5,4 +5,5 @@ mod bodies;
 mod definitions;
 mod programs;
 
+pub use chi_check_types::TypeFault;
 pub use programs::check;

@@ -6,7 +6,7 @@ ghost use Rattle.chi_check_types.specs.Faults.{first_of};
 ghost use Rattle.chi_check_expr.specs.TypeTrees as spec;
 
 use chi_base::{Items, NoMemory};
-use chi_check_types::{Fault, Meant, note, rules};
+use chi_check_types::{Fault, note, rules};
 use chi_token::Bytes;
 use chi_tree::{Formal, Name};
 use chi_types::Ty;
@@ -22,16 +22,6 @@ pub(crate) fn note_first(fields: &[Formal], kept: &mut Option<Fault>)
     };
     if first.ty.is_none() {
         note(kept, rules::VISIBLE_NAME, first.name.place);
-    }
-}
-
-/// The type that a tree means, if it is a type.
-pub(crate) fn type_meant(meant: Option<Meant>) -> Option<Ty>
-    ensures { result ≡ option_map (λ m. m.ty) meant }
-{
-    match meant {
-        None => None,
-        Some(meant) => Some(meant.ty),
     }
 }
 

@@ -8,5 +8,6 @@ mod laws;
 mod typing;
 
 pub use answers::{type_expr, type_tree};
+pub use chi_check_types::{Known, Scope, Site, TypeFault};
 pub use laws::typing_is_exact;
 pub use typing::{mean_in, type_in};

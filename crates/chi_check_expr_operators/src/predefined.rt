@@ -6,7 +6,6 @@ ghost use Rattle.chi_types.specs.declared.ty.Ty.{out-Ty};
 ghost use Rattle.chi_types.specs.declared.ty.Ty.TheVariants as ty;
 ghost use Rattle.chi_core.specs.declared.expression.CExpr.TheVariants as expression;
 ghost use Rattle.chi_core.specs.declared.op_name.OpName.TheVariants as op;
-ghost use Rattle.chi_check_types.specs.TypeRules.{is_drawn};
 ghost use Rattle.chi_check_expr_rules.specs.Conversions as conversion;
 ghost use Rattle.chi_check_expr_rules.specs.PredefinedCalls as spec;
 
@@ -17,7 +16,7 @@ use chi_check_expr_rules::{
     all_converted, are_ints, both_as, both_refused, core_and_type, core_of, is_int, number_of,
     on_it, on_two, refused, wanting, with_cores,
 };
-use chi_check_types::{Made, Predefined};
+use chi_check_types::{Made, Predefined, is_drawn};
 use chi_core::{CExpr, OpName};
 use chi_types::Ty;
 use std::alloc::Global;
@@ -122,15 +121,6 @@ fn values(alloc: Global, m: Made) -> Result<Option<Made>, NoMemory>
             drop(m);
             Err(refusal)
         }
-    }
-}
-
-fn is_drawn(ty: &Ty) -> bool
-    ensures { result ≡ is_drawn (out-Ty ty.now) }
-{
-    match ty {
-        Ty::Bool | Ty::Int | Ty::Real => true,
-        _ => false,
     }
 }
 

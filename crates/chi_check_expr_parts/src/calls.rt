@@ -76,11 +76,7 @@ fn untyped_call(site: Site, place: Place, kind: NameKind, kept: &mut Option<Faul
         NameKind::Function => {
             note_calling(site, place, kept);
         }
-        NameKind::Variable
-        | NameKind::Unwound
-        | NameKind::Constant
-        | NameKind::Type
-        | NameKind::Process => note(kept, rules::NAME_KIND, place),
+        _ => note(kept, rules::NAME_KIND, place),
     }
 }
 
@@ -113,14 +109,7 @@ pub fn call_of(
             drop(arguments);
             Ok(None)
         }
-        Some(Known::Var(_, _))
-        | Some(Known::Fixed(_, _))
-        | Some(Known::Const(_, _))
-        | Some(Known::Kind(_))
-        | Some(Known::Value(_, _))
-        | Some(Known::Proc(_, _, _))
-        | Some(Known::Model(_))
-        | Some(Known::Xper(_)) => {
+        Some(_) => {
             note(kept, rules::NAME_KIND, place);
             drop(arguments);
             Ok(None)

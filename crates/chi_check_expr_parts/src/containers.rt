@@ -3,8 +3,7 @@
 
 #![tactic(auto, using(chi_check_types::proofs::Firsts::first_of_none, chi_check_types::proofs::Firsts::first_of_append, chi_check_types::proofs::Ruled::faults_unless, chi_check_types::proofs::Ruled::made_unless, chi_check_types::proofs::Ruled::made_deep))]
 
-ghost use Rattle.std.specs.Prelude.{◌≡◌, [], not, nat_lt, map, Option, None, Some, IfOk, OnOk, if◌then◌else◌};
-ghost use Rattle.chi_types.specs.Depth.{depth};
+ghost use Rattle.std.specs.Prelude.{◌≡◌, [], not, map, Option, None, Some, IfOk, OnOk, if◌then◌else◌};
 ghost use Rattle.chi_core.specs.declared.expression.CExpr.TheVariants as expression;
 ghost use Rattle.chi_core.specs.Kinds.{nameless_parts};
 ghost use Rattle.chi_check_types.specs.Faults.{first_of, are_none};
@@ -15,10 +14,10 @@ ghost use Rattle.chi_check_expr_rules.specs.Containers as spec;
 
 use chi_base::{Boxed, Items, NoMemory};
 use chi_check_expr_rules::{all_converted, all_made, type_meant, with_cores};
-use chi_check_types::{Fault, MOST_TYPE_DEPTH, Made, Meant, note, note_if, rules};
+use chi_check_types::{Fault, Made, Meant, is_deep, note, note_if, rules};
 use chi_core::CExpr;
 use chi_token::{Bytes, Place};
-use chi_types::{Ty, depth, is_plain, joined};
+use chi_types::{Ty, is_plain, joined};
 use chi_value::Kind;
 use std::alloc::Global;
 
@@ -39,12 +38,6 @@ pub(crate) fn joined_all(alloc: Global, parts: &[Made]) -> Result<Option<Ty>, No
         }
     }
     Ok(Some(ty))
-}
-
-fn is_deep(ty: &Ty) -> bool
-    ensures { result ≡ nat_lt MOST_TYPE_DEPTH (depth ty.now) }
-{
-    depth(ty) > MOST_TYPE_DEPTH
 }
 
 /// The literal, where its own rules hold and its type isn't too deep.

@@ -65,11 +65,7 @@ fn visible_value(
             Ok(Some(Made { core, ty }))
         }
         Some(Known::Untyped(kind)) => Ok(untyped_value(place, *kind, kept)),
-        Some(Known::Kind(_))
-        | Some(Known::Func(_, _, _))
-        | Some(Known::Proc(_, _, _))
-        | Some(Known::Model(_))
-        | Some(Known::Xper(_)) => {
+        Some(_) => {
             note(kept, rules::NAME_KIND, place);
             Ok(None)
         }

@@ -7,8 +7,8 @@ ghost use Rattle.chi_check_expr_rules.specs.Parts as spec;
 
 use chi_base::{Boxed, Items, NoMemory};
 use chi_check_expr_rules::{
-    Contents, are_ints, both_refused, converted, core_and_type, core_of, is_int, on_two, refused,
-    with_cores,
+    Contents, are_ints, both_refused, converted, core_and_type, core_of, field_in, is_int, on_two,
+    refused, with_cores,
 };
 use chi_check_types::Made;
 use chi_core::{CExpr, OpName};
@@ -139,35 +139,6 @@ pub(crate) fn sliced(
     let (whole, ty) = core_and_type(whole);
     let core = slice_core(alloc, OpName::Slice(from, upto, by), whole, bounds)?;
     Ok(Some(Made { core, ty }))
-}
-
-/// The position and the type of the part of this name.
-fn position_of(
-    alloc: Global,
-    name: &Bytes,
-    parts: &[(Bytes, Ty)],
-) -> Result<Option<(u32, Ty)>, NoMemory>
-    ensures { IfOk result (λ found. found ≡ spec.position_from 0 name.now parts.now) }
-{
-    for (number, part) in parts.iter().enumerate() {
-        if name.as_slice() == part.0.as_slice() {
-            let Ok(number) = u32::try_from(number) else {
-                return Err(NoMemory);
-            };
-            let ty = part.1.copy(alloc)?;
-            return Ok(Some((number, ty)));
-        }
-    }
-    Ok(None)
-}
-
-fn field_in(alloc: Global, ty: &Ty, name: &Bytes) -> Result<Option<(u32, Ty)>, NoMemory>
-    ensures { IfOk result (λ found. found ≡ spec.field_in (out-Ty ty.now) name.now) }
-{
-    match ty {
-        Ty::TupleOf(parts) => position_of(alloc, name, parts.as_slice()),
-        _ => Ok(None),
-    }
 }
 
 fn part_of(alloc: Global, m: Made, number: u32, ty: Ty) -> Result<Option<Made>, NoMemory>

@@ -7,6 +7,7 @@ ghost use Rattle.chi_types.specs.Fits.{widens};
 ghost use Rattle.chi_core.specs.declared.expression.CExpr.TheVariants as expression;
 ghost use Rattle.chi_check_expr_rules.specs.Conversions as spec;
 
+use crate::lists::{list_of_one, list_of_two};
 use chi_base::{Items, NoMemory};
 use chi_check_types::Made;
 use chi_core::{CExpr, OpName};
@@ -20,23 +21,6 @@ fn widens(given: &Ty, wanted: &Ty) -> bool
         (Ty::Int, Ty::Real) => true,
         (_, _) => false,
     }
-}
-
-pub fn list_of_one<T: Drop>(alloc: Global, a: T) -> Result<Items<T>, NoMemory>
-    ensures { IfOk result (λ list. list ≡ a ∷ []) }
-{
-    let mut list = Vec::new(alloc);
-    list.push(a)?;
-    Ok(Items::of(alloc, list)?)
-}
-
-pub fn list_of_two<T: Drop>(alloc: Global, a: T, b: T) -> Result<Items<T>, NoMemory>
-    ensures { IfOk result (λ list. list ≡ a ∷ b ∷ []) }
-{
-    let mut list = Vec::new(alloc);
-    list.push(a)?;
-    list.push(b)?;
-    Ok(Items::of(alloc, list)?)
 }
 
 /// An int where a real is wanted is converted; nothing else is.

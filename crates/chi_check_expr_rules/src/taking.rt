@@ -1,6 +1,6 @@
 //! What is made, taken apart.
 
-ghost use Rattle.std.specs.Prelude.{◌≡◌, [], ◌∷◌, Some, IfOk};
+ghost use Rattle.std.specs.Prelude.{◌≡◌, [], ◌∷◌, Some, option_map, IfOk};
 ghost use Rattle.chi_check_expr_rules.specs.Conversions as spec;
 
 use crate::conversions::on_one;
@@ -30,6 +30,16 @@ pub fn type_meant(m: Meant) -> Ty
 {
     let Meant { ty, sizes: _sizes } = m;
     ty
+}
+
+/// The type that a tree means, if it is a type.
+pub fn type_of(meant: Option<Meant>) -> Option<Ty>
+    ensures { result ≡ option_map (λ m. m.ty) meant }
+{
+    match meant {
+        None => None,
+        Some(meant) => Some(type_meant(meant)),
+    }
 }
 
 /// An operation on what is made, as it is.

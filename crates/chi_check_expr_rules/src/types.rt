@@ -6,17 +6,8 @@ ghost use Rattle.chi_types.specs.declared.ty.Ty.{out-Ty};
 ghost use Rattle.chi_check_types.specs.TypeRules.{is_int};
 ghost use Rattle.chi_check_expr_rules.specs.Operators.{number_of};
 
-use chi_check_types::Made;
+use chi_check_types::{Made, is_int};
 use chi_types::Ty;
-
-pub fn is_int(ty: &Ty) -> bool
-    ensures { result ≡ is_int (out-Ty ty.now) }
-{
-    match ty {
-        Ty::Int => true,
-        _ => false,
-    }
-}
 
 pub fn are_ints(parts: &[Made]) -> bool
     ensures { result ≡ list_all (λ m. is_int (out-Ty m.ty)) parts.now }

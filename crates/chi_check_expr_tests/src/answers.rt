@@ -4,8 +4,8 @@
 use crate::names::no_names;
 use crate::shown::shown;
 use crate::sources::{expr_of, type_of};
-use chi_check_expr::{type_expr, type_in, type_tree};
-use chi_check_types::{Fault, Scope, Site, TypeFault};
+use chi_check_expr::{Scope, Site, TypeFault, type_expr, type_in, type_tree};
+use chi_check_types::Fault;
 use chi_token::Place;
 use chi_tree::{Expr, TypeTree};
 use std::alloc::Global;

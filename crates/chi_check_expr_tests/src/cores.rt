@@ -2,7 +2,7 @@
 
 use crate::answers::{expr_answer, expr_call, type_call};
 use crate::names::names;
-use chi_check_types::Site;
+use chi_check_expr::Site;
 use std::test::Fail;
 
 /// Expressions of a process, each with its core.

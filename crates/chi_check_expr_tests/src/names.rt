@@ -4,8 +4,8 @@ ghost use Rattle.chi_check_expr.specs.Clean.{Clean, HaveDefaults};
 
 use crate::sources::type_of;
 use chi_base::Items;
-use chi_check_expr::mean_in;
-use chi_check_types::{Known, Meant, NameKind, Scope, Site};
+use chi_check_expr::{Known, Scope, Site, mean_in};
+use chi_check_types::{Meant, NameKind};
 use chi_token::Bytes;
 use chi_tree::TypeTree;
 use chi_types::Ty;

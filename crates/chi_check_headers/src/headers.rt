@@ -10,28 +10,13 @@ ghost use Rattle.chi_check_headers.specs.Headers as spec;
 use crate::header::Header;
 use chi_base::{Boxed, Items, NoMemory};
 use chi_check_expr::mean_in;
+use chi_check_expr_rules::type_of;
 use chi_check_stat_lines::copied;
 use chi_check_stat_rules::{ExitType, Home};
-use chi_check_types::{Fault, Known, Meant, NameKind, Scope, Site};
+use chi_check_types::{Fault, Known, NameKind, Scope, Site};
 use chi_tree::{Definition, Formal, TypeTree};
 use chi_types::Ty;
 use std::alloc::Global;
-
-fn type_meant(meant: Meant) -> Ty
-    ensures { result ≡ meant.ty }
-{
-    let Meant { ty, sizes: _sizes } = meant;
-    ty
-}
-
-fn type_of(meant: Option<Meant>) -> Option<Ty>
-    ensures { result ≡ spec.type_of meant }
-{
-    match meant {
-        None => None,
-        Some(meant) => Some(type_meant(meant)),
-    }
-}
 
 pub(crate) fn type_in(
     alloc: Global,

@@ -19,7 +19,7 @@ use Rattle.chi_check_types.specs.Typed.{refused}
 use Rattle.chi_check_expr_rules.specs.Conversions.{passed}
 use Rattle.chi_check_expr_rules.specs.Nodes.{of_one, all_made}
 use Rattle.chi_check_expr.proofs.Kept.{Each}
-use Rattle.chi_check_laws.specs.Standing.{AllStand, Has, SoundMade}
+use Rattle.chi_check_laws.specs.KnownNames.{AllStand, Has, SoundMade}
 use Rattle.chi_check_laws.proofs.Conversions.{some_is, mapped, chained, chosen, passed_have}
 use Rattle.chi_check_laws.proofs.Has.{Have}
 use Rattle.chi_check_stat_rules.specs.declared.home.Home.{Home}

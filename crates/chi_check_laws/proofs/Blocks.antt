@@ -25,7 +25,7 @@ use Rattle.chi_core.specs.SoundParts.{SoundElement}
 use Rattle.chi_core.specs.SoundStatements as sound
 use Rattle.chi_core.specs.SoundStatements.{SoundAlternative}
 use Rattle.chi_check_expr.proofs.Kept.{Each}
-use Rattle.chi_check_laws.specs.Standing.{Has}
+use Rattle.chi_check_laws.specs.KnownNames.{Has}
 use Rattle.chi_check_laws.proofs.Conversions.{mapped, chained}
 use Rattle.chi_check_stat_rules.specs.declared.home.Home.{Home}
 use Rattle.chi_check_stat_rules.specs.Homes.{running_rule}

@@ -20,7 +20,7 @@ use Rattle.chi_check_types.specs.declared.site.Site.{Site}
 use Rattle.chi_check_expr_rules.specs.Conversions.{as_they_are}
 use Rattle.chi_check_expr_rules.specs.Casts.{to_int, to_real, to_bool, to_text, to_timer, cast, is_timer, timer_rule, cast_made, cast_of}
 use Rattle.chi_check_expr_rules.specs.Sites.{running_rule, running_rule_if}
-use Rattle.chi_check_laws.specs.Standing.{IsSite}
+use Rattle.chi_check_laws.specs.KnownNames.{IsSite}
 use Rattle.chi_check_laws.proofs.TypeKinds.{kind_bool, kind_int, kind_real, kind_text, kind_timer, sound_bool, sound_int, sound_real, sound_text, sound_timer, plain_kind}
 use Rattle.chi_check_laws.proofs.Conversions.{some_is, chosen, always, Sounds, as_they_are_sound, wanting_sound}
 use Rattle.chi_check_laws.proofs.Sites.{may_run, settled_made, barred_made}

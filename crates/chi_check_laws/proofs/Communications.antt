@@ -37,7 +37,7 @@ use Rattle.chi_check_types.specs.Predefined.{is_predefined}
 use Rattle.chi_check_types.specs.Typed.{Typed, refused}
 use Rattle.chi_check_expr_rules.specs.Nodes.{of_one}
 use Rattle.chi_check_expr.proofs.Nodes.{barred_made}
-use Rattle.chi_check_laws.specs.Standing.{AllStand, Has, SoundMade, Stands}
+use Rattle.chi_check_laws.specs.KnownNames.{AllStand, Has, SoundMade, Stands}
 use Rattle.chi_check_laws.proofs.Conversions.{some_is, mapped}
 use Rattle.chi_check_stat_rules.specs.declared.home.Home.{Home}
 use Rattle.chi_check_stat_rules.specs.declared.parts.Aim.{Aim}
@@ -124,24 +124,13 @@ module _ (scope : Scope) (set : Set) where
 
   untyped_never : (place : Place) (k : NameKind) (r : Receiver) → (untyped_receiver place k).made ≡ Some r → ⊥
   untyped_never place kind.Variable r e = absurd (cc)
-  untyped_never place kind.Unwound r e = absurd (cc)
-  untyped_never place kind.Constant r e = absurd (cc)
-  untyped_never place kind.Type r e = absurd (cc)
-  untyped_never place kind.Function r e = absurd (cc)
-  untyped_never place kind.Process r e = absurd (cc)
+  untyped_never place _ r e = absurd (cc)
 
   visible_received : (place at : Place) (o : Option Known) → ((k : Known) → o ≡ Some k → Stands scope set k) → (r : Receiver) → (visible_receiver place at o).made ≡ Some r → SoundReceiver scope r
   visible_received place at None st r e = absurd (cc)
   visible_received place at (Some (known.Var slot t)) st r e = subst (SoundReceiver scope) (some_is (receiver slot t) r e) (st (known.Var slot t) refl).is
   visible_received place at (Some (known.Untyped k)) st r e = absurd (untyped_never place k r e)
-  visible_received place at (Some (known.Fixed slot t)) st r e = absurd (cc)
-  visible_received place at (Some (known.Const number t)) st r e = absurd (cc)
-  visible_received place at (Some (known.Kind t)) st r e = absurd (cc)
-  visible_received place at (Some (known.Value enumeration position)) st r e = absurd (cc)
-  visible_received place at (Some (known.Func number params result)) st r e = absurd (cc)
-  visible_received place at (Some (known.Proc number params exit)) st r e = absurd (cc)
-  visible_received place at (Some (known.Model number)) st r e = absurd (cc)
-  visible_received place at (Some (known.Xper number)) st r e = absurd (cc)
+  visible_received place at _ st r e = absurd (cc)
 
   -- ---- what an alternative offers
 

@@ -23,7 +23,7 @@ use Rattle.chi_core.proofs.Erased.{kind_at, same_kind}
 use Rattle.chi_check_types.specs.declared.meant.Made.{Made}
 use Rattle.chi_check_expr_rules.specs.Conversions.{made, converted, as_they_are, both_as}
 use Rattle.chi_check_expr_rules.specs.Comparisons.{if_plain, equality, has_order, if_ordered, ordering, member_type, if_member, member_of, membership, is_set, subset, related}
-use Rattle.chi_check_laws.specs.Standing.{Has}
+use Rattle.chi_check_laws.specs.KnownNames.{Has}
 use Rattle.chi_check_laws.proofs.TypeKinds.{kind_bool, sound_bool, joined_serves, plain_kind, plain_erased}
 use Rattle.chi_check_laws.proofs.Conversions.{Sounds, always, as_they_are_sound, both_sound, chained, chosen, fits_has, mapped, operation_sound, some_is, two_of}
 

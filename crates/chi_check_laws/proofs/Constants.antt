@@ -34,7 +34,7 @@ use Rattle.chi_check_headers.specs.declared.sketch.Early.{Early}
 use Rattle.chi_check_headers.specs.Headers.{type_in}
 use Rattle.chi_check_headers.specs.Definitions.{means, constant_known, constant, constant_defined, type_known, type_defined, early_defined}
 use Rattle.chi_check_laws.proofs.SoundValues.{fitted_has}
-use Rattle.chi_check_laws.specs.Standing.{AllStand, Has, Stands, ConstantStands}
+use Rattle.chi_check_laws.specs.KnownNames.{AllStand, Has, Stands, ConstantStands}
 use Rattle.chi_check_laws.proofs.WholeParts.{expression_sound, type_sound}
 use Rattle.chi_check_laws.proofs.Entries.{Entries, known_entry, entries_with, entries_so}
 use Rattle.chi_check_laws.proofs.Positions.{length_join, get_seam, joined_parts, both_parts, map_parts, some_same, get_counted}

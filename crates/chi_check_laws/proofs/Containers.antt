@@ -24,7 +24,7 @@ use Rattle.chi_check_types.specs.declared.meant.Meant.{Meant}
 use Rattle.chi_check_types.specs.TypeRules.{depth_rule}
 use Rattle.chi_check_expr_rules.specs.Conversions.{made, converted}
 use Rattle.chi_check_expr_rules.specs.Containers.{joined_from, joined_all, all_converted, literal_of, plain_type_rule, tuple_literal, list_joined, set_joined, entries, dict_joined, empty_list, empty_set, empty_dict}
-use Rattle.chi_check_laws.specs.Standing.{Has}
+use Rattle.chi_check_laws.specs.KnownNames.{Has}
 use Rattle.chi_check_laws.proofs.Has.{Have, have_none, have_one, has_tuple, has_list, has_set, has_dictionary}
 use Rattle.chi_check_laws.proofs.TypeKinds.{Serves, serves_itself, serves_still, joined_serves, kind_tuple, kind_list, kind_set, kind_dictionary, plain_erased, sound_real, sound_list, sound_set, sound_dictionary, sound_tuple, EachSound, sound_nameless}
 use Rattle.chi_check_expr.proofs.Kept.{Each}

@@ -15,7 +15,7 @@ use Rattle.chi_core.specs.Sound.{SoundIn}
 use Rattle.chi_check_types.specs.declared.meant.Made.{Made}
 use Rattle.chi_check_expr_rules.specs.Conversions.{made, converted, passed, wanting, as_they_are, both_as}
 use Rattle.chi_check_expr.proofs.Kept.{Each}
-use Rattle.chi_check_laws.specs.Standing.{Has, SoundMade}
+use Rattle.chi_check_laws.specs.KnownNames.{Has, SoundMade}
 use Rattle.chi_check_laws.proofs.Has.{Have, have_none, have_one, has_operation}
 use Rattle.chi_check_laws.proofs.TypeKinds.{Serves, fits_serves, widens_kinds, kinds_widen}
 

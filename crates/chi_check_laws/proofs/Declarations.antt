@@ -16,7 +16,7 @@ use Rattle.chi_check_types.specs.declared.meant.Meant.{Meant}
 use Rattle.chi_check_types.specs.declared.rules.TheConstants.{NEW_NAME, INITIAL_VALUE, CHANNEL_IN_FUNCTION}
 use Rattle.chi_check_types.specs.Names.{Names}
 use Rattle.chi_check_expr.specs.Typing.{reading}
-use Rattle.chi_check_laws.specs.Standing.{AllStand, Has, SoundMeant, may_make_default}
+use Rattle.chi_check_laws.specs.KnownNames.{AllStand, Has, SoundMeant, may_make_default}
 use Rattle.chi_check_laws.proofs.Conversions.{some_is, mapped}
 use Rattle.chi_check_laws.proofs.Types.{default_sound}
 use Rattle.chi_check_stat_rules.specs.declared.home.ExitType.TheVariants as exit

@@ -32,7 +32,7 @@ use Rattle.chi_check_expr_rules.specs.Conversions.{passed}
 use Rattle.chi_check_expr_rules.specs.Nodes.{of_all, all_made}
 use Rattle.chi_check_expr.proofs.Kept.{Each}
 use Rattle.chi_check_expr.proofs.Nodes.{barred_made, settled_made}
-use Rattle.chi_check_laws.specs.Standing.{AllStand, SoundMade, Stands, ProcessStands}
+use Rattle.chi_check_laws.specs.KnownNames.{AllStand, SoundMade, Stands, ProcessStands}
 use Rattle.chi_check_laws.proofs.Conversions.{some_is, mapped, chosen, passed_have}
 use Rattle.chi_check_laws.proofs.Has.{Have}
 use Rattle.chi_check_stat_rules.specs.declared.home.ExitType.{ExitType}
@@ -102,11 +102,7 @@ module _ (h : Home) (scope : Scope) (role : role_of h ≡ Some scope.role) (set 
 
   untyped_never : (place : Place) (k : NameKind) (x : Started) → (untyped_start place k).made ≡ Some x → ⊥
   untyped_never place kind.Variable x e = absurd (cc)
-  untyped_never place kind.Unwound x e = absurd (cc)
-  untyped_never place kind.Constant x e = absurd (cc)
-  untyped_never place kind.Type x e = absurd (cc)
-  untyped_never place kind.Function x e = absurd (cc)
-  untyped_never place kind.Process x e = absurd (cc)
+  untyped_never place _ x e = absurd (cc)
 
   visible_by : (place : Place) (o : Option Known) (arguments : List (Option Made)) (x : Started) → ((k : Known) → o ≡ Some k → Stands scope set k)
       → ((ms : List Made) → all_made arguments ≡ Some ms → Each (SoundMade scope set) ms) → (visible_start h place o arguments).made ≡ Some x → StartedBy x
@@ -123,14 +119,7 @@ module _ (h : Home) (scope : Scope) (role : role_of h ≡ Some scope.role) (set 
         have = f.1;
       }
   visible_by place (Some (known.Untyped k)) arguments x st s e = absurd (untyped_never place k x e)
-  visible_by place (Some (known.Var slot t)) arguments x st s e = absurd (cc)
-  visible_by place (Some (known.Fixed slot t)) arguments x st s e = absurd (cc)
-  visible_by place (Some (known.Const number t)) arguments x st s e = absurd (cc)
-  visible_by place (Some (known.Kind t)) arguments x st s e = absurd (cc)
-  visible_by place (Some (known.Value enumeration position)) arguments x st s e = absurd (cc)
-  visible_by place (Some (known.Func number params result)) arguments x st s e = absurd (cc)
-  visible_by place (Some (known.Model number)) arguments x st s e = absurd (cc)
-  visible_by place (Some (known.Xper number)) arguments x st s e = absurd (cc)
+  visible_by place _ arguments x st s e = absurd (cc)
 
   named_by : (b : Bool) (name : Name) (o : Option Known) (arguments : List (Option Made)) (x : Started) → ((k : Known) → o ≡ Some k → Stands scope set k)
       → ((ms : List Made) → all_made arguments ≡ Some ms → Each (SoundMade scope set) ms) → (if b then refused NAME_KIND name.place else visible_start h name.place o arguments).made ≡ Some x → StartedBy x

@@ -15,7 +15,7 @@ use Rattle.chi_check_types.specs.declared.rules.TheConstants.{RETURN, EXIT}
 use Rattle.chi_check_types.specs.Names.{Names}
 use Rattle.chi_check_types.specs.Typed.{unless}
 use Rattle.chi_check_expr.proofs.Nodes.{barred_made}
-use Rattle.chi_check_laws.specs.Standing.{AllStand, SoundMade}
+use Rattle.chi_check_laws.specs.KnownNames.{AllStand, SoundMade}
 use Rattle.chi_check_laws.proofs.Conversions.{some_is, mapped}
 use Rattle.chi_check_laws.proofs.Has.{Have, have_none, have_one}
 use Rattle.chi_check_stat_rules.specs.declared.home.ExitType.TheVariants as exit

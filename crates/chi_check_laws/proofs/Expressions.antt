@@ -27,7 +27,7 @@ use Rattle.chi_check_expr_rules.specs.PredefinedCalls.{is_count, predefined, bef
 use Rattle.chi_check_expr_rules.specs.Parts.{indexed, field}
 use Rattle.chi_check_expr_rules.specs.Containers as literals
 use Rattle.chi_check_expr.proofs.Kept.{Each, FieldOk, typed_parts, Keeps}
-use Rattle.chi_check_laws.specs.Standing.{IsSite, AllStand, SoundMade, SoundMeant}
+use Rattle.chi_check_laws.specs.KnownNames.{IsSite, AllStand, SoundMade, SoundMeant}
 use Rattle.chi_check_laws.proofs.Sites.{may_call_there, settled_made, barred_made}
 use Rattle.chi_check_laws.proofs.Operators.{binary_sound, power_sound, prefix_sound}
 use Rattle.chi_check_laws.proofs.Comparisons.{related_sound}
@@ -61,11 +61,7 @@ module _ (scope : Scope) (set : Set) (s : Site) (names : Names) (at : IsSite s s
 
   untyped_never : (place : Place) (k : NameKind) (m : Made) → (untyped_call s place k).made ≡ Some m → ⊥
   untyped_never place kind.Variable m e = absurd (cc)
-  untyped_never place kind.Unwound m e = absurd (cc)
-  untyped_never place kind.Constant m e = absurd (cc)
-  untyped_never place kind.Type m e = absurd (cc)
-  untyped_never place kind.Function m e = absurd (cc)
-  untyped_never place kind.Process m e = absurd (cc)
+  untyped_never place _ m e = absurd (cc)
 
   call_by : (name : List ℕ) (place : Place) (k : Known) (ms : List Made) (m : Made) → known_in names name ≡ Some k → Each T ms → (call_of s place (Some k) (typed_parts ms)).made ≡ Some m → T m
   call_by name place (known.Func number params result) ms m found hs e =
@@ -73,21 +69,12 @@ module _ (scope : Scope) (set : Set) (s : Site) (names : Names) (at : IsSite s s
       let whole = subst (λ (o : Option (List Made)). (of_all CALL_ARGUMENTS place (nat_eq (length (typed_parts ms)) (length params)) (called number params result) o).made ≡ Some m) (all_typed ms) both.1 in
       called_sound scope set number params result ms m (may_call_there s scope.role place at both.0) (all name _ found) hs (all_of CALL_ARGUMENTS place _ (called number params result) ms m whole).1
   call_by name place (known.Untyped k) ms m found hs e = absurd (untyped_never place k m e)
-  call_by name place (known.Var slot t) ms m found hs e = absurd (cc)
-  call_by name place (known.Fixed slot t) ms m found hs e = absurd (cc)
-  call_by name place (known.Const number t) ms m found hs e = absurd (cc)
-  call_by name place (known.Kind t) ms m found hs e = absurd (cc)
-  call_by name place (known.Value enumeration position) ms m found hs e = absurd (cc)
-  call_by name place (known.Proc number params exit) ms m found hs e = absurd (cc)
-  call_by name place (known.Model number) ms m found hs e = absurd (cc)
-  call_by name place (known.Xper number) ms m found hs e = absurd (cc)
+  call_by name place _ ms m found hs e = absurd (cc)
 
   -- without a name as the third argument nothing is inserted
   none_inserted : (place : Place) (parts : Option (Option Made × Option Made)) (m : Made) → (insert_parts place parts None).made ≡ Some m → ⊥
   none_inserted place None m e = absurd (cc)
-  none_inserted place (Some (None, x)) m e = absurd (cc)
-  none_inserted place (Some (Some list, None)) m e = absurd (cc)
-  none_inserted place (Some (Some list, Some x)) m e = absurd (cc)
+  none_inserted place _ m e = absurd (cc)
 
   predefined_by : (p : Predefined) (place : Place) (ms : List Made) (m : Made) → Each T ms → (predefined_call s place p (typed_parts ms) None).made ≡ Some m → T m
   predefined_by p place ms m hs e =

@@ -131,24 +131,13 @@ module _ (names : Names) where
 
   untyped_target_never : (place : Place) (k : NameKind) (a : Aim) → (untyped_target place k).made ≡ Some a → ⊥
   untyped_target_never place kind.Variable a e = absurd (cc)
-  untyped_target_never place kind.Unwound a e = absurd (cc)
-  untyped_target_never place kind.Constant a e = absurd (cc)
-  untyped_target_never place kind.Type a e = absurd (cc)
-  untyped_target_never place kind.Function a e = absurd (cc)
-  untyped_target_never place kind.Process a e = absurd (cc)
+  untyped_target_never place _ a e = absurd (cc)
 
   visible_seen : (place : Place) (name : List ℕ) (o : Option Known) → known_in names name ≡ o → SeenIf (visible_target place o).made
   visible_seen place name None is a e = absurd (cc)
   visible_seen place name (Some (known.Var slot t)) is a e = subst (λ (a : Aim). Visible names a.target.slot) (some_is (aim slot [] t) a e) (name, t, is)
   visible_seen place name (Some (known.Untyped k)) is a e = absurd (untyped_target_never place k a e)
-  visible_seen place name (Some (known.Fixed slot t)) is a e = absurd (cc)
-  visible_seen place name (Some (known.Const number t)) is a e = absurd (cc)
-  visible_seen place name (Some (known.Kind t)) is a e = absurd (cc)
-  visible_seen place name (Some (known.Value enumeration position)) is a e = absurd (cc)
-  visible_seen place name (Some (known.Func number params result)) is a e = absurd (cc)
-  visible_seen place name (Some (known.Proc number params exit)) is a e = absurd (cc)
-  visible_seen place name (Some (known.Model number)) is a e = absurd (cc)
-  visible_seen place name (Some (known.Xper number)) is a e = absurd (cc)
+  visible_seen place name _ is a e = absurd (cc)
 
   named_seen : (b : Bool) (name : Name) → SeenIf (if b then refused TARGET name.place else visible_target name.place (known_in names name.text)).made
   named_seen true name a e = absurd (cc)
@@ -192,24 +181,13 @@ module _ (names : Names) where
 
   untyped_receiver_never : (place : Place) (k : NameKind) (r : Receiver) → (untyped_receiver place k).made ≡ Some r → ⊥
   untyped_receiver_never place kind.Variable r e = absurd (cc)
-  untyped_receiver_never place kind.Unwound r e = absurd (cc)
-  untyped_receiver_never place kind.Constant r e = absurd (cc)
-  untyped_receiver_never place kind.Type r e = absurd (cc)
-  untyped_receiver_never place kind.Function r e = absurd (cc)
-  untyped_receiver_never place kind.Process r e = absurd (cc)
+  untyped_receiver_never place _ r e = absurd (cc)
 
   visible_receives : (place at : Place) (name : List ℕ) (o : Option Known) → known_in names name ≡ o → (r : Receiver) → (visible_receiver place at o).made ≡ Some r → Visible names r.slot
   visible_receives place at name None is r e = absurd (cc)
   visible_receives place at name (Some (known.Var slot t)) is r e = subst (λ (r : Receiver). Visible names r.slot) (some_is (receiver slot t) r e) (name, t, is)
   visible_receives place at name (Some (known.Untyped k)) is r e = absurd (untyped_receiver_never place k r e)
-  visible_receives place at name (Some (known.Fixed slot t)) is r e = absurd (cc)
-  visible_receives place at name (Some (known.Const number t)) is r e = absurd (cc)
-  visible_receives place at name (Some (known.Kind t)) is r e = absurd (cc)
-  visible_receives place at name (Some (known.Value enumeration position)) is r e = absurd (cc)
-  visible_receives place at name (Some (known.Func number params result)) is r e = absurd (cc)
-  visible_receives place at name (Some (known.Proc number params exit)) is r e = absurd (cc)
-  visible_receives place at name (Some (known.Model number)) is r e = absurd (cc)
-  visible_receives place at name (Some (known.Xper number)) is r e = absurd (cc)
+  visible_receives place at name _ is r e = absurd (cc)
 
   pub receiver_seen : (b : Bool) (place : Place) (name : Name) (r : Receiver) → (if b then refused RECEIVING_NAME place else visible_receiver place name.place (known_in names name.text)).made ≡ Some r → Visible names r.slot
   receiver_seen true place name r e = absurd (cc)

@@ -26,7 +26,7 @@ use Rattle.chi_core.specs.SoundExpressions as sound
 use Rattle.chi_core.specs.SoundExpressions.{HasKind, HaveKinds, LiteralKind, no_expression, one_expression, stream_operand, entry_kinds}
 use Rattle.chi_check_streams.specs.Streams.{Counted, Counting, expression_step, of_expression, of_expressions}
 use Rattle.chi_check_laws.specs.TypedTexts.{is_short, texts_step, texts_are_short}
-use Rattle.chi_check_laws.specs.Standing.{Has}
+use Rattle.chi_check_laws.specs.KnownNames.{Has}
 
 streams_at : (e : CExpr) (layer : CExpr-F CExpr) → out-CExpr e ≡ layer → (count : ℕ) → of_expression e count ≡ expression_step (map-CExpr _ _ of_expression layer) count
 unfolding of_expression

@@ -15,7 +15,7 @@ use Rattle.chi_check_streams.specs.Streams.{each, of_statement}
 use Rattle.chi_check_types.specs.declared.known.Known.TheVariants as known
 use Rattle.chi_check_types.specs.Names.{Names}
 use Rattle.chi_check_expr.proofs.Kept.{Each}
-use Rattle.chi_check_laws.specs.Standing.{AllStand}
+use Rattle.chi_check_laws.specs.KnownNames.{AllStand}
 use Rattle.chi_check_laws.proofs.Conversions.{some_is, mapped}
 use Rattle.chi_check_stat_lines.specs.declared.state.Binder.TheVariants as binder
 use Rattle.chi_check_stat_lines.specs.declared.state.State.{State}

@@ -12,7 +12,7 @@ use Rattle.chi_check_types.specs.declared.known.Known.{Known}
 use Rattle.chi_check_types.specs.declared.known.Known.TheVariants as known
 use Rattle.chi_check_types.specs.declared.meant.Meant.{Meant}
 use Rattle.chi_check_types.specs.Names.{Names}
-use Rattle.chi_check_laws.specs.Standing.{Has, Sizes, SoundMeant, SlotStands, Stands, AllStand}
+use Rattle.chi_check_laws.specs.KnownNames.{Has, Sizes, SoundMeant, SlotStands, Stands, AllStand}
 use Rattle.chi_check_laws.specs.Bodies.{set_by}
 
 -- each slot of one counts in the other

@@ -30,7 +30,7 @@ use Rattle.chi_check_expr_rules.specs.Literals.{int_number, real_number, int_lit
 use Rattle.chi_check_expr_rules.specs.Named.{untyped_value, visible_value, time_of}
 use Rattle.chi_check_expr_rules.specs.Calls.{called}
 use Rattle.chi_check_expr_rules.specs.Sites.{running_rule}
-use Rattle.chi_check_laws.specs.Standing.{Has, IsSite, Stands, SlotStands, FunctionStands}
+use Rattle.chi_check_laws.specs.KnownNames.{Has, IsSite, Stands, SlotStands, FunctionStands}
 use Rattle.chi_check_laws.proofs.Has.{Have, have_none, has_literal, has_text, has_variable, has_constant, has_call}
 use Rattle.chi_check_laws.proofs.TypeKinds.{kind_bool, kind_int, kind_real, kind_text, kind_choice, sound_bool, sound_int, sound_real, sound_text}
 use Rattle.chi_check_expr.proofs.Kept.{Each}
@@ -80,11 +80,7 @@ module _ (scope : Scope) (set : Set) where
 
   untyped_never : (place : Place) (k : NameKind) (m : Made) → (untyped_value place k).made ≡ Some m → ⊥
   untyped_never place kind.Variable m e = absurd (cc)
-  untyped_never place kind.Unwound m e = absurd (cc)
-  untyped_never place kind.Constant m e = absurd (cc)
-  untyped_never place kind.Type m e = absurd (cc)
-  untyped_never place kind.Function m e = absurd (cc)
-  untyped_never place kind.Process m e = absurd (cc)
+  untyped_never place _ m e = absurd (cc)
 
   pub name_sound : (place : Place) (k : Known) (m : Made) → Stands scope set k → (visible_value place (Some k)).made ≡ Some m → Sounds scope set m
   name_sound place (known.Var slot t) m st e = slot_sound slot t m st (some_is _ m e)
@@ -95,11 +91,7 @@ module _ (scope : Scope) (set : Set) where
       literal_sound (value.Choice enumeration position) _ (ty.Choice enumeration) (Ty-F.Choice enumeration) m (value.outs-Choice enumeration position) (kind_choice enumeration) (literal.choice enumeration position st.name st.is)
       (subst (SoundType _) (sym (ty.outs-Choice enumeration)) (sound.choice enumeration (enumeration_there _ enumeration position st.name st.is))) (some_is _ m e)
   name_sound place (known.Untyped k) m st e = absurd (untyped_never place k m e)
-  name_sound place (known.Kind t) m st e = absurd (cc)
-  name_sound place (known.Func number params result) m st e = absurd (cc)
-  name_sound place (known.Proc number params exit) m st e = absurd (cc)
-  name_sound place (known.Model number) m st e = absurd (cc)
-  name_sound place (known.Xper number) m st e = absurd (cc)
+  name_sound place _ m st e = absurd (cc)
 
   pub time_sound : (s : Site) (place : Place) (m : Made) → IsSite s scope.role → (time_of s place).made ≡ Some m → Sounds scope set m
   time_sound s place m at e =

@@ -23,7 +23,7 @@ use Rattle.chi_check_types.specs.declared.meant.Made.{Made}
 use Rattle.chi_check_types.specs.declared.site.Site.{Site}
 use Rattle.chi_check_expr_rules.specs.Conversions.{made, as_they_are, both_as}
 use Rattle.chi_check_expr_rules.specs.Operators.{number_of, arithmetic, of_same, add_by, subtract_by, multiply_by, is_set_of, is_bool, are_bools, conjunction, disjunction, ints, reals, of_ints, binary, power, negated, unchanged, sampled, prefixed, prefix_rule, prefix_made, prefix_of}
-use Rattle.chi_check_laws.specs.Standing.{Has, IsSite}
+use Rattle.chi_check_laws.specs.KnownNames.{Has, IsSite}
 use Rattle.chi_check_laws.proofs.Has.{has_both, has_either}
 use Rattle.chi_check_laws.proofs.TypeKinds.{Serves, kind_bool, kind_int, kind_real, sound_bool, sound_int, sound_real, drawn_of_dist}
 use Rattle.chi_check_laws.proofs.Conversions.{some_is, mapped, chosen, always, Sounds, sound_made, wanting_sound, as_they_are_sound, both_sound}

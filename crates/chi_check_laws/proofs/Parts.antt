@@ -24,7 +24,7 @@ use Rattle.chi_check_types.specs.TypeRules.{is_int}
 use Rattle.chi_check_expr_rules.specs.Conversions.{made, converted, as_they_are}
 use Rattle.chi_check_expr_rules.specs.Nodes.{all_made}
 use Rattle.chi_check_expr_rules.specs.Parts.{element_at, looked_up, indexed_by, indexed, Bounds, if_given, given, has_slices, sliced, position_from, part_of, field_in, field}
-use Rattle.chi_check_laws.specs.Standing.{Has}
+use Rattle.chi_check_laws.specs.KnownNames.{Has}
 use Rattle.chi_check_laws.proofs.Has.{has_part}
 use Rattle.chi_check_laws.proofs.TypeKinds.{kind_text, sound_text, element_of_list, parts_of_dictionary, parts_of_tuple}
 use Rattle.chi_check_expr.proofs.Kept.{Each}

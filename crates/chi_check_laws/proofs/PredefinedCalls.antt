@@ -31,7 +31,7 @@ use Rattle.chi_check_expr_rules.specs.Nodes.{settled}
 use Rattle.chi_check_expr_rules.specs.Conversions.{made, converted, wanting, as_they_are, both_as}
 use Rattle.chi_check_expr_rules.specs.Operators.{number_of}
 use Rattle.chi_check_expr_rules.specs.PredefinedCalls.{tuple, absolute_by, absolute, sign_by, is_counted, counted, popped_type, popped, constant, is_list, deleted, uniform, common_number, extreme, range, one, two, is_count, predefined, tells_order, inserted_by, inserted_in, is_untyped_function, insertion, predefined_rule, enumerated_type, enumerated, keys_type, keys, values_type, values}
-use Rattle.chi_check_laws.specs.Standing.{Has, IsSite, Stands}
+use Rattle.chi_check_laws.specs.KnownNames.{Has, IsSite, Stands}
 use Rattle.chi_check_laws.proofs.Has.{Have, has_insertion}
 use Rattle.chi_check_laws.proofs.TypeKinds.{Serves, serves_itself, serves_still, kind_bool, kind_int, kind_real, kind_timer, kind_instance, kind_list, kind_dist, sound_bool, sound_int, sound_real, sound_list, sound_dist, sound_tuple, sound_nameless, element_of_list, element_of_set, parts_of_dictionary}
 use Rattle.chi_check_expr.proofs.Kept.{Each}

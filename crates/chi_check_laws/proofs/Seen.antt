@@ -24,7 +24,7 @@ use Rattle.chi_check_stat_rules.specs.declared.home.ExitType.TheVariants as exit
 use Rattle.chi_check_stat_rules.specs.declared.home.Home.{Home}
 use Rattle.chi_check_stat_rules.specs.declared.home.Home.TheVariants as home
 use Rattle.chi_check_streams.specs.Streams.{each, of_function, of_process}
-use Rattle.chi_check_laws.specs.Standing.{Stands}
+use Rattle.chi_check_laws.specs.KnownNames.{Stands}
 use Rattle.chi_check_stat_lines.specs.States.{with_name}
 use Rattle.chi_check_headers.specs.declared.header.Header.{Header}
 use Rattle.chi_check_headers.specs.declared.sketch.Named.{Named as Bodies}

@@ -15,15 +15,13 @@ use Rattle.chi_core.specs.declared.expression.CExpr.TheVariants as expression
 use Rattle.chi_check_types.specs.declared.fault.Fault.{Fault}
 use Rattle.chi_check_types.specs.declared.known.Known.{Known}
 use Rattle.chi_check_types.specs.declared.known.Known.TheVariants as known
-use Rattle.chi_check_types.specs.declared.known.NameKind.{NameKind}
-use Rattle.chi_check_types.specs.declared.known.NameKind.TheVariants as kind
 use Rattle.chi_check_types.specs.declared.meant.Meant.{Meant}
 use Rattle.chi_check_types.specs.declared.rules.TheConstants.{DISTRIBUTION}
 use Rattle.chi_check_types.specs.declared.site.Site.{Site}
 use Rattle.chi_check_types.specs.Defaults.{shape_of, shape_step, part_shapes, tuple_shape, dist_shape, drawn_shape, element_type, within, repeated, default_of}
 use Rattle.chi_check_types.specs.Names.{Names}
 use Rattle.chi_check_types.specs.Typed.{broken_if, unless}
-use Rattle.chi_check_types.specs.TypeRules.{is_drawn, meaning, depth_rule, of_type, word_type, untyped_name, visible_type, plain_rule, dist_of, way_of, size_rule, with_size, names_rule}
+use Rattle.chi_check_types.specs.TypeRules.{is_drawn, meaning, depth_rule, of_type, word_type, visible_type, plain_rule, dist_of, way_of, size_rule, with_size, names_rule}
 use Rattle.chi_check_expr.specs.Clean.{Clean}
 use Rattle.chi_check_expr.specs.Typing.{reading}
 use Rattle.chi_check_expr.proofs.Exact.{Anything}
@@ -123,25 +121,10 @@ with_size_shaped element size h =
       mapped_comes (λ s. repeated (element.sizes ++ size ∷ []) (expression.Default s)) (option_and_then shape_of (within (length (element.sizes ++ size ∷ [])) (ty.ListOf element.ty))) (subst (λ o. Comes (option_and_then shape_of o)) (sym few) found),
     )
 
-untyped_never : (place : Place) (k : NameKind) (m : Meant) → (untyped_name place k).made ≡ Some m → ⊥
-untyped_never place kind.Variable m e = absurd (cc)
-untyped_never place kind.Unwound m e = absurd (cc)
-untyped_never place kind.Constant m e = absurd (cc)
-untyped_never place kind.Type m e = absurd (cc)
-untyped_never place kind.Function m e = absurd (cc)
-untyped_never place kind.Process m e = absurd (cc)
-
 name_shaped : (place : Place) (k : Known) (m : Meant) → Fine k → (visible_type place (Some k)).made ≡ Some m → Shaped m
 name_shaped place (known.Kind t) m h e = plain_shaped place [] t m h e
 name_shaped place (known.Untyped k) m h e = absurd h
-name_shaped place (known.Var slot t) m h e = absurd (cc)
-name_shaped place (known.Fixed slot t) m h e = absurd (cc)
-name_shaped place (known.Const number t) m h e = absurd (cc)
-name_shaped place (known.Value enumeration position) m h e = absurd (cc)
-name_shaped place (known.Func number params result) m h e = absurd (cc)
-name_shaped place (known.Proc number params exit) m h e = absurd (cc)
-name_shaped place (known.Model number) m h e = absurd (cc)
-name_shaped place (known.Xper number) m h e = absurd (cc)
+name_shaped place _ m h e = absurd (cc)
 
 dist_shaped : (place : Place) (drawn m : Meant) → (dist_of place (Some drawn)).made ≡ Some m → Shaped m
 dist_shaped place drawn m e =

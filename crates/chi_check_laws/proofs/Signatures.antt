@@ -20,7 +20,7 @@ use Rattle.chi_check_types.specs.Names.{Names, known_in}
 use Rattle.chi_check_types.specs.Predefined.{is_predefined}
 use Rattle.chi_check_types.specs.Typed.{refused}
 use Rattle.chi_check_types.specs.TypeLaws.{IsSound}
-use Rattle.chi_check_types.specs.TypeRules.{untyped_name, visible_type, named_type}
+use Rattle.chi_check_types.specs.TypeRules.{visible_type, named_type}
 use Rattle.chi_check_types.proofs.TypeLaws as types
 use Rattle.chi_check_expr.specs.Typing.{reading}
 use Rattle.chi_check_expr.proofs.Kept.{Good, Each, FieldOk}
@@ -60,14 +60,6 @@ for_one n (known.Func number params result) h = tt
 for_one n (known.Proc number params exit) h = tt
 for_one n (known.Model number) h = tt
 for_one n (known.Xper number) h = tt
-
-untyped_never : (place : Place) (k : NameKind) (m : Meant) → (untyped_name place k).made ≡ Some m → ⊥
-untyped_never place kind.Variable m e = absurd (cc)
-untyped_never place kind.Unwound m e = absurd (cc)
-untyped_never place kind.Constant m e = absurd (cc)
-untyped_never place kind.Type m e = absurd (cc)
-untyped_never place kind.Function m e = absurd (cc)
-untyped_never place kind.Process m e = absurd (cc)
 
 -- ---- headers with sound types
 
@@ -109,15 +101,8 @@ HeadersSound n (d ∷ ds) (h ∷ hs) = HeaderSound n d h × HeadersSound n ds hs
 module _ (n : ℕ) where
   known_sound : (place : Place) (k : Known) (m : Meant) → StandsForSound n k → (visible_type place (Some k)).made ≡ Some m → IsSound n m
   known_sound place (known.Kind t) m h e = types.sound_name n place t h m e
-  known_sound place (known.Untyped k) m h e = absurd (untyped_never place k m e)
-  known_sound place (known.Var slot t) m h e = absurd (cc)
-  known_sound place (known.Fixed slot t) m h e = absurd (cc)
-  known_sound place (known.Const number t) m h e = absurd (cc)
-  known_sound place (known.Value enumeration position) m h e = absurd (cc)
-  known_sound place (known.Func number params result) m h e = absurd (cc)
-  known_sound place (known.Proc number params exit) m h e = absurd (cc)
-  known_sound place (known.Model number) m h e = absurd (cc)
-  known_sound place (known.Xper number) m h e = absurd (cc)
+  known_sound place (known.Untyped k) m h e = absurd (types.untyped_never place k m e)
+  known_sound place _ m h e = absurd (cc)
 
   visible_sound : (place : Place) (o : Option Known) (m : Meant) → ((k : Known) → o ≡ Some k → StandsForSound n k) → (visible_type place o).made ≡ Some m → IsSound n m
   visible_sound place None m h e = absurd (cc)

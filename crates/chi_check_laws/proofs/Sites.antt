@@ -10,7 +10,7 @@ use Rattle.chi_check_types.specs.declared.site.Site.TheVariants as site
 use Rattle.chi_check_types.specs.Typed.{Typed, broken_if, unless}
 use Rattle.chi_check_expr_rules.specs.Nodes.{settled, barred}
 use Rattle.chi_check_expr_rules.specs.Sites.{calling_rule, running_rule}
-use Rattle.chi_check_laws.specs.Standing.{IsSite}
+use Rattle.chi_check_laws.specs.KnownNames.{IsSite}
 use Rattle.chi_check_laws.proofs.Conversions.{some_is}
 
 -- ---- sites

@@ -21,7 +21,7 @@ use Rattle.chi_check_stat_rules.specs.declared.parts.Aim.{Aim}
 use Rattle.chi_check_stat_rules.specs.declared.parts.Receiver.{Receiver}
 use Rattle.chi_check_stat_rules.specs.Values.{fitted}
 use Rattle.chi_check_stat_rules.specs.Channels.{sent_type, sending, received_type, receiving, delayed, delaying}
-use Rattle.chi_check_laws.specs.Standing.{Has, SoundMade}
+use Rattle.chi_check_laws.specs.KnownNames.{Has, SoundMade}
 use Rattle.chi_check_laws.proofs.Conversions.{some_is, mapped, chosen, fits_has, converts}
 use Rattle.chi_check_laws.proofs.TypeKinds.{kind_real}
 use Rattle.chi_check_laws.specs.Parts.{target_texts, SoundAim, SoundReceiver, Communicates}

@@ -24,7 +24,7 @@ use Rattle.chi_check_streams.specs.Streams.{of_function, of_process}
 use Rattle.chi_check_headers.specs.declared.header.Header.{Header}
 use Rattle.chi_check_headers.specs.Headers.{all_types}
 use Rattle.chi_check.specs.Bodies.{body_in, exit_known, exit_of, result_of}
-use Rattle.chi_check_laws.specs.Standing.{Stands}
+use Rattle.chi_check_laws.specs.KnownNames.{Stands}
 use Rattle.chi_check_laws.specs.Bodies.{role_of, SoundBodyOf}
 use Rattle.chi_check_laws.specs.Texts.{body_texts}
 use Rattle.chi_check_laws.specs.Whole.{steps_are_whole}

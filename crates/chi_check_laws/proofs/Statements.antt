@@ -22,7 +22,7 @@ use Rattle.chi_core.specs.SoundStatements as sound
 use Rattle.chi_check_streams.specs.Streams.{each, of_expression, of_expressions, of_target}
 use Rattle.chi_check_expr.proofs.Kept.{Each}
 use Rattle.chi_check_laws.specs.TypedTexts.{texts_are_short}
-use Rattle.chi_check_laws.specs.Standing.{Has}
+use Rattle.chi_check_laws.specs.KnownNames.{Has}
 use Rattle.chi_check_laws.proofs.Has.{Have}
 use Rattle.chi_check_laws.specs.Parts.{target_texts}
 use Rattle.chi_check_laws.proofs.Bodies.{SoundOne, SoundBranch, SoundOffer, SoundMake, AllSound, one_at, at, body_sound, branches_sound, offers_sound, makes_sound}

@@ -10,7 +10,7 @@ use Rattle.chi_core.specs.SetSlots.{Known as Set}
 use Rattle.chi_core.specs.Sound.{SoundIn}
 use Rattle.chi_check_types.specs.declared.known.Known.{Known}
 use Rattle.chi_check_types.specs.Names.{Names, known_in}
-use Rattle.chi_check_laws.specs.Standing.{Stands, AllStand}
+use Rattle.chi_check_laws.specs.KnownNames.{Stands, AllStand}
 use Rattle.chi_check_laws.proofs.Conversions.{some_is, chosen}
 use Rattle.chi_check_stat_lines.specs.declared.state.Binder.{Binder}
 use Rattle.chi_check_stat_lines.specs.declared.state.State.{State}

@@ -29,7 +29,7 @@ use Rattle.chi_check_expr_rules.specs.Parts.{field_in}
 use Rattle.chi_check_expr.proofs.Kept.{Each}
 use Rattle.chi_check_stat_rules.specs.declared.parts.Aim.{Aim}
 use Rattle.chi_check_stat_rules.specs.Targets.{aim, untyped_target, visible_target, stepped, to_element, to_key, indexed, to_part, field_of}
-use Rattle.chi_check_laws.specs.Standing.{Has, SoundMade, Stands}
+use Rattle.chi_check_laws.specs.KnownNames.{Has, SoundMade, Stands}
 use Rattle.chi_check_laws.proofs.Conversions.{some_is, mapped, chosen, fits_has}
 use Rattle.chi_check_laws.proofs.Parts.{int_kind, position_is}
 use Rattle.chi_check_laws.proofs.TypeKinds.{element_of_list, parts_of_dictionary, parts_of_tuple}
@@ -66,24 +66,13 @@ module _ (scope : Scope) (set : Set) where
 
   untyped_never : (place : Place) (k : NameKind) (a : Aim) → (untyped_target place k).made ≡ Some a → ⊥
   untyped_never place kind.Variable a e = absurd (cc)
-  untyped_never place kind.Unwound a e = absurd (cc)
-  untyped_never place kind.Constant a e = absurd (cc)
-  untyped_never place kind.Type a e = absurd (cc)
-  untyped_never place kind.Function a e = absurd (cc)
-  untyped_never place kind.Process a e = absurd (cc)
+  untyped_never place _ a e = absurd (cc)
 
   pub target_name_sound : (place : Place) (k : Known) (a : Aim) → Stands scope set k → (visible_target place (Some k)).made ≡ Some a → SoundAim scope set a
   target_name_sound place (known.Var slot t) a st e =
       subst (SoundAim scope set) (some_is (aim slot [] t) a e) (record { kind = kind_of t; counts = st.counts; is = st.is; steps = λ short count. sound.no_step (kind_of t); ty = st.ty })
   target_name_sound place (known.Untyped k) a st e = absurd (untyped_never place k a e)
-  target_name_sound place (known.Fixed slot t) a st e = absurd (cc)
-  target_name_sound place (known.Const number t) a st e = absurd (cc)
-  target_name_sound place (known.Kind t) a st e = absurd (cc)
-  target_name_sound place (known.Value enumeration position) a st e = absurd (cc)
-  target_name_sound place (known.Func number params result) a st e = absurd (cc)
-  target_name_sound place (known.Proc number params exit) a st e = absurd (cc)
-  target_name_sound place (known.Model number) a st e = absurd (cc)
-  target_name_sound place (known.Xper number) a st e = absurd (cc)
+  target_name_sound place _ a st e = absurd (cc)
 
   -- ---- indexes
 

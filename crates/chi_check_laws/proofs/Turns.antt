@@ -9,7 +9,7 @@ use Rattle.chi_check_types.specs.Faults.{are_none}
 use Rattle.chi_check_types.specs.Names.{Names}
 use Rattle.chi_check_types.specs.Typed.{Typed, broken_if}
 use Rattle.chi_check_expr.proofs.Kept.{Each}
-use Rattle.chi_check_laws.specs.Standing.{AllStand}
+use Rattle.chi_check_laws.specs.KnownNames.{AllStand}
 use Rattle.chi_check_laws.proofs.Conversions.{some_is, mapped, chained}
 use Rattle.chi_check_stat_lines.specs.declared.state.State.{State}
 use Rattle.chi_check_stat_lines.specs.Stated.{Turn, both, in_turn, alone}

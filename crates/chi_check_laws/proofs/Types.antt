@@ -25,15 +25,13 @@ use Rattle.chi_core.proofs.Erased.{kind_at}
 use Rattle.chi_check_types.specs.declared.fault.Fault.{Fault}
 use Rattle.chi_check_types.specs.declared.known.Known.{Known}
 use Rattle.chi_check_types.specs.declared.known.Known.TheVariants as known
-use Rattle.chi_check_types.specs.declared.known.NameKind.{NameKind}
-use Rattle.chi_check_types.specs.declared.known.NameKind.TheVariants as kind
 use Rattle.chi_check_types.specs.declared.meant.Made.{Made}
 use Rattle.chi_check_types.specs.declared.meant.Meant.{Meant}
 use Rattle.chi_check_types.specs.Defaults.{shape_of, element_type, within, repeated, default_of}
-use Rattle.chi_check_types.specs.TypeRules.{is_int, meaning, depth_rule, of_type, word_of, untyped_name, visible_type, list_of, plain_rule, set_of, dict_of, dist_of, chan_of, void_chan_of, size_holds, size_rule, with_size, sized_list_of, names_rule, tuple_of}
+use Rattle.chi_check_types.specs.TypeRules.{is_int, meaning, depth_rule, of_type, word_of, visible_type, list_of, plain_rule, set_of, dict_of, dist_of, chan_of, void_chan_of, size_holds, size_rule, with_size, sized_list_of, names_rule, tuple_of}
 use Rattle.chi_check_types.proofs.TypeLaws as types
 use Rattle.chi_check_types.proofs.ShapeLaws.{shapes_have_kinds}
-use Rattle.chi_check_laws.specs.Standing.{Has, SoundMade, SoundMeant, Sizes, Stands, may_make_default}
+use Rattle.chi_check_laws.specs.KnownNames.{Has, SoundMade, SoundMeant, Sizes, Stands, may_make_default}
 use Rattle.chi_check_laws.proofs.Has.{has_default, has_repetition}
 use Rattle.chi_check_laws.proofs.TypeKinds.{element_of_list}
 use Rattle.chi_check_laws.proofs.Conversions.{some_is, mapped, chained}
@@ -92,25 +90,10 @@ module _ (scope : Scope) (set : Set) where
         sizes = subst (λ m. Sizes scope set m.sizes) is (more_sizes element.sizes size.core k.sizes int);
       }
 
-  untyped_never : (place : Place) (k : NameKind) (m : Meant) → (untyped_name place k).made ≡ Some m → ⊥
-  untyped_never place kind.Variable m e = absurd (cc)
-  untyped_never place kind.Unwound m e = absurd (cc)
-  untyped_never place kind.Constant m e = absurd (cc)
-  untyped_never place kind.Type m e = absurd (cc)
-  untyped_never place kind.Function m e = absurd (cc)
-  untyped_never place kind.Process m e = absurd (cc)
-
   pub named_type_sound : (place : Place) (k : Known) (m : Meant) → Stands scope set k → (visible_type place (Some k)).made ≡ Some m → SoundMeant scope set m
   named_type_sound place (known.Kind t) m st e = sound_meant place [] t m (types.sound_name _ place t st m e) e
-  named_type_sound place (known.Untyped k) m st e = absurd (untyped_never place k m e)
-  named_type_sound place (known.Var slot t) m st e = absurd (cc)
-  named_type_sound place (known.Fixed slot t) m st e = absurd (cc)
-  named_type_sound place (known.Const number t) m st e = absurd (cc)
-  named_type_sound place (known.Value enumeration position) m st e = absurd (cc)
-  named_type_sound place (known.Func number params result) m st e = absurd (cc)
-  named_type_sound place (known.Proc number params exit) m st e = absurd (cc)
-  named_type_sound place (known.Model number) m st e = absurd (cc)
-  named_type_sound place (known.Xper number) m st e = absurd (cc)
+  named_type_sound place (known.Untyped k) m st e = absurd (types.untyped_never place k m e)
+  named_type_sound place _ m st e = absurd (cc)
 
 -- ---- types within lists
 

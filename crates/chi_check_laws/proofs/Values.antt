@@ -16,7 +16,7 @@ use Rattle.chi_check_expr_rules.specs.Nodes.{of_one, of_two, all_made}
 use Rattle.chi_check_expr.specs.Typing.{reading}
 use Rattle.chi_check_expr.proofs.Kept.{Each}
 use Rattle.chi_check_expr.proofs.Nodes.{settled_made}
-use Rattle.chi_check_laws.specs.Standing.{IsSite, AllStand, Has, SoundMade, SoundMeant}
+use Rattle.chi_check_laws.specs.KnownNames.{IsSite, AllStand, Has, SoundMade, SoundMeant}
 use Rattle.chi_check_laws.proofs.Conversions.{some_is, mapped, chained}
 use Rattle.chi_check_laws.proofs.WholeParts.{expression_sound, type_sound}
 use Rattle.chi_check_stat_rules.specs.declared.home.ExitType.TheVariants as exit

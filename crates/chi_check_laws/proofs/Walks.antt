@@ -21,7 +21,7 @@ use Rattle.chi_check_types.specs.declared.rules.TheConstants.{WALK_NAMES}
 use Rattle.chi_check_types.specs.Names.{Names}
 use Rattle.chi_check_expr.proofs.Kept.{Each}
 use Rattle.chi_check_expr.proofs.Nodes.{settled_made}
-use Rattle.chi_check_laws.specs.Standing.{AllStand, SlotStands, SoundMade, Stands}
+use Rattle.chi_check_laws.specs.KnownNames.{AllStand, SlotStands, SoundMade, Stands}
 use Rattle.chi_check_laws.proofs.Conversions.{some_is, mapped, chosen}
 use Rattle.chi_check_laws.proofs.TypeKinds.{parts_of_tuple}
 use Rattle.chi_check_stat_rules.specs.declared.home.Home.{Home}

@@ -14,7 +14,7 @@ use Rattle.chi_check_expr.specs.Clean.{Clean}
 use Rattle.chi_check_expr.specs.Typing.{typing, reading}
 use Rattle.chi_check_expr.proofs.Kept.{Good}
 use Rattle.chi_check_expr.proofs.Induction.{typing_good, reading_good}
-use Rattle.chi_check_laws.specs.Standing.{IsSite, AllStand, SoundMade, SoundMeant}
+use Rattle.chi_check_laws.specs.KnownNames.{IsSite, AllStand, SoundMade, SoundMeant}
 use Rattle.chi_check_laws.proofs.Conversions.{some_is}
 use Rattle.chi_check_laws.proofs.Expressions.{keeps_sound}
 

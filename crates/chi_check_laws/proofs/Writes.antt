@@ -29,7 +29,7 @@ use Rattle.chi_check_types.specs.Typed.{Typed, refused}
 use Rattle.chi_check_types.specs.TypeRules.{is_int}
 use Rattle.chi_check_expr.proofs.Kept.{Each}
 use Rattle.chi_check_expr.proofs.Nodes.{barred_made}
-use Rattle.chi_check_laws.specs.Standing.{AllStand, Has, SoundMade}
+use Rattle.chi_check_laws.specs.KnownNames.{AllStand, Has, SoundMade}
 use Rattle.chi_check_laws.proofs.Conversions.{some_is, mapped, chained, chosen}
 use Rattle.chi_check_laws.proofs.Has.{Have, have_none, have_one}
 use Rattle.chi_check_laws.proofs.Parts.{int_kind}

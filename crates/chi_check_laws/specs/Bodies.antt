@@ -14,7 +14,7 @@ use Rattle.chi_check_stat_rules.specs.declared.home.Home.TheVariants as home
 use Rattle.chi_check_types.specs.declared.known.Known.{Known}
 use Rattle.chi_check_types.specs.declared.known.Known.TheVariants as known
 use Rattle.chi_check_types.specs.Names.{known_in}
-use Rattle.chi_check_laws.specs.Standing.{AllStand}
+use Rattle.chi_check_laws.specs.KnownNames.{AllStand}
 use Rattle.chi_check_stat_lines.specs.declared.state.State.{State}
 use Rattle.chi_check_laws.specs.Texts.{body_texts}
 

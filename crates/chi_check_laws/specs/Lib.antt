@@ -1,10 +1,10 @@
 pub mod Bodies
 pub mod CheckedBodies
 pub mod Formals
+pub mod KnownNames
 pub mod Laws
 pub mod Parts
 pub mod Spelled
-pub mod Standing
 pub mod Texts
 pub mod TypedTexts
 pub mod Whole

@@ -23,7 +23,7 @@ ghost use Rattle.chi_check_stat_rules.specs.Endings.{exiting};
 ghost use Rattle.chi_check_stat_rules.specs.Targets.{visible_target, indexed, field_of};
 ghost use Rattle.chi_check_stat_rules.specs.Values.{fitted, as_bool, as_instance};
 ghost use Rattle.chi_check_stat_rules.specs.Walks.{element_type};
-ghost use Rattle.chi_check_laws.specs.Standing.{Has, SoundMade, Stands};
+ghost use Rattle.chi_check_laws.specs.KnownNames.{Has, SoundMade, Stands};
 ghost use Rattle.chi_check_laws.specs.Parts.{target_texts, SoundAim, SoundReceiver, Communicates};
 
 /// A target that is the name of a variable is sound, and so is each step further. A sound target takes

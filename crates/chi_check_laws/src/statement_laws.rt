@@ -13,7 +13,7 @@ ghost use Rattle.chi_core.specs.Sound.{SoundIn, nothing_known};
 ghost use Rattle.chi_check_streams.specs.Streams.{each, of_statement};
 ghost use Rattle.chi_check_types.specs.Names.{Names};
 ghost use Rattle.chi_check_stat_rules.specs.declared.home.Home.{Home};
-ghost use Rattle.chi_check_laws.specs.Standing.{AllStand};
+ghost use Rattle.chi_check_laws.specs.KnownNames.{AllStand};
 ghost use Rattle.chi_check_stat_lines.specs.declared.state.State.{State};
 ghost use Rattle.chi_check_stat.specs.Statements.{stating_all};
 ghost use Rattle.chi_check_headers.specs.declared.header.Header.{Header};

@@ -16,7 +16,7 @@ ghost use Rattle.chi_check_types.specs.Defaults.{default_of};
 ghost use Rattle.chi_check_types.specs.Names.{Names};
 ghost use Rattle.chi_check_expr_rules.specs.Conversions.{converted};
 ghost use Rattle.chi_check_expr.specs.Typing.{typing, reading};
-ghost use Rattle.chi_check_laws.specs.Standing.{IsSite, AllStand, Has, SoundMade, SoundMeant, may_make_default};
+ghost use Rattle.chi_check_laws.specs.KnownNames.{IsSite, AllStand, Has, SoundMade, SoundMeant, may_make_default};
 
 /// An expression that comes to something is of its type with its streams, where its text literals are
 /// short and all visible names agree with the program; and its type is sound.

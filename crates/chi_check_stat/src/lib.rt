@@ -3,6 +3,7 @@
 
 mod alternatives;
 mod elements;
+mod lines;
 mod statements;
 
 pub use statements::check_all;

@@ -13,10 +13,10 @@ ghost use Rattle.chi_check_stat_lines.specs.Values.{all_faults, faults_if, made_
 ghost use Rattle.chi_check_stat_lines.specs.Values as expressions;
 ghost use Rattle.chi_check_stat_lines.specs.Lines as spec;
 
-use crate::lists::{one, only};
+use crate::lists::one;
 use crate::values::{goal_in, instances_in, some_value_in, target_in, value_in, values_in};
 use chi_base::{Items, NoMemory};
-use chi_check_expr_rules::unless;
+use chi_check_expr_rules::{list_of_one, unless};
 use chi_check_stat_rules::{Home, Receiver, Started, expr_place, note_running};
 use chi_check_types::{Fault, Made, Scope};
 use chi_core::{CAlt, CComm, CElem, CExpr, CStat};
@@ -162,7 +162,7 @@ fn selected(alloc: Global, line: u32, c: CComm) -> Result<CStat, NoMemory>
     ensures { IfOk result (λ s. s ≡ spec.selected line c) }
 {
     match Items::of(alloc, Vec::new(alloc)) {
-        Ok(block) => Ok(CStat::Select(line, only(alloc, CAlt::Guarded(None, c, block))?)),
+        Ok(block) => Ok(CStat::Select(line, list_of_one(alloc, CAlt::Guarded(None, c, block))?)),
         Err(refusal) => {
             drop(c);
             Err(refusal)

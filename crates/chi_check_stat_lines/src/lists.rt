@@ -1,9 +1,10 @@
 //! Lists that come of parts in turn.
 
-ghost use Rattle.std.specs.Prelude.{◌≡◌, Some, ◌++◌, ◌∷◌, [], IfOk};
+ghost use Rattle.std.specs.Prelude.{◌≡◌, Some, [], IfOk};
 ghost use Rattle.chi_check_stat_lines.specs.Stated as spec;
 
 use chi_base::{Items, NoMemory};
+use chi_check_expr_rules::list_of_one;
 use std::alloc::Global;
 
 /// A list of nothing.
@@ -13,44 +14,14 @@ pub fn nothing<T: Drop>(alloc: Global) -> Result<Option<Items<T>>, NoMemory>
     Ok(Some(Items::of(alloc, Vec::new(alloc))?))
 }
 
-/// A list of one.
-pub(crate) fn only<T: Drop>(alloc: Global, made: T) -> Result<Items<T>, NoMemory>
-    ensures { IfOk result (λ list. list ≡ made ∷ []) }
-{
-    let mut list = Vec::new(alloc);
-    list.push(made)?;
-    Items::of(alloc, list)
-}
-
 /// A list of one, if there is one.
 pub fn one<T: Drop>(alloc: Global, made: Option<T>) -> Result<Option<Items<T>>, NoMemory>
     ensures { IfOk result (λ list. list ≡ spec.one made) }
 {
     match made {
         None => Ok(None),
-        Some(made) => Ok(Some(only(alloc, made)?)),
+        Some(made) => Ok(Some(list_of_one(alloc, made)?)),
     }
-}
-
-/// One more at the end.
-pub(crate) fn more<T: Drop>(alloc: Global, all: Items<T>, last: T) -> Result<Items<T>, NoMemory>
-    ensures { IfOk result (λ list. list ≡ all ++ last ∷ []) }
-{
-    match all.into_vec(alloc) {
-        Ok(all) => pushed(alloc, all, last),
-        Err(refusal) => {
-            drop(last);
-            Err(refusal)
-        }
-    }
-}
-
-fn pushed<T: Drop>(alloc: Global, all: Vec<T>, last: T) -> Result<Items<T>, NoMemory>
-    ensures { IfOk result (λ list. list ≡ all.items ++ last ∷ []) }
-{
-    let mut all = all;
-    all.push(last)?;
-    Items::of(alloc, all)
 }
 
 /// What was made before, and what is made now, where both are there.

@@ -8,9 +8,10 @@ ghost use Rattle.chi_check_types.specs.Faults.{first_of};
 ghost use Rattle.chi_check_stat_lines.specs.Stated as stated;
 ghost use Rattle.chi_check_stat_lines.specs.Values as spec;
 
-use crate::lists::{more, one};
+use crate::lists::one;
 use chi_base::{Items, NoMemory};
 use chi_check_expr::type_in;
+use chi_check_expr_rules::one_more;
 use chi_check_stat_rules::{Aim, Home, expr_place, site_of};
 use chi_check_types::{Fault, Made, Scope, note, rules};
 use chi_core::{CExpr, CStat, CTarget};
@@ -130,7 +131,7 @@ fn with_last(
         drop(all);
         return Ok(None);
     };
-    Ok(Some(more(alloc, all, e)?))
+    Ok(Some(one_more(alloc, all, e)?))
 }
 
 #[tactic(auto, using(chi_check_types::proofs::Firsts::first_of_none, chi_check_types::proofs::Firsts::first_of_append, crate::proofs::Turns::joined_more, crate::proofs::Turns::joined_end, crate::proofs::Parts::grown_by))]

@@ -164,11 +164,7 @@ fn untyped_receiver(place: Place, kind: NameKind, kept: &mut Option<Fault>) -> O
 {
     match kind {
         NameKind::Variable => None,
-        NameKind::Unwound
-        | NameKind::Constant
-        | NameKind::Type
-        | NameKind::Function
-        | NameKind::Process => {
+        _ => {
             note(kept, rules::RECEIVING_NAME, place);
             None
         }
@@ -198,14 +194,7 @@ fn visible_receiver(
             Ok(Some(Receiver { slot, ty }))
         }
         Some(Known::Untyped(kind)) => Ok(untyped_receiver(place, *kind, kept)),
-        Some(Known::Fixed(_, _))
-        | Some(Known::Const(_, _))
-        | Some(Known::Kind(_))
-        | Some(Known::Value(_, _))
-        | Some(Known::Func(_, _, _))
-        | Some(Known::Proc(_, _, _))
-        | Some(Known::Model(_))
-        | Some(Known::Xper(_)) => {
+        Some(_) => {
             note(kept, rules::RECEIVING_NAME, place);
             Ok(None)
         }

@@ -110,11 +110,7 @@ fn untyped_start(place: Place, kind: NameKind, kept: &mut Option<Fault>)
 {
     match kind {
         NameKind::Process => {}
-        NameKind::Variable
-        | NameKind::Unwound
-        | NameKind::Constant
-        | NameKind::Type
-        | NameKind::Function => note(kept, rules::NAME_KIND, place),
+        _ => note(kept, rules::NAME_KIND, place),
     }
 }
 
@@ -144,14 +140,7 @@ fn visible_start(
             untyped_start(place, *kind, kept);
             Ok(None)
         }
-        Some(Known::Var(_, _))
-        | Some(Known::Fixed(_, _))
-        | Some(Known::Const(_, _))
-        | Some(Known::Kind(_))
-        | Some(Known::Value(_, _))
-        | Some(Known::Func(_, _, _))
-        | Some(Known::Model(_))
-        | Some(Known::Xper(_)) => {
+        Some(_) => {
             note(kept, rules::NAME_KIND, place);
             Ok(None)
         }

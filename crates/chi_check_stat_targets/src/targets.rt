@@ -2,15 +2,14 @@
 
 #![tactic(auto, using(chi_check_types::proofs::Firsts::first_of_none))]
 
-ghost use Rattle.std.specs.Prelude.{◌≡◌, [], ◌∷◌, ◌++◌, Some, None, IfOk, OnOk};
+ghost use Rattle.std.specs.Prelude.{◌≡◌, [], Some, None, IfOk, OnOk};
 ghost use Rattle.std.specs.Option.{option_copied};
 ghost use Rattle.chi_types.specs.declared.ty.Ty.{out-Ty};
 ghost use Rattle.chi_check_types.specs.Faults.{first_of};
-ghost use Rattle.chi_check_expr_rules.specs.Parts.{position_from, field_in};
 ghost use Rattle.chi_check_stat_rules.specs.Targets as spec;
 
 use chi_base::{Items, NoMemory};
-use chi_check_expr_rules::{converted, core_of, is_int, settle};
+use chi_check_expr_rules::{converted, core_of, field_in, is_int, one_more, settle};
 use chi_check_stat_rules::Aim;
 use chi_check_types::{Fault, Known, Made, NameKind, Scope, is_predefined, note, rules};
 use chi_core::{CStep, CTarget};
@@ -25,11 +24,7 @@ fn untyped_target(place: Place, kind: NameKind, kept: &mut Option<Fault>) -> Opt
 {
     match kind {
         NameKind::Variable => None,
-        NameKind::Unwound
-        | NameKind::Constant
-        | NameKind::Type
-        | NameKind::Function
-        | NameKind::Process => {
+        _ => {
             note(kept, rules::TARGET, place);
             None
         }
@@ -68,14 +63,7 @@ fn visible_target(
         }
         Some(Known::Var(slot, ty)) => Ok(Some(whole(alloc, *slot, ty)?)),
         Some(Known::Untyped(kind)) => Ok(untyped_target(place, *kind, kept)),
-        Some(Known::Fixed(_, _))
-        | Some(Known::Const(_, _))
-        | Some(Known::Kind(_))
-        | Some(Known::Value(_, _))
-        | Some(Known::Func(_, _, _))
-        | Some(Known::Proc(_, _, _))
-        | Some(Known::Model(_))
-        | Some(Known::Xper(_)) => {
+        Some(_) => {
             note(kept, rules::TARGET, place);
             Ok(None)
         }
@@ -108,33 +96,13 @@ fn refused(aim: Aim, index: Made) -> Option<Aim>
     None
 }
 
-fn with_step(alloc: Global, steps: Items<CStep>, step: CStep) -> Result<Items<CStep>, NoMemory>
-    ensures { IfOk result (λ more. more ≡ steps ++ step ∷ []) }
-{
-    match steps.into_vec(alloc) {
-        Ok(steps) => pushed(alloc, steps, step),
-        Err(refusal) => {
-            drop(step);
-            Err(refusal)
-        }
-    }
-}
-
-fn pushed(alloc: Global, steps: Vec<CStep>, step: CStep) -> Result<Items<CStep>, NoMemory>
-    ensures { IfOk result (λ more. more ≡ steps.items ++ step ∷ []) }
-{
-    let mut steps = steps;
-    steps.push(step)?;
-    Ok(Items::of(alloc, steps)?)
-}
-
 fn stepped(alloc: Global, aim: Aim, step: CStep, ty: Ty) -> Result<Option<Aim>, NoMemory>
     ensures { IfOk result (λ a. a ≡ Some (spec.stepped aim step ty)) }
 {
     let Aim { target, ty: whole } = aim;
     drop(whole);
     let CTarget { slot, steps } = target;
-    match with_step(alloc, steps, step) {
+    match one_more(alloc, steps, step) {
         Ok(steps) => Ok(Some(Aim {
             target: CTarget { slot, steps },
             ty,
@@ -253,35 +221,6 @@ pub fn index_step(
         return Ok(None);
     };
     Ok(settle(indexed(alloc, aim, index)?, rules::INDEX, place, kept))
-}
-
-/// The position and the type of the part of this name.
-fn position_of(
-    alloc: Global,
-    name: &Bytes,
-    parts: &[(Bytes, Ty)],
-) -> Result<Option<(u32, Ty)>, NoMemory>
-    ensures { IfOk result (λ found. found ≡ position_from 0 name.now parts.now) }
-{
-    for (number, part) in parts.iter().enumerate() {
-        if name.as_slice() == part.0.as_slice() {
-            let Ok(number) = u32::try_from(number) else {
-                return Err(NoMemory);
-            };
-            let ty = part.1.copy(alloc)?;
-            return Ok(Some((number, ty)));
-        }
-    }
-    Ok(None)
-}
-
-fn field_in(alloc: Global, ty: &Ty, name: &Bytes) -> Result<Option<(u32, Ty)>, NoMemory>
-    ensures { IfOk result (λ found. found ≡ field_in (out-Ty ty.now) name.now) }
-{
-    match ty {
-        Ty::TupleOf(parts) => position_of(alloc, name, parts.as_slice()),
-        _ => Ok(None),
-    }
 }
 
 fn field_of(alloc: Global, name: &Bytes, aim: Aim) -> Result<Option<Aim>, NoMemory>

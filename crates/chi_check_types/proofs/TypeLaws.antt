@@ -13,10 +13,12 @@ use Rattle.chi_core.specs.SoundTypes as sound
 use Rattle.chi_core.specs.SoundTypes.{SoundType, SoundParts}
 use Rattle.chi_check_types.specs.declared.fault.Fault.{Fault}
 use Rattle.chi_check_types.specs.declared.known.Known.TheVariants as known
+use Rattle.chi_check_types.specs.declared.known.NameKind.{NameKind}
+use Rattle.chi_check_types.specs.declared.known.NameKind.TheVariants as kind
 use Rattle.chi_check_types.specs.declared.meant.Made.{Made}
 use Rattle.chi_check_types.specs.declared.meant.Meant.{Meant}
 use Rattle.chi_check_types.specs.Typed.{Typed, broken_if, unless}
-use Rattle.chi_check_types.specs.TypeRules.{of_type, meaning, depth_rule, word_type, word_of, visible_type, list_of, set_of, dict_of, dist_of, chan_of, void_chan_of, sized_list_of, with_size, way_of, names_rule, tuple_of}
+use Rattle.chi_check_types.specs.TypeRules.{of_type, meaning, depth_rule, word_type, word_of, untyped_name, visible_type, list_of, set_of, dict_of, dist_of, chan_of, void_chan_of, sized_list_of, with_size, way_of, names_rule, tuple_of}
 use Rattle.chi_check_types.specs.TypeLaws.{IsSound, ComesToSound}
 
 unless_made : (fs : List Fault) (m : Meant) → (unless fs m).faults ≡ [] → (unless fs m).made ≡ Some m
@@ -60,6 +62,11 @@ sound_word_type n word.Inst = subst (SoundType n) (sym ty.outs-Inst) sound.insta
 
 pub sound_word : (n : ℕ) (place : Place) (w : TypeWord) → ComesToSound n (word_of place w)
 sound_word n place w = sound_made n place [] (meaning (word_type w)) (sound_word_type n w)
+
+-- a name whose own type breaks a rule means no type
+pub untyped_never : (place : Place) (k : NameKind) (m : Meant) → (untyped_name place k).made ≡ Some m → ⊥
+untyped_never place kind.Type m e = absurd (cc)
+untyped_never place _ m e = absurd (cc)
 
 pub sound_name : (n : ℕ) (place : Place) (t : Ty) → SoundType n (out-Ty t) → ComesToSound n (visible_type place (Some (known.Kind t)))
 sound_name n place t s = sound_made n place [] (meaning t) s

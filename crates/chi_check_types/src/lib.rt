@@ -26,6 +26,6 @@ pub use site::Site;
 pub use tuple_rules::tuple_of;
 pub use type_laws::{defaults_are_sound, types_are_exact, types_are_sound};
 pub use type_rules::{
-    MOST_TYPE_DEPTH, chan_of, dict_of, dist_of, list_of, named_type, note_if, set_of,
-    sized_list_of, void_chan_of, word_of,
+    MOST_TYPE_DEPTH, chan_of, dict_of, dist_of, is_deep, is_drawn, is_int, list_of, named_type,
+    note_if, set_of, sized_list_of, void_chan_of, word_of,
 };

@@ -37,7 +37,8 @@ pub fn note_if(kept: &mut Option<Fault>, broken: bool, rule: u8, place: Place)
     }
 }
 
-fn is_deep(ty: &Ty) -> bool
+/// Whether a type is deeper than types may be.
+pub fn is_deep(ty: &Ty) -> bool
     ensures { result ≡ nat_lt MOST_TYPE_DEPTH (depth ty.now) }
 {
     depth(ty) > MOST_TYPE_DEPTH
@@ -148,7 +149,8 @@ pub fn dict_of(
     Ok(settled(meant, plain, place, kept))
 }
 
-fn is_drawn(ty: &Ty) -> bool
+/// Whether a distribution may draw values of the type.
+pub fn is_drawn(ty: &Ty) -> bool
     ensures { result ≡ spec.is_drawn (out-Ty ty.now) }
 {
     match ty {
@@ -216,7 +218,7 @@ pub fn void_chan_of(
     Ok(settled(meant, true, place, kept))
 }
 
-fn is_int(ty: &Ty) -> bool
+pub fn is_int(ty: &Ty) -> bool
     ensures { result ≡ spec.is_int (out-Ty ty.now) }
 {
     match ty {
@@ -277,11 +279,7 @@ fn untyped_name(place: Place, kind: NameKind, kept: &mut Option<Fault>) -> Optio
 {
     match kind {
         NameKind::Type => None,
-        NameKind::Variable
-        | NameKind::Unwound
-        | NameKind::Constant
-        | NameKind::Function
-        | NameKind::Process => {
+        _ => {
             note(kept, rules::NAME_KIND, place);
             None
         }
@@ -307,14 +305,7 @@ fn visible_type(
             Ok(settled(meant, true, place, kept))
         }
         Some(Known::Untyped(kind)) => Ok(untyped_name(place, *kind, kept)),
-        Some(Known::Var(_, _))
-        | Some(Known::Fixed(_, _))
-        | Some(Known::Const(_, _))
-        | Some(Known::Value(_, _))
-        | Some(Known::Func(_, _, _))
-        | Some(Known::Proc(_, _, _))
-        | Some(Known::Model(_))
-        | Some(Known::Xper(_)) => {
+        Some(_) => {
             note(kept, rules::NAME_KIND, place);
             Ok(None)
         }

@@ -58,6 +58,7 @@ file_alone = one_more built_file [] (without_default built_file refl) no_more
 
 no_default_fault : (c : Command) (rows : List Row) → defaults_fault rows (rules c) ≡ []
 no_default_fault command.Check rows = file_alone rows
+no_default_fault command.Code rows = file_alone rows
 no_default_fault command.Load rows = file_alone rows
 no_default_fault command.TraceUp rows = file_alone rows
 no_default_fault command.Sim rows =
@@ -81,6 +82,7 @@ skip o is more rows = ap (λ (rs : List Row). fold with_default rs more) (unchan
 
 finished_is : (c : Command) (rows : List Row) → fold with_default rows (rules c) ≡ at_end c rows
 finished_is command.Check rows = unchanged built_file refl rows
+finished_is command.Code rows = unchanged built_file refl rows
 finished_is command.Load rows = unchanged built_file refl rows
 finished_is command.TraceUp rows = unchanged built_file refl rows
 finished_is command.Sim rows =
@@ -98,6 +100,7 @@ trace_kept id rows apart = each (has_row (codes "trace") rows) where
 end_kept : (c : Command) (id : Text) (rows : List Row) → bytes_eq (codes "trace") id ≡ false → row_at id (at_end c rows) ≡ row_at id rows
 end_kept command.Sim id rows apart = trace_kept id rows apart
 end_kept command.Check id rows apart = refl
+end_kept command.Code id rows apart = refl
 end_kept command.Load id rows apart = refl
 end_kept command.TraceUp id rows apart = refl
 
@@ -136,6 +139,7 @@ trace_end rows = each (row_at (codes "trace") rows) refl where
 flag_end : (c : Command) (rows : List Row) → flag_of (row_at (codes "trace") (at_end c rows)) ≡ flag_of (row_at (codes "trace") rows)
 flag_end command.Sim rows = trace_end rows
 flag_end command.Check rows = refl
+flag_end command.Code rows = refl
 flag_end command.Load rows = refl
 flag_end command.TraceUp rows = refl
 
@@ -169,6 +173,7 @@ wants false = refl
 check_is : (c : Command) (rows : List Row) → none (check_fault (shape c) rows false) ≡ row_is_given (codes "file") rows
 check_is command.Sim rows = wants (row_is_given (codes "file") rows)
 check_is command.Check rows = wants (row_is_given (codes "file") rows)
+check_is command.Code rows = wants (row_is_given (codes "file") rows)
 check_is command.Load rows = wants (row_is_given (codes "file") rows)
 check_is command.TraceUp rows = wants (row_is_given (codes "file") rows)
 

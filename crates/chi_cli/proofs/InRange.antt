@@ -21,7 +21,7 @@ use Rattle.chi_cli.specs.declared.words.TheConstants.{STEPS, MOST_STEPS}
 use Rattle.chi_cli.specs.Commands.{Text, command_named}
 use Rattle.chi_cli.specs.Numbers.{is_numeral, number_in, number_or, time_in, time_or_none, within}
 use Rattle.chi_cli.specs.Ranges.{IsInRange, IsPick, IsTime}
-use Rattle.chi_cli.specs.Requests.{asked, check, command_request, each_once, load, load_of, one_word, pick_of, policy_or_first, request_of, run_asked, said_request, sim, sim_of_file, trace_up, value_given}
+use Rattle.chi_cli.specs.Requests.{asked, check, code, command_request, each_once, load, load_of, one_word, pick_of, policy_or_first, request_of, run_asked, said_request, sim, sim_of_file, trace_up, value_given}
 use Rattle.chi_cli.specs.Splitting.{Said, split}
 use Rattle.chi_load.specs.declared.source.TheConstants.{MOST_MACHINES}
 
@@ -121,6 +121,10 @@ asked_in_range : (c : Command) (said : Said) → IfOk (asked c said) IsInRange
 asked_in_range command.Sim said = sim_in_range said.plain said.options
 asked_in_range command.Check said = each (one_word said.plain) where
   each : (o : Option Text) → IfOk (check o) IsInRange
+  each None = tt
+  each (Some file) = tt
+asked_in_range command.Code said = each (one_word said.plain) where
+  each : (o : Option Text) → IfOk (code o) IsInRange
   each None = tt
   each (Some file) = tt
 asked_in_range command.Load said = load_in_range (one_word said.plain)

@@ -145,6 +145,7 @@ plain_lacks c [] h unsettled =
     ∙ never (is_pending built_file h.pending) (settle_fault (rules c) false h)) ∙ unsettled
 plain_lacks command.Sim (file ∷ args) h unsettled = ap none (never (is_pending built_args h.pending) (settle_fault (rules command.Sim) false h)) ∙ unsettled
 plain_lacks command.Check (file ∷ args) h unsettled = refl
+plain_lacks command.Code (file ∷ args) h unsettled = refl
 plain_lacks command.Load (file ∷ args) h unsettled = refl
 plain_lacks command.TraceUp (file ∷ args) h unsettled = refl
 

@@ -72,6 +72,10 @@ abbrev pub check : Option Text → Result Request CliFault
 check None = Err fault.Usage
 check (Some file) = Ok (request.Check file)
 
+abbrev pub code : Option Text → Result Request CliFault
+code None = Err fault.Usage
+code (Some file) = Ok (request.Code file)
+
 abbrev pub load_of : Option ℕ → Result Request CliFault
 load_of None = Err fault.BadNumber
 load_of (Some n) = Ok (request.Load n)
@@ -89,6 +93,7 @@ trace_up (Some file) = Ok (request.TraceUp file)
 abbrev pub asked : Command → Said → Result Request CliFault
 asked command.Sim said = sim said.plain said.options
 asked command.Check said = check (one_word said.plain)
+asked command.Code said = code (one_word said.plain)
 asked command.Load said = load (one_word said.plain)
 asked command.TraceUp said = trace_up (one_word said.plain)
 

@@ -6,6 +6,7 @@ ghost use Rattle.chi_cli.specs.Commands.{command_named, options_of, option_text,
 pub enum Command {
     Sim,
     Check,
+    Code,
     Load,
     TraceUp,
 }
@@ -39,6 +40,8 @@ impl Command {
             Some(Command::Sim)
         } else if word == b"check".as_slice() {
             Some(Command::Check)
+        } else if word == b"code".as_slice() {
+            Some(Command::Code)
         } else if word == b"load".as_slice() {
             Some(Command::Load)
         } else if word == b"trace-up".as_slice() {
@@ -54,7 +57,7 @@ impl Command {
     {
         match self {
             Command::Sim => &SIM_OPTIONS,
-            Command::Check | Command::Load | Command::TraceUp => &[],
+            Command::Check | Command::Code | Command::Load | Command::TraceUp => &[],
         }
     }
 }

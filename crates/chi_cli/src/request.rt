@@ -30,6 +30,10 @@ pub enum Request {
     Check {
         file: Bytes,
     },
+    /// To list the code of a program.
+    Code {
+        file: Bytes,
+    },
     Load {
         /// The size of the factory.
         n: u32,

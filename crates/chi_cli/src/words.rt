@@ -3,7 +3,7 @@ ghost use Rattle.clap.specs.Words.{all_of, first_of, found_of, one_of, rows_of};
 ghost use Rattle.chi_cli.specs.declared.command.Command.TheVariants as command;
 ghost use Rattle.chi_cli.specs.Commands.{option_text};
 ghost use Rattle.chi_cli.specs.Parsing.{EachGiven, rest, truth_text};
-ghost use Rattle.chi_cli.specs.Requests.{IsRefused, asked, check, load, request_of, sim, sim_of_file, trace_up};
+ghost use Rattle.chi_cli.specs.Requests.{IsRefused, asked, check, code, load, request_of, sim, sim_of_file, trace_up};
 ghost use Rattle.chi_cli.specs.Saying.{texts};
 
 use crate::command::{Command, OptionName};
@@ -47,6 +47,7 @@ fn asked(alloc: Global, command: Command, matches: &ArgMatches<'_>) -> Result<Re
     match command {
         Command::Sim => sim(alloc, matches),
         Command::Check => check(alloc, text_of(matches, "file")),
+        Command::Code => code(alloc, text_of(matches, "file")),
         Command::Load => load(text_of(matches, "file")),
         Command::TraceUp => trace_up(alloc, text_of(matches, "file")),
     }
@@ -84,6 +85,18 @@ fn check(alloc: Global, file: Option<&[u8]>) -> Result<Request, CliFault>
 {
     match file {
         Some(file) => Ok(Request::Check {
+            file: Bytes::copy_of(alloc, file)?,
+        }),
+        None => Err(CliFault::Usage),
+    }
+}
+
+fn code(alloc: Global, file: Option<&[u8]>) -> Result<Request, CliFault>
+    ensures request { IfOk result (λ request. code (option_map (λ file. file.now) file.entry) ≡ Ok request) }
+    ensures fault { IfErr result (λ fault. IsRefused (code (option_map (λ file. file.now) file.entry)) fault) }
+{
+    match file {
+        Some(file) => Ok(Request::Code {
             file: Bytes::copy_of(alloc, file)?,
         }),
         None => Err(CliFault::Usage),

@@ -39,55 +39,55 @@ fn of_none(alloc: Global, s: &Scenery<'_>, name: OpName, view: &mut View) -> Res
 {
     match name {
         OpName::Time => Ok(Value::Real(Real::from_units(s.clock))),
-        OpName::Not => unreachable!(),
-        OpName::Add => unreachable!(),
-        OpName::Sub => unreachable!(),
-        OpName::Mul => unreachable!(),
-        OpName::Divide => unreachable!(),
-        OpName::Div => unreachable!(),
-        OpName::Mod => unreachable!(),
-        OpName::Power => unreachable!(),
-        OpName::Neg => unreachable!(),
-        OpName::Equal => unreachable!(),
-        OpName::NotEqual => unreachable!(),
-        OpName::Less => unreachable!(),
-        OpName::AtMost => unreachable!(),
-        OpName::Greater => unreachable!(),
-        OpName::AtLeast => unreachable!(),
-        OpName::In => unreachable!(),
-        OpName::Subset => unreachable!(),
-        OpName::Sample => unreachable!(),
-        OpName::Index => unreachable!(),
-        OpName::Lookup => unreachable!(),
-        OpName::Slice(_, _, _) => unreachable!(),
-        OpName::Abs => unreachable!(),
-        OpName::Sign => unreachable!(),
-        OpName::Min => unreachable!(),
-        OpName::Max => unreachable!(),
-        OpName::Floor => unreachable!(),
-        OpName::Ceil => unreachable!(),
-        OpName::Round => unreachable!(),
-        OpName::Size => unreachable!(),
-        OpName::Empty => unreachable!(),
-        OpName::Pop => unreachable!(),
-        OpName::Del => unreachable!(),
-        OpName::Range => unreachable!(),
-        OpName::Enumerate => unreachable!(),
-        OpName::DictKeys => unreachable!(),
-        OpName::DictValues => unreachable!(),
-        OpName::Constant => unreachable!(),
-        OpName::Uniform => unreachable!(),
-        OpName::Bernoulli => unreachable!(),
-        OpName::Binomial => unreachable!(),
-        OpName::Exponential => unreachable!(),
-        OpName::Ready => unreachable!(),
-        OpName::Finished => unreachable!(),
-        OpName::Widen => unreachable!(),
-        OpName::ToInt => unreachable!(),
-        OpName::ToReal => unreachable!(),
-        OpName::ToText => unreachable!(),
-        OpName::ToBool => unreachable!(),
-        OpName::ToTimer => unreachable!(),
+        OpName::Not
+        | OpName::Add
+        | OpName::Sub
+        | OpName::Mul
+        | OpName::Divide
+        | OpName::Div
+        | OpName::Mod
+        | OpName::Power
+        | OpName::Neg
+        | OpName::Equal
+        | OpName::NotEqual
+        | OpName::Less
+        | OpName::AtMost
+        | OpName::Greater
+        | OpName::AtLeast
+        | OpName::In
+        | OpName::Subset
+        | OpName::Sample
+        | OpName::Index
+        | OpName::Lookup
+        | OpName::Slice(_, _, _)
+        | OpName::Abs
+        | OpName::Sign
+        | OpName::Min
+        | OpName::Max
+        | OpName::Floor
+        | OpName::Ceil
+        | OpName::Round
+        | OpName::Size
+        | OpName::Empty
+        | OpName::Pop
+        | OpName::Del
+        | OpName::Range
+        | OpName::Enumerate
+        | OpName::DictKeys
+        | OpName::DictValues
+        | OpName::Constant
+        | OpName::Uniform
+        | OpName::Bernoulli
+        | OpName::Binomial
+        | OpName::Exponential
+        | OpName::Ready
+        | OpName::Finished
+        | OpName::Widen
+        | OpName::ToInt
+        | OpName::ToReal
+        | OpName::ToText
+        | OpName::ToBool
+        | OpName::ToTimer => unreachable!(),
     }
 }
 
@@ -129,31 +129,31 @@ pub fn of_one(
         OpName::ToText => Ok(to_text(alloc, s, a, view)?),
         OpName::ToBool => Ok(to_truth(a, view)?),
         OpName::ToTimer => Ok(to_timer(s, a, view)?),
-        OpName::Add => unreachable!(),
-        OpName::Sub => unreachable!(),
-        OpName::Mul => unreachable!(),
-        OpName::Divide => unreachable!(),
-        OpName::Div => unreachable!(),
-        OpName::Mod => unreachable!(),
-        OpName::Power => unreachable!(),
-        OpName::Equal => unreachable!(),
-        OpName::NotEqual => unreachable!(),
-        OpName::Less => unreachable!(),
-        OpName::AtMost => unreachable!(),
-        OpName::Greater => unreachable!(),
-        OpName::AtLeast => unreachable!(),
-        OpName::In => unreachable!(),
-        OpName::Subset => unreachable!(),
-        OpName::Index => unreachable!(),
-        OpName::Lookup => unreachable!(),
-        OpName::Min => unreachable!(),
-        OpName::Max => unreachable!(),
-        OpName::Del => unreachable!(),
-        OpName::Uniform => unreachable!(),
-        OpName::Bernoulli => unreachable!(),
-        OpName::Binomial => unreachable!(),
-        OpName::Exponential => unreachable!(),
-        OpName::Time => unreachable!(),
+        OpName::Add
+        | OpName::Sub
+        | OpName::Mul
+        | OpName::Divide
+        | OpName::Div
+        | OpName::Mod
+        | OpName::Power
+        | OpName::Equal
+        | OpName::NotEqual
+        | OpName::Less
+        | OpName::AtMost
+        | OpName::Greater
+        | OpName::AtLeast
+        | OpName::In
+        | OpName::Subset
+        | OpName::Index
+        | OpName::Lookup
+        | OpName::Min
+        | OpName::Max
+        | OpName::Del
+        | OpName::Uniform
+        | OpName::Bernoulli
+        | OpName::Binomial
+        | OpName::Exponential
+        | OpName::Time => unreachable!(),
     }
 }
 
@@ -198,32 +198,32 @@ pub fn of_two(
             let bounds = slice::from_ref(b);
             Ok(sliced(alloc, (first, last, by), a, bounds, view)?)
         }
-        OpName::Not => unreachable!(),
-        OpName::Neg => unreachable!(),
-        OpName::Sample => unreachable!(),
-        OpName::Abs => unreachable!(),
-        OpName::Sign => unreachable!(),
-        OpName::Floor => unreachable!(),
-        OpName::Ceil => unreachable!(),
-        OpName::Round => unreachable!(),
-        OpName::Size => unreachable!(),
-        OpName::Empty => unreachable!(),
-        OpName::Pop => unreachable!(),
-        OpName::Enumerate => unreachable!(),
-        OpName::DictKeys => unreachable!(),
-        OpName::DictValues => unreachable!(),
-        OpName::Constant => unreachable!(),
-        OpName::Uniform => unreachable!(),
-        OpName::Binomial => unreachable!(),
-        OpName::Ready => unreachable!(),
-        OpName::Finished => unreachable!(),
-        OpName::Time => unreachable!(),
-        OpName::Widen => unreachable!(),
-        OpName::ToInt => unreachable!(),
-        OpName::ToReal => unreachable!(),
-        OpName::ToText => unreachable!(),
-        OpName::ToBool => unreachable!(),
-        OpName::ToTimer => unreachable!(),
+        OpName::Not
+        | OpName::Neg
+        | OpName::Sample
+        | OpName::Abs
+        | OpName::Sign
+        | OpName::Floor
+        | OpName::Ceil
+        | OpName::Round
+        | OpName::Size
+        | OpName::Empty
+        | OpName::Pop
+        | OpName::Enumerate
+        | OpName::DictKeys
+        | OpName::DictValues
+        | OpName::Constant
+        | OpName::Uniform
+        | OpName::Binomial
+        | OpName::Ready
+        | OpName::Finished
+        | OpName::Time
+        | OpName::Widen
+        | OpName::ToInt
+        | OpName::ToReal
+        | OpName::ToText
+        | OpName::ToBool
+        | OpName::ToTimer => unreachable!(),
     }
 }
 
@@ -273,50 +273,50 @@ fn of_more(
             let bounds = &values[1..];
             Ok(sliced(alloc, (first, last, by), a, bounds, view)?)
         }
-        OpName::Not => unreachable!(),
-        OpName::Add => unreachable!(),
-        OpName::Sub => unreachable!(),
-        OpName::Mul => unreachable!(),
-        OpName::Divide => unreachable!(),
-        OpName::Div => unreachable!(),
-        OpName::Mod => unreachable!(),
-        OpName::Power => unreachable!(),
-        OpName::Neg => unreachable!(),
-        OpName::Equal => unreachable!(),
-        OpName::NotEqual => unreachable!(),
-        OpName::Less => unreachable!(),
-        OpName::AtMost => unreachable!(),
-        OpName::Greater => unreachable!(),
-        OpName::AtLeast => unreachable!(),
-        OpName::In => unreachable!(),
-        OpName::Subset => unreachable!(),
-        OpName::Sample => unreachable!(),
-        OpName::Index => unreachable!(),
-        OpName::Lookup => unreachable!(),
-        OpName::Abs => unreachable!(),
-        OpName::Sign => unreachable!(),
-        OpName::Floor => unreachable!(),
-        OpName::Ceil => unreachable!(),
-        OpName::Round => unreachable!(),
-        OpName::Size => unreachable!(),
-        OpName::Empty => unreachable!(),
-        OpName::Pop => unreachable!(),
-        OpName::Del => unreachable!(),
-        OpName::Enumerate => unreachable!(),
-        OpName::DictKeys => unreachable!(),
-        OpName::DictValues => unreachable!(),
-        OpName::Constant => unreachable!(),
-        OpName::Bernoulli => unreachable!(),
-        OpName::Exponential => unreachable!(),
-        OpName::Ready => unreachable!(),
-        OpName::Finished => unreachable!(),
-        OpName::Time => unreachable!(),
-        OpName::Widen => unreachable!(),
-        OpName::ToInt => unreachable!(),
-        OpName::ToReal => unreachable!(),
-        OpName::ToText => unreachable!(),
-        OpName::ToBool => unreachable!(),
-        OpName::ToTimer => unreachable!(),
+        OpName::Not
+        | OpName::Add
+        | OpName::Sub
+        | OpName::Mul
+        | OpName::Divide
+        | OpName::Div
+        | OpName::Mod
+        | OpName::Power
+        | OpName::Neg
+        | OpName::Equal
+        | OpName::NotEqual
+        | OpName::Less
+        | OpName::AtMost
+        | OpName::Greater
+        | OpName::AtLeast
+        | OpName::In
+        | OpName::Subset
+        | OpName::Sample
+        | OpName::Index
+        | OpName::Lookup
+        | OpName::Abs
+        | OpName::Sign
+        | OpName::Floor
+        | OpName::Ceil
+        | OpName::Round
+        | OpName::Size
+        | OpName::Empty
+        | OpName::Pop
+        | OpName::Del
+        | OpName::Enumerate
+        | OpName::DictKeys
+        | OpName::DictValues
+        | OpName::Constant
+        | OpName::Bernoulli
+        | OpName::Exponential
+        | OpName::Ready
+        | OpName::Finished
+        | OpName::Time
+        | OpName::Widen
+        | OpName::ToInt
+        | OpName::ToReal
+        | OpName::ToText
+        | OpName::ToBool
+        | OpName::ToTimer => unreachable!(),
     }
 }
 

@@ -20,53 +20,17 @@ pub fn sum(alloc: Global, a: &Value, b: &Value, view: &View) -> Result<Value, Fa
     ensures value { IfOk result (λ v. sum a.now b.now (out-Value a.now) (out-Value b.now) view.now ≡ Gives v view.now) }
     ensures fails { IfErr result (λ failure. IsFailure failure (sum a.now b.now (out-Value a.now) (out-Value b.now) view.now)) }
 {
-    match a {
-        Value::Int(x) => match b {
-            Value::Int(y) => match exact::sum(*x, *y) {
-                Ok(z) => Ok(Value::Int(z)),
-                Err(_) => Err(Failure::Fault(FaultKind::IntRange)),
-            },
-            Value::Bool(_)
-            | Value::Real(_)
-            | Value::Text(_)
-            | Value::Choice(_, _)
-            | Value::TupleOf(_)
-            | Value::ListOf(_)
-            | Value::SetOf(_)
-            | Value::DictOf(_)
-            | Value::Chan(_)
-            | Value::Dist(_)
-            | Value::Timer(_)
-            | Value::Inst(_) => Ok(joined(alloc, a, b, view)?),
+    match (a, b) {
+        (Value::Int(x), Value::Int(y)) => match exact::sum(*x, *y) {
+            Ok(z) => Ok(Value::Int(z)),
+            Err(_) => Err(Failure::Fault(FaultKind::IntRange)),
         },
-        Value::Real(x) => match b {
-            Value::Real(y) => match exact::real_sum(*x, *y) {
-                Ok(z) => Ok(Value::Real(z)),
-                Err(_) => Err(Failure::Fault(FaultKind::RealRange)),
-            },
-            Value::Bool(_)
-            | Value::Int(_)
-            | Value::Text(_)
-            | Value::Choice(_, _)
-            | Value::TupleOf(_)
-            | Value::ListOf(_)
-            | Value::SetOf(_)
-            | Value::DictOf(_)
-            | Value::Chan(_)
-            | Value::Dist(_)
-            | Value::Timer(_)
-            | Value::Inst(_) => Ok(joined(alloc, a, b, view)?),
+        (Value::Real(x), Value::Real(y)) => match exact::real_sum(*x, *y) {
+            Ok(z) => Ok(Value::Real(z)),
+            Err(_) => Err(Failure::Fault(FaultKind::RealRange)),
         },
-        Value::SetOf(_) | Value::DictOf(_) => Ok(united(alloc, a, b, view)?),
-        Value::Bool(_)
-        | Value::Text(_)
-        | Value::Choice(_, _)
-        | Value::TupleOf(_)
-        | Value::ListOf(_)
-        | Value::Chan(_)
-        | Value::Dist(_)
-        | Value::Timer(_)
-        | Value::Inst(_) => Ok(joined(alloc, a, b, view)?),
+        (Value::SetOf(_), _) | (Value::DictOf(_), _) => united(alloc, a, b, view),
+        (_, _) => joined(alloc, a, b, view),
     }
 }
 
@@ -77,54 +41,17 @@ pub fn difference(alloc: Global, a: &Value, b: &Value, view: &View) -> Result<Va
     ensures value { IfOk result (λ v. difference a.now b.now (out-Value a.now) (out-Value b.now) view.now ≡ Gives v view.now) }
     ensures fails { IfErr result (λ failure. IsFailure failure (difference a.now b.now (out-Value a.now) (out-Value b.now) view.now)) }
 {
-    match a {
-        Value::Int(x) => match b {
-            Value::Int(y) => match exact::difference(*x, *y) {
-                Ok(z) => Ok(Value::Int(z)),
-                Err(_) => Err(Failure::Fault(FaultKind::IntRange)),
-            },
-            Value::Bool(_)
-            | Value::Real(_)
-            | Value::Text(_)
-            | Value::Choice(_, _)
-            | Value::TupleOf(_)
-            | Value::ListOf(_)
-            | Value::SetOf(_)
-            | Value::DictOf(_)
-            | Value::Chan(_)
-            | Value::Dist(_)
-            | Value::Timer(_)
-            | Value::Inst(_) => Ok(in_first(alloc, a, b, view)?),
+    match (a, b) {
+        (Value::Int(x), Value::Int(y)) => match exact::difference(*x, *y) {
+            Ok(z) => Ok(Value::Int(z)),
+            Err(_) => Err(Failure::Fault(FaultKind::IntRange)),
         },
-        Value::Real(x) => match b {
-            Value::Real(y) => match exact::real_difference(*x, *y) {
-                Ok(z) => Ok(Value::Real(z)),
-                Err(_) => Err(Failure::Fault(FaultKind::RealRange)),
-            },
-            Value::Bool(_)
-            | Value::Int(_)
-            | Value::Text(_)
-            | Value::Choice(_, _)
-            | Value::TupleOf(_)
-            | Value::ListOf(_)
-            | Value::SetOf(_)
-            | Value::DictOf(_)
-            | Value::Chan(_)
-            | Value::Dist(_)
-            | Value::Timer(_)
-            | Value::Inst(_) => Ok(in_first(alloc, a, b, view)?),
+        (Value::Real(x), Value::Real(y)) => match exact::real_difference(*x, *y) {
+            Ok(z) => Ok(Value::Real(z)),
+            Err(_) => Err(Failure::Fault(FaultKind::RealRange)),
         },
-        Value::DictOf(_) => Ok(without_keys(alloc, a, b, view)?),
-        Value::Bool(_)
-        | Value::Text(_)
-        | Value::Choice(_, _)
-        | Value::TupleOf(_)
-        | Value::ListOf(_)
-        | Value::SetOf(_)
-        | Value::Chan(_)
-        | Value::Dist(_)
-        | Value::Timer(_)
-        | Value::Inst(_) => Ok(in_first(alloc, a, b, view)?),
+        (Value::DictOf(_), _) => without_keys(alloc, a, b, view),
+        (_, _) => in_first(alloc, a, b, view),
     }
 }
 
@@ -135,54 +62,16 @@ pub fn product(alloc: Global, a: &Value, b: &Value, view: &View) -> Result<Value
     ensures value { IfOk result (λ v. product a.now b.now (out-Value a.now) (out-Value b.now) view.now ≡ Gives v view.now) }
     ensures fails { IfErr result (λ failure. IsFailure failure (product a.now b.now (out-Value a.now) (out-Value b.now) view.now)) }
 {
-    match a {
-        Value::Int(x) => match b {
-            Value::Int(y) => match exact::product(*x, *y) {
-                Ok(z) => Ok(Value::Int(z)),
-                Err(_) => Err(Failure::Fault(FaultKind::IntRange)),
-            },
-            Value::Bool(_)
-            | Value::Real(_)
-            | Value::Text(_)
-            | Value::Choice(_, _)
-            | Value::TupleOf(_)
-            | Value::ListOf(_)
-            | Value::SetOf(_)
-            | Value::DictOf(_)
-            | Value::Chan(_)
-            | Value::Dist(_)
-            | Value::Timer(_)
-            | Value::Inst(_) => Ok(in_both(alloc, a, b, view)?),
+    match (a, b) {
+        (Value::Int(x), Value::Int(y)) => match exact::product(*x, *y) {
+            Ok(z) => Ok(Value::Int(z)),
+            Err(_) => Err(Failure::Fault(FaultKind::IntRange)),
         },
-        Value::Real(x) => match b {
-            Value::Real(y) => match exact::real_product(*x, *y) {
-                Ok(z) => Ok(Value::Real(z)),
-                Err(_) => Err(Failure::Fault(FaultKind::RealRange)),
-            },
-            Value::Bool(_)
-            | Value::Int(_)
-            | Value::Text(_)
-            | Value::Choice(_, _)
-            | Value::TupleOf(_)
-            | Value::ListOf(_)
-            | Value::SetOf(_)
-            | Value::DictOf(_)
-            | Value::Chan(_)
-            | Value::Dist(_)
-            | Value::Timer(_)
-            | Value::Inst(_) => Ok(in_both(alloc, a, b, view)?),
+        (Value::Real(x), Value::Real(y)) => match exact::real_product(*x, *y) {
+            Ok(z) => Ok(Value::Real(z)),
+            Err(_) => Err(Failure::Fault(FaultKind::RealRange)),
         },
-        Value::Bool(_)
-        | Value::Text(_)
-        | Value::Choice(_, _)
-        | Value::TupleOf(_)
-        | Value::ListOf(_)
-        | Value::SetOf(_)
-        | Value::DictOf(_)
-        | Value::Chan(_)
-        | Value::Dist(_)
-        | Value::Timer(_)
-        | Value::Inst(_) => Ok(in_both(alloc, a, b, view)?),
+        (_, _) => in_both(alloc, a, b, view),
     }
 }
 

@@ -1,7 +1,8 @@
 pub mod Binding
-pub mod InPlace
+pub mod Leaving
 pub mod Slots
 pub mod Spreading
 pub mod Stopping
 pub mod Storing
 pub mod Tasks
+pub mod Unspent

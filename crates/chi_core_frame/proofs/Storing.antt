@@ -20,7 +20,7 @@ use Rattle.chi_core_apply.proofs.Operations.{may}
 use Rattle.chi_core_apply.proofs.Parts.{at_place}
 use Rattle.chi_core_frame.proofs.Stopping.{then_stops}
 
-done_stops : (f : OpFault) (stop : Stop) (outcome : Outcome) (view : View) → stop ≡ stop_of_operation f → Refuses f outcome → Stops stop (done outcome view)
+pub done_stops : (f : OpFault) (stop : Stop) (outcome : Outcome) (view : View) → stop ≡ stop_of_operation f → Refuses f outcome → Stops stop (done outcome view)
 done_stops fault.Index stop outcome view s e = rw (s, e) refl
 done_stops fault.Key stop outcome view s e = rw (s, e) refl
 done_stops fault.Empty stop outcome view s e = rw (s, e) refl

@@ -1,10 +1,10 @@
 -- What tasks stand for, as they are put there and taken.
-use Rattle.std.proofs.Common.{Vec, Global, ◌≡◌, ◌≢◌, ℕ, zero, suc, ◌+◌, ◌-◌, ◌<◌, ◌≤◌, List, [], ◌∷◌, ◌++◌, Option, Some, None, length, get_or, drop, sym, ◌∙◌, ap, refl, arith, slice_get}
-use Rattle.std.specs.Prelude.{option_map, map, reverse, IsSome, ◌↔◌, MatchOption}
+use Rattle.std.proofs.Common.{◌≡◌, ◌≢◌, ℕ, zero, suc, ◌+◌, ◌-◌, ◌<◌, ◌≤◌, List, [], ◌∷◌, ◌++◌, Option, Some, None, length, get_or, drop, sym, ◌∙◌, ap, refl, arith, slice_get}
+use Rattle.std.specs.Prelude.{option_map, map, IsSome, ◌↔◌, MatchOption}
 use Rattle.std.specs.Borrow.{Bor}
 use Rattle.std.specs.Option.{option_to_list, option_copied}
 use Rattle.std.proofs.lemmas.Bool.{false≢true}
-use Rattle.std.proofs.lemmas.List.{append-nil, reverse-append, reverse-reverse, drop_more}
+use Rattle.std.proofs.lemmas.List.{append-nil, reverse-append, drop_more}
 use Rattle.chi_core.specs.declared.statement.CStat.{CStat}
 use Rattle.chi_core.specs.declared.expression.CExpr.{CExpr}
 use Rattle.chi_core.specs.Terms.{Item, Term, Do, Loop, Walk, after_loop, from_loop, first_the}
@@ -133,12 +133,9 @@ from_there (Loop line test block ∷ rest) h e = absurd (cc)
 from_there (Walk line slots elements block ∷ rest) h e = absurd (cc)
 
 -- a walk is put first
-pub walk_put : (tasks pushed : List Task) (term : Term) (line : ℕ) (slots : Bor (List ℕ)) (elements : List Value) (kept : Vec Value Global) (block : Bor (List CStat))
-    → todo tasks ≡ term → kept.items ≡ reverse elements → pushed ≡ tasks ++ task.Walk line slots kept block ∷ []
-    → todo pushed ≡ Walk line slots.now elements block.now ∷ term
-walk_put tasks pushed term line slots elements kept block e backwards p =
-    ap todo p ∙ todo_push tasks (task.Walk line slots kept block)
-    ∙ (λ i. Walk line slots.now ((ap reverse backwards ∙ reverse-reverse elements) i) block.now ∷ e i)
+pub walk_put : (tasks pushed : List Task) (term : Term) (line : ℕ) (slots : Bor (List ℕ)) (elements : List Value) (block : Bor (List CStat))
+    → todo tasks ≡ term → pushed ≡ tasks ++ task.Walk line slots elements block ∷ [] → todo pushed ≡ Walk line slots.now elements block.now ∷ term
+walk_put tasks pushed term line slots elements block e p = ap todo p ∙ todo_push tasks (task.Walk line slots elements block) ∙ ap (λ t. Walk line slots.now elements block.now ∷ t) e
 
 -- the walk that stands first
 module _ (variables : Variables) (term : Term) (tasks after : List Task) where
@@ -154,31 +151,28 @@ module _ (variables : Variables) (term : Term) (tasks after : List Task) where
   pub walk_loop : (line : ℕ) (test : Bor CExpr) (block : Bor (List CStat)) → todo tasks ≡ term → tasks ≡ after ++ task.Loop line test block ∷ [] → walk_done variables term ≢ None → ⊥
   walk_loop line test block e is h = h (ap (walk_done variables) (first (task.Loop line test block) e is))
 
-  module _ (line : ℕ) (slots : Bor (List ℕ)) (elements : Vec Value Global) (block : Bor (List CStat)) where
-    walk_is : todo tasks ≡ term → tasks ≡ after ++ task.Walk line slots elements block ∷ [] → term ≡ Walk line slots.now (reverse elements.items) block.now ∷ todo after
+  module _ (line : ℕ) (slots : Bor (List ℕ)) (elements : List Value) (block : Bor (List CStat)) where
+    walk_is : todo tasks ≡ term → tasks ≡ after ++ task.Walk line slots elements block ∷ [] → term ≡ Walk line slots.now elements block.now ∷ todo after
     walk_is e is = first (task.Walk line slots elements block) e is
 
-    pub walk_over : todo tasks ≡ term → tasks ≡ after ++ task.Walk line slots elements block ∷ [] → elements.items ≡ [] → walk_done variables term ≡ Some (variables, todo after)
-    walk_over e is none = ap (walk_done variables) (walk_is e is ∙ ap (λ xs. Walk line slots.now (reverse xs) block.now ∷ todo after) none)
+    pub walk_over : todo tasks ≡ term → tasks ≡ after ++ task.Walk line slots elements block ∷ [] → elements ≡ [] → walk_done variables term ≡ Some (variables, todo after)
+    walk_over e is none = ap (walk_done variables) (walk_is e is ∙ ap (λ xs. Walk line slots.now xs block.now ∷ todo after) none)
 
-    turned : (rest : List Value) (x : Value) → elements.items ≡ rest ++ x ∷ [] → reverse elements.items ≡ x ∷ reverse rest
-    turned rest x more = ap reverse more ∙ reverse-append rest (x ∷ [])
+    walk_at : (rest : List Value) (x : Value) → todo tasks ≡ term → tasks ≡ after ++ task.Walk line slots elements block ∷ [] → elements ≡ x ∷ rest
+        → walk_done variables term ≡ option_map (λ new. (new, first_the block.now (Walk line slots.now rest block.now ∷ todo after))) (bound slots.now x variables)
+    walk_at rest x e is more = ap (walk_done variables) (walk_is e is ∙ ap (λ xs. Walk line slots.now xs block.now ∷ todo after) more)
 
-    walk_at : (rest : List Value) (x : Value) → todo tasks ≡ term → tasks ≡ after ++ task.Walk line slots elements block ∷ [] → elements.items ≡ rest ++ x ∷ []
-        → walk_done variables term ≡ option_map (λ new. (new, first_the block.now (Walk line slots.now (reverse rest) block.now ∷ todo after))) (bound slots.now x variables)
-    walk_at rest x e is more = ap (walk_done variables) (walk_is e is ∙ ap (λ xs. Walk line slots.now xs block.now ∷ todo after) (turned rest x more))
-
-    pub walk_bound : (rest : List Value) (x : Value) → todo tasks ≡ term → tasks ≡ after ++ task.Walk line slots elements block ∷ [] → elements.items ≡ rest ++ x ∷ []
+    pub walk_bound : (rest : List Value) (x : Value) → todo tasks ≡ term → tasks ≡ after ++ task.Walk line slots elements block ∷ [] → elements ≡ x ∷ rest
         → walk_done variables term ≢ None → bound slots.now x variables ≢ None
-    walk_bound rest x e is more h none = h (walk_at rest x e is more ∙ ap (option_map (λ new. (new, first_the block.now (Walk line slots.now (reverse rest) block.now ∷ todo after)))) none)
+    walk_bound rest x e is more h none = h (walk_at rest x e is more ∙ ap (option_map (λ new. (new, first_the block.now (Walk line slots.now rest block.now ∷ todo after)))) none)
 
-    pub walk_goes : (rest : Vec Value Global) (x : Value) (variables2 : Variables) (pushed put : List Task) → todo tasks ≡ term → tasks ≡ after ++ task.Walk line slots elements block ∷ []
-        → elements.items ≡ rest.items ++ x ∷ [] → bound slots.now x variables ≡ Some variables2
+    pub walk_goes : (rest : List Value) (x : Value) (variables2 : Variables) (pushed put : List Task) → todo tasks ≡ term → tasks ≡ after ++ task.Walk line slots elements block ∷ []
+        → elements ≡ x ∷ rest → bound slots.now x variables ≡ Some variables2
         → pushed ≡ after ++ task.Walk line slots rest block ∷ [] → todo put ≡ first_the block.now (todo pushed)
         → walk_done variables term ≡ Some (variables2, todo put)
     walk_goes rest x variables2 pushed put e is more b p q =
-        walk_at rest.items x e is more
-        ∙ ap (option_map (λ new. (new, first_the block.now (Walk line slots.now (reverse rest.items) block.now ∷ todo after)))) b
+        walk_at rest x e is more
+        ∙ ap (option_map (λ new. (new, first_the block.now (Walk line slots.now rest block.now ∷ todo after)))) b
         ∙ ap (λ t. Some (variables2, t)) (ap (first_the block.now) (sym (ap todo p ∙ todo_push after (task.Walk line slots rest block))) ∙ sym q)
 
 pub ruleset walks = (walk_none, walk_do, walk_loop, walk_over, walk_bound, walk_goes)

@@ -1,7 +1,9 @@
+pub mod Alike
 pub mod Assignments
 pub mod Bindings
+pub mod Elements
 pub mod Heads
-pub mod InPlace
+pub mod Operators
 pub mod Spots
 pub mod Stops
 pub mod Terms

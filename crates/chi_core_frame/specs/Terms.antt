@@ -5,11 +5,10 @@ use Rattle.chi_core.specs.Terms.{Item, Term}
 use Rattle.chi_core_frame.specs.declared.term.Task.{Task}
 use Rattle.chi_core_frame.specs.declared.term.Task.TheVariants.{Do, Loop, Walk}
 
--- the elements of a walk are kept with the next one last
 abbrev pub item_of : Task → Item
 item_of (Do s) = terms.Do s.now
 item_of (Loop line test block) = terms.Loop line test.now block.now
-item_of (Walk line slots elements block) = terms.Walk line slots.now (reverse elements.items) block.now
+item_of (Walk line slots elements block) = terms.Walk line slots.now elements block.now
 
 -- the items of tasks that are kept with the next one last
 unfoldable pub todo : List Task → Term

@@ -1,26 +1,23 @@
-//! What copies, defaults, literals, operators and lists make of values that are given away. What
-//! refuses them is why something stops.
+//! What copies, defaults, literals and lists make of values that are given away. What refuses them is
+//! why something stops.
 
-ghost use Rattle.std.specs.Prelude.{◌≡◌, ◌≢◌, [], ◌∷◌, IfOk, IfErr};
+ghost use Rattle.std.specs.Prelude.{◌≡◌, ◌≢◌, Err, IfOk, IfErr};
 ghost use Rattle.chi_value.specs.declared.value.Value.TheVariants as values;
 ghost use Rattle.chi_ops.specs.Operations.{build};
 ghost use Rattle.chi_ops.specs.Sequences.{insert_at};
 ghost use Rattle.chi_core.specs.Answer.{Gives, Amiss, wanted};
 ghost use Rattle.chi_core.specs.Containers.{done};
 ghost use Rattle.chi_core.specs.Evaluation.{fresh};
-ghost use Rattle.chi_core.specs.Operators.{applied};
 ghost use Rattle.chi_core.specs.Reading.{part_of};
 ghost use Rattle.chi_core_frame.specs.declared.stop.Stop.TheVariants.{NoMemory};
 ghost use Rattle.chi_core_frame.specs.Stops.{Stops};
-ghost use Rattle.chi_core_apply.specs.Scenery.{scene_of};
 
 use crate::scalars::copied;
 use crate::stop::Stop;
-use chi_core::{OpName, View};
-use chi_core_apply::{
-    Scenery, apply, fresh, inserted_at, made_of, of_one_used, of_two_used, part_in,
-};
-use chi_value::{Kind, Row, Shape, Value};
+use chi_core::{FaultKind, View};
+use chi_core_apply::{fresh, made_of, part_in};
+use chi_ops::inserted;
+use chi_value::{Kind, MOST_ELEMENTS, Row, Shape, Value};
 use std::alloc::Global;
 
 /// A copy of a value.
@@ -60,57 +57,8 @@ pub fn part_of(alloc: Global, whole: Value, number: u32, view: &View) -> Result<
     Ok(part_in(alloc, &whole, number)?)
 }
 
-/// What an operator makes of one operand.
-#[tactic(auto, using(crate::proofs::Stopping::stopping))]
-pub fn operator_of_one(
-    alloc: Global,
-    scenery: &Scenery<'_>,
-    name: OpName,
-    x: Value,
-    view: &mut View,
-) -> Result<Value, Stop>
-    requires { applied (scene_of scenery.now) name (x ∷ []) view.old ≢ Amiss }
-    ensures value { IfOk result (λ v. applied (scene_of scenery.now) name (x ∷ []) view.old ≡ Gives v view.new) }
-    ensures stops { IfErr result (λ stop. Stops stop (applied (scene_of scenery.now) name (x ∷ []) view.old)) }
-{
-    Ok(of_one_used(alloc, scenery, name, x, view)?)
-}
-
-/// What an operator makes of two operands.
-#[tactic(auto, using(crate::proofs::Stopping::stopping))]
-pub fn operator_of_two(
-    alloc: Global,
-    scenery: &Scenery<'_>,
-    name: OpName,
-    x: Value,
-    y: Value,
-    view: &mut View,
-) -> Result<Value, Stop>
-    requires { applied (scene_of scenery.now) name (x ∷ y ∷ []) view.old ≢ Amiss }
-    ensures value { IfOk result (λ v. applied (scene_of scenery.now) name (x ∷ y ∷ []) view.old ≡ Gives v view.new) }
-    ensures stops { IfErr result (λ stop. Stops stop (applied (scene_of scenery.now) name (x ∷ y ∷ []) view.old)) }
-{
-    Ok(of_two_used(alloc, scenery, name, x, y, view)?)
-}
-
-/// What an operator makes of any number of operands.
-#[tactic(auto, using(crate::proofs::Stopping::stopping))]
-pub fn operator_of_all(
-    alloc: Global,
-    scenery: &Scenery<'_>,
-    name: OpName,
-    values: Vec<Value>,
-    view: &mut View,
-) -> Result<Value, Stop>
-    requires { applied (scene_of scenery.now) name values.items view.old ≢ Amiss }
-    ensures value { IfOk result (λ v. applied (scene_of scenery.now) name values.items view.old ≡ Gives v view.new) }
-    ensures stops { IfErr result (λ stop. Stops stop (applied (scene_of scenery.now) name values.items view.old)) }
-{
-    Ok(apply(alloc, scenery, name, values.as_slice(), view)?)
-}
-
-/// A list with an element put before a place.
-#[tactic(auto, using(crate::proofs::Stopping::stopping))]
+/// A list with an element put before a place. Where nobody else has the list, it grows where it is.
+#[tactic(auto, using(crate::proofs::Storing::done_stops, crate::proofs::Unspent::insertion_unspent, chi_core_apply::proofs::Inserting::inserting, chi_core_apply::proofs::Operations::operations))]
 pub fn insertion_of(
     alloc: Global,
     xs: Value,
@@ -121,8 +69,12 @@ pub fn insertion_of(
     requires { done (insert_at xs place x) view.now ≢ Amiss }
     ensures value { IfOk result (λ v. done (insert_at xs place x) view.now ≡ Gives v view.now) }
     ensures stops { IfErr result (λ stop. Stops stop (done (insert_at xs place x) view.now)) }
+    ensures never { result ≢ Err Stop.Spent }
 {
-    Ok(inserted_at(alloc, &xs, place, &x, view)?)
+    if place >= MOST_ELEMENTS {
+        return Err(Stop::Fault(FaultKind::TooLarge));
+    }
+    Ok(inserted(alloc, xs, place as u32, x)?)
 }
 
 /// A list of values.

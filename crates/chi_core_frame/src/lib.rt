@@ -3,8 +3,9 @@
 #![tactic(auto)]
 
 mod assigning;
+mod elements;
 mod given;
-mod in_place;
+mod operators;
 mod scalars;
 mod spots;
 mod stop;
@@ -12,11 +13,9 @@ mod term;
 mod variables;
 
 pub use assigning::{spread, store_each};
-pub use given::{
-    copy_of, fresh_of, insertion_of, list_of, literal_of, operator_of_all, operator_of_one,
-    operator_of_two, part_of,
-};
-pub use in_place::{operate_on_one, operate_on_two, operator_off_one, operator_off_two};
+pub use elements::Elements;
+pub use given::{copy_of, fresh_of, insertion_of, list_of, literal_of, part_of};
+pub use operators::{Operands, operator_of};
 pub use scalars::copied;
 pub use spots::{Spot, store};
 pub use stop::Stop;

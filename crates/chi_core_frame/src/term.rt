@@ -4,10 +4,10 @@ ghost use Rattle.chi_core.specs.Terms as terms;
 ghost use Rattle.chi_core_frame.specs.Heads.{IsHead, walk_done};
 ghost use Rattle.chi_core_frame.specs.Terms.{todo, item_of, first_of};
 
+use crate::elements::Elements;
 use crate::variables::Variables;
 use chi_base::NoMemory;
 use chi_core::{CExpr, CStat};
-use chi_value::Value;
 use std::alloc::Global;
 use std::marker::Model;
 
@@ -18,8 +18,8 @@ pub enum Task<'a> {
     /// A loop under way, which tests again: the line of its statement, its test and its block.
     Loop(u32, &'a CExpr, &'a [CStat]),
     /// A walk under way: the line of its statement, the slots that each element fills, the elements
-    /// that are left, the next one last, and its block.
-    Walk(u32, &'a [u32], Vec<Value>, &'a [CStat]),
+    /// that are left, and its block.
+    Walk(u32, &'a [u32], Elements, &'a [CStat]),
 }
 
 /// What is left to do. Contracts see it as the list of its items.
@@ -139,13 +139,11 @@ impl<'a> Term<'a> {
         &mut self,
         line: u32,
         slots: &'a [u32],
-        elements: Vec<Value>,
+        elements: Elements,
         block: &'a [CStat],
     ) -> Result<(), NoMemory>
-        ensures { OnOk result (self.new ≡ Walk line slots.now elements.items block.now ∷ self.old) }
+        ensures { OnOk result (self.new ≡ Walk line slots.now elements block.now ∷ self.old) }
     {
-        let mut elements = elements;
-        elements.reverse();
         self.tasks.push(Task::Walk(line, slots, elements, block))?;
         Ok(())
     }
@@ -160,7 +158,8 @@ impl<'a> Term<'a> {
         match self.tasks.pop() {
             Some(Task::Walk(line, slots, elements, block)) => {
                 let mut elements = elements;
-                match elements.pop() {
+                let next = elements.next(alloc)?;
+                match next {
                     Some(element) => {
                         variables.bind(alloc, slots, element)?;
                         self.tasks.push(Task::Walk(line, slots, elements, block))?;

@@ -1,6 +1,7 @@
 ghost use Rattle.std.specs.Prelude.{◌≡◌, ◌≢◌, ◌<◌, ◌↔◌, None, Some, IfOk, IsTrue, OnOk, length, slice_set};
 ghost use Rattle.std.specs.Option.{option_copied};
 ghost use Rattle.chi_value.specs.declared.value.Value.{Value};
+ghost use Rattle.chi_core_frame.specs.Alike.{AreAlikeBut};
 ghost use Rattle.chi_core_frame.specs.Bindings.{bound_parts};
 ghost use Rattle.chi_core.specs.Variables.{variables_of, value_at, with_slot, bound};
 
@@ -104,7 +105,7 @@ impl Variables {
     /// Whether a slot is there and set.
     #[inline(always)]
     #[tactic(auto, using(crate::proofs::Slots::set))]
-    pub fn is_set(&self, slot: u32) -> bool
+    fn is_set(&self, slot: u32) -> bool
         ensures { IsTrue result ↔ (value_at self.now slot ≢ None) }
     {
         match self.slots.get(slot as usize) {
@@ -125,6 +126,16 @@ impl Variables {
         match self.slots[slot as usize].take() {
             Some(value) => value,
             None => unreachable!(),
+        }
+    }
+
+    /// Lets go of the value of a slot, if it has one, so that it isn't set. Who has a copy of the value, and else shares it
+    /// with nobody, changes it where it is then.
+    pub fn unset(&mut self, slot: u32)
+        ensures { AreAlikeBut slot self.old self.new }
+    {
+        if self.is_set(slot) {
+            let_go(Some(self.take(slot)));
         }
     }
 

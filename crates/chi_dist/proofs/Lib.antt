@@ -1,7 +1,8 @@
 mod Between
-mod Exponential
+mod ExponentialOrder
 mod ExponentialRows
 mod Kept
+mod Leading
 mod Logarithm
 mod Period
 mod Rows

@@ -1,5 +1,5 @@
 -- Logarithms by binary digits: their ranges and their order.
-use Rattle.std.proofs.Common.{◌≡◌, ℕ, zero, suc, ◌+◌, ◌-◌, ◌*◌, ◌/◌, ◌^◌, ◌<◌, ◌≤◌, Bool, true, false, nat_lt, refl, sym, ap, ◌∙◌, rules, arith}
+use Rattle.std.proofs.Common.{◌≡◌, ℕ, zero, suc, ◌+◌, ◌-◌, ◌*◌, ◌/◌, ◌^◌, ◌<◌, ◌≤◌, ◌⊎◌, inl, inr, Bool, true, false, nat_lt, refl, sym, ap, ◌∙◌, rules, arith}
 use Rattle.std.specs.Prelude.{if◌then◌else◌}
 use Rattle.std.specs.Int.Count.{count_leading_zeros}
 use Rattle.std.proofs.Math.Nat.{pow-suc, mul-le-mul_right, div-mul-le_self, pow-le-pow_right}
@@ -10,6 +10,9 @@ use Rattle.chi_dist.specs.Exponential.{exponent, leading, square, log_digit, log
 pub div_order : (k a b : ℕ) → 0 < k → a ≤ b → a / k ≤ b / k
 div_order k a b some le = le-div (a / k) b k some (omega (arith, div-mul-le_self a k, le))
 
+pub power_order : (i j : ℕ) → i ≤ j → 2 ^ i ≤ 2 ^ j
+power_order i j le = pow-le-pow_right {n = 2} (omega arith) le
+
 -- ---- digits
 
 square_order : (y z : ℕ) → y ≤ z → square y ≤ square z
@@ -19,12 +22,17 @@ digit_most : (b : Bool) → (if b then 0 else 1) ≤ 1
 digit_most true = omega arith
 digit_most false = omega arith
 
+pub log_digit_most : (y : ℕ) → log_digit y ≤ 1
+log_digit_most y = digit_most (nat_lt (square y) (2 ^ 64))
+
+one_more_below : (digit p rest : ℕ) → digit ≤ 1 → rest < p → digit * p + rest < p * 2
+one_more_below digit p rest most below = omega (arith, mul-le-mul_right p most)
+
 pub digits_below : (count y : ℕ) → log_digits count y < 2 ^ count
 unfolding log_digits
 digits_below zero y = omega arith
 digits_below (suc count) y =
-    let digit : log_digit y * 2 ^ count ≤ 1 * 2 ^ count = mul-le-mul_right (2 ^ count) (digit_most (nat_lt (square y) (2 ^ 64))) in
-    omega (arith, pow-suc 2 count, digit, digits_below count (log_rest y))
+    rw (pow-suc 2 count) (one_more_below (log_digit y) (2 ^ count) (log_digits count (log_rest y)) (log_digit_most y) (digits_below count (log_rest y)))
 
 module _ (count y z : ℕ) (le : y ≤ z) (order : (y z : ℕ) → y ≤ z → log_digits count y ≤ log_digits count z) where
   by_digits : (a b : Bool) → nat_lt (square y) (2 ^ 64) ≡ a → nat_lt (square z) (2 ^ 64) ≡ b
@@ -43,25 +51,21 @@ pub digits_order : (count y z : ℕ) → y ≤ z → log_digits count y ≤ log_
 unfolding log_digits
 digits_order zero y z le = omega arith
 digits_order (suc count) y z le =
-    by_digits count y z le (digits_order count) (nat_lt (square y) (2 ^ 64)) (nat_lt (square z) (2 ^ 64)) refl refl
+    by_digits count y z le (λ y z le. digits_order count y z le) (nat_lt (square y) (2 ^ 64)) (nat_lt (square z) (2 ^ 64)) refl refl
 
 -- ---- the whole part
+
+not_past : (x i j : ℕ) → i < j → x < 2 ^ suc i → 2 ^ j ≤ x → ⊥
+not_past x i j less under over = omega (arith, under, over, power_order (suc i) j less)
+
+no_less : (x i j : ℕ) → 2 ^ i ≤ x → x < 2 ^ suc j → i ≤ j
+no_less x i j over under = elim (cases_lt j i) as (λ _. i ≤ j) [ inl less ↦ absurd (not_past x j i less under over) | inr more ↦ more ]
 
 pub exponent_of : (x n : ℕ) → 0 < x → x < 2 ^ 65 → 2 ^ n ≤ x → x < 2 ^ suc n → exponent x ≡ n
 exponent_of x n some below least most =
     let top = leading_top 65 x some below in
     let here : exponent x ≡ top.0 = omega (arith, top.1) in
-    here ∙ one top.0 top.2 top.3
-  where
-    not_past : (i j : ℕ) → i < j → x < 2 ^ suc i → 2 ^ j ≤ x → ⊥
-    not_past i j less under over =
-        let power : 2 ^ suc i ≤ 2 ^ j = pow-le-pow_right (omega arith) less in omega (arith, under, over, power)
-
-    one : (j : ℕ) → 2 ^ j ≤ x → x < 2 ^ suc j → j ≡ n
-    one j over under =
-        let low : n ≤ j = elim (cases_lt j n) as (λ _. n ≤ j) [ inl l ↦ absurd (not_past j n l under least) | inr g ↦ g ] in
-        let high : j ≤ n = elim (cases_lt n j) as (λ _. j ≤ n) [ inl l ↦ absurd (not_past n j l most over) | inr g ↦ g ] in
-        omega (arith, low, high)
+    omega (arith, here, no_less x n top.0 least top.3, no_less x top.0 n top.2 most)
 
 pub exponent_told : (x : ℕ) → 0 < x → x < 2 ^ 65 → (2 ^ exponent x ≤ x) × (x < 2 ^ suc (exponent x))
 exponent_told x some below =
@@ -69,35 +73,42 @@ exponent_told x some below =
     let here : exponent x ≡ top.0 = omega (arith, top.1) in
     rw here (top.2, top.3)
 
-pub exponent_most : (x : ℕ) → exponent x ≤ 64
-exponent_most x = omega arith
-
 -- ---- the logarithm
 
-pub parts_order : (x z : ℕ) → 0 < x → x ≤ z → z < 2 ^ 65 → log_parts x ≤ log_parts z
-parts_order x z some le below = by_order (cases_lt (exponent x) (exponent z))
-  where
-    first = exponent_told x some (omega (arith, le, below))
-    second = exponent_told z (omega (arith, some, le)) below
+-- so much of a whole part is more than all digits
+less_whole : (n m d e : ℕ) → n < m → d < 2 ^ 40 → n * 2 ^ 40 + d ≤ m * 2 ^ 40 + e
+less_whole n m d e less few = omega arith
 
-    by_order : (exponent x < exponent z) ⊎ (exponent z ≤ exponent x) → log_parts x ≤ log_parts z
-    by_order (inl less) = omega (arith, less, digits_below 40 (leading x))
-    by_order (inr more) = elim (cases_lt (exponent z) (exponent x)) as (λ _. log_parts x ≤ log_parts z) [
-      | inl past ↦
-          let power : 2 ^ suc (exponent z) ≤ 2 ^ exponent x = pow-le-pow_right (omega arith) past in
-          absurd (omega (arith, power, first.0, second.1, le))
-      | inr most ↦
-          let same : exponent x ≡ exponent z = omega (arith, more, most) in
-          let order : leading x ≤ leading z =
-          rw same (div_order (2 ^ exponent z) (x * 2 ^ 63) (z * 2 ^ 63) (pow_pos (exponent z)) (omega (arith, le)))
-          in
-          omega (arith, same, digits_order 40 (leading x) (leading z) order)
+same_whole : (n m d e : ℕ) → n ≡ m → d ≤ e → n * 2 ^ 40 + d ≤ m * 2 ^ 40 + e
+same_whole n m d e same le = omega arith
+
+leading_order : (x z n m : ℕ) → x ≤ z → n ≡ m → x * 2 ^ 63 / 2 ^ n ≤ z * 2 ^ 63 / 2 ^ m
+leading_order x z n m le same = rw same (div_order (2 ^ m) (x * 2 ^ 63) (z * 2 ^ 63) (pow_pos m) (omega arith))
+
+pub parts_order : (x z : ℕ) → 0 < x → x ≤ z → z < 2 ^ 65 → log_parts x ≤ log_parts z
+parts_order x z some le below =
+    let first = exponent_told x some (omega arith) in
+    let second = exponent_told z (omega arith) below in
+    let whole : exponent x ≤ exponent z = no_less z (exponent x) (exponent z) (omega (arith, first.0, le)) second.1 in
+    elim (cases_lt (exponent x) (exponent z)) as (λ _. log_parts x ≤ log_parts z) [
+      | inl less ↦ less_whole (exponent x) (exponent z) (log_digits 40 (leading x)) (log_digits 40 (leading z)) less (digits_below 40 (leading x))
+      | inr more ↦
+          let same : exponent x ≡ exponent z = omega (arith, whole, more) in
+          same_whole (exponent x) (exponent z) (log_digits 40 (leading x)) (log_digits 40 (leading z)) same
+          (digits_order 40 (leading x) (leading z) (leading_order x z (exponent x) (exponent z) le same))
     ]
+
+less_left : (p q : ℕ) → p ≤ q → 64 * 2 ^ 40 - q ≤ 64 * 2 ^ 40 - p
+less_left p q le = omega arith
 
 pub units_order : (word other : ℕ) → word ≤ other → other < 2 ^ 64 → log_units other ≤ log_units word
 units_order word other le below =
-    let order : log_parts (word + 1) ≤ log_parts (other + 1) = parts_order (word + 1) (other + 1) (omega arith) (omega (arith, le)) (omega (arith, below)) in
-    div_order (2 ^ 40) (log_below other * log_of_two) (log_below word * log_of_two) (omega arith) (omega (arith, order))
+    let order : log_parts (word + 1) ≤ log_parts (other + 1) = parts_order (word + 1) (other + 1) (omega arith) (omega arith) (omega arith) in
+    let left : log_below other ≤ log_below word = less_left (log_parts (word + 1)) (log_parts (other + 1)) order in
+    div_order (2 ^ 40) (log_below other * log_of_two) (log_below word * log_of_two) (omega arith) (mul-le-mul_right log_of_two left)
+
+most_left : (p : ℕ) → (64 * 2 ^ 40 - p) * 693_147_181 / 2 ^ 40 ≤ 64 * 693_147_181
+most_left p = omega arith
 
 pub units_most : (word : ℕ) → log_units word ≤ most_units
-units_most word = omega arith
+units_most word = most_left (log_parts (word + 1))

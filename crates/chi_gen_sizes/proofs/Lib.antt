@@ -1,4 +1,5 @@
 pub mod Indexes
+pub mod MeasuredBlocks
 pub mod MeasuredParts
 pub mod MeasuredStatements
 pub mod Measures

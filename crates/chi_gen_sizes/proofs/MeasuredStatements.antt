@@ -1,5 +1,5 @@
 -- The size of each kind of statement, for the calls that measure.
-use Rattle.std.proofs.Common.{◌≡◌, ℕ, ◌+◌, ◌<◌, Bool, true, false, List, [], ◌∷◌, map, length, refl, ap, ◌∙◌, arith, take, get_or, Option}
+use Rattle.std.proofs.Common.{◌≡◌, ℕ, ◌+◌, Bool, true, false, List, ap, ◌∙◌, arith, Option}
 use Rattle.chi_value.specs.declared.format.Piece.{Piece}
 use Rattle.chi_core.specs.declared.communication.CComm.{CComm}
 use Rattle.chi_core.specs.declared.element.CElem.{CElem}
@@ -11,9 +11,8 @@ use Rattle.chi_core.specs.declared.statement.CStat.{CStat, CStat-F, out-CStat, m
 use Rattle.chi_core.specs.declared.statement.CStat.TheVariants as s
 use Rattle.chi_core.specs.declared.target.CTarget.{CTarget}
 use Rattle.chi_code.specs.Aims.{indexes_of}
-use Rattle.chi_code.specs.Sizes.{total, size, sizes, spread_size, elements_size, exit_size, guard_size, comm_size, Two, leaving, statement_step, alternative_step, statement_size, branch_size, alternative_size, block_size, branches_size, fronts_size, bodies_size}
+use Rattle.chi_code.specs.Sizes.{size, sizes, spread_size, elements_size, exit_size, guard_size, comm_size, Two, leaving, statement_step, alternative_step, statement_size, branch_size, alternative_size, block_size, branches_size, fronts_size, bodies_size}
 use Rattle.chi_code.proofs.Sized.{statement_out, branch_out, alternative_out}
-use Rattle.chi_gen_sizes.proofs.Measures.{total_next}
 
 module _ (x : CStat) (w : Bool) where
   layer : (o : CStat-F CAlt CStat Branch) → out-CStat x ≡ o → statement_size x w ≡ statement_step (map-CStat _ _ _ _ _ _ alternative_size statement_size branch_size o) w
@@ -83,37 +82,3 @@ module _ (x : CAlt) (w : Bool) where
 
   pub bodies_unwind : (names : List ℕ) (e : CExpr) (alternatives : List CAlt) → x ≡ alternative.Unwind names e alternatives → (alternative_size x w).bodies ≡ bodies_size alternatives w
   bodies_unwind names e alternatives h = ap (λ (z : Two). z.bodies) (alternative_layer _ (ap out-CAlt h ∙ alternative.outs-Unwind names e alternatives))
-
-block_total : (xs : List CStat) (w : Bool) → block_size xs w ≡ total (map (λ x. statement_size x w) xs)
-block_total [] w = refl
-block_total (x ∷ xs) w = omega (arith, block_total xs w)
-
-pub block_next : (all : List CStat) (w : Bool) (k : ℕ) (x : CStat) → k < length all → x ≡ get_or all k x → block_size (take (k + 1) all) w ≡ block_size (take k all) w + statement_size x w
-block_next all w k x h is = omega (arith, block_total (take (k + 1) all) w, block_total (take k all) w, total_next (λ x. statement_size x w) all k x h is)
-
-branches_total : (xs : List Branch) (w : Bool) → branches_size xs w ≡ total (map (λ x. branch_size x w) xs)
-branches_total [] w = refl
-branches_total (x ∷ xs) w = omega (arith, branches_total xs w)
-
-pub branches_next : (all : List Branch) (w : Bool) (k : ℕ) (x : Branch) → k < length all → x ≡ get_or all k x → branches_size (take (k + 1) all) w ≡ branches_size (take k all) w + branch_size x w
-branches_next all w k x h is = omega (arith, branches_total (take (k + 1) all) w, branches_total (take k all) w, total_next (λ x. branch_size x w) all k x h is)
-
-abbrev front : Bool → CAlt → ℕ
-front w x = (alternative_size x w).front
-
-abbrev body : Bool → CAlt → ℕ
-body w x = (alternative_size x w).bodies
-
-fronts_total : (xs : List CAlt) (w : Bool) → fronts_size xs w ≡ total (map (front w) xs)
-fronts_total [] w = refl
-fronts_total (x ∷ xs) w = omega (arith, fronts_total xs w)
-
-pub fronts_next : (all : List CAlt) (w : Bool) (k : ℕ) (x : CAlt) → k < length all → x ≡ get_or all k x → fronts_size (take (k + 1) all) w ≡ fronts_size (take k all) w + (alternative_size x w).front
-fronts_next all w k x h is = omega (arith, fronts_total (take (k + 1) all) w, fronts_total (take k all) w, total_next (front w) all k x h is)
-
-bodies_total : (xs : List CAlt) (w : Bool) → bodies_size xs w ≡ total (map (body w) xs)
-bodies_total [] w = refl
-bodies_total (x ∷ xs) w = omega (arith, bodies_total xs w)
-
-pub bodies_next : (all : List CAlt) (w : Bool) (k : ℕ) (x : CAlt) → k < length all → x ≡ get_or all k x → bodies_size (take (k + 1) all) w ≡ bodies_size (take k all) w + (alternative_size x w).bodies
-bodies_next all w k x h is = omega (arith, bodies_total (take (k + 1) all) w, bodies_total (take k all) w, total_next (body w) all k x h is)

@@ -5,8 +5,9 @@ mod adding;
 mod measure;
 mod measure_parts;
 mod measure_statements;
+mod measured;
 
 pub use adding::plus;
-pub use measure::size_of_boxed;
-pub use measure_parts::{elements_of, is_spread};
-pub use measure_statements::{block_of, branches_of, fronts_of, offer_of};
+pub use measure_parts::is_spread;
+pub use measure_statements::block;
+pub use measured::{Measured, total_of};

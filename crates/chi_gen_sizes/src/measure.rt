@@ -4,7 +4,7 @@ ghost use Rattle.std.specs.Prelude.{◌≡◌, IfOk};
 ghost use Rattle.chi_code.specs.Sizes.{size, sizes};
 
 use crate::adding::plus;
-use chi_base::{Boxed, Items, NoMemory};
+use chi_base::{Items, NoMemory};
 use chi_core::CExpr;
 
 #[cycle(size_of)]
@@ -50,11 +50,4 @@ pub(crate) fn sizes_of(xs: &Items<CExpr>) -> Result<u64, NoMemory>
         count = plus(count, size_of(x)?)?;
     }
     Ok(count)
-}
-
-/// Of an expression.
-pub fn size_of_boxed(x: &Boxed<CExpr>) -> Result<u64, NoMemory>
-    ensures { IfOk result (λ n. n ≡ size x.now) }
-{
-    size_of(x.get())
 }

@@ -170,7 +170,7 @@ fn element_of(x: &CElem) -> Result<u64, NoMemory>
 /// Of elements, one after another.
 #[cycle(element_of)]
 #[tactic(auto, using(crate::proofs::Measures::total_next))]
-pub fn elements_of(xs: &[CElem]) -> Result<u64, NoMemory>
+pub(crate) fn elements_of(xs: &[CElem]) -> Result<u64, NoMemory>
     ensures { IfOk result (λ n. n ≡ sizes.elements_size xs.now) }
 {
     let mut count = 0;

@@ -1,139 +1,156 @@
-//! How many instructions statements have, in a walk or not.
+//! How many instructions statements and their parts have, in a walk or not. Each is measured once.
 
-ghost use Rattle.std.specs.Prelude.{◌≡◌, ◌+◌, IfOk};
-ghost use Rattle.chi_code.specs.Sizes as sizes;
+ghost use Rattle.std.specs.Prelude.{◌≡◌, IfOk};
+ghost use Rattle.chi_code.specs.Sizes.{leaving};
+ghost use Rattle.chi_gen_sizes.specs.Measuring.{AltMeasured, AltsMeasured, BlockMeasured, BranchMeasured, BranchesMeasured, StatMeasured};
 
 use crate::adding::plus;
 use crate::measure::{size_of, sizes_of};
 use crate::measure_parts::{assign_of, comm_of, elements_of, exit_of, guard_of};
-use chi_base::NoMemory;
-use chi_core::{Branch, CAlt, CComm, CExpr, CStat};
+use crate::measured::{Measured, around, choice, guarded, select, unwound, whole};
+use chi_base::{Items, NoMemory};
+use chi_core::{Branch, CAlt, CStat};
+use std::alloc::Global;
 
-/// Of a guard, if there is one, and a communication.
-pub fn offer_of(guard: &Option<CExpr>, comm: &CComm) -> Result<u64, NoMemory>
-    ensures { IfOk result (λ n. n ≡ sizes.guard_size guard.now + sizes.comm_size comm.now) }
+/// Of a break.
+fn leaving_of(walks: bool) -> u64
+    ensures { result ≡ leaving walks }
 {
-    plus(guard_of(guard)?, comm_of(comm)?)
+    if walks { 3 } else { 2 }
 }
 
-#[cycle(front_of)]
-#[tactic(auto, using(crate::proofs::MeasuredStatements::front_guarded, crate::proofs::MeasuredStatements::front_unwind))]
-fn front_of(x: &CAlt, walks: bool) -> Result<u64, NoMemory>
-    ensures { IfOk result (λ n. n ≡ (sizes.alternative_size x.now walks).front) }
+#[cycle(statement)]
+fn statement(alloc: Global, x: &CStat, walks: bool) -> Result<Measured, NoMemory>
+    ensures { IfOk result (λ m. StatMeasured walks x.now m) }
 {
     match x {
-        CAlt::Guarded(guard, comm, _) => offer_of(guard, comm),
-        CAlt::Unwind(_, e, alternatives) => {
-            let first = plus(size_of(e)?, 3)?;
-            plus(first, fronts_of(alternatives.as_slice(), walks)?)
+        CStat::Declare(_, _, e) => {
+            let size = plus(size_of(e)?, 2)?;
+            Ok(whole(alloc, size)?)
+        }
+        CStat::Assign(_, targets, es) => {
+            let size = assign_of(targets, es)?;
+            Ok(whole(alloc, size)?)
+        }
+        CStat::If(_, tests, otherwise) => {
+            let tests = tests.as_slice();
+            let otherwise = otherwise.as_slice();
+            let parts = branches(alloc, tests, walks)?;
+            let others = block(alloc, otherwise, walks)?;
+            Ok(choice(parts, others)?)
+        }
+        CStat::While(_, test, inner) => {
+            let more = plus(size_of(test)?, 3)?;
+            let inner = inner.as_slice();
+            let parts = block(alloc, inner, false)?;
+            Ok(around(alloc, more, parts)?)
+        }
+        CStat::For(_, _, e, inner) => {
+            let more = plus(size_of(e)?, 5)?;
+            let inner = inner.as_slice();
+            let parts = block(alloc, inner, true)?;
+            Ok(around(alloc, more, parts)?)
+        }
+        CStat::Break(_) => Ok(whole(alloc, leaving_of(walks))?),
+        CStat::Continue(_) => Ok(whole(alloc, 2)?),
+        CStat::Pass(_) => Ok(whole(alloc, 1)?),
+        CStat::Return(_, e) => {
+            let size = plus(size_of(e)?, 2)?;
+            Ok(whole(alloc, size)?)
+        }
+        CStat::Exit(_, value) => {
+            let size = exit_of(value)?;
+            Ok(whole(alloc, size)?)
+        }
+        CStat::Write(_, _, es) => {
+            let size = plus(sizes_of(es)?, 2)?;
+            Ok(whole(alloc, size)?)
+        }
+        CStat::Select(_, xs) => {
+            let xs = xs.as_slice();
+            let parts = alternatives(alloc, xs, walks)?;
+            Ok(select(alloc, parts)?)
+        }
+        CStat::Run(_, xs) => {
+            let inner = xs.as_slice();
+            let size = plus(elements_of(inner)?, 2)?;
+            Ok(whole(alloc, size)?)
+        }
+        CStat::Start(_, xs) => {
+            let inner = xs.as_slice();
+            let size = plus(elements_of(inner)?, 1)?;
+            Ok(whole(alloc, size)?)
+        }
+        CStat::Finish(_, es) => {
+            let size = plus(sizes_of(es)?, 2)?;
+            Ok(whole(alloc, size)?)
         }
     }
 }
 
-/// Of alternatives themselves.
-#[cycle(front_of)]
-#[tactic(auto, using(crate::proofs::MeasuredStatements::fronts_next))]
-pub fn fronts_of(xs: &[CAlt], walks: bool) -> Result<u64, NoMemory>
-    ensures { IfOk result (λ n. n ≡ sizes.fronts_size xs.now walks) }
+/// Statements in turn.
+#[cycle(statement)]
+pub fn block(alloc: Global, xs: &[CStat], walks: bool) -> Result<Items<Measured>, NoMemory>
+    ensures { IfOk result (λ ms. BlockMeasured walks xs.now ms) }
 {
-    let mut count = 0;
+    let mut done = Vec::new(alloc);
     for x in xs {
-        count = plus(count, front_of(x, walks)?)?;
+        let one = statement(alloc, x, walks)?;
+        done.push(one)?;
     }
-    Ok(count)
+    Ok(Items::of(alloc, done)?)
 }
 
-#[cycle(statement_of)]
-#[tactic(auto, using(crate::proofs::MeasuredStatements::size_declare, crate::proofs::MeasuredStatements::size_assign, crate::proofs::MeasuredStatements::size_if, crate::proofs::MeasuredStatements::size_while, crate::proofs::MeasuredStatements::size_for, crate::proofs::MeasuredStatements::size_break, crate::proofs::MeasuredStatements::size_continue, crate::proofs::MeasuredStatements::size_pass, crate::proofs::MeasuredStatements::size_return, crate::proofs::MeasuredStatements::size_exit, crate::proofs::MeasuredStatements::size_write, crate::proofs::MeasuredStatements::size_select, crate::proofs::MeasuredStatements::size_run, crate::proofs::MeasuredStatements::size_start, crate::proofs::MeasuredStatements::size_finish))]
-fn statement_of(x: &CStat, walks: bool) -> Result<u64, NoMemory>
-    ensures { IfOk result (λ n. n ≡ sizes.statement_size x.now walks) }
+#[cycle(statement)]
+fn branch(alloc: Global, x: &Branch, walks: bool) -> Result<Measured, NoMemory>
+    ensures { IfOk result (λ m. BranchMeasured walks x.now m) }
+{
+    let more = plus(size_of(&x.test)?, 2)?;
+    let inner = x.block.as_slice();
+    let parts = block(alloc, inner, walks)?;
+    Ok(around(alloc, more, parts)?)
+}
+
+#[cycle(statement)]
+fn branches(alloc: Global, xs: &[Branch], walks: bool) -> Result<Items<Measured>, NoMemory>
+    ensures { IfOk result (λ ms. BranchesMeasured walks xs.now ms) }
+{
+    let mut done = Vec::new(alloc);
+    for x in xs {
+        let one = branch(alloc, x, walks)?;
+        done.push(one)?;
+    }
+    Ok(Items::of(alloc, done)?)
+}
+
+#[cycle(statement)]
+fn alternative(alloc: Global, x: &CAlt, walks: bool) -> Result<Measured, NoMemory>
+    ensures { IfOk result (λ m. AltMeasured walks x.now m) }
 {
     match x {
-        CStat::Declare(_, _, e) => plus(size_of(e)?, 2),
-        CStat::Assign(_, targets, es) => assign_of(targets, es),
-        CStat::If(_, branches, otherwise) => {
-            let first = plus(branches_of(branches.as_slice(), walks)?, 1)?;
-            plus(first, block_of(otherwise.as_slice(), walks)?)
+        CAlt::Guarded(guard, comm, body) => {
+            let size = plus(guard_of(guard)?, comm_of(comm)?)?;
+            let body = body.as_slice();
+            let parts = block(alloc, body, walks)?;
+            Ok(guarded(alloc, size, parts)?)
         }
-        CStat::While(_, test, block) => {
-            let first = plus(size_of(test)?, 3)?;
-            plus(first, block_of(block.as_slice(), false)?)
+        CAlt::Unwind(_, e, inner) => {
+            let more = plus(size_of(e)?, 3)?;
+            let inner = inner.as_slice();
+            let parts = alternatives(alloc, inner, walks)?;
+            Ok(unwound(alloc, more, parts)?)
         }
-        CStat::For(_, _, e, block) => {
-            let first = plus(size_of(e)?, 5)?;
-            plus(first, block_of(block.as_slice(), true)?)
-        }
-        CStat::Break(_) => Ok(if walks { 3 } else { 2 }),
-        CStat::Continue(_) => Ok(2),
-        CStat::Pass(_) => Ok(1),
-        CStat::Return(_, e) => plus(size_of(e)?, 2),
-        CStat::Exit(_, value) => exit_of(value),
-        CStat::Write(_, _, es) => plus(sizes_of(es)?, 2),
-        CStat::Select(_, alternatives) => {
-            let first = plus(fronts_of(alternatives.as_slice(), walks)?, 2)?;
-            plus(first, bodies_of(alternatives.as_slice(), walks)?)
-        }
-        CStat::Run(_, elements) => plus(elements_of(elements.as_slice())?, 2),
-        CStat::Start(_, elements) => plus(elements_of(elements.as_slice())?, 1),
-        CStat::Finish(_, es) => plus(sizes_of(es)?, 2),
     }
 }
 
-/// Of statements in turn.
-#[cycle(statement_of)]
-#[tactic(auto, using(crate::proofs::MeasuredStatements::block_next))]
-pub fn block_of(xs: &[CStat], walks: bool) -> Result<u64, NoMemory>
-    ensures { IfOk result (λ n. n ≡ sizes.block_size xs.now walks) }
+#[cycle(statement)]
+fn alternatives(alloc: Global, xs: &[CAlt], walks: bool) -> Result<Items<Measured>, NoMemory>
+    ensures { IfOk result (λ ms. AltsMeasured walks xs.now ms) }
 {
-    let mut count = 0;
+    let mut done = Vec::new(alloc);
     for x in xs {
-        count = plus(count, statement_of(x, walks)?)?;
+        let one = alternative(alloc, x, walks)?;
+        done.push(one)?;
     }
-    Ok(count)
-}
-
-#[cycle(statement_of)]
-#[tactic(auto, using(crate::proofs::MeasuredStatements::size_branch))]
-fn branch_of(x: &Branch, walks: bool) -> Result<u64, NoMemory>
-    ensures { IfOk result (λ n. n ≡ sizes.branch_size x.now walks) }
-{
-    let first = plus(size_of(&x.test)?, 2)?;
-    plus(first, block_of(x.block.as_slice(), walks)?)
-}
-
-/// Of the branches of a choice, but for its last block.
-#[cycle(statement_of)]
-#[tactic(auto, using(crate::proofs::MeasuredStatements::branches_next))]
-pub fn branches_of(xs: &[Branch], walks: bool) -> Result<u64, NoMemory>
-    ensures { IfOk result (λ n. n ≡ sizes.branches_size xs.now walks) }
-{
-    let mut count = 0;
-    for x in xs {
-        count = plus(count, branch_of(x, walks)?)?;
-    }
-    Ok(count)
-}
-
-#[cycle(statement_of)]
-#[tactic(auto, using(crate::proofs::MeasuredStatements::bodies_guarded, crate::proofs::MeasuredStatements::bodies_unwind))]
-fn body_of(x: &CAlt, walks: bool) -> Result<u64, NoMemory>
-    ensures { IfOk result (λ n. n ≡ (sizes.alternative_size x.now walks).bodies) }
-{
-    match x {
-        CAlt::Guarded(_, _, body) => plus(block_of(body.as_slice(), walks)?, 1),
-        CAlt::Unwind(_, _, alternatives) => bodies_of(alternatives.as_slice(), walks),
-    }
-}
-
-/// Of the bodies of alternatives.
-#[cycle(statement_of)]
-#[tactic(auto, using(crate::proofs::MeasuredStatements::bodies_next))]
-pub(crate) fn bodies_of(xs: &[CAlt], walks: bool) -> Result<u64, NoMemory>
-    ensures { IfOk result (λ n. n ≡ sizes.bodies_size xs.now walks) }
-{
-    let mut count = 0;
-    for x in xs {
-        count = plus(count, body_of(x, walks)?)?;
-    }
-    Ok(count)
+    Ok(Items::of(alloc, done)?)
 }

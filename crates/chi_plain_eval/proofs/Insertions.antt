@@ -8,10 +8,10 @@ use Rattle.chi_core.specs.declared.view.View.{View}
 use Rattle.chi_core.specs.Answer.{Answer, Does, Gives, Fails, Spent, Amiss, then_do, gives, giving}
 use Rattle.chi_core.specs.Containers.{done}
 use Rattle.chi_core.specs.Evaluation.{Run, Evaluates, inserted, on_truth, place_before}
-use Rattle.chi_core.specs.Reading.{truth_of, elements_in, elements_of}
+use Rattle.chi_core.specs.Reading.{truth_of}
 use Rattle.chi_core_frame.specs.declared.stop.Stop.{Stop}
 use Rattle.chi_plain_eval.specs.Calls.{before_by}
-use Rattle.chi_plain_eval.specs.Kinds.{inserted_by}
+use Rattle.chi_plain_eval.specs.Kinds.{inserted_by, items_of}
 use Rattle.chi_core_frame.specs.Stops.{Stops}
 use Rattle.chi_core_frame.proofs.Stopping.{then_stops, then_there, giving_stops}
 
@@ -20,20 +20,20 @@ module _ (run : Run) (k : ℕ) (xs x : Value) (view : View) where
   insert_into : Value → ℕ → Does Value
   insert_into xs place = done (insert_at xs place x)
 
-  list_in : (o : Value-F Value) → inserted run k xs x o view ≢ Amiss → elements_in o ≢ None
+  list_in : (o : Value-F Value) → inserted run k xs x o view ≢ Amiss → items_of o ≢ None
   list_in (Value-F.ListOf items) h = λ e. absurd (cc)
   list_in _ h = absurd (h refl)
 
-  list_is_in : (o : Value-F Value) (items : List Value) → inserted run k xs x o view ≢ Amiss → elements_in o ≡ Some items
+  list_is_in : (o : Value-F Value) (items : List Value) → inserted run k xs x o view ≢ Amiss → items_of o ≡ Some items
       → inserted run k xs x o view ≡ then_do (place_before (before_by run k x) items view) (λ place. done (insert_at xs place x))
   list_is_in (Value-F.ListOf l) items h e =
       let same : l ≡ items = cc in ap (λ l. then_do (place_before (before_by run k x) l view) (λ place. done (insert_at xs place x))) same
   list_is_in _ items h e = absurd (h refl)
 
-  pub list_there : inserted run k xs x (out-Value xs) view ≢ Amiss → elements_of xs ≢ None
+  pub list_there : inserted run k xs x (out-Value xs) view ≢ Amiss → items_of (out-Value xs) ≢ None
   list_there h = list_in (out-Value xs) h
 
-  module _ (items : List Value) (are : elements_of xs ≡ Some items) (h : inserted run k xs x (out-Value xs) view ≢ Amiss) where
+  module _ (items : List Value) (are : items_of (out-Value xs) ≡ Some items) (h : inserted run k xs x (out-Value xs) view ≢ Amiss) where
     list_is : inserted run k xs x (out-Value xs) view ≡ then_do (place_before (before_by run k x) items view) (insert_into xs)
     unfolding insert_into
     list_is = list_is_in (out-Value xs) items h are
@@ -69,10 +69,10 @@ module _ (m : Evaluates) (run : Run) (k : ℕ) (a b : CExpr) (view : View) where
       unfolding with_list
       is_inserted = then_element ∙ ap (λ it. then_do it (λ v. inserted run k xs v (out-Value xs))) found
 
-      pub items_there : inserted_by m run k a b view ≢ Amiss → elements_of xs ≢ None
+      pub items_there : inserted_by m run k a b view ≢ Amiss → items_of (out-Value xs) ≢ None
       items_there h = list_there run k xs x last (λ e. h (is_inserted ∙ e))
 
-      module _ (items : List Value) (are : elements_of xs ≡ Some items) (h : inserted_by m run k a b view ≢ Amiss) where
+      module _ (items : List Value) (are : items_of (out-Value xs) ≡ Some items) (h : inserted_by m run k a b view ≢ Amiss) where
         is_placed : inserted_by m run k a b view ≡ then_do (place_before (before_by run k x) items last) (insert_into run k xs x last xs)
         is_placed = is_inserted ∙ list_is run k xs x last items are (λ e. h (is_inserted ∙ e))
 
@@ -87,10 +87,20 @@ module _ (m : Evaluates) (run : Run) (k : ℕ) (a b : CExpr) (view : View) where
           unfolding insert_into
           place_goes = is_placed ∙ ap (λ it. then_do it (insert_into run k xs x last xs)) at
 
-          pub insert_there : done (insert_at xs n x) new ≢ Amiss
-          insert_there e = h (place_goes ∙ e)
+pub ruleset inserting = (list_first, list_stops, element_there, element_stops, items_there, place_there, place_stops, place_goes)
 
-pub ruleset inserting = (list_first, list_stops, element_there, element_stops, items_there, place_there, place_stops, insert_there)
+-- what was found to go where is put there
+module _ (m : Evaluates) (run : Run) (k : ℕ) (a b : CExpr) (view : View) (xs x : Value) (n : ℕ) (new : View) (is : inserted_by m run k a b view ≡ done (insert_at xs n x) new) where
+  pub put_there : inserted_by m run k a b view ≢ Amiss → done (insert_at xs n x) new ≢ Amiss
+  put_there h e = h (is ∙ e)
+
+  pub put_goes : (v : Value) → done (insert_at xs n x) new ≡ Gives v new → inserted_by m run k a b view ≡ Gives v new
+  put_goes v e = is ∙ e
+
+  pub put_stops : (stop : Stop) → Stops stop (done (insert_at xs n x) new) → Stops stop (inserted_by m run k a b view)
+  put_stops stop s = let P : Answer Value → Type 0 = Stops stop in subst P (sym is) s
+
+pub ruleset putting = (put_there, put_goes, put_stops)
 
 -- one more is passed
 added : (i : ℕ) (it : Answer ℕ) → giving (λ n. i + n) (giving suc it) ≡ giving (λ n. (i + 1) + n) it

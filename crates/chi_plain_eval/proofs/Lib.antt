@@ -4,6 +4,7 @@ pub mod Choosing
 pub mod Insertions
 pub mod Operating
 pub mod Passing
+pub mod Released
 pub mod Repeating
 pub mod Spans
 pub mod Spotting

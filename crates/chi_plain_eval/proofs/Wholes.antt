@@ -1,30 +1,24 @@
--- Whole variables that are set, in place where it is by an operator.
+-- Whole variables that are set, each of which was let go of before.
 use Rattle.std.proofs.Common.{◌≡◌, ◌≢◌, ℕ, ◌<◌, List, [], ◌∷◌, Option, Some, None, length, get_or, map, ap, sym, subst, refl, ◌∙◌, arith}
 use Rattle.chi_value.specs.declared.value.Value.{Value}
 use Rattle.chi_core.specs.declared.expression.CExpr.{CExpr}
-use Rattle.chi_core.specs.declared.expression.CExpr.TheVariants as e
-use Rattle.chi_core.specs.declared.op_name.OpName.{OpName}
 use Rattle.chi_core.specs.declared.target.CTarget.{CTarget}
 use Rattle.chi_core.specs.declared.target.CStep.{CStep}
 use Rattle.chi_core.specs.declared.view.View.{View}
 use Rattle.chi_core.specs.Answer.{Answer, Does, Gives, Fails, Spent, Amiss, then_do, wanted, giving, in_turn, through}
-use Rattle.chi_core.specs.Evaluation.{Run, Evaluates, eval}
-use Rattle.chi_core.specs.Operators.{applied}
-use Rattle.chi_core.specs.declared.scene.Scene.{Scene}
+use Rattle.chi_core.specs.Evaluation.{Evaluates}
 use Rattle.chi_core.specs.Spots.{spot_of, store}
 use Rattle.chi_core.specs.Terms.{Term, Did, On, on_with, assigned, declared, spread}
-use Rattle.chi_core.specs.Variables.{Variables, value_at, with_slot, side_by_side}
+use Rattle.chi_core.specs.Variables.{Variables, with_slot, side_by_side}
 use Rattle.chi_core_frame.specs.declared.stop.Stop.{Stop}
-use Rattle.chi_core_frame.specs.InPlace.{AreAlikeBut}
+use Rattle.chi_core_frame.specs.Alike.{AreAlikeBut}
 use Rattle.chi_core_frame.specs.Stops.{Stops}
-use Rattle.chi_core_frame.proofs.InPlace.{slot_within}
-use Rattle.chi_core_frame.proofs.Stopping.{then_stops, then_there, next_there, giving_stops, wanted_there}
+use Rattle.chi_core_frame.proofs.Stopping.{then_there, next_there, giving_stops, wanted_there}
 use Rattle.chi_plain_eval.specs.Settings.{set_to}
 use Rattle.chi_plain_eval.proofs.Acting.{slot_there}
 use Rattle.chi_plain_eval.proofs.Operating.{only_one}
-use Rattle.chi_plain_eval.proofs.Standing.{op_is}
 
-given_last : {A B C : Type 0} (it : Answer A) (f : B → C) (next : A → Does B) → then_do it (λ x now. giving f (next x now)) ≡ giving f (then_do it next)
+pub given_last : {A B C : Type 0} (it : Answer A) (f : B → C) (next : A → Does B) → then_do it (λ x now. giving f (next x now)) ≡ giving f (then_do it next)
 given_last (Gives x now) f next = refl
 given_last (Fails kind) f next = refl
 given_last Spent f next = refl
@@ -35,34 +29,15 @@ module _ (m : Evaluates) (slot : ℕ) (e : CExpr) (variables : Variables) (view 
   pub set_first : set_to m slot e variables view ≢ Amiss → m e view ≢ Amiss
   set_first h = then_there (m e view) (λ x. wanted (with_slot slot x variables)) h
 
-  pub set_slot : (v : Value) (now : View) → m e view ≡ Gives v now → set_to m slot e variables view ≢ Amiss → slot < length variables
-  set_slot v now got h =
-      slot_there slot v variables (wanted_there (with_slot slot v variables) now (next_there (m e view) (λ x. wanted (with_slot slot x variables)) v now h got))
+  -- the value, where the variable was let go of before
+  module _ (v : Value) (now : View) (taken : Variables) (got : m e view ≡ Gives v now) (alike : AreAlikeBut slot variables taken) where
+    pub set_slot : set_to m slot e variables view ≢ Amiss → slot < length taken
+    set_slot h =
+        let within = slot_there slot v variables (wanted_there (with_slot slot v variables) now (next_there (m e view) (λ x. wanted (with_slot slot x variables)) v now h got)) in
+        omega (arith, within, alike.0)
 
-  pub set_goes : (v : Value) (now : View) (new : Variables) → m e view ≡ Gives v now → with_slot slot v variables ≡ Some new → set_to m slot e variables view ≡ Gives new now
-  set_goes v now new got is = ap (λ a. then_do a (λ x. wanted (with_slot slot x variables))) got ∙ ap (λ o. wanted o now) is
-
--- by an operator, with the old value let go of
-module _ (run : Run) (scene : Scene) (slot : ℕ) (x : CExpr) (variables : Variables) (view : View) (name : OpName) (parts : List CExpr) (is : x ≡ e.Op name parts) where
-  made_is : set_to (eval run scene variables) slot x variables view
-      ≡ then_do (then_do (in_turn (map (eval run scene variables) parts) view) (applied scene name)) (λ x. wanted (with_slot slot x variables))
-  made_is = ap (λ a. then_do a (λ x. wanted (with_slot slot x variables))) (op_is run scene variables view x name parts parts is refl)
-
-  pub made_there : set_to (eval run scene variables) slot x variables view ≢ Amiss → then_do (in_turn (map (eval run scene variables) parts) view) (applied scene name) ≢ Amiss
-  made_there h = then_there _ (λ x. wanted (with_slot slot x variables)) (λ a. h (made_is ∙ a))
-
-  pub made_stops : (stop : Stop) → Stops stop (then_do (in_turn (map (eval run scene variables) parts) view) (applied scene name))
-      → Stops stop (set_to (eval run scene variables) slot x variables view)
-  made_stops stop s =
-      let P : Answer Variables → Type 0 = Stops stop in subst P (sym made_is) (then_stops stop _ (λ x. wanted (with_slot slot x variables)) s)
-
-  pub made_goes : (v : Value) (now : View) (taken new : Variables) → then_do (in_turn (map (eval run scene variables) parts) view) (applied scene name) ≡ Gives v now
-      → AreAlikeBut slot variables taken → with_slot slot v taken ≡ Some new → set_to (eval run scene variables) slot x variables view ≡ Gives new now
-  made_goes v now taken new got alike set =
-      made_is ∙ ap (λ a. then_do a (λ x. wanted (with_slot slot x variables))) got ∙ ap (λ o. wanted o now) (sym (alike.1 v) ∙ set)
-
-pub taken_there : (variables taken : Variables) (slot : ℕ) → value_at variables slot ≢ None → AreAlikeBut slot variables taken → slot < length taken
-taken_there variables taken slot h alike = slot_within variables taken slot h alike.0
+    pub set_goes : (new : Variables) → with_slot slot v taken ≡ Some new → set_to m slot e variables view ≡ Gives new now
+    set_goes new is = ap (λ a. then_do a (λ x. wanted (with_slot slot x variables))) got ∙ ap (λ o. wanted o now) (sym (alike.1 v) ∙ is)
 
 -- what a declaration and the assignment of one expression to one whole variable are
 module _ (m : Evaluates) (variables : Variables) (slot : ℕ) (e : CExpr) (rest : Term) (view : View) where
@@ -129,4 +104,4 @@ pub ruleset assigning = (assign_there, assign_stops, assign_goes)
 
 pub ruleset wholes = (one_whole, one_value)
 
-pub ruleset setting = (set_first, set_slot, set_goes, made_there, made_stops, made_goes, taken_there)
+pub ruleset setting = (set_first, set_slot, set_goes)

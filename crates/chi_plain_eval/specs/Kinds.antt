@@ -1,10 +1,15 @@
 -- What expressions with parts do, by their kinds, where the evaluation of the parts is given. Private to proofs.
-use Rattle.std.specs.Prelude.{ℕ, Bool, true, false}
-use Rattle.chi_value.specs.declared.value.Value.{Value, out-Value}
+use Rattle.std.specs.Prelude.{ℕ, Bool, true, false, List, Option, Some, None}
+use Rattle.chi_value.specs.declared.value.Value.{Value, Value-F, out-Value}
 use Rattle.chi_core.specs.declared.expression.CExpr.{CExpr}
 use Rattle.chi_core.specs.Answer.{Does, then_do, gives, wanted}
 use Rattle.chi_core.specs.Reading.{truth_of, part_of}
 use Rattle.chi_core.specs.Evaluation.{Evaluates, Run, on_truth, inserted, repeated}
+
+-- what a list has
+abbrev pub items_of : Value-F Value → Option (List Value)
+items_of (Value-F.ListOf items) = Some items
+items_of _ = None
 
 module _ (value_of : Evaluates) where
   -- the second only where the first comes to this truth: true for `and`, false for `or`

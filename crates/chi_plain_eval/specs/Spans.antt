@@ -1,7 +1,7 @@
 -- The greatest expression in a statement. Private to proofs.
-use Rattle.std.specs.Prelude.{ℕ, ◌+◌, ◌*◌, ◌<◌, max, List}
+use Rattle.std.specs.Prelude.{ℕ, ◌+◌, ◌*◌, max, List}
 use denote.Param.Weighed.{most}
-use Rattle.chi_core.specs.declared.expression.CExpr.{CExpr, size-CExpr}
+use Rattle.chi_core.specs.declared.expression.CExpr.{size-CExpr}
 use Rattle.chi_core.specs.declared.statement.CStat.{CStat, CStat-F, fold-CStat}
 use Rattle.chi_core.specs.declared.statement.CAlt.{CAlt-F}
 use Rattle.chi_core.specs.declared.statement.Branch.{Branch, Branch-F, fold-Branch}
@@ -13,10 +13,6 @@ use Rattle.chi_core.specs.Terms.{Item, Do, Loop, Walk}
 
 abbrev pub itself : ℕ → ℕ
 itself n = n
-
--- each of them is smaller than the expression
-abbrev pub AreSmaller : List CExpr → CExpr → Type 0
-AreSmaller parts e = most size-CExpr parts < size-CExpr e
 
 abbrev pub step_span : CStep → ℕ
 step_span (step.Index e) = size-CExpr e
@@ -57,4 +53,4 @@ body_span f = most span f.body
 
 -- more than anything in the functions
 unfoldable pub reach : List FuncDef → ℕ
-reach functions = (4 * most body_span functions) + 20
+reach functions = (5 * most body_span functions) + 20

@@ -1,15 +1,16 @@
 //! Expressions, with calls of functions.
 
-ghost use Rattle.std.specs.Prelude.{◌≡◌, ◌≢◌, IfOk, IfErr, map};
+ghost use Rattle.std.specs.Prelude.{◌≡◌, ◌≢◌, Err, IfOk, IfErr, OnOk, map};
 ghost use Rattle.chi_core.specs.Answer.{Gives, Amiss, in_turn};
+ghost use Rattle.chi_core_frame.specs.Alike.{AreAlikeBut};
 ghost use Rattle.chi_plain_eval.specs.Calls.{meaning};
 ghost use Rattle.chi_core_frame.specs.Stops.{Stops};
 
 use crate::bodies::call_with;
 use crate::calls::Calls;
-use crate::inserting::insert_by;
+use crate::inserting::{insert_by, insert_off};
 use crate::literals::{build, repeat_each};
-use crate::operators::{operate, part, second_where};
+use crate::operators::{operate, operate_off, part, second_where};
 use crate::surroundings::{Surroundings, constant};
 use chi_core::{CExpr, View};
 use chi_core_frame::{Stop, Variables, copy_of, fresh_of};
@@ -54,6 +55,41 @@ pub fn eval(
         CExpr::Repeat(count, each) => {
             repeat_each(count.get(), alloc, s, calls, each.get(), variables, view)
         }
+    }
+}
+
+/// As eval, where the value of a variable is let go of once all is there of which an operator or an insertion makes
+/// something: what has a copy of it, and else shares it with nobody, changes where it is.
+#[cycle(eval)]
+#[tactic(auto, using(crate::proofs::Standing::standing), unfolding(chi_core::specs::Evaluation::eval))]
+pub fn eval_off(
+    e: &CExpr,
+    alloc: Global,
+    s: &Surroundings<'_>,
+    calls: Calls,
+    slot: u32,
+    variables: &mut Variables,
+    view: &mut View,
+) -> Result<Value, Stop>
+    requires { meaning calls s.now variables.old e.now view.old ≢ Amiss }
+    ensures value { IfOk result (λ v. meaning calls s.now variables.old e.now view.old ≡ Gives v view.new) }
+    ensures stops { IfErr result (λ stop. Stops stop (meaning calls s.now variables.old e.now view.old)) }
+    ensures alike { OnOk result (AreAlikeBut slot variables.old variables.new) }
+    ensures kept { result ≡ Err Stop.Spent → variables.new ≡ variables.old }
+{
+    match e {
+        CExpr::Op(name, parts) => {
+            let operands = parts.as_slice();
+            operate_off(operands, alloc, s, calls, *name, slot, variables, view)
+        }
+        CExpr::InsertBy(a, b, number) => {
+            let list = a.get();
+            let element = b.get();
+            insert_off(
+                list, alloc, s, calls, element, *number, slot, variables, view,
+            )
+        }
+        _ => eval(e, alloc, s, calls, variables, view),
     }
 }
 

@@ -1,27 +1,64 @@
-//! Insertion into lists, by a function.
+//! Insertion into lists, by a function that says where.
 
-ghost use Rattle.std.specs.Prelude.{◌≡◌, ◌≢◌, [], ◌∷◌, IfOk, IfErr};
+ghost use Rattle.std.specs.Prelude.{◌≡◌, ◌≢◌, [], ◌∷◌, Err, IfOk, IfErr, OnOk};
+ghost use Rattle.chi_ops.specs.Sequences.{insert_at};
 ghost use Rattle.chi_core.specs.Answer.{Gives, Amiss};
+ghost use Rattle.chi_core.specs.Containers.{done};
 ghost use Rattle.chi_core.specs.Evaluation.{place_before};
 ghost use Rattle.chi_plain_eval.specs.Calls.{before_by, meaning, run_by};
 ghost use Rattle.chi_plain_eval.specs.Kinds.{inserted_by};
+ghost use Rattle.chi_core_frame.specs.Alike.{AreAlikeBut};
 ghost use Rattle.chi_core_frame.specs.Stops.{Stops};
 
 use crate::bodies::call;
 use crate::calls::Calls;
 use crate::expressions::eval;
-use crate::reading::truth_of;
+use crate::reading::{list_in, truth_of};
 use crate::surroundings::Surroundings;
 use chi_base::NoMemory;
 use chi_core::{CExpr, View};
-use chi_core_apply::elements_in;
 use chi_core_frame::{Stop, Variables, copied, insertion_of};
-use chi_value::Value;
+use chi_value::{Row, Value};
 use std::alloc::Global;
+
+/// A list, and an element with the place in it before which the element goes.
+#[derive(Debug, Drop)]
+struct Insertion {
+    list: Value,
+    element: Value,
+    place: usize,
+}
+
+/// What goes where, by a function that says whether the element stands before another.
+#[cycle(eval)]
+#[tactic(auto, using(crate::proofs::Insertions::inserting))]
+fn insertion_in(
+    a: &CExpr,
+    alloc: Global,
+    s: &Surroundings<'_>,
+    calls: Calls,
+    b: &CExpr,
+    number: u32,
+    variables: &Variables,
+    view: &mut View,
+) -> Result<Insertion, Stop>
+    requires { inserted_by (meaning calls s.now variables.now) (run_by calls s.now) number a.now b.now view.old ≢ Amiss }
+    ensures value { IfOk result (λ it. inserted_by (meaning calls s.now variables.now) (run_by calls s.now) number a.now b.now view.old ≡ done (insert_at it.list it.place it.element) view.new) }
+    ensures stops { IfErr result (λ stop. Stops stop (inserted_by (meaning calls s.now variables.now) (run_by calls s.now) number a.now b.now view.old)) }
+{
+    let list = eval(a, alloc, s, calls, variables, view)?;
+    let element = eval(b, alloc, s, calls, variables, view)?;
+    let place = place_before(list_in(&list), alloc, s, calls, number, &element, view)?;
+    Ok(Insertion {
+        list,
+        element,
+        place,
+    })
+}
 
 /// A list with an element before the first of which a function says that it stands before it.
 #[cycle(eval)]
-#[tactic(auto, using(crate::proofs::Insertions::inserting))]
+#[tactic(auto, using(crate::proofs::Insertions::putting))]
 pub fn insert_by(
     a: &CExpr,
     alloc: Global,
@@ -36,18 +73,49 @@ pub fn insert_by(
     ensures value { IfOk result (λ v. inserted_by (meaning calls s.now variables.now) (run_by calls s.now) number a.now b.now view.old ≡ Gives v view.new) }
     ensures stops { IfErr result (λ stop. Stops stop (inserted_by (meaning calls s.now variables.now) (run_by calls s.now) number a.now b.now view.old)) }
 {
-    let xs = eval(a, alloc, s, calls, variables, view)?;
-    let x = eval(b, alloc, s, calls, variables, view)?;
-    let all = elements_in(alloc, copied(alloc, &xs)?)?;
-    let place = place_before(all.as_slice(), alloc, s, calls, number, &x, view)?;
-    insertion_of(alloc, xs, place, x, view)
+    let Insertion {
+        list,
+        element,
+        place,
+    } = insertion_in(a, alloc, s, calls, b, number, variables, view)?;
+    insertion_of(alloc, list, place, element, view)
+}
+
+/// As insert_by, where the value of a variable is let go of once the place is known: a list that is a copy of it isn't
+/// shared then, and grows where it is.
+#[cycle(eval)]
+#[tactic(auto, using(crate::proofs::Insertions::putting))]
+pub fn insert_off(
+    a: &CExpr,
+    alloc: Global,
+    s: &Surroundings<'_>,
+    calls: Calls,
+    b: &CExpr,
+    number: u32,
+    slot: u32,
+    variables: &mut Variables,
+    view: &mut View,
+) -> Result<Value, Stop>
+    requires { inserted_by (meaning calls s.now variables.old) (run_by calls s.now) number a.now b.now view.old ≢ Amiss }
+    ensures value { IfOk result (λ v. inserted_by (meaning calls s.now variables.old) (run_by calls s.now) number a.now b.now view.old ≡ Gives v view.new) }
+    ensures stops { IfErr result (λ stop. Stops stop (inserted_by (meaning calls s.now variables.old) (run_by calls s.now) number a.now b.now view.old)) }
+    ensures alike { OnOk result (AreAlikeBut slot variables.old variables.new) }
+    ensures kept { result ≡ Err Stop.Spent → variables.new ≡ variables.old }
+{
+    let Insertion {
+        list,
+        element,
+        place,
+    } = insertion_in(a, alloc, s, calls, b, number, variables, view)?;
+    variables.unset(slot);
+    insertion_of(alloc, list, place, element, view)
 }
 
 /// How many elements come before the first of which a function says that x stands before it.
 #[cycle(eval)]
 #[tactic(auto, using(chi_core_frame::proofs::Stopping::stopping, crate::proofs::Insertions::placing))]
 fn place_before(
-    items: &[Value],
+    items: &Row,
     alloc: Global,
     s: &Surroundings<'_>,
     calls: Calls,
@@ -60,7 +128,10 @@ fn place_before(
     ensures stops { IfErr result (λ stop. Stops stop (place_before (before_by (run_by calls s.now) number x.now) items.now view.old)) }
 {
     for place in 0..items.len() {
-        let pair = two_copies(alloc, x, &items[place])?;
+        let Some(y) = items.get(place) else {
+            unreachable!();
+        };
+        let pair = two_copies(alloc, x, y)?;
         let holds = call(number, pair, alloc, s, calls, view)?;
         if truth_of(holds) {
             return Ok(place);

@@ -12,11 +12,10 @@ use crate::calls::Calls;
 use crate::expressions::{eval, eval_all};
 use crate::places::spots_of;
 use crate::reading::truth_of;
-use crate::setting::{set_to, whole_of};
+use crate::setting::{parted_of, set_each, set_to, whole_of};
 use crate::surroundings::Surroundings;
 use chi_core::{Branch, CExpr, CStat, CTarget, View};
-use chi_core_apply::elements_in;
-use chi_core_frame::{Head, Stop, Term, Variables, spread, store_each};
+use chi_core_frame::{Elements, Head, Stop, Term, Variables, spread, store_each};
 use chi_value::Value;
 use std::alloc::Global;
 
@@ -157,9 +156,8 @@ fn begin_walk<'a>(
     ensures kept { result ≡ Err Stop.Spent → term.new ≡ term.old }
 {
     let container = eval(e, alloc, s, calls, variables, view)?;
-    let elements = elements_in(alloc, container)?;
     term.drop_first();
-    term.put_walk(line, slots, elements, block)?;
+    term.put_walk(line, slots, Elements::of(container), block)?;
     Ok(None)
 }
 
@@ -246,6 +244,34 @@ fn assign(
     match whole_of(targets, values) {
         Some((slot, e)) => {
             set_to(e, alloc, s, calls, slot, variables, view)?;
+            term.drop_first();
+            Ok(None)
+        }
+        None => assign_several(values, alloc, s, calls, targets, term, variables, view),
+    }
+}
+
+/// An assignment, which stands first, to several targets or to parts of variables.
+#[cycle(eval)]
+#[tactic(auto, using(chi_core_frame::proofs::Stopping::stopping, crate::proofs::Released::assigning))]
+fn assign_several(
+    values: &[CExpr],
+    alloc: Global,
+    s: &Surroundings<'_>,
+    calls: Calls,
+    targets: &[CTarget],
+    term: &mut Term<'_>,
+    variables: &mut Variables,
+    view: &mut View,
+) -> Result<Option<Value>, Stop>
+    requires { assigned (meaning calls s.now variables.old) variables.old targets.now values.now (drop 1 term.old) view.old ≢ Amiss }
+    ensures value { IfOk result (λ r. assigned (meaning calls s.now variables.old) variables.old targets.now values.now (drop 1 term.old) view.old ≡ Gives (came_to r variables.new term.new) view.new) }
+    ensures stops { IfErr result (λ stop. Stops stop (assigned (meaning calls s.now variables.old) variables.old targets.now values.now (drop 1 term.old) view.old)) }
+    ensures kept { result ≡ Err Stop.Spent → (variables.new ≡ variables.old) × (term.new ≡ term.old) }
+{
+    match parted_of(targets, values) {
+        Some((slot, e)) => {
+            set_each(e, alloc, s, calls, slot, targets, variables, view)?;
             term.drop_first();
             Ok(None)
         }

@@ -1,10 +1,10 @@
 //! Operators, `and` and `or`, and the parts of tuples.
 
-ghost use Rattle.std.specs.Prelude.{◌≡◌, ◌≢◌, Err, None, IfOk, IfErr, OnOk, map};
+ghost use Rattle.std.specs.Prelude.{◌≡◌, ◌≢◌, Err, IfOk, IfErr, OnOk, map};
 ghost use Rattle.chi_core.specs.Answer.{Gives, Amiss, in_turn, then_do};
 ghost use Rattle.chi_core.specs.Operators.{applied};
-ghost use Rattle.chi_core.specs.Variables.{value_at};
-ghost use Rattle.chi_core_frame.specs.InPlace.{AreAlikeBut};
+ghost use Rattle.chi_core_frame.specs.Alike.{AreAlikeBut};
+ghost use Rattle.chi_core_frame.specs.Operators.{listed};
 ghost use Rattle.chi_plain_eval.specs.Calls.{meaning};
 ghost use Rattle.chi_plain_eval.specs.Kinds.{second_where, taken_part};
 ghost use Rattle.chi_core_frame.specs.Stops.{Stops};
@@ -15,16 +15,39 @@ use crate::expressions::{eval, eval_all};
 use crate::surroundings::{Surroundings, scenery};
 use chi_core::{CExpr, OpName, View};
 use chi_core_apply::truth_in;
-use chi_core_frame::{
-    Stop, Variables, operator_of_all, operator_of_one, operator_of_two, operator_off_one,
-    operator_off_two, part_of,
-};
+use chi_core_frame::{Operands, Stop, Variables, operator_of, part_of};
 use chi_value::Value;
 use std::alloc::Global;
 
-/// What an operator makes of the values of its operands, which are evaluated from left to right.
+/// The values of an operator's operands, which are evaluated from left to right.
 #[cycle(eval)]
 #[tactic(auto, using(chi_core_frame::proofs::Stopping::stopping, crate::proofs::Operating::operating))]
+fn operands_of(
+    parts: &[CExpr],
+    alloc: Global,
+    s: &Surroundings<'_>,
+    calls: Calls,
+    variables: &Variables,
+    view: &mut View,
+) -> Result<Operands, Stop>
+    requires { in_turn (map (meaning calls s.now variables.now) parts.now) view.old ≢ Amiss }
+    ensures value { IfOk result (λ operands. in_turn (map (meaning calls s.now variables.now) parts.now) view.old ≡ Gives (listed operands) view.new) }
+    ensures stops { IfErr result (λ stop. Stops stop (in_turn (map (meaning calls s.now variables.now) parts.now) view.old)) }
+{
+    match parts {
+        [a] => Ok(Operands::One(eval(a, alloc, s, calls, variables, view)?)),
+        [a, b] => {
+            let first = eval(a, alloc, s, calls, variables, view)?;
+            let second = eval(b, alloc, s, calls, variables, view)?;
+            Ok(Operands::Two(first, second))
+        }
+        _ => Ok(Operands::Any(eval_all(parts, alloc, s, calls, variables, view)?)),
+    }
+}
+
+/// What an operator makes of the values of its operands.
+#[cycle(eval)]
+#[tactic(auto, using(chi_core_frame::proofs::Stopping::stopping, crate::proofs::Operating::gathering))]
 pub fn operate(
     parts: &[CExpr],
     alloc: Global,
@@ -38,28 +61,14 @@ pub fn operate(
     ensures value { IfOk result (λ v. then_do (in_turn (map (meaning calls s.now variables.now) parts.now) view.old) (applied (scene_in s.now) name) ≡ Gives v view.new) }
     ensures stops { IfErr result (λ stop. Stops stop (then_do (in_turn (map (meaning calls s.now variables.now) parts.now) view.old) (applied (scene_in s.now) name))) }
 {
-    let scenery = scenery(s);
-    match parts {
-        [a] => {
-            let x = eval(a, alloc, s, calls, variables, view)?;
-            operator_of_one(alloc, &scenery, name, x, view)
-        }
-        [a, b] => {
-            let first = eval(a, alloc, s, calls, variables, view)?;
-            let second = eval(b, alloc, s, calls, variables, view)?;
-            operator_of_two(alloc, &scenery, name, first, second, view)
-        }
-        _ => {
-            let values = eval_all(parts, alloc, s, calls, variables, view)?;
-            operator_of_all(alloc, &scenery, name, values, view)
-        }
-    }
+    let operands = operands_of(parts, alloc, s, calls, variables, view)?;
+    operator_of(alloc, &scenery(s), name, operands, view)
 }
 
 /// As operate, where the value of a variable is let go of between the operands and the operator: an operand that is a copy
-/// of it isn't shared then, and changes in place.
+/// of it isn't shared then, and changes where it is.
 #[cycle(eval)]
-#[tactic(auto, using(chi_core_frame::proofs::Stopping::stopping, crate::proofs::Operating::operating))]
+#[tactic(auto, using(chi_core_frame::proofs::Stopping::stopping, crate::proofs::Operating::gathering))]
 pub fn operate_off(
     parts: &[CExpr],
     alloc: Global,
@@ -70,29 +79,15 @@ pub fn operate_off(
     variables: &mut Variables,
     view: &mut View,
 ) -> Result<Value, Stop>
-    requires set { value_at variables.old slot ≢ None }
-    requires there { then_do (in_turn (map (meaning calls s.now variables.old) parts.now) view.old) (applied (scene_in s.now) name) ≢ Amiss }
+    requires { then_do (in_turn (map (meaning calls s.now variables.old) parts.now) view.old) (applied (scene_in s.now) name) ≢ Amiss }
     ensures value { IfOk result (λ v. then_do (in_turn (map (meaning calls s.now variables.old) parts.now) view.old) (applied (scene_in s.now) name) ≡ Gives v view.new) }
     ensures stops { IfErr result (λ stop. Stops stop (then_do (in_turn (map (meaning calls s.now variables.old) parts.now) view.old) (applied (scene_in s.now) name))) }
     ensures alike { OnOk result (AreAlikeBut slot variables.old variables.new) }
     ensures kept { result ≡ Err Stop.Spent → variables.new ≡ variables.old }
 {
-    let scenery = scenery(s);
-    match parts {
-        [a] => {
-            let x = eval(a, alloc, s, calls, variables, view)?;
-            Ok(operator_off_one(alloc, &scenery, name, slot, x, variables, view)?)
-        }
-        [a, b] => {
-            let first = eval(a, alloc, s, calls, variables, view)?;
-            let second = eval(b, alloc, s, calls, variables, view)?;
-            Ok(operator_off_two(alloc, &scenery, name, slot, first, second, variables, view)?)
-        }
-        _ => {
-            let values = eval_all(parts, alloc, s, calls, variables, view)?;
-            Ok(operator_of_all(alloc, &scenery, name, values, view)?)
-        }
-    }
+    let operands = operands_of(parts, alloc, s, calls, variables, view)?;
+    variables.unset(slot);
+    operator_of(alloc, &scenery(s), name, operands, view)
 }
 
 /// `and` and `or`: the second is evaluated only where the first comes to this truth.

@@ -1,35 +1,53 @@
 -- When each status comes of the report of a source or a log.
-use Rattle.std.proofs.Common.{◌≡◌, ◌≢◌, ℕ, ◌≤◌, List, ◌⊎◌, inl, inr, sym, ◌∙◌, ap, refl, arith}
+use Rattle.std.proofs.Common.{◌≡◌, ◌≢◌, ℕ, ◌≤◌, List, length, ◌⊎◌, inl, inr, sym, ◌∙◌, ap, subst, refl, arith}
+use Rattle.chi_code.specs.declared.code.Code.{Code}
+use Rattle.chi_code.specs.Codes.{Codes}
 use Rattle.chi_io.specs.Shelf.{Files}
+use Rattle.chi_lex.specs.declared.lexer.TheConstants.{MOST_BYTES}
 use Rattle.chi_core.specs.declared.program.Core.{Core}
 use Rattle.chi_core.specs.declared.verdict.Verdict.{Verdict}
 use Rattle.chi_core.specs.declared.verdict.Verdict.TheVariants as verdict
 use Rattle.chi_value.specs.declared.value.Value.{Value}
 use Rattle.chi_tool.specs.Arguments.{Means}
 use Rattle.chi_tool.specs.Call.{Call}
-use Rattle.chi_tool.specs.Headline.{IsReportedOrLost, AsksFor, AsksForDone, AsksForLog, ComesUp, HasMisfit, HasLexicalFault, HasSyntaxFault, HasTypeFault, IsAskedSource, EndsAs, Ends, IsDone, IsExit, IsFault, HasUnfitArguments, IsExactly}
+use Rattle.chi_tool.specs.Headline.{IsReportedOrLost, AsksFor, AsksForDone, AsksForLog, ComesUp, HasMisfit, HasLexicalFault, HasSyntaxFault, HasTypeFault, IsAskedSource, held, made, EndsAs, Ends, IsDone, IsExit, IsFault, HasUnfitArguments, IsExactly}
 use Rattle.chi_tool.specs.Refusals as refusal
 use Rattle.chi_tool.specs.Refusals.{Report}
 use Rattle.chi_tool.specs.Report.{IsReportOfSource, refused, program, IsReportOfProgram, IsReportOfLog, IsReport}
 use Rattle.chi_tool.specs.Report as report
 use Rattle.chi_tool.specs.Running.{Course, IsRunOf, run_report}
-use Rattle.chi_tool.specs.Settings.{Wanted, Aim, simulates, checks, settings_with}
+use Rattle.chi_tool.specs.Settings.{Wanted, Aim, simulates, checks, lists, settings_with}
 use Rattle.chi_tool.specs.Sources.{by_lexer, by_parser, by_checker, ComesTo}
 use Rattle.chi_tool.specs.Statuses.{status_of}
 use Rattle.chi_tool.proofs.Cases.{CaseOf, asks_nothing, is_missing, is_long, of_log, of_source, case_of, asked_report, asked_log_report}
 use Rattle.chi_tool.proofs.Contents.{status_ap, source_program, source_bound, log_bound}
-use Rattle.chi_tool.proofs.LawClauses.{ReportLaw}
+use Rattle.chi_tool.proofs.LawClauses.{CodeLaw, ReportLaw}
 use Rattle.chi_tool.proofs.Promises.{MetOne}
 use Rattle.chi_tool.proofs.Verdicts.{status_bound, completed_by, exit_by, deadlock_by, fault_by, out_of_steps_by, stopped_by}
 
 no_program : (n : ℕ) → (20 ≤ n) × (n ≤ 22) → (core : Core) (aim : Aim) (r : Report) → IsReportOfProgram core aim r → r.status ≡ n → ⊥
 no_program n between core aim r is e = let b = source_program core aim r is in let low = between.0 in let high = between.1 in grind arith
 
+-- what is to be listed is there: the code of the program that a source comes to
+abbrev pub IsListable : Aim → List ℕ → Type 0
+IsListable (simulates w) source = Unit {0}
+IsListable checks source = Unit {0}
+IsListable lists source = (core : Core) → ComesTo source core → (code : Code) × Codes core code
+
+listable : CodeLaw → (source : List ℕ) → length source ≤ MOST_BYTES → (aim : Aim) → IsListable aim source
+listable coded source within (simulates w) = tt
+listable coded source within checks = tt
+listable coded source within lists = λ core comes. coded.some source core within comes
+
+asked_listable : CodeLaw → (call : Call) (files : Files) (aim : Aim) (source : List ℕ) → IsAskedSource call files aim source → IsListable aim source
+asked_listable coded call files aim source (held name purpose asked there within same) = listable coded source within aim
+asked_listable coded call files aim source (made size asked same plainly) = subst (λ (a : Aim). IsListable a source) (sym plainly) tt
+
 -- a status that a source's report has exactly for one cause, and that no other refusal has
 pub record StatusOf (n : ℕ) (P : Aim → List ℕ → Type 0) : Type 0 where
   pub other : (n ≢ 3) × (n ≢ 4) × (n ≢ 6)
   pub to : (aim : Aim) (source : List ℕ) (r : Report) → IsReportOfSource source aim r → r.status ≡ n → P aim source
-  pub from : (aim : Aim) (source : List ℕ) → P aim source → (r : Report) × IsReportOfSource source aim r × (r.status ≡ n)
+  pub from : (aim : Aim) (source : List ℕ) → IsListable aim source → P aim source → (r : Report) × IsReportOfSource source aim r × (r.status ≡ n)
 
 -- the statuses of runs
 
@@ -68,10 +86,12 @@ module _ (n : ℕ) (Q : Verdict → Type 0) (low : (n ≡ 0) ⊎ ((10 ≤ n) × 
     ends aim source r (refused (by_checker fault has e)) is = absurd (no_source_refusal 22 r (omega arith) (status_ap r _ e) is)
     ends (simulates w) source r (program core comes of) is = run_ends w source core r comes of is
     ends checks source r (program core comes of) is = let none = status_ap r _ of in let some = positive in absurd (omega arith)
+    ends lists source r (program core comes of) is = let none = status_ap r _ of.listed in let some = positive in absurd (omega arith)
 
-    ended : (aim : Aim) (source : List ℕ) → Ends Q aim source → (r : Report) × IsReportOfSource source aim r × (r.status ≡ n)
-    ended (simulates w) source p = ends_run w source p
-    ended checks source p = absurd p
+    ended : (aim : Aim) (source : List ℕ) → IsListable aim source → Ends Q aim source → (r : Report) × IsReportOfSource source aim r × (r.status ≡ n)
+    ended (simulates w) source may p = ends_run w source p
+    ended checks source may p = absurd p
+    ended lists source may p = absurd p
 
     run_status : StatusOf n (Ends Q)
     run_status = record {
@@ -87,12 +107,16 @@ done_of aim source r (refused (by_checker fault has e)) is = let h = status_ap r
 done_of (simulates w) source r (program core comes of) is =
     inl (run_ends 0 (λ v. v ≡ verdict.Completed) (inl refl) completed_by (λ v e. ap status_of e) w source core r comes of is)
 done_of checks source r (program core comes of) is = inr (core, comes)
+done_of lists source r (program core comes of) is = inr (core, comes)
 
-of_done : (aim : Aim) (source : List ℕ) → IsDone aim source → (r : Report) × IsReportOfSource source aim r × (r.status ≡ 0)
-of_done (simulates w) source (inl p) = ends_run 0 (λ v. v ≡ verdict.Completed) (inl refl) completed_by (λ v e. ap status_of e) w source p
-of_done (simulates w) source (inr p) = absurd p
-of_done checks source (inl p) = absurd p
-of_done checks source (inr p) = (refusal.accepted, program p.0 p.1 refl, refl)
+of_done : (aim : Aim) (source : List ℕ) → IsListable aim source → IsDone aim source → (r : Report) × IsReportOfSource source aim r × (r.status ≡ 0)
+of_done (simulates w) source may (inl p) = ends_run 0 (λ v. v ≡ verdict.Completed) (inl refl) completed_by (λ v e. ap status_of e) w source p
+of_done (simulates w) source may (inr p) = absurd p
+of_done checks source may (inl p) = absurd p
+of_done checks source may (inr p) = (refusal.accepted, program p.0 p.1 refl, refl)
+of_done lists source may (inl p) = absurd p
+of_done lists source may (inr p) =
+    let there = may p.0 p.1 in (refusal.listed there.0, program p.0 p.1 (record { code = there.0; is = there.1; listed = refl }), refl)
 
 pub done_status : StatusOf 0 IsDone
 done_status = record { other = (λ e. omega arith, λ e. omega arith, λ e. omega arith); to = done_of; from = of_done }
@@ -124,7 +148,7 @@ pub lexical_status : StatusOf 20 (λ aim. HasLexicalFault)
 lexical_status = record {
   other = (λ e. omega arith, λ e. omega arith, λ e. omega arith);
   to = lexical_of;
-  from = λ aim source p. (refusal.lexical p.0, refused (by_lexer p.0 p.1 refl), refl);
+  from = λ aim source may p. (refusal.lexical p.0, refused (by_lexer p.0 p.1 refl), refl);
 }
 
 syntax_of : (aim : Aim) (source : List ℕ) (r : Report) → IsReportOfSource source aim r → r.status ≡ 21 → HasSyntaxFault source
@@ -137,7 +161,7 @@ pub syntax_status : StatusOf 21 (λ aim. HasSyntaxFault)
 syntax_status = record {
   other = (λ e. omega arith, λ e. omega arith, λ e. omega arith);
   to = syntax_of;
-  from = λ aim source p. (refusal.syntax source p.0 p.1, refused (by_parser p.0 p.1 p.2 refl), refl);
+  from = λ aim source may p. (refusal.syntax source p.0 p.1, refused (by_parser p.0 p.1 p.2 refl), refl);
 }
 
 mistyped_of : (aim : Aim) (source : List ℕ) (r : Report) → IsReportOfSource source aim r → r.status ≡ 22 → HasTypeFault source
@@ -150,7 +174,7 @@ pub mistyped_status : StatusOf 22 (λ aim. HasTypeFault)
 mistyped_status = record {
   other = (λ e. omega arith, λ e. omega arith, λ e. omega arith);
   to = mistyped_of;
-  from = λ aim source p. (refusal.typing p.0, refused (by_checker p.0 p.1 refl), refl);
+  from = λ aim source may p. (refusal.typing p.0, refused (by_checker p.0 p.1 refl), refl);
 }
 
 unfit_run : (w : Wanted) (source : List ℕ) (core : Core) (r : Report) → ComesTo source core → IsReportOfProgram core (simulates w) r → r.status ≡ 23 → HasUnfitArguments (simulates w) source
@@ -165,11 +189,13 @@ unfit_of aim source r (refused (by_parser tokens fault has e)) is = let h = stat
 unfit_of aim source r (refused (by_checker fault has e)) is = let h = status_ap r _ e in absurd (omega arith)
 unfit_of (simulates w) source r (program core comes of) is = unfit_run w source core r comes of is
 unfit_of checks source r (program core comes of) is = let h = status_ap r _ of in absurd (omega arith)
+unfit_of lists source r (program core comes of) is = let h = status_ap r _ of.listed in absurd (omega arith)
 
-of_unfit : (aim : Aim) (source : List ℕ) → HasUnfitArguments aim source → (r : Report) × IsReportOfSource source aim r × (r.status ≡ 23)
-of_unfit (simulates w) source p =
+of_unfit : (aim : Aim) (source : List ℕ) → IsListable aim source → HasUnfitArguments aim source → (r : Report) × IsReportOfSource source aim r × (r.status ≡ 23)
+of_unfit (simulates w) source may p =
     (refusal.unfit_arguments p.wanted _ p.fault, program p.core p.program (report.unfit p.wanted p.fault p.misfits refl), refl)
-of_unfit checks source p = absurd p
+of_unfit checks source may p = absurd p
+of_unfit lists source may p = absurd p
 
 pub unfit_status : StatusOf 23 HasUnfitArguments
 unfit_status = record { other = (λ e. omega arith, λ e. omega arith, λ e. omega arith); to = unfit_of; from = of_unfit }
@@ -191,7 +217,7 @@ pub exactly : (r : Report) (call : Call) (n : ℕ) (cause : Type 0) → n ≢ 6 
 exactly r call n cause above (inl wanting) to from = ((λ is. absurd (above (sym is ∙ wanting))), λ h. inr wanting)
 exactly r call n cause above (inr met) to from = ((λ is. to (sym met.status ∙ is)), λ h. inl (met.status ∙ from h))
 
-module _ (law : ReportLaw) (call : Call) (files : Files) (one : MetOne call files) where
+module _ (law : ReportLaw) (coded : CodeLaw) (call : Call) (files : Files) (one : MetOne call files) where
   met : IsReportedOrLost one.0 call
   met = one.2
 
@@ -200,7 +226,7 @@ module _ (law : ReportLaw) (call : Call) (files : Files) (one : MetOne call file
 
   module _ (n : ℕ) (P : Aim → List ℕ → Type 0) (status : StatusOf n P) where
     pub asked_status : AsksFor call files P → one.0.status ≡ n
-    asked_status h = let p = status.from h.0 h.1 h.3 in same_status p.0 (asked_report call files h.0 h.1 p.0 h.2 p.1) ∙ p.2
+    asked_status h = let p = status.from h.0 h.1 (asked_listable coded call files h.0 h.1 h.2) h.3 in same_status p.0 (asked_report call files h.0 h.1 p.0 h.2 p.1) ∙ p.2
 
     module _ (no_log : (n ≢ 0) × (n ≢ 24)) where
       no_log_status : (text : List ℕ) → IsReportOfLog text one.0 → one.0.status ≡ n → ⊥

@@ -1,6 +1,7 @@
 -- Which statuses the report of a file's content has, and which tasks have to do with a file.
 use Rattle.std.proofs.Common.{◌≡◌, ◌≢◌, ℕ, ◌≤◌, List, ◌⊎◌, inl, inr, ◌∙◌, ap, refl, arith}
 use Rattle.chi_cli.specs.declared.args.ArgFault.{ArgFault}
+use Rattle.chi_code.specs.declared.code.Code.{Code}
 use Rattle.chi_core.specs.declared.program.Core.{Core}
 use Rattle.chi_io.specs.Shelf.{Files}
 use Rattle.chi_lex.specs.declared.lexer.TheConstants.{MOST_BYTES}
@@ -15,7 +16,7 @@ use Rattle.chi_tool.specs.Refusals.{Report}
 use Rattle.chi_tool.specs.Report as report
 use Rattle.chi_tool.specs.Report.{IsReportOfProgram, IsReportOfSource, refused, program, IsReportOfLog, up, misfit, IsReportOfFile, IsReportFor, IsReportOfTask}
 use Rattle.chi_tool.specs.Running.{Course, run_report}
-use Rattle.chi_tool.specs.Settings.{Wanted, Aim, simulates, checks, aim_of}
+use Rattle.chi_tool.specs.Settings.{Wanted, Aim, simulates, checks, lists, aim_of}
 use Rattle.chi_tool.specs.Sources.{by_lexer, by_parser, by_checker}
 use Rattle.chi_tool.specs.Words.{of_task, NamesNoFile}
 use Rattle.chi_tool.proofs.Verdicts.{status_bound}
@@ -26,17 +27,20 @@ status_ap r s e = ap (λ x. x.status) e
 -- what a program's report is of
 data ProgramCase (core : Core) (aim : Aim) (r : Report) : Type 0 where
   is_accepted : aim ≡ checks → r ≡ refusal.accepted → ProgramCase core aim r
+  is_listed : aim ≡ lists → (code : Code) → r ≡ refusal.listed code → ProgramCase core aim r
   is_unfit : (w : Wanted) → aim ≡ simulates w → (wanted given : ℕ) (fault : ArgFault) → r ≡ refusal.unfit_arguments wanted given fault → ProgramCase core aim r
   is_run : (w : Wanted) → aim ≡ simulates w → (course : Course) → r ≡ run_report core course → ProgramCase core aim r
 
 program_case : (core : Core) (aim : Aim) (r : Report) → IsReportOfProgram core aim r → ProgramCase core aim r
 program_case core checks r is = is_accepted refl is
+program_case core lists r is = is_listed refl is.code is.listed
 program_case core (simulates w) r (report.unfit wanted fault misfits is) = is_unfit w refl wanted _ fault is
 program_case core (simulates w) r (report.run values means of) = is_run w refl of.course of.is
 
 -- which statuses a program's report has
 program_status : (core : Core) (aim : Aim) (r : Report) → ProgramCase core aim r → (r.status ≡ 0) ⊎ (((10 ≤ r.status) × (r.status ≤ 14)) ⊎ (r.status ≡ 23))
 program_status core aim r (is_accepted p e) = inl (status_ap r _ e)
+program_status core aim r (is_listed p code e) = inl (status_ap r _ e)
 program_status core aim r (is_unfit w p wanted given fault e) = inr (inr (status_ap r _ e))
 program_status core aim r (is_run w p course e) = of_run (status_bound course.told.ending.verdict) (status_ap r _ e)
   where

@@ -12,7 +12,7 @@ use Rattle.chi_tool.specs.Report.{IsReportOfSource, IsReportOfWish, IsReport}
 use Rattle.chi_tool.specs.Settings.{simulates, wanted_of, plain}
 use Rattle.chi_tool.specs.Words.{Wish, of_task, wish_of}
 use Rattle.chi_tool.proofs.Contents.{source_status}
-use Rattle.chi_tool.proofs.LawClauses.{RunLaw, ReportLaw, ValuesLaw, RangeLaw}
+use Rattle.chi_tool.proofs.LawClauses.{RunLaw, CodeLaw, ReportLaw, ValuesLaw, RangeLaw}
 use Rattle.chi_tool.proofs.Promises.{MeetsOne, MeetsOneAlone, by_report, by_any, delivered, wanting, alone, any_alone, where_told, delivered_stopped, asks_something}
 use Rattle.chi_tool.proofs.Served.{Breaks, delivered_breaks, delivered_status, unbroken, causes, complete}
 
@@ -57,11 +57,11 @@ module _ (call : Call) (size : ℕ) (asked : wish_of call.words ≡ of_task (OfF
   factory_read (told r is d) e = delivered_status _ 4 _ _ _ call.out call.log (source_status _ _ r is).is_read (λ h. omega arith) d e
   factory_read (untold status out log) e = omega arith
 
-  pub factory-causes : ReportLaw → Tells (IsReportOfSource (factory_source size) (simulates (wanted_of plain))) call.status call.out call.log → Causes call
-  factory-causes law t =
-      causes law call (factory-headline law t) (factory_breaks t)
+  pub factory-causes : ReportLaw → CodeLaw → Tells (IsReportOfSource (factory_source size) (simulates (wanted_of plain))) call.status call.out call.log → Causes call
+  factory-causes law coded t =
+      causes law coded call (factory-headline law t) (factory_breaks t)
       (λ out log. ((λ is. absurd (factory_request t is)), λ none. absurd (asks_something (wish_of call.words) (OfFactory size) asked none)))
       (λ is. absurd (factory_read t is))
 
-  pub factory-complete : RunLaw → ValuesLaw → RangeLaw → ReportLaw → Tells (IsReportOfSource (factory_source size) (simulates (wanted_of plain))) call.status call.out call.log → IsComplete call
-  factory-complete runs fit bounds law t = complete law call (factory-headline law t) runs fit bounds
+  pub factory-complete : RunLaw → ValuesLaw → RangeLaw → ReportLaw → CodeLaw → Tells (IsReportOfSource (factory_source size) (simulates (wanted_of plain))) call.status call.out call.log → IsComplete call
+  factory-complete runs fit bounds law coded t = complete law coded call (factory-headline law t) runs fit bounds

@@ -5,6 +5,8 @@ use Rattle.chi_cli.specs.declared.request.Request.{Request}
 use Rattle.chi_cli.specs.Arguments.{values_of}
 use Rattle.chi_cli.specs.Ranges.{IsInRange}
 use Rattle.chi_cli.specs.Requests.{request_of}
+use Rattle.chi_code.specs.declared.code.Code.{Code}
+use Rattle.chi_code.specs.Codes.{Codes}
 use Rattle.chi_io.specs.Shelf.{Files}
 use Rattle.chi_token.specs.declared.place.Spanned.{Spanned}
 use Rattle.chi_grammar.specs.declared.fault.ParseFault.{ParseFault}
@@ -38,6 +40,11 @@ pub record AnswerLaw : Type 0 where
 pub record RunLaw : Type 0 where
   pub some : (source : List ℕ) (core : Core) → length source ≤ MOST_BYTES → ComesTo source core → (s : Settings) → MayHave core s → (course : Course) × IsRunOf core s course
   pub one : (core : Core) (s : Settings) (course other : Course) → IsRunOf core s course → IsRunOf core s other → course ≡ other
+
+-- that program has one code
+pub record CodeLaw : Type 0 where
+  pub some : (source : List ℕ) (core : Core) → length source ≤ MOST_BYTES → ComesTo source core → (code : Code) × Codes core code
+  pub one : (core : Core) (code other : Code) → Codes core code → Codes core other → code ≡ other
 
 -- a program that breaks no rule comes to a core, which is sound where its source is within the limit
 pub record CheckLaw : Type 0 where

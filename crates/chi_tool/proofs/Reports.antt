@@ -20,10 +20,10 @@ use Rattle.chi_tool.specs.Refusals as refusal
 use Rattle.chi_tool.specs.Refusals.{Report, usage, no_such_file, file_too_long, unfit_arguments, brought_up, accepted}
 use Rattle.chi_tool.specs.Report.{IsReportOfRun, unfit, run, IsReportOfProgram, IsReportOfSource, refused, program, IsReportOfLog, up, misfit, IsReportFor, IsReportOfFile, missing, long, fetched, IsReportOfWish, IsReport}
 use Rattle.chi_tool.specs.Running.{IsRunOf, run_report}
-use Rattle.chi_tool.specs.Settings.{Wanted, Aim, simulates, checks, wanted_of, aim_of, MayBeAimed, plain, settings_with}
+use Rattle.chi_tool.specs.Settings.{Wanted, Aim, simulates, checks, lists, wanted_of, aim_of, MayBeAimed, plain, settings_with}
 use Rattle.chi_tool.specs.Sources.{ComesTo}
 use Rattle.chi_tool.specs.Words.{Wish, nothing, of_task, wish_of}
-use Rattle.chi_tool.proofs.LawClauses.{AnswerLaw, RunLaw, CheckLaw, comes_sound, ValuesLaw, RangeLaw, LogLaw}
+use Rattle.chi_tool.proofs.LawClauses.{AnswerLaw, RunLaw, CodeLaw, CheckLaw, comes_sound, ValuesLaw, RangeLaw, LogLaw}
 use Rattle.chi_tool.proofs.Runs.{may_be_aimed, asked_settings}
 use Rattle.chi_tool.proofs.Sources.{Comes, source_comes, one_refusal, refused_or_comes, one_core}
 use Rattle.chi_tool.proofs.Wishes.{IsBoundedWish, bounded_wish, factory_within}
@@ -67,7 +67,7 @@ module _ (law : LogLaw) where
   log_one text r s (misfit k p a) (up log q b) = absurd (law.apart text log k q p)
   log_one text r s (misfit j p a) (misfit k q b) = a ∙ ap refusal.misfit (law.one_line text j k p q) ∙ sym b
 
-module _ (answers : AnswerLaw) (runs : RunLaw) (check : CheckLaw) (fit : ValuesLaw) where
+module _ (answers : AnswerLaw) (runs : RunLaw) (coded : CodeLaw) (check : CheckLaw) (fit : ValuesLaw) where
   -- there is one
 
   arguments_some : (w : Wanted) → MayBeAimed (simulates w) → (source : List ℕ) (core : Core) → length source ≤ MOST_BYTES → ComesTo source core → (d : ProcDef) → slice_get core.procs core.model ≡ Some d
@@ -84,6 +84,8 @@ module _ (answers : AnswerLaw) (runs : RunLaw) (check : CheckLaw) (fit : ValuesL
       let m = s.model in
       arguments_some w bounded source core within comes m.0 m.1 (values_of m.0.params w.texts) refl
   program_some checks bounded source core within comes = (accepted, refl)
+  program_some lists bounded source core within comes =
+      let there = coded.some source core within comes in (refusal.listed there.0, record { code = there.0; is = there.1; listed = refl })
 
   come_to_some : (aim : Aim) → MayBeAimed aim → (source : List ℕ) → length source ≤ MOST_BYTES → Comes source → (r : Report) × IsReportOfSource source aim r
   come_to_some aim bounded source within (inl (r, is)) = (r, refused is)
@@ -132,6 +134,7 @@ module _ (answers : AnswerLaw) (runs : RunLaw) (check : CheckLaw) (fit : ValuesL
   program_one : (core : Core) (aim : Aim) (r s : Report) → IsReportOfProgram core aim r → IsReportOfProgram core aim s → r ≡ s
   program_one core (simulates w) r s p q = run_one core w r s p q
   program_one core checks r s p q = p ∙ sym q
+  program_one core lists r s p q = p.listed ∙ ap refusal.listed (coded.one core p.code q.code p.is q.is) ∙ sym q.listed
 
   pub source_one : (source : List ℕ) (aim : Aim) (r s : Report) → IsReportOfSource source aim r → IsReportOfSource source aim s → r ≡ s
   source_one source aim r s (refused p) (refused q) = one_refusal answers source r s p q

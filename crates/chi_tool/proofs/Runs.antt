@@ -23,7 +23,7 @@ use Rattle.chi_sched.specs.Policies.{Answers}
 use Rattle.chi_tool.specs.declared.report.Reported.{Reported}
 use Rattle.chi_tool.specs.declared.task.Asked.{Asked}
 use Rattle.chi_tool.specs.declared.task.Purpose.{Purpose}
-use Rattle.chi_tool.specs.declared.task.Purpose.TheVariants.{Simulate, Check}
+use Rattle.chi_tool.specs.declared.task.Purpose.TheVariants.{Simulate, Check, ListCode}
 use Rattle.chi_tool.specs.Arguments.{is_misfit}
 use Rattle.chi_tool.specs.Refusals.{unfit_arguments}
 use Rattle.chi_tool.specs.Report.{IsReportOfRun, unfit, run, IsReportOfProgram, IsReportOfSource, program}
@@ -48,6 +48,7 @@ named_lawful (pick.Spread salt) question count early some few = mod-lt _ some
 pub may_be_aimed : (purpose : Purpose) → IsBounded purpose → MayBeAimed (aim_of purpose)
 may_be_aimed (Simulate a) bounded = (bounded, named_lawful a.terms.policy)
 may_be_aimed Check bounded = tt
+may_be_aimed ListCode bounded = tt
 
 -- settings that are wanted may be had
 pub asked_settings : ValuesLaw → (core : Core) (w : Wanted) (values : List Value) (d : ProcDef) → slice_get core.procs core.model ≡ Some d

@@ -13,7 +13,7 @@ use Rattle.chi_tool.specs.Settings.{Wanted, Aim, simulates, MayBeAimed, plain, s
 use Rattle.chi_tool.specs.Words.{Wish, nothing, of_task, wish_of}
 use Rattle.chi_tool.proofs.Causes.{done_exactly, exit_exactly, deadlock_exactly, fault_exactly, out_of_steps_exactly, stopped_exactly, lexical_exactly, syntax_exactly, typing_exactly, unfit_exactly, misfit_exactly, ends_complete}
 use Rattle.chi_tool.proofs.Contents.{IsOfContent, IsOfFile}
-use Rattle.chi_tool.proofs.LawClauses.{RunLaw, ReportLaw, ValuesLaw, RangeLaw}
+use Rattle.chi_tool.proofs.LawClauses.{RunLaw, CodeLaw, ReportLaw, ValuesLaw, RangeLaw}
 use Rattle.chi_tool.proofs.Promises.{IsLost, met_of, goes_stopped, asks_something, served-headline, usage-headline, lost-headline}
 use Rattle.chi_tool.proofs.Runs.{may_be_aimed, asked_settings}
 use Rattle.chi_tool.proofs.Wishes.{IsBoundedWish, bounded_wish, factory_within}
@@ -115,22 +115,22 @@ asked_within bounds call files aim source (made size asked same plainly) =
     subst (λ s. length s ≤ MOST_BYTES) (sym same) (factory_within size (subst IsBoundedWish asked (bounded_wish bounds call.words)))
 
 -- the parts of the causes that rest on how the call was served
-module _ (law : ReportLaw) (call : Call) (head : Headline call) where
+module _ (law : ReportLaw) (coded : CodeLaw) (call : Call) (head : Headline call) where
   pub causes : Breaks call.status call.out call.log
       → (call.out.stopped ≡ false → call.log.stopped ≡ false → IsExactly call 3 (wish_of call.words ≡ nothing))
       → (call.status ≡ 4 → CannotBeRead call.shelf (wish_of call.words)) → Causes call
   causes breaks request unread = record {
-    done = λ files well. done_exactly law call files (met_of call head files well);
-    exit = λ files well. exit_exactly law call files (met_of call head files well);
-    deadlock = λ files well. deadlock_exactly law call files (met_of call head files well);
-    fault = λ files well. fault_exactly law call files (met_of call head files well);
-    out_of_steps = λ files well. out_of_steps_exactly law call files (met_of call head files well);
-    stopped = λ files well. stopped_exactly law call files (met_of call head files well);
-    lexical = λ files well. lexical_exactly law call files (met_of call head files well);
-    syntax = λ files well. syntax_exactly law call files (met_of call head files well);
-    typing = λ files well. typing_exactly law call files (met_of call head files well);
-    arguments = λ files well. unfit_exactly law call files (met_of call head files well);
-    misfit = λ files well. misfit_exactly law call files (met_of call head files well);
+    done = λ files well. done_exactly law coded call files (met_of call head files well);
+    exit = λ files well. exit_exactly law coded call files (met_of call head files well);
+    deadlock = λ files well. deadlock_exactly law coded call files (met_of call head files well);
+    fault = λ files well. fault_exactly law coded call files (met_of call head files well);
+    out_of_steps = λ files well. out_of_steps_exactly law coded call files (met_of call head files well);
+    stopped = λ files well. stopped_exactly law coded call files (met_of call head files well);
+    lexical = λ files well. lexical_exactly law coded call files (met_of call head files well);
+    syntax = λ files well. syntax_exactly law coded call files (met_of call head files well);
+    typing = λ files well. typing_exactly law coded call files (met_of call head files well);
+    arguments = λ files well. unfit_exactly law coded call files (met_of call head files well);
+    misfit = λ files well. misfit_exactly law coded call files (met_of call head files well);
     no_request = request;
     not_read = unread;
     not_written = (breaks.stops, breaks.tells);
@@ -143,18 +143,18 @@ module _ (law : ReportLaw) (call : Call) (head : Headline call) where
       λ files well w source asked core comes arguments means.
       let bounded = asked_bound bounds call files w source asked in
       let ran = runs.some source core (asked_within bounds call files (simulates w) source asked) comes (settings_with w arguments) (asked_settings fit core w arguments means.model means.is means.read bounded) in
-      (ran.0, ran.1, ends_complete law call files (met_of call head files well) w source asked core comes arguments means ran.0 ran.1)
+      (ran.0, ran.1, ends_complete law coded call files (met_of call head files well) w source asked core comes arguments means ran.0 ran.1)
 
 module _ (t : Task) (name : List ℕ) (most : ℕ) (P : List ℕ → Report → Type 0) (of : IsOfFile t name most P) (call : Call)
-    (asked : wish_of call.words ≡ of_task t) (law : ReportLaw) where
+    (asked : wish_of call.words ≡ of_task t) (law : ReportLaw) (coded : CodeLaw) where
   pub served-causes : Serves most P name call.shelf call.status call.out call.log → Causes call
   served-causes s =
-      causes law call (served-headline t name most P of call asked law s) (served_breaks most P of.own name call s)
+      causes law coded call (served-headline t name most P of call asked law s) (served_breaks most P of.own name call s)
       (λ out log. ((λ is. absurd (served_request most P of.own name call s is)), λ none. absurd (asks_something (wish_of call.words) t asked none)))
       (λ is. let Q : Wish → Type 0 = CannotBeRead call.shelf in subst Q (sym asked) (of.unread call.shelf (served_unread most P of.own name call s is)))
 
   pub served-complete : RunLaw → ValuesLaw → RangeLaw → Serves most P name call.shelf call.status call.out call.log → IsComplete call
-  served-complete runs fit bounds s = complete law call (served-headline t name most P of call asked law s) runs fit bounds
+  served-complete runs fit bounds s = complete law coded call (served-headline t name most P of call asked law s) runs fit bounds
 
 -- a refusal that is told by the words alone
 
@@ -168,24 +168,24 @@ refusal_unread : (call : Call) (refusal : Report) → refusal.status ≢ 4 → D
     → CannotBeRead call.shelf (wish_of call.words)
 refusal_unread call refusal other d is = absurd (delivered_status _ 4 _ _ _ call.out call.log other (λ h. omega arith) d is)
 
-pub usage-causes : ReportLaw → (call : Call) → wish_of call.words ≡ nothing → DeliversReport usage call.status call.out call.log → Causes call
-usage-causes law call none d =
-    causes law call (usage-headline call none d) (delivered_breaks _ _ _ _ call.out call.log (λ e. omega arith) d)
+pub usage-causes : ReportLaw → CodeLaw → (call : Call) → wish_of call.words ≡ nothing → DeliversReport usage call.status call.out call.log → Causes call
+usage-causes law coded call none d =
+    causes law coded call (usage-headline call none d) (delivered_breaks _ _ _ _ call.out call.log (λ e. omega arith) d)
     (usage_exactly call none d) (refusal_unread call usage (λ e. omega arith) d)
 
-pub usage-complete : RunLaw → ValuesLaw → RangeLaw → ReportLaw → (call : Call) → wish_of call.words ≡ nothing → DeliversReport usage call.status call.out call.log → IsComplete call
-usage-complete runs fit bounds law call none d = complete law call (usage-headline call none d) runs fit bounds
+pub usage-complete : RunLaw → ValuesLaw → RangeLaw → ReportLaw → CodeLaw → (call : Call) → wish_of call.words ≡ nothing → DeliversReport usage call.status call.out call.log → IsComplete call
+usage-complete runs fit bounds law coded call none d = complete law coded call (usage-headline call none d) runs fit bounds
 
 -- memory was wanting before the words were read
 
 lost_breaks : (call : Call) → IsLost call → Breaks call.status call.out call.log
 lost_breaks call l = let lost = l.status in unbroken _ call.out call.log (λ is. omega arith) l.out.goes l.log.goes
 
-pub lost-causes : ReportLaw → (call : Call) → IsLost call → Causes call
-lost-causes law call l =
-    causes law call (lost-headline law call l) (lost_breaks call l)
+pub lost-causes : ReportLaw → CodeLaw → (call : Call) → IsLost call → Causes call
+lost-causes law coded call l =
+    causes law coded call (lost-headline law call l) (lost_breaks call l)
     (λ out log. ((λ is. let lost = l.status in absurd (omega arith)), λ none. inr l.status))
     (λ is. let lost = l.status in absurd (omega arith))
 
-pub lost-complete : RunLaw → ValuesLaw → RangeLaw → ReportLaw → (call : Call) → IsLost call → IsComplete call
-lost-complete runs fit bounds law call l = complete law call (lost-headline law call l) runs fit bounds
+pub lost-complete : RunLaw → ValuesLaw → RangeLaw → ReportLaw → CodeLaw → (call : Call) → IsLost call → IsComplete call
+lost-complete runs fit bounds law coded call l = complete law coded call (lost-headline law call l) runs fit bounds

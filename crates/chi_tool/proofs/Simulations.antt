@@ -78,7 +78,7 @@ module _ (law : SourceLaw) (s : Simulation) (within : length s.source ≤ MOST_B
   module _ (n : ℕ) (P : Aim → List ℕ → Type 0) (status : StatusOf n P) where
     causing : (r : Report) → IsReportOfSource s.source (simulates s.wanted) r → P (simulates s.wanted) s.source → r.status ≡ n
     causing r is h =
-        let p = status.from (simulates s.wanted) s.source h in
+        let p = status.from (simulates s.wanted) s.source tt h in
         status_ap r p.0 (law.one s.source (simulates s.wanted) r p.0 is p.1) ∙ p.2
 
     exactly_by : (cause : Type 0) → (P (simulates s.wanted) s.source → cause) → (cause → P (simulates s.wanted) s.source) → Met → IsExactlyFor s n cause

@@ -31,6 +31,7 @@ by_reading : RangeLaw → (words : List (List ℕ)) (o : Result Request CliFault
 by_reading law words (Err fault) is = tt
 by_reading law words (Ok (request.Sim file texts seed bound until pick trace)) is = counted bound (law words _ is).1
 by_reading law words (Ok (request.Check file)) is = tt
+by_reading law words (Ok (request.Code file)) is = tt
 by_reading law words (Ok (request.Load n)) is = law words _ is
 by_reading law words (Ok (request.TraceUp file)) is = tt
 

@@ -23,7 +23,7 @@ use Rattle.chi_tool.specs.Arguments.{Means, Misfits}
 use Rattle.chi_tool.specs.Refusals.{Report, no_such_file, file_too_long}
 use Rattle.chi_tool.specs.Report.{IsReport}
 use Rattle.chi_tool.specs.Running.{Course, IsRunOf}
-use Rattle.chi_tool.specs.Settings.{Wanted, Aim, simulates, checks, wanted_of, aim_of, settings_with, plain}
+use Rattle.chi_tool.specs.Settings.{Wanted, Aim, simulates, checks, lists, wanted_of, aim_of, settings_with, plain}
 use Rattle.chi_tool.specs.Sources.{IsNoProgram, BreaksRule, ComesTo}
 use Rattle.chi_tool.specs.Statuses as statuses
 use Rattle.chi_tool.specs.Statuses.{status_of}
@@ -144,13 +144,15 @@ pub record EndsAs (P : Verdict → Type 0) (w : Wanted) (source : List ℕ) : Ty
 abbrev pub Ends : (Verdict → Type 0) → Aim → List ℕ → Type 0
 Ends P (simulates w) source = EndsAs P w source
 Ends P checks source = ⊥
+Ends P lists source = ⊥
 
--- a check is asked for, and the source comes to a program
+-- a check or a listing is asked for, and the source comes to a program
 abbrev pub IsAccepted : Aim → List ℕ → Type 0
 IsAccepted (simulates w) source = ⊥
 IsAccepted checks source = (core : Core) × ComesTo source core
+IsAccepted lists source = (core : Core) × ComesTo source core
 
--- a run has completed, or a program is accepted
+-- a run has completed, or a program is accepted, to be checked or to be listed
 abbrev pub IsDone : Aim → List ℕ → Type 0
 IsDone aim source = Ends (λ v. v ≡ verdict.Completed) aim source ⊎ IsAccepted aim source
 
@@ -166,6 +168,7 @@ pub record IsUnfit (w : Wanted) (source : List ℕ) : Type 0 where
 abbrev pub HasUnfitArguments : Aim → List ℕ → Type 0
 HasUnfitArguments (simulates w) source = IsUnfit w source
 HasUnfitArguments checks source = ⊥
+HasUnfitArguments lists source = ⊥
 
 abbrev pub IsExit : Verdict → Type 0
 IsExit v = (x : Option Value) × (v ≡ verdict.Exit x)
@@ -206,7 +209,7 @@ IsExactlyIn call n P = (files : Files) → GoesWell call files → IsExactly cal
 abbrev pub IsExactlyOf : Call → ℕ → (Aim → List ℕ → Type 0) → Type 0
 IsExactlyOf call n P = IsExactlyIn call n (λ files. AsksFor call files P)
 
--- a run has completed, a program is accepted, or a log is brought up
+-- a run has completed, a program is accepted or listed, or a log is brought up
 abbrev pub AsksForDone : Call → Files → Type 0
 AsksForDone call files = AsksFor call files IsDone ⊎ AsksForLog call files ComesUp
 

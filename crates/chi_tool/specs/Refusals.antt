@@ -3,6 +3,8 @@ use Rattle.std.specs.Prelude.{ℕ, List, [], ◌∷◌, ◌++◌, codes}
 use Rattle.std.specs.Fmt.{decimal}
 use Rattle.chi_cli.specs.declared.args.ArgFault.{ArgFault}
 use Rattle.chi_cli.specs.declared.args.ArgFault.TheVariants as arg
+use Rattle.chi_code.specs.declared.code.Code.{Code}
+use Rattle.chi_code_listing.specs.Listing.{listing_text}
 use Rattle.chi_token.specs.declared.place.Spanned.{Spanned}
 use Rattle.chi_lex.specs.declared.fault.LexFault.{LexFault}
 use Rattle.chi_lex.specs.declared.fault.LexFault.TheVariants as fault
@@ -71,3 +73,7 @@ brought_up up = record { status = statuses.brought_up; out = up; log = [] }
 -- no refusal: a program that was to be checked breaks no rule
 abbrev pub accepted : Report
 accepted = refused statuses.accepted (codes "accepted")
+
+-- no refusal: the code of a program is listed in the output
+abbrev pub listed : Code → Report
+listed code = record { status = statuses.listed; out = listing_text code; log = [] }

@@ -1,6 +1,8 @@
 -- The report of words and files: the status, and every byte that is written.
 use Rattle.std.specs.Prelude.{◌≡◌, ℕ, ◌<◌, ◌≤◌, List, length, Option, Some, None}
 use Rattle.chi_cli.specs.declared.args.ArgFault.{ArgFault}
+use Rattle.chi_code.specs.declared.code.Code.{Code}
+use Rattle.chi_code.specs.Codes.{Codes}
 use Rattle.chi_io.specs.Shelf.{Files}
 use Rattle.chi_load.specs.Factory.{factory_source}
 use Rattle.chi_lex.specs.declared.lexer.TheConstants.{MOST_BYTES}
@@ -14,7 +16,7 @@ use Rattle.chi_tool.specs.Arguments.{Means, Misfits}
 use Rattle.chi_tool.specs.Refusals as refusal
 use Rattle.chi_tool.specs.Refusals.{Report, usage, no_such_file, file_too_long, unfit_arguments, brought_up, accepted}
 use Rattle.chi_tool.specs.Running.{IsRunReport}
-use Rattle.chi_tool.specs.Settings.{Wanted, Aim, simulates, checks, wanted_of, aim_of, settings_with, plain}
+use Rattle.chi_tool.specs.Settings.{Wanted, Aim, simulates, checks, lists, wanted_of, aim_of, settings_with, plain}
 use Rattle.chi_tool.specs.Sources.{IsRefused, ComesTo}
 use Rattle.chi_tool.specs.Words.{Wish, nothing, of_task, wish_of}
 
@@ -23,10 +25,17 @@ pub data IsReportOfRun (core : Core) (w : Wanted) (r : Report) : Type 0 where
   unfit : (wanted : ℕ) (fault : ArgFault) → Misfits core w.texts wanted fault → r ≡ unfit_arguments wanted (length w.texts) fault → IsReportOfRun core w r
   run : (values : List Value) → Means core w.texts values → IsRunReport core (settings_with w values) r → IsReportOfRun core w r
 
+-- a program whose code is to be listed: the listing of what is its code, by the layout of code
+pub record IsReportOfCode (core : Core) (r : Report) : Type 0 where
+  pub code : Code
+  pub is : Codes core code
+  pub listed : r ≡ refusal.listed code
+
 -- what is done with a program
 abbrev pub IsReportOfProgram : Core → Aim → Report → Type 0
 IsReportOfProgram core (simulates w) r = IsReportOfRun core w r
 IsReportOfProgram core checks r = r ≡ accepted
+IsReportOfProgram core lists r = IsReportOfCode core r
 
 -- a source's report: its refusal, or that of the program that it comes to
 pub data IsReportOfSource (source : List ℕ) (aim : Aim) (r : Report) : Type 0 where
@@ -59,6 +68,7 @@ IsReportOfWish nothing files r = r ≡ usage
 IsReportOfWish (of_task t) files r = IsReportOfTask t files r
 
 -- r is the report of these words and files: the first refusal among words, file, bytes, tokens, program and arguments,
--- or what was asked for: the output, trace and verdict of the run, that the program is accepted, or what the log is brought up to
+-- or what was asked for: the output, trace and verdict of the run, that the program is accepted, the listing of its code,
+-- or what the log is brought up to
 abbrev pub IsReport : List (List ℕ) → Files → Report → Type 0
 IsReport words files r = IsReportOfWish (wish_of words) files r

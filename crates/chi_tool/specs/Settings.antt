@@ -8,7 +8,7 @@ use Rattle.chi_core.specs.Picks.{Pick, IsLawful}
 use Rattle.chi_sched.specs.Policies.{first, last, spread}
 use Rattle.chi_tool.specs.declared.task.Asked.{Asked}
 use Rattle.chi_tool.specs.declared.task.Purpose.{Purpose}
-use Rattle.chi_tool.specs.declared.task.Purpose.TheVariants.{Simulate, Check}
+use Rattle.chi_tool.specs.declared.task.Purpose.TheVariants.{Simulate, Check, ListCode}
 
 -- The seed of its draws; the bound on the costs of all its steps together; the policy that picks among what may
 -- happen; the arguments of its model; the stopping time, if there is one; and whether its trace is logged.
@@ -29,10 +29,11 @@ pub record Wanted : Type 0 where
   pub until : Option ℤ
   pub trace : Bool
 
--- what is done with a source: its program is run, or is only checked
+-- what is done with a source: its program is run, is only checked, or has its code listed
 pub data Aim : Type 0 where
   simulates : Wanted → Aim
   checks : Aim
+  lists : Aim
 
 -- the policy that words name
 abbrev pub policy_of : words.Pick → Pick
@@ -47,6 +48,7 @@ wanted_of a = record { seed = a.terms.seed; bound = a.terms.bound; pick = policy
 abbrev pub aim_of : Purpose → Aim
 aim_of (Simulate a) = simulates (wanted_of a)
 aim_of Check = checks
+aim_of ListCode = lists
 
 -- with the arguments that the texts mean
 abbrev pub settings_with : Wanted → List Value → Settings
@@ -60,8 +62,10 @@ plain = record { terms = record { seed = 0; bound = STEPS; policy = pick.First; 
 abbrev pub IsBounded : Purpose → Type 0
 IsBounded (Simulate a) = a.terms.bound < 2 ^ 63
 IsBounded Check = Unit {0}
+IsBounded ListCode = Unit {0}
 
 -- the same, by a policy that picks one of the choices
 abbrev pub MayBeAimed : Aim → Type 0
 MayBeAimed (simulates w) = (w.bound < 2 ^ 63) × IsLawful w.pick
 MayBeAimed checks = Unit {0}
+MayBeAimed lists = Unit {0}

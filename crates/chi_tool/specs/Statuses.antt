@@ -39,6 +39,11 @@ status_of verdict.Stopped = stopped
 abbrev pub accepted : ℕ
 accepted = 0
 
+-- or its code is listed
+
+abbrev pub listed : ℕ
+listed = 0
+
 -- the words are no request
 
 abbrev pub no_request : ℕ

@@ -1,4 +1,6 @@
 ghost use Rattle.std.specs.Prelude.{◌≡◌, ◌≤◌, ℕ, All, List, length};
+ghost use Rattle.chi_code.specs.declared.code.Code.{Code};
+ghost use Rattle.chi_code.specs.Codes.{Codes};
 ghost use Rattle.chi_io.specs.Shelf.{Files};
 ghost use Rattle.chi_tree_laws.specs.Answers.{IsProgram};
 ghost use Rattle.chi_core.specs.declared.program.Core.{Core};
@@ -17,7 +19,9 @@ ghost use Rattle.chi_tree.specs.declared.definition.Program.{Program};
 
 use chi_check_parsed::parsed_programs_are_sound;
 use chi_cli::{numbers_are_in_range, values_are_of_parameters};
+use chi_code::code_is_unique;
 use chi_core_runs::picked_law;
+use chi_gen_laws::sound_programs_have_one_code;
 use chi_trace::logs_law;
 use chi_trace_events::trace_law;
 use chi_tree_laws::answer_law;
@@ -32,6 +36,16 @@ pub fn one_run_law()
     trace_law();
 }
 
+/// The program that a source within the limit comes to has exactly one code.
+pub fn one_code_law()
+    ensures some { (source : List ℕ) (core : Core) → length source ≤ MOST_BYTES → ComesTo source core → (code : Code) × Codes core code }
+    ensures one { (core : Core) (code other : Code) → Codes core code → Codes core other → code ≡ other }
+{
+    parsed_programs_are_sound();
+    sound_programs_have_one_code();
+    code_is_unique();
+}
+
 /// A source within the limit has exactly one report, for each aim that may be had with it.
 pub fn source_law()
     ensures some { (source : List ℕ) (aim : Aim) → length source ≤ MOST_BYTES → MayBeAimed aim → (r : Report) × IsReportOfSource source aim r }
@@ -40,6 +54,7 @@ pub fn source_law()
     answer_law();
     parsed_programs_are_sound();
     one_run_law();
+    one_code_law();
     values_are_of_parameters();
 }
 
@@ -52,6 +67,7 @@ pub fn report_law()
     answer_law();
     parsed_programs_are_sound();
     one_run_law();
+    one_code_law();
     numbers_are_in_range();
     values_are_of_parameters();
     logs_law();

@@ -9,6 +9,7 @@ ghost use Rattle.chi_tool.specs.Reported.{report_in};
 ghost use Rattle.chi_tool.specs.Settings.{IsBounded, aim_of, wanted_of};
 
 use crate::arguments::{is_misfit, unfit};
+use crate::code::report_of_code;
 use crate::refusal::one_line;
 use crate::report::Reported;
 use crate::run::run;
@@ -85,7 +86,7 @@ fn run_asked(alloc: Global, core: &Core, asked: &Asked) -> Result<Reported, NoMe
     }
 }
 
-/// The report of a program: of its run, or that it is accepted.
+/// The report of a program: of its run, that it is accepted, or the listing of its code.
 pub fn report_of_program(
     alloc: Global,
     core: &Core,
@@ -98,5 +99,6 @@ pub fn report_of_program(
     match purpose {
         Purpose::Check => one_line(alloc, ACCEPTED, b"accepted"),
         Purpose::Simulate(asked) => run_asked(alloc, core, asked),
+        Purpose::ListCode => report_of_code(alloc, core),
     }
 }

@@ -9,6 +9,9 @@ const COMPLETED: u8 = 0;
 /// A program that was to be checked is accepted.
 pub const ACCEPTED: u8 = 0;
 
+/// The code of a program is listed.
+pub const LISTED: u8 = 0;
+
 /// The words are no request.
 pub const NO_REQUEST: u8 = 3;
 

@@ -37,6 +37,8 @@ pub fn unasked(alloc: Global) -> Result<Asked, NoMemory>
 pub enum Purpose {
     Simulate(Asked),
     Check,
+    /// The code of its program is listed.
+    ListCode,
 }
 
 /// What is done, and with what.

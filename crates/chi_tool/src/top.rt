@@ -3,7 +3,7 @@ ghost use Rattle.chi_tool.specs.Call.{sink_use, shelf_use};
 ghost use Rattle.chi_tool.specs.Headline.{Headline, Causes, IsComplete};
 
 use crate::deliver::deliver;
-use crate::laws::{one_run_law, report_law};
+use crate::laws::{one_code_law, one_run_law, report_law};
 use crate::logs::serve_log;
 use crate::serve::{serve, serve_factory};
 use crate::status::{NO_MEMORY, NO_REQUEST};
@@ -52,6 +52,7 @@ pub fn chi<H: Shelf, O: Sink, L: Sink>(
 {
     report_law();
     one_run_law();
+    one_code_law();
     numbers_are_in_range();
     values_are_of_parameters();
     match read_words(alloc, words) {

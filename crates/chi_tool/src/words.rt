@@ -36,6 +36,10 @@ pub fn task_of(request: Request) -> Task
             file,
             purpose: Purpose::Check,
         },
+        Request::Code { file } => Task::OfFile {
+            file,
+            purpose: Purpose::ListCode,
+        },
         Request::Load { n } => Task::OfFactory { size: n },
         Request::TraceUp { file } => Task::OfLog { file },
     }

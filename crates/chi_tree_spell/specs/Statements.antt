@@ -26,7 +26,7 @@ use Rattle.chi_tree.specs.declared.definition.Definition.{Definition}
 use Rattle.chi_tree.specs.declared.definition.Definition.TheVariants as definition
 use Rattle.chi_tree.specs.declared.definition.Item.{Item}
 use Rattle.chi_tree.specs.declared.definition.Program.{Program}
-use Rattle.chi_tree_spell.specs.Marks.{Put, plain, Mark, mark, Agree}
+use Rattle.chi_tree_spell.specs.Marks.{Put, unmarked, Mark, mark, Agree}
 use Rattle.chi_tree_spell.specs.Words.{Tokens, write_word, if_any, all, each_after, separated}
 use Rattle.chi_tree_spell.specs.Expressions.{bare, kept, put_name, put_commas, put_round, put_curly, put_expr, put_postfix, put_type, put_formals}
 
@@ -182,83 +182,83 @@ module _ {X : Type 0} (put : Put X) where
 -- the tokens alone
 
 abbrev pub spelled_name : Name → Tokens
-spelled_name n = put_name plain n ∷ []
+spelled_name n = put_name unmarked n ∷ []
 
 abbrev pub spelled_names : List Name → Tokens
-spelled_names = put_names plain
+spelled_names = put_names unmarked
 
 abbrev pub spelled_exprs : List Expr → Tokens
-spelled_exprs = put_exprs plain
+spelled_exprs = put_exprs unmarked
 
 abbrev pub semicolon_if : Bool → Tokens
-semicolon_if = put_semicolon plain
+semicolon_if = put_semicolon unmarked
 
 abbrev pub initial_tokens : Option Initial → Tokens
-initial_tokens = put_initial plain
+initial_tokens = put_initial unmarked
 
 abbrev pub spelled_variable : Variable → Tokens
-spelled_variable = put_variable plain
+spelled_variable = put_variable unmarked
 
 abbrev pub spelled_target : Target → Tokens
-spelled_target = put_target plain
+spelled_target = put_target unmarked
 
 abbrev pub spelled_walk : Walk → Tokens
-spelled_walk = put_walk plain
+spelled_walk = put_walk unmarked
 
 abbrev pub spelled_communication : Communication → Tokens
-spelled_communication = put_communication plain
+spelled_communication = put_communication unmarked
 
 abbrev pub assigned_tokens : Option Target → Tokens
-assigned_tokens = put_assigned plain
+assigned_tokens = put_assigned unmarked
 
 abbrev pub spelled_element : Element → Tokens
-spelled_element = put_element plain
+spelled_element = put_element unmarked
 
 abbrev pub spelled_elements : List Element → Tokens
-spelled_elements = put_elements plain
+spelled_elements = put_elements unmarked
 
 abbrev pub guard_tokens : Option Expr → Tokens
-guard_tokens = put_guard plain
+guard_tokens = put_guard unmarked
 
 abbrev pub body_tokens : List Tokens → Tokens
-body_tokens = put_body plain
+body_tokens = put_body unmarked
 
 abbrev pub else_tokens : List Tokens → Tokens
-else_tokens = put_else plain
+else_tokens = put_else unmarked
 
 abbrev pub to_end : List Tokens → Tokens
-to_end = put_to_end plain
+to_end = put_to_end unmarked
 
 abbrev pub spelled_step : Step → Tokens
-spelled_step = put_step plain
+spelled_step = put_step unmarked
 
 abbrev pub spelled_statement : Statement → Tokens
-spelled_statement = put_statement plain
+spelled_statement = put_statement unmarked
 
 abbrev pub spelled_branch : Branch → Tokens
-spelled_branch = put_branch plain
+spelled_branch = put_branch unmarked
 
 abbrev pub spelled_alternative : Alternative → Tokens
-spelled_alternative = put_alternative plain
+spelled_alternative = put_alternative unmarked
 
 abbrev pub spelled_block : List Step → Tokens
-spelled_block = put_block plain
+spelled_block = put_block unmarked
 
 abbrev pub spelled_head : Option TypeTree → Name → Tokens
-spelled_head = put_head plain
+spelled_head = put_head unmarked
 
 abbrev pub spelled_body : List Formal → List Step → Tokens
-spelled_body = put_callable plain
+spelled_body = put_callable unmarked
 
 abbrev pub spelled_definition : Definition → Tokens
-spelled_definition = put_definition plain
+spelled_definition = put_definition unmarked
 
 abbrev pub spelled_item : Item → Tokens
-spelled_item = put_item plain
+spelled_item = put_item unmarked
 
 -- the tokens of a source
 abbrev pub spelled : Program → Tokens
-spelled = put_program plain
+spelled = put_program unmarked
 
 -- the tokens with the places that the nodes keep
 

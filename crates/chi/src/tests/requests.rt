@@ -8,6 +8,9 @@ const USAGE: &str = "usage: chi COMMAND [OPTIONS] FILE [ARGS]\n";
 
 const TICKS: &str = "model M(): while true: writeln(\"%s\", time); delay 2.0 end end";
 
+const SENDS_ON: &str =
+    "proc S(chan! int a): while true: a!1 end end model M(): chan int a; run S(a) end";
+
 const ARGUMENTS: &str = "model M(int n; real x): writeln(\"%d %s\", n, x) end";
 
 /// Time.
@@ -71,7 +74,7 @@ const TIMES: [Row; 8] = [
 ];
 
 /// Words, files and logs.
-const WORDS: [Row; 12] = [
+const WORDS: [Row; 14] = [
     (
         "",
         &["load", "3"],
@@ -112,6 +115,14 @@ const WORDS: [Row; 12] = [
         "argument 1: type\n",
         23,
     ),
+    (
+        SENDS_ON,
+        &["code", "m.chi"],
+        "proc S 1 1 1\nproc M 0 1 12\n0 done\n1 mark 1\n2 push true\n3 iffalse 11\n4 mark 1\n5 load 0\n6 push 1\n7 send 9\n8 wait\n9 jump 10\n10 jump 1\n11 done\n12 mark 1\n13 default chan\n14 store 0\n15 mark 1\n16 load 0\n17 make 0\n18 join\n19 done\n",
+        "",
+        0,
+    ),
+    (SENDS_ON, &["check", "m.chi"], "", "accepted\n", 0),
     (
         "trace 1\n0 local 0\n1 advance 0.000000001\n2 wake 0 0\ncompleted at time 0.000000001\n",
         &["trace-up", "m.chi"],

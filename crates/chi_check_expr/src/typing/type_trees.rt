@@ -6,9 +6,10 @@ ghost use Rattle.chi_check_types.specs.TypeRules as rules;
 ghost use Rattle.chi_check_expr.specs.TypeTrees as trees;
 ghost use Rattle.chi_check_expr.specs.Typing as spec;
 
-use crate::fields::{note_first, type_meant, with_field};
+use crate::fields::{note_first, with_field};
 use crate::typing::type_in;
 use chi_base::{Items, NoMemory};
+use chi_check_expr_rules::type_of;
 use chi_check_types::{Fault, Made, Meant, Scope, Site};
 use chi_token::{Bytes, Place};
 use chi_tree::{Formal, TypeTree, Way};
@@ -240,5 +241,5 @@ fn type_before(
     };
     drop(last);
     let meant = mean_in(alloc, tree.get(), scope, site, false, kept)?;
-    Ok(type_meant(meant))
+    Ok(type_of(meant))
 }

@@ -18,7 +18,6 @@ use Rattle.chi_plain_eval.proofs.Choosing.{choose_first}
 use Rattle.chi_plain_eval.proofs.Passing.{did_by, gives_by, gives_same, stops_by}
 use Rattle.chi_plain_eval.proofs.Repeating.{repeat_count, repeat_many}
 use Rattle.chi_plain_eval.proofs.Standing.{const_there, lit_is, var_is, const_is, op_is, and_is, or_is, build_is, part_is, call_is, insert_is, default_is, repeat_is}
-use Rattle.chi_plain_eval.proofs.Wholes.{made_there}
 use Rattle.chi_plain_eval.proofs.Turns.{body_is, turns_start, turn_goes, turn_gives}
 use Rattle.chi_plain_eval.proofs.+eval.Goals as goal
 
@@ -222,12 +221,14 @@ items::act_on-returns-in-For-clause-value t c = did_by c.begin_walk.result c.arg
 pub items::act_on-returns-in-For-clause-stops : goal.items::act_on-returns-in-For-clause-stops
 items::act_on-returns-in-For-clause-stops t c = stops_by c.begin_walk.result (act_stat (meaning c.args.calls c.args.s.now c.args.variables.now) c.args.variables.now (out-CStat c.args.statement.now) (drop 1 c.args.term.now) c.args.view.now) _ (for_is (meaning c.args.calls c.args.s.now c.args.variables.now) c.args.variables.now c.args.statement.now (drop 1 c.args.term.now) c.args.view.now c.in-For.line c.in-For.slots _ c.in-For.e c.in-For.block _ c.in-For.is c.as_slice-names.ensures.same c.as_slice-turn-in-For.ensures.same) c.begin_walk.ensures.stops
 
-pub setting::set_to-operate_off-requires : goal.setting::set_to-operate_off-requires
-setting::set_to-operate_off-requires t c = (
-  omega (arith, c.in-Some.ensures.smaller),
-  (
-    c.is_set.ensures.0 c.if-is_set.true,
-    made_there (run_by c.args.calls c.args.s.now) (scene_in c.args.s.now) c.args.slot c.args.e.now c.args.variables.now c.args.view.now c.in-Some.name c.in-Some.parts.now
-        c.in-Some.ensures.is c.requires,
-  ),
-)
+pub expressions::eval_off-returns-in-Op-clause-value : goal.expressions::eval_off-returns-in-Op-clause-value
+expressions::eval_off-returns-in-Op-clause-value t c = gives_by c.operate_off.result c.operate_off.new.view ((meaning c.args.calls c.args.s.now c.args.variables.now) c.args.e.now c.args.view.now) _ (op_is (run_by c.args.calls c.args.s.now) (scene_in c.args.s.now) c.args.variables.now c.args.view.now c.args.e.now c.in-Op.name c.in-Op.parts c.as_slice-operands.result.now c.in-Op.is c.as_slice-operands.ensures.same) c.operate_off.ensures.value
+
+pub expressions::eval_off-returns-in-Op-clause-stops : goal.expressions::eval_off-returns-in-Op-clause-stops
+expressions::eval_off-returns-in-Op-clause-stops t c = stops_by c.operate_off.result ((meaning c.args.calls c.args.s.now c.args.variables.now) c.args.e.now c.args.view.now) _ (op_is (run_by c.args.calls c.args.s.now) (scene_in c.args.s.now) c.args.variables.now c.args.view.now c.args.e.now c.in-Op.name c.in-Op.parts c.as_slice-operands.result.now c.in-Op.is c.as_slice-operands.ensures.same) c.operate_off.ensures.stops
+
+pub expressions::eval_off-returns-in-InsertBy-clause-value : goal.expressions::eval_off-returns-in-InsertBy-clause-value
+expressions::eval_off-returns-in-InsertBy-clause-value t c = gives_by c.insert_off.result c.insert_off.new.view ((meaning c.args.calls c.args.s.now c.args.variables.now) c.args.e.now c.args.view.now) _ (insert_is (run_by c.args.calls c.args.s.now) (scene_in c.args.s.now) c.args.variables.now c.args.view.now c.args.e.now c.in-InsertBy.a c.in-InsertBy.b c.get-list.result.now c.get-element.result.now c.in-InsertBy.number c.in-InsertBy.is c.get-list.ensures.same c.get-element.ensures.same) c.insert_off.ensures.value
+
+pub expressions::eval_off-returns-in-InsertBy-clause-stops : goal.expressions::eval_off-returns-in-InsertBy-clause-stops
+expressions::eval_off-returns-in-InsertBy-clause-stops t c = stops_by c.insert_off.result ((meaning c.args.calls c.args.s.now c.args.variables.now) c.args.e.now c.args.view.now) _ (insert_is (run_by c.args.calls c.args.s.now) (scene_in c.args.s.now) c.args.variables.now c.args.view.now c.args.e.now c.in-InsertBy.a c.in-InsertBy.b c.get-list.result.now c.get-element.result.now c.in-InsertBy.number c.in-InsertBy.is c.get-list.ensures.same c.get-element.ensures.same) c.insert_off.ensures.stops

@@ -663,7 +663,7 @@ type_trees::type_before-returns-in_default-clause-noted t c = sym (noted_untyped
 pub type_trees::type_before-returns-clause-made : goal.type_trees::type_before-returns-clause-made
 type_trees::type_before-returns-clause-made t c =
     let e = made_typed c.args.site c.args.scope.now c.args.last c.args.field.now _ c.in-Some.is in
-    cc (e, c.in_ok-meant.ensures.made, c.type_meant.ensures)
+    cc (e, c.in_ok-meant.ensures.made, c.type_of.ensures)
 
 pub type_trees::type_before-returns-clause-noted : goal.type_trees::type_before-returns-clause-noted
 type_trees::type_before-returns-clause-noted t c =

@@ -1,4 +1,4 @@
-use Rattle.chi_dist.proofs.Exponential.{exponent_of_draw, exponential_order, exponential_least, exponential_most}
+use Rattle.chi_dist.proofs.ExponentialOrder.{exponent_of_draw, exponential_order, exponential_least, exponential_most}
 use Rattle.chi_dist.proofs.laws.exponential_law.Goals as goal
 
 pub returns : goal.returns

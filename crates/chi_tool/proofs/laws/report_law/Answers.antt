@@ -1,4 +1,4 @@
-use Rattle.chi_tool.proofs.LawClauses.{AnswerLaw, RunLaw, CheckLaw, LogLaw}
+use Rattle.chi_tool.proofs.LawClauses.{AnswerLaw, RunLaw, CodeLaw, CheckLaw, LogLaw}
 use Rattle.chi_tool.proofs.Reports.{report_some, report_one}
 use Rattle.chi_tool.proofs.laws.report_law.Goals as goal
 
@@ -6,9 +6,10 @@ pub returns : goal.returns
 returns c =
     let answers : AnswerLaw = record { some = c.answer_law.ensures.some; one = c.answer_law.ensures.one } in
     let runs : RunLaw = record { some = c.one_run_law.ensures.some; one = c.one_run_law.ensures.one } in
+    let coded : CodeLaw = record { some = c.one_code_law.ensures.some; one = c.one_code_law.ensures.one } in
     let check : CheckLaw = record { whole = c.parsed_programs_are_sound.ensures.whole; sound = c.parsed_programs_are_sound.ensures.sound } in
     let log_law : LogLaw = record { some = c.logs_law.ensures.some; one_log = c.logs_law.ensures.one_log; one_line = c.logs_law.ensures.one_line; apart = c.logs_law.ensures.apart } in
     record {
-      some = report_some answers runs check c.values_are_of_parameters.ensures log_law c.numbers_are_in_range.ensures;
-      one = report_one answers runs check c.values_are_of_parameters.ensures log_law;
+      some = report_some answers runs coded check c.values_are_of_parameters.ensures log_law c.numbers_are_in_range.ensures;
+      one = report_one answers runs coded check c.values_are_of_parameters.ensures log_law;
     }

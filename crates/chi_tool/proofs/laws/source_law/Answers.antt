@@ -1,4 +1,4 @@
-use Rattle.chi_tool.proofs.LawClauses.{AnswerLaw, RunLaw, CheckLaw}
+use Rattle.chi_tool.proofs.LawClauses.{AnswerLaw, RunLaw, CodeLaw, CheckLaw}
 use Rattle.chi_tool.proofs.Reports.{source_some, source_one}
 use Rattle.chi_tool.proofs.laws.source_law.Goals as goal
 
@@ -6,8 +6,9 @@ pub returns : goal.returns
 returns c =
     let answers : AnswerLaw = record { some = c.answer_law.ensures.some; one = c.answer_law.ensures.one } in
     let runs : RunLaw = record { some = c.one_run_law.ensures.some; one = c.one_run_law.ensures.one } in
+    let coded : CodeLaw = record { some = c.one_code_law.ensures.some; one = c.one_code_law.ensures.one } in
     let check : CheckLaw = record { whole = c.parsed_programs_are_sound.ensures.whole; sound = c.parsed_programs_are_sound.ensures.sound } in
     record {
-      some = λ source aim within may. source_some answers runs check c.values_are_of_parameters.ensures aim may source within;
-      one = source_one answers runs check c.values_are_of_parameters.ensures;
+      some = λ source aim within may. source_some answers runs coded check c.values_are_of_parameters.ensures aim may source within;
+      one = source_one answers runs coded check c.values_are_of_parameters.ensures;
     }

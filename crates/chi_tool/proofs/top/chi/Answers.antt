@@ -8,7 +8,7 @@ use Rattle.chi_tool.specs.Settings.{aim_of}
 use Rattle.chi_tool.specs.Words.{task_of}
 use Rattle.chi_tool.proofs.Contents.{source_of_file, log_of_file}
 use Rattle.chi_tool.proofs.Factories.{factory-headline, factory-causes, factory-complete}
-use Rattle.chi_tool.proofs.LawClauses.{RunLaw, ReportLaw}
+use Rattle.chi_tool.proofs.LawClauses.{RunLaw, CodeLaw, ReportLaw}
 use Rattle.chi_tool.proofs.Promises.{served-headline, usage-headline, lost-headline}
 use Rattle.chi_tool.proofs.Served.{served-causes, served-complete, usage-causes, usage-complete, lost-causes, lost-complete}
 use Rattle.chi_tool.proofs.Sinks.{still}
@@ -28,15 +28,17 @@ returns-in-OfFile-clause-headline g c =
 pub returns-in-OfFile-clause-causes : goal.returns-in-OfFile-clause-causes
 returns-in-OfFile-clause-causes g c =
     let law : ReportLaw = record { some = c.report_law.ensures.some; one = c.report_law.ensures.one } in
+    let coded : CodeLaw = record { some = c.one_code_law.ensures.some; one = c.one_code_law.ensures.one } in
     served-causes (OfFile c.in-OfFile.file c.in-OfFile.purpose) c.in-OfFile.file MOST_BYTES (IsReportFor (aim_of c.in-OfFile.purpose)) (source_of_file c.in-OfFile.file c.in-OfFile.purpose) _
-    (wish_task (texts c.args.words.now) c.in-Ok.request (OfFile c.in-OfFile.file c.in-OfFile.purpose) c.in-Ok.ensures.request c.in-OfFile.ensures) law (rw (c.as_slice.ensures.same) at c.serve.ensures)
+    (wish_task (texts c.args.words.now) c.in-Ok.request (OfFile c.in-OfFile.file c.in-OfFile.purpose) c.in-Ok.ensures.request c.in-OfFile.ensures) law coded (rw (c.as_slice.ensures.same) at c.serve.ensures)
 
 pub returns-in-OfFile-clause-complete : goal.returns-in-OfFile-clause-complete
 returns-in-OfFile-clause-complete g c =
     let law : ReportLaw = record { some = c.report_law.ensures.some; one = c.report_law.ensures.one } in
+    let coded : CodeLaw = record { some = c.one_code_law.ensures.some; one = c.one_code_law.ensures.one } in
     let runs : RunLaw = record { some = c.one_run_law.ensures.some; one = c.one_run_law.ensures.one } in
     served-complete (OfFile c.in-OfFile.file c.in-OfFile.purpose) c.in-OfFile.file MOST_BYTES (IsReportFor (aim_of c.in-OfFile.purpose)) (source_of_file c.in-OfFile.file c.in-OfFile.purpose) _
-    (wish_task (texts c.args.words.now) c.in-Ok.request (OfFile c.in-OfFile.file c.in-OfFile.purpose) c.in-Ok.ensures.request c.in-OfFile.ensures) law runs c.values_are_of_parameters.ensures c.numbers_are_in_range.ensures (rw (c.as_slice.ensures.same) at c.serve.ensures)
+    (wish_task (texts c.args.words.now) c.in-Ok.request (OfFile c.in-OfFile.file c.in-OfFile.purpose) c.in-Ok.ensures.request c.in-OfFile.ensures) law coded runs c.values_are_of_parameters.ensures c.numbers_are_in_range.ensures (rw (c.as_slice.ensures.same) at c.serve.ensures)
 
 pub returns-in-OfLog-clause-headline : goal.returns-in-OfLog-clause-headline
 returns-in-OfLog-clause-headline g c =
@@ -47,15 +49,17 @@ returns-in-OfLog-clause-headline g c =
 pub returns-in-OfLog-clause-causes : goal.returns-in-OfLog-clause-causes
 returns-in-OfLog-clause-causes g c =
     let law : ReportLaw = record { some = c.report_law.ensures.some; one = c.report_law.ensures.one } in
+    let coded : CodeLaw = record { some = c.one_code_law.ensures.some; one = c.one_code_law.ensures.one } in
     served-causes (OfLog c.in-OfLog.file) c.in-OfLog.file MOST_LOG_BYTES IsReportOfLog (log_of_file c.in-OfLog.file) _
-    (wish_task (texts c.args.words.now) c.in-Ok.request (OfLog c.in-OfLog.file) c.in-Ok.ensures.request c.in-OfLog.ensures) law (rw (c.as_slice-in-OfLog.ensures.same) at c.serve_log.ensures)
+    (wish_task (texts c.args.words.now) c.in-Ok.request (OfLog c.in-OfLog.file) c.in-Ok.ensures.request c.in-OfLog.ensures) law coded (rw (c.as_slice-in-OfLog.ensures.same) at c.serve_log.ensures)
 
 pub returns-in-OfLog-clause-complete : goal.returns-in-OfLog-clause-complete
 returns-in-OfLog-clause-complete g c =
     let law : ReportLaw = record { some = c.report_law.ensures.some; one = c.report_law.ensures.one } in
+    let coded : CodeLaw = record { some = c.one_code_law.ensures.some; one = c.one_code_law.ensures.one } in
     let runs : RunLaw = record { some = c.one_run_law.ensures.some; one = c.one_run_law.ensures.one } in
     served-complete (OfLog c.in-OfLog.file) c.in-OfLog.file MOST_LOG_BYTES IsReportOfLog (log_of_file c.in-OfLog.file) _
-    (wish_task (texts c.args.words.now) c.in-Ok.request (OfLog c.in-OfLog.file) c.in-Ok.ensures.request c.in-OfLog.ensures) law runs c.values_are_of_parameters.ensures c.numbers_are_in_range.ensures (rw (c.as_slice-in-OfLog.ensures.same) at c.serve_log.ensures)
+    (wish_task (texts c.args.words.now) c.in-Ok.request (OfLog c.in-OfLog.file) c.in-Ok.ensures.request c.in-OfLog.ensures) law coded runs c.values_are_of_parameters.ensures c.numbers_are_in_range.ensures (rw (c.as_slice-in-OfLog.ensures.same) at c.serve_log.ensures)
 
 pub returns-then-not-is_refusal-clause-headline : goal.returns-then-not-is_refusal-clause-headline
 returns-then-not-is_refusal-clause-headline g c =
@@ -65,13 +69,15 @@ returns-then-not-is_refusal-clause-headline g c =
 pub returns-then-not-is_refusal-clause-causes : goal.returns-then-not-is_refusal-clause-causes
 returns-then-not-is_refusal-clause-causes g c =
     let law : ReportLaw = record { some = c.report_law.ensures.some; one = c.report_law.ensures.one } in
-    lost-causes law _ (record { status = refl; out = record { took = still _; goes = c.requires.out_goes }; log = record { took = still _; goes = c.requires.log_goes } })
+    let coded : CodeLaw = record { some = c.one_code_law.ensures.some; one = c.one_code_law.ensures.one } in
+    lost-causes law coded _ (record { status = refl; out = record { took = still _; goes = c.requires.out_goes }; log = record { took = still _; goes = c.requires.log_goes } })
 
 pub returns-then-not-is_refusal-clause-complete : goal.returns-then-not-is_refusal-clause-complete
 returns-then-not-is_refusal-clause-complete g c =
     let law : ReportLaw = record { some = c.report_law.ensures.some; one = c.report_law.ensures.one } in
+    let coded : CodeLaw = record { some = c.one_code_law.ensures.some; one = c.one_code_law.ensures.one } in
     let runs : RunLaw = record { some = c.one_run_law.ensures.some; one = c.one_run_law.ensures.one } in
-    lost-complete runs c.values_are_of_parameters.ensures c.numbers_are_in_range.ensures law _ (record { status = refl; out = record { took = still _; goes = c.requires.out_goes }; log = record { took = still _; goes = c.requires.log_goes } })
+    lost-complete runs c.values_are_of_parameters.ensures c.numbers_are_in_range.ensures law coded _ (record { status = refl; out = record { took = still _; goes = c.requires.out_goes }; log = record { took = still _; goes = c.requires.log_goes } })
 
 pub returns-else-not-is_refusal-clause-headline : goal.returns-else-not-is_refusal-clause-headline
 returns-else-not-is_refusal-clause-headline g c = usage-headline _ (wish_nothing (texts c.args.words.now) c.in-Err.fault (sym c.is_refusal.ensures ∙ c.if-not-is_refusal.false) c.in-Err.ensures.fault) c.deliver.ensures
@@ -79,13 +85,15 @@ returns-else-not-is_refusal-clause-headline g c = usage-headline _ (wish_nothing
 pub returns-else-not-is_refusal-clause-causes : goal.returns-else-not-is_refusal-clause-causes
 returns-else-not-is_refusal-clause-causes g c =
     let law : ReportLaw = record { some = c.report_law.ensures.some; one = c.report_law.ensures.one } in
-    usage-causes law _ (wish_nothing (texts c.args.words.now) c.in-Err.fault (sym c.is_refusal.ensures ∙ c.if-not-is_refusal.false) c.in-Err.ensures.fault) c.deliver.ensures
+    let coded : CodeLaw = record { some = c.one_code_law.ensures.some; one = c.one_code_law.ensures.one } in
+    usage-causes law coded _ (wish_nothing (texts c.args.words.now) c.in-Err.fault (sym c.is_refusal.ensures ∙ c.if-not-is_refusal.false) c.in-Err.ensures.fault) c.deliver.ensures
 
 pub returns-else-not-is_refusal-clause-complete : goal.returns-else-not-is_refusal-clause-complete
 returns-else-not-is_refusal-clause-complete g c =
     let law : ReportLaw = record { some = c.report_law.ensures.some; one = c.report_law.ensures.one } in
+    let coded : CodeLaw = record { some = c.one_code_law.ensures.some; one = c.one_code_law.ensures.one } in
     let runs : RunLaw = record { some = c.one_run_law.ensures.some; one = c.one_run_law.ensures.one } in
-    usage-complete runs c.values_are_of_parameters.ensures c.numbers_are_in_range.ensures law _ (wish_nothing (texts c.args.words.now) c.in-Err.fault (sym c.is_refusal.ensures ∙ c.if-not-is_refusal.false) c.in-Err.ensures.fault) c.deliver.ensures
+    usage-complete runs c.values_are_of_parameters.ensures c.numbers_are_in_range.ensures law coded _ (wish_nothing (texts c.args.words.now) c.in-Err.fault (sym c.is_refusal.ensures ∙ c.if-not-is_refusal.false) c.in-Err.ensures.fault) c.deliver.ensures
 
 pub serve_factory-requires-clause-some : goal.serve_factory-requires-clause-some
 serve_factory-requires-clause-some g c =
@@ -103,10 +111,12 @@ returns-in-OfFactory-clause-headline g c =
 pub returns-in-OfFactory-clause-causes : goal.returns-in-OfFactory-clause-causes
 returns-in-OfFactory-clause-causes g c =
     let law : ReportLaw = record { some = c.report_law.ensures.some; one = c.report_law.ensures.one } in
-    factory-causes _ c.in-OfFactory.size (wish_task (texts c.args.words.now) c.in-Ok.request (OfFactory c.in-OfFactory.size) c.in-Ok.ensures.request c.in-OfFactory.ensures) law c.serve_factory.ensures
+    let coded : CodeLaw = record { some = c.one_code_law.ensures.some; one = c.one_code_law.ensures.one } in
+    factory-causes _ c.in-OfFactory.size (wish_task (texts c.args.words.now) c.in-Ok.request (OfFactory c.in-OfFactory.size) c.in-Ok.ensures.request c.in-OfFactory.ensures) law coded c.serve_factory.ensures
 
 pub returns-in-OfFactory-clause-complete : goal.returns-in-OfFactory-clause-complete
 returns-in-OfFactory-clause-complete g c =
     let law : ReportLaw = record { some = c.report_law.ensures.some; one = c.report_law.ensures.one } in
+    let coded : CodeLaw = record { some = c.one_code_law.ensures.some; one = c.one_code_law.ensures.one } in
     let runs : RunLaw = record { some = c.one_run_law.ensures.some; one = c.one_run_law.ensures.one } in
-    factory-complete _ c.in-OfFactory.size (wish_task (texts c.args.words.now) c.in-Ok.request (OfFactory c.in-OfFactory.size) c.in-Ok.ensures.request c.in-OfFactory.ensures) runs c.values_are_of_parameters.ensures c.numbers_are_in_range.ensures law c.serve_factory.ensures
+    factory-complete _ c.in-OfFactory.size (wish_task (texts c.args.words.now) c.in-Ok.request (OfFactory c.in-OfFactory.size) c.in-Ok.ensures.request c.in-OfFactory.ensures) runs c.values_are_of_parameters.ensures c.numbers_are_in_range.ensures law coded c.serve_factory.ensures

@@ -1,0 +1,12 @@
+pub mod Going
+pub mod Moving
+pub mod Expressions
+pub mod Standing
+pub mod Targets
+pub mod Items
+pub mod Lines
+pub mod Bodies
+pub mod Ends
+pub mod Measure
+pub mod Lifting
+pub mod Stated

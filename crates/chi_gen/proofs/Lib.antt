@@ -1,0 +1,5 @@
+pub mod AddedBlocks
+pub mod AddedPrograms
+pub mod AddedStatements
+pub mod Passing
+pub mod Sounding
