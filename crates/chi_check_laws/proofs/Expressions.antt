@@ -74,7 +74,9 @@ module _ (scope : Scope) (set : Set) (s : Site) (names : Names) (at : IsSite s s
   -- without a name as the third argument nothing is inserted
   none_inserted : (place : Place) (parts : Option (Option Made × Option Made)) (m : Made) → (insert_parts place parts None).made ≡ Some m → ⊥
   none_inserted place None m e = absurd (cc)
-  none_inserted place _ m e = absurd (cc)
+  none_inserted place (Some (None, x)) m e = absurd (cc)
+  none_inserted place (Some (Some list, None)) m e = absurd (cc)
+  none_inserted place (Some (Some list, Some x)) m e = absurd (cc)
 
   predefined_by : (p : Predefined) (place : Place) (ms : List Made) (m : Made) → Each T ms → (predefined_call s place p (typed_parts ms) None).made ≡ Some m → T m
   predefined_by p place ms m hs e =

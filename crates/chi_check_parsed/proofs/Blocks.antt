@@ -18,7 +18,7 @@ use Rattle.chi_tree.specs.declared.statement.Step.{Step, fold-roll-Step}
 use Rattle.chi_tree.specs.declared.statement.Walk.{Walk}
 use Rattle.chi_tree.specs.Statements.{step}
 use Rattle.chi_tree_spell.specs.Words.{Tokens, if_any, all, each_after, separated}
-use Rattle.chi_tree_spell.specs.Marks.{unmarked}
+use Rattle.chi_tree_spell.specs.Marks.{plain}
 use Rattle.chi_tree_spell.specs.Expressions.{spelled_expr}
 use Rattle.chi_tree_spell.specs.Statements as spell
 use Rattle.chi_tree_spell.specs.Statements.{spelled_element, spelled_elements, spelled_statement, spelled_step, spelled_branch, spelled_alternative, spelled_walk, spelled_communication, semicolon_if, guard_tokens}
@@ -110,13 +110,13 @@ module _ (home : Home) where
   -- ---- by the outermost layers
 
   at_element : (x : Element) (o : Element-F Element) → out-Element x ≡ o
-      → (AllFit (spell.element_step unmarked (map-Element Element Tokens spelled_element o)) → TurnShort MakeShort (check.element_step home (map-Element Element (Turn State CElem) (starting home) o))) → MakesShort x
+      → (AllFit (spell.element_step plain (map-Element Element Tokens spelled_element o)) → TurnShort MakeShort (check.element_step home (map-Element Element (Turn State CElem) (starting home) o))) → MakesShort x
   at_element x o h k fit =
       subst (TurnShort MakeShort) (sym (fold_out-Element (Turn State CElem) (check.element_step home) x ∙ ap (λ o. check.element_step home (map-Element Element (Turn State CElem) (starting home) o)) h))
-      (k (subst AllFit (fold_out-Element Tokens (spell.element_step unmarked) x ∙ ap (λ o. spell.element_step unmarked (map-Element Element Tokens spelled_element o)) h) fit))
+      (k (subst AllFit (fold_out-Element Tokens (spell.element_step plain) x ∙ ap (λ o. spell.element_step plain (map-Element Element Tokens spelled_element o)) h) fit))
 
   abbrev statement_tokens : Statement-F Alternative Statement Branch Step → Tokens
-  statement_tokens o = spell.statement_step unmarked (map-Statement Alternative Statement Branch Step Tokens Tokens Tokens Tokens spelled_alternative spelled_statement spelled_branch spelled_step o)
+  statement_tokens o = spell.statement_step plain (map-Statement Alternative Statement Branch Step Tokens Tokens Tokens Tokens spelled_alternative spelled_statement spelled_branch spelled_step o)
 
   abbrev statement_made : Statement-F Alternative Statement Branch Step → Going CStat
   statement_made o = check.statement_step home (map-Statement Alternative Statement Branch Step (Going CAlt) (Going CStat) (Going CBranch) (Going CStat) (offering home) (stating home) (branching home) (stepping home) o)
@@ -126,13 +126,13 @@ module _ (home : Home) where
   stating_is x o h = fold_out-Statement (Going CAlt) (Going CStat) (Going CBranch) (Going CStat) (check.alternative_step home) (check.statement_step home) (check.branch_step home) (check.step_step home) x ∙ ap statement_made h
 
   spelled_is : (x : Statement) (o : Statement-F Alternative Statement Branch Step) → out-Statement x ≡ o → spelled_statement x ≡ statement_tokens o
-  spelled_is x o h = fold_out-Statement Tokens Tokens Tokens Tokens (spell.alternative_step unmarked) (spell.statement_step unmarked) (spell.branch_step unmarked) (spell.step_step unmarked) x ∙ ap statement_tokens h
+  spelled_is x o h = fold_out-Statement Tokens Tokens Tokens Tokens (spell.alternative_step plain) (spell.statement_step plain) (spell.branch_step plain) (spell.step_step plain) x ∙ ap statement_tokens h
 
   at_statement : (x : Statement) (o : Statement-F Alternative Statement Branch Step) → out-Statement x ≡ o → (AllFit (statement_tokens o) → GoesShort StatementShort (statement_made o)) → StatesShort x
   at_statement x o h k fit = subst (GoesShort StatementShort) (sym (stating_is x o h)) (k (subst AllFit (spelled_is x o h) fit))
 
   abbrev alternative_tokens : Alternative-F Alternative Statement Branch Step → Tokens
-  alternative_tokens o = spell.alternative_step unmarked (map-Alternative Alternative Statement Branch Step Tokens Tokens Tokens Tokens spelled_alternative spelled_statement spelled_branch spelled_step o)
+  alternative_tokens o = spell.alternative_step plain (map-Alternative Alternative Statement Branch Step Tokens Tokens Tokens Tokens spelled_alternative spelled_statement spelled_branch spelled_step o)
 
   abbrev alternative_made : Alternative-F Alternative Statement Branch Step → Going CAlt
   alternative_made o = check.alternative_step home (map-Alternative Alternative Statement Branch Step (Going CAlt) (Going CStat) (Going CBranch) (Going CStat) (offering home) (stating home) (branching home) (stepping home) o)
@@ -143,14 +143,14 @@ module _ (home : Home) where
 
   at_alternative : (x : Alternative) (o : Alternative-F Alternative Statement Branch Step) → out-Alternative x ≡ o → (AllFit (alternative_tokens o) → GoesShort OfferShort (alternative_made o)) → OffersShort x
   at_alternative x o h k fit = subst (GoesShort OfferShort) (sym (offering_is x o h))
-      (k (subst AllFit (fold_out-Alternative Tokens Tokens Tokens Tokens (spell.alternative_step unmarked) (spell.statement_step unmarked) (spell.branch_step unmarked) (spell.step_step unmarked) x ∙ ap alternative_tokens h) fit))
+      (k (subst AllFit (fold_out-Alternative Tokens Tokens Tokens Tokens (spell.alternative_step plain) (spell.statement_step plain) (spell.branch_step plain) (spell.step_step plain) x ∙ ap alternative_tokens h) fit))
 
   stepping_is : (s : Statement) (semicolon : Bool) → stepping home (step s semicolon) ≡ stating home s
   unfolding stating stepping branching offering
   stepping_is s semicolon = fold-roll-Step (Going CAlt) (Going CStat) (Going CBranch) (Going CStat) (check.alternative_step home) (check.statement_step home) (check.branch_step home) (check.step_step home) (record { statement = s; semicolon = semicolon })
 
   step_spelled : (s : Statement) (semicolon : Bool) → spelled_step (step s semicolon) ≡ spelled_statement s ++ semicolon_if semicolon
-  step_spelled s semicolon = fold-roll-Step Tokens Tokens Tokens Tokens (spell.alternative_step unmarked) (spell.statement_step unmarked) (spell.branch_step unmarked) (spell.step_step unmarked) (record { statement = s; semicolon = semicolon })
+  step_spelled s semicolon = fold-roll-Step Tokens Tokens Tokens Tokens (spell.alternative_step plain) (spell.statement_step plain) (spell.branch_step plain) (spell.step_step plain) (record { statement = s; semicolon = semicolon })
 
   step_short : (s : Statement) (semicolon : Bool) → StatesShort s → AllFit (spelled_step (step s semicolon)) → GoesShort StatementShort (stepping home (step s semicolon))
   step_short s semicolon h fit = subst (GoesShort StatementShort) (sym (stepping_is s semicolon)) (h (fit_left (spelled_statement s) (semicolon_if semicolon) (subst AllFit (step_spelled s semicolon) fit)))
@@ -160,7 +160,7 @@ module _ (home : Home) where
   branching_is e xs = fold-roll-Branch (Going CAlt) (Going CStat) (Going CBranch) (Going CStat) (check.alternative_step home) (check.statement_step home) (check.branch_step home) (check.step_step home) (record { condition = e; block = xs })
 
   branch_spelled : (e : Expr) (xs : List Step) → spelled_branch (formed.branch e xs) ≡ spelled_expr e ++ token.Sign sign.Colon ∷ all (map spelled_step xs)
-  branch_spelled e xs = fold-roll-Branch Tokens Tokens Tokens Tokens (spell.alternative_step unmarked) (spell.statement_step unmarked) (spell.branch_step unmarked) (spell.step_step unmarked) (record { condition = e; block = xs })
+  branch_spelled e xs = fold-roll-Branch Tokens Tokens Tokens Tokens (spell.alternative_step plain) (spell.statement_step plain) (spell.branch_step plain) (spell.step_step plain) (record { condition = e; block = xs })
 
   -- ---- elements
 
@@ -195,7 +195,7 @@ module _ (home : Home) where
 
   -- ---- blocks after what stands before them
 
-  body_fits : (xs : List Step) → AllFit (spell.put_body unmarked (map spelled_step xs)) → AllFit (all (map spelled_step xs))
+  body_fits : (xs : List Step) → AllFit (spell.put_body plain (map spelled_step xs)) → AllFit (all (map spelled_step xs))
   body_fits [] fit = tt
   body_fits (x ∷ xs) fit = fit.1
 
@@ -210,7 +210,7 @@ module _ (home : Home) where
   guarded_short : (d : ℕ) (guard : Option Expr) (c : Communication) (xs : List Step) → FormedIfAny d guard → FormedCommunication d c
       → (AllFit (all (map spelled_step xs)) → Each (GoesShort StatementShort) (map (stepping home) xs)) → OffersShort (alternative.Guarded guard c xs)
   guarded_short d guard c xs g f inner = at_alternative _ _ (alternative.outs-Guarded guard c xs) (λ fit loop s.
-      let body = spell.put_body unmarked (map spelled_step xs) in
+      let body = spell.put_body plain (map spelled_step xs) in
       let front = fit_left (guard_tokens guard ++ spelled_communication c) body fit in
       let gs = map (stepping home) xs in
       let h = guard_short home s.names d guard g (guard_fits guard (fit_left (guard_tokens guard) (spelled_communication c) front)) in

@@ -18,7 +18,7 @@ use Rattle.chi_tree.specs.declared.expr.Entry.{Entry, fold_out-Entry}
 use Rattle.chi_tree.specs.declared.expr.Link.{Link, fold_out-Link}
 use Rattle.chi_tree.specs.View.{chained, parted}
 use Rattle.chi_tree_spell.specs.Words.{Tokens, operator_token, if_any, all, each_after, separated}
-use Rattle.chi_tree_spell.specs.Marks.{unmarked}
+use Rattle.chi_tree_spell.specs.Marks.{plain}
 use Rattle.chi_tree_spell.specs.Expressions as spell
 use Rattle.chi_tree_spell.specs.Expressions.{Declared, spelled_expr, spelled_postfix, spelled_type, spelled_entry, spelled_link, declared}
 use Rattle.chi_tree_laws.specs.Levels.{Level}
@@ -53,28 +53,28 @@ use Rattle.chi_check_parsed.proofs.Predefined.{predefined_on, tuple_on, list_on,
 -- ---- the tokens of each construct
 
 abbrev expr_tokens : Expr-F Expr Postfix TypeTree Entry Link Formal → Tokens
-expr_tokens o = spell.expr_step unmarked (map-Expr Expr Postfix TypeTree Entry Link Formal Tokens Tokens Tokens Tokens Tokens (Declared Token) spelled_expr spelled_postfix spelled_type spelled_entry spelled_link declared o)
+expr_tokens o = spell.expr_step plain (map-Expr Expr Postfix TypeTree Entry Link Formal Tokens Tokens Tokens Tokens Tokens (Declared Token) spelled_expr spelled_postfix spelled_type spelled_entry spelled_link declared o)
 
 expr_spelled : (e : Expr) (o : Expr-F Expr Postfix TypeTree Entry Link Formal) → out-Expr e ≡ o → spelled_expr e ≡ expr_tokens o
-expr_spelled e o h = fold_out-Expr Tokens Tokens Tokens Tokens Tokens (Declared Token) (spell.expr_step unmarked) (spell.postfix_step unmarked) (spell.type_step unmarked) (spell.entry_step unmarked) (spell.link_step unmarked) (spell.formal_step unmarked) e ∙ ap expr_tokens h
+expr_spelled e o h = fold_out-Expr Tokens Tokens Tokens Tokens Tokens (Declared Token) (spell.expr_step plain) (spell.postfix_step plain) (spell.type_step plain) (spell.entry_step plain) (spell.link_step plain) (spell.formal_step plain) e ∙ ap expr_tokens h
 
 abbrev pub postfix_tokens : Postfix-F Expr Postfix TypeTree Entry Link Formal → Tokens
-postfix_tokens o = spell.postfix_step unmarked (map-Postfix Expr Postfix TypeTree Entry Link Formal Tokens Tokens Tokens Tokens Tokens (Declared Token) spelled_expr spelled_postfix spelled_type spelled_entry spelled_link declared o)
+postfix_tokens o = spell.postfix_step plain (map-Postfix Expr Postfix TypeTree Entry Link Formal Tokens Tokens Tokens Tokens Tokens (Declared Token) spelled_expr spelled_postfix spelled_type spelled_entry spelled_link declared o)
 
 pub postfix_spelled : (p : Postfix) (o : Postfix-F Expr Postfix TypeTree Entry Link Formal) → out-Postfix p ≡ o → spelled_postfix p ≡ postfix_tokens o
-postfix_spelled p o h = fold_out-Postfix Tokens Tokens Tokens Tokens Tokens (Declared Token) (spell.expr_step unmarked) (spell.postfix_step unmarked) (spell.type_step unmarked) (spell.entry_step unmarked) (spell.link_step unmarked) (spell.formal_step unmarked) p ∙ ap postfix_tokens h
+postfix_spelled p o h = fold_out-Postfix Tokens Tokens Tokens Tokens Tokens (Declared Token) (spell.expr_step plain) (spell.postfix_step plain) (spell.type_step plain) (spell.entry_step plain) (spell.link_step plain) (spell.formal_step plain) p ∙ ap postfix_tokens h
 
 abbrev type_tokens : TypeTree-F Expr Postfix TypeTree Entry Link Formal → Tokens
-type_tokens o = spell.type_step unmarked (map-TypeTree Expr Postfix TypeTree Entry Link Formal Tokens Tokens Tokens Tokens Tokens (Declared Token) spelled_expr spelled_postfix spelled_type spelled_entry spelled_link declared o)
+type_tokens o = spell.type_step plain (map-TypeTree Expr Postfix TypeTree Entry Link Formal Tokens Tokens Tokens Tokens Tokens (Declared Token) spelled_expr spelled_postfix spelled_type spelled_entry spelled_link declared o)
 
 type_spelled : (t : TypeTree) (o : TypeTree-F Expr Postfix TypeTree Entry Link Formal) → out-TypeTree t ≡ o → spelled_type t ≡ type_tokens o
-type_spelled t o h = fold_out-TypeTree Tokens Tokens Tokens Tokens Tokens (Declared Token) (spell.expr_step unmarked) (spell.postfix_step unmarked) (spell.type_step unmarked) (spell.entry_step unmarked) (spell.link_step unmarked) (spell.formal_step unmarked) t ∙ ap type_tokens h
+type_spelled t o h = fold_out-TypeTree Tokens Tokens Tokens Tokens Tokens (Declared Token) (spell.expr_step plain) (spell.postfix_step plain) (spell.type_step plain) (spell.entry_step plain) (spell.link_step plain) (spell.formal_step plain) t ∙ ap type_tokens h
 
 link_spelled : (l : Link) → spelled_link l ≡ operator_token l.operator ∷ spelled_expr l.operand
-link_spelled l = fold_out-Link Tokens Tokens Tokens Tokens Tokens (Declared Token) (spell.expr_step unmarked) (spell.postfix_step unmarked) (spell.type_step unmarked) (spell.entry_step unmarked) (spell.link_step unmarked) (spell.formal_step unmarked) l
+link_spelled l = fold_out-Link Tokens Tokens Tokens Tokens Tokens (Declared Token) (spell.expr_step plain) (spell.postfix_step plain) (spell.type_step plain) (spell.entry_step plain) (spell.link_step plain) (spell.formal_step plain) l
 
 entry_spelled : (e : Entry) → spelled_entry e ≡ spelled_expr e.key ++ token.Sign sign.Colon ∷ spelled_expr e.value
-entry_spelled e = fold_out-Entry Tokens Tokens Tokens Tokens Tokens (Declared Token) (spell.expr_step unmarked) (spell.postfix_step unmarked) (spell.type_step unmarked) (spell.entry_step unmarked) (spell.link_step unmarked) (spell.formal_step unmarked) e
+entry_spelled e = fold_out-Entry Tokens Tokens Tokens Tokens Tokens (Declared Token) (spell.expr_step plain) (spell.postfix_step plain) (spell.type_step plain) (spell.entry_step plain) (spell.link_step plain) (spell.formal_step plain) e
 
 slice_parts : (start middle last : Tokens) → AllFit (spell.square (start ++ token.Sign sign.Colon ∷ middle ++ last)) → AllFit start × AllFit middle × AllFit last
 slice_parts start middle last fit =

@@ -3,7 +3,6 @@
 
 mod alternatives;
 mod elements;
-mod lines;
 mod statements;
 
 pub use statements::check_all;

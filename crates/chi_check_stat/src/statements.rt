@@ -14,10 +14,10 @@ ghost use Rattle.chi_check_stat.specs.Statements as spec;
 
 use crate::alternatives::check_select;
 use crate::elements::{run_all, start_only};
-use crate::lines::check_line;
 use chi_base::{Items, NoMemory};
 use chi_check_stat_lines::{
-    Binder, State, branched, chosen, declare, joined, looped, nothing, open_walk, test_in, walked,
+    Binder, State, assignment_in, branched, chosen, communicating, declare, exit_in, finish_in,
+    joined, loop_word, looped, nothing, one, open_walk, return_in, test_in, walked, write_in,
 };
 use chi_check_stat_rules::Home;
 use chi_check_types::Fault;
@@ -44,13 +44,35 @@ fn check_statement(
         Statement::Declare { ty, variables } => {
             declare(alloc, home, ty, variables.as_slice(), state, kept)
         }
+        Statement::Assign {
+            targets,
+            equals,
+            values,
+        } => {
+            let targets = targets.as_slice();
+            let values = values.as_slice();
+            assignment_in(alloc, home, &state.names, targets, *equals, values, kept)
+        }
+        Statement::Communicate(c) => communicating(alloc, home, &state.names, c, kept),
+        Statement::Pass(place) => one(alloc, Some(CStat::Pass(place.line))),
+        Statement::Break(place) => {
+            loop_word(alloc, loops, *place, CStat::Break(place.line), kept)
+        }
+        Statement::Continue(place) => {
+            loop_word(alloc, loops, *place, CStat::Continue(place.line), kept)
+        }
         Statement::Select {
             place,
             alternatives,
-        } => {
-            let offers = alternatives.as_slice();
-            check_select(alloc, home, *place, offers, loops, state, kept)
-        }
+        } => check_select(
+            alloc,
+            home,
+            *place,
+            alternatives.as_slice(),
+            loops,
+            state,
+            kept,
+        ),
         Statement::If {
             place,
             branches,
@@ -65,12 +87,23 @@ fn check_statement(
             place,
             condition,
             block,
-        } => {
-            let body = block.as_slice();
-            check_while(alloc, home, *place, body, condition, state, kept)
-        }
+        } => check_while(
+            alloc,
+            home,
+            *place,
+            block.as_slice(),
+            condition,
+            state,
+            kept,
+        ),
         Statement::For { place, walk, block } => {
             check_for(alloc, home, *place, walk, block.as_slice(), state, kept)
+        }
+        Statement::Return { place, value } => {
+            return_in(alloc, home, &state.names, *place, value, kept)
+        }
+        Statement::Exit { place, value } => {
+            exit_in(alloc, home, &state.names, *place, value, kept)
         }
         Statement::Run { place, elements } => {
             run_all(alloc, home, *place, elements.as_slice(), state, kept)
@@ -78,7 +111,37 @@ fn check_statement(
         Statement::Start { place, elements } => {
             start_only(alloc, home, *place, elements.as_slice(), state, kept)
         }
-        line => check_line(alloc, home, line, loops, state, kept),
+        Statement::Finish { place, instances } => {
+            finish_in(
+                alloc,
+                home,
+                &state.names,
+                *place,
+                instances.as_slice(),
+                kept,
+            )
+        }
+        Statement::Write {
+            place,
+            ends_line,
+            format,
+            format_place,
+            values,
+        } => {
+            let values = values.as_slice();
+            let format_place = *format_place;
+            write_in(
+                alloc,
+                home,
+                &state.names,
+                *place,
+                *ends_line,
+                format,
+                format_place,
+                values,
+                kept,
+            )
+        }
     }
 }
 

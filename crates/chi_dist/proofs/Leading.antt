@@ -5,7 +5,7 @@ use Rattle.std.specs.Int.Count.{count_leading_zeros}
 use Rattle.std.proofs.Math.Nat.{pow-suc, mod-eq_of_lt, mul_assoc}
 use Rattle.std.proofs.lemmas.Int.{ints}
 use Rattle.std.proofs.lemmas.Nat.{leading_top, pow-add, shl-shr, shl_below, mul-lt, mul-le, div_below}
-use Rattle.chi_dist.specs.Exponential.{exponent, leading, square, log_digit, log_rest, log_digits, log_below, log_units, most_units, most_mean}
+use Rattle.chi_dist.specs.Exponential.{exponent, leading, square, log_digit, log_rest, log_digits, log_parts, log_below, log_units, most_units, most_mean}
 use Rattle.chi_dist.proofs.Logarithm.{exponent_of, log_digit_most, power_order}
 
 pub square_most : (y : ℕ) → y < 2 ^ 64 → y * y / 2 ^ 63 < 2 ^ 65
@@ -40,12 +40,23 @@ module _ (x : ℕ) (some : 0 < x) (below : x < 2 ^ 64) where
       let top = leading_top 64 x some below in
       shifted_at (count_leading_zeros 64 x) top.0 top.1 (exponent_of x top.0 some (omega (arith, below)) top.2 top.3) top.3
 
--- the last draw, whose successor has 65 digits, and which is all of 64
+-- the logarithm of a number of 64 digits, as it is put together
+pub parts_are : (x zeros shifted digits : ℕ) → 0 < x → x < 2 ^ 64 → zeros ≡ count_leading_zeros 64 x → shifted ≡ x * 2 ^ count_leading_zeros 64 x % 2 ^ 64
+    → digits ≡ log_digits 40 shifted → (63 - zeros) * 2 ^ 40 + digits ≡ log_parts x
+parts_are x zeros shifted digits some below z s d =
+    let whole : exponent x ≡ 63 - zeros = exponent_is x some below ∙ ap (λ n. 63 - n) (sym z) in
+    let same : leading x ≡ shifted = leading_is x some below ∙ sym s in
+    ap (λ n. (63 - zeros) * 2 ^ 40 + n) (d ∙ ap (λ y. log_digits 40 y) (sym same)) ∙ ap (λ n. n * 2 ^ 40 + log_digits 40 (leading x)) (sym whole)
+
+-- the last draw, whose successor has 65 digits, and whose logarithm is all of 64
+last_draw : log_below (2 ^ 64 - 1) ≡ 0
+unfolding log_digits count_leading_zeros
+last_draw = refl
+
 pub last_below : (word : ℕ) → word < 2 ^ 64 → (word + 1 < 2 ^ 64 → ⊥) → log_below word ≡ 0
-unfolding log_digits
 last_below word below past =
     let last : word ≡ 2 ^ 64 - 1 = omega (arith, below, past) in
-    rw last refl
+    ap (λ w. log_below w) last ∙ last_draw
 
 -- ---- one digit more
 
@@ -74,9 +85,12 @@ digits_few digits i below few =
     let power : 2 ^ i ≤ 2 ^ 40 = power_order i 40 (omega (arith, below)) in
     omega (arith, few, power)
 
-pub digits_last : (whole digits rest : ℕ) → whole ≡ digits * 2 ^ (40 - 40) + log_digits (40 - 40) rest → digits ≡ whole
+last_digits : (whole digits rest : ℕ) → whole ≡ digits * 2 ^ (40 - 40) + log_digits (40 - 40) rest → digits ≡ whole
 unfolding log_digits
-digits_last whole digits rest e = omega (arith, e)
+last_digits whole digits rest e = omega (arith, e)
+
+pub digits_last : (whole digits i rest : ℕ) → i ≡ 40 → whole ≡ digits * 2 ^ (40 - i) + log_digits (40 - i) rest → digits ≡ whole
+digits_last whole digits i rest end e = last_digits whole digits rest (e ∙ ap (λ n. digits * 2 ^ (40 - n) + log_digits (40 - n) rest) end)
 
 -- ---- the product fits
 

@@ -1,6 +1,7 @@
 -- What `sampled` says of each distribution, by what was drawn.
-use Rattle.std.proofs.Common.{◌≡◌, ℕ, ◌<◌, List, length, Option, Some, None, IsSomeAnd, slice_get, Bool, ℤ, pos, ◌<ℤ◌, ◌≤ℤ◌, true, false, nat_lt, refl, sym, ap, rules}
-use Rattle.std.specs.Prelude.{count_by, unsigned_abs, int_lt, int_le, ◌&&◌, if◌then◌else◌}
+use Rattle.std.proofs.Common.{◌≡◌, ℕ, ◌<◌, List, length, Option, Some, None, IsSomeAnd, slice_get, Bool, ℤ, pos, ◌<ℤ◌, ◌≤ℤ◌, true, false, nat_lt, refl, sym, ap, subst, rules}
+use Rattle.std.specs.Int.Signed.{lt_z_yes, le_z_yes}
+use Rattle.std.specs.Prelude.{T, count_by, unsigned_abs, int_lt, int_le, ◌&&◌, if◌then◌else◌}
 use Rattle.std.proofs.lemmas.Option.{slice_get-get_or}
 use Rattle.chi_num.specs.declared.dist.Dist.{Dist}
 use Rattle.chi_num.specs.declared.dist.Dist.TheVariants as dist
@@ -120,6 +121,6 @@ mean_within mean good = by_tests (int_lt (pos 0) mean) (int_le mean most_mean) r
   where
     by_tests : (a b : Bool) → int_lt (pos 0) mean ≡ a → int_le mean most_mean ≡ b → (if a && b then None else Some BadBounds) ≡ None
         → (pos 0 <ℤ mean) × (mean ≤ℤ most_mean)
-    by_tests true true e f good = (search (rules, e), search (rules, f))
+    by_tests true true e f good = (lt_z_yes (subst T (sym e) tt), le_z_yes (subst T (sym f) tt))
     by_tests true false e f good = absurd (cc)
     by_tests false b e f good = absurd (cc)

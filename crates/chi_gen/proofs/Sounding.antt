@@ -1,35 +1,24 @@
 -- The parts of what is sound are sound.
-use Rattle.std.proofs.Common.{◌≡◌, ℕ, zero, suc, ◌<◌, length, get_or, Bool, true, false, List, [], ◌∷◌, Option, Some, None, map, refl, sym, ap, subst, ◌∙◌}
+use Rattle.std.proofs.Common.{◌≡◌, ℕ, zero, suc, ◌<◌, length, get_or, Bool, true, false, List, Option, Some, None, refl, sym, ap, subst, ◌∙◌}
 use Rattle.std.proofs.lemmas.Bool.{false≢true}
-use Rattle.std.specs.Prelude.{slice_get, option_map}
-use Rattle.std.proofs.lemmas.Option.{slice_get-map, slice_get-get_or}
-use Rattle.chi_types.specs.declared.ty.Way.TheVariants as way
-use Rattle.chi_types.specs.declared.ty.Ty.{Ty, Ty-F, map-Ty, out-Ty, roll-Ty, roll-out-Ty}
-use Rattle.chi_types.specs.declared.ty.Ty.TheVariants as ty
-use Rattle.chi_types.specs.Same.{beside, nameless}
+use Rattle.std.specs.Prelude.{slice_get}
+use Rattle.std.proofs.lemmas.Option.{slice_get-get_or}
+use Rattle.chi_types.specs.declared.ty.Ty.{Ty}
 use Rattle.chi_core.specs.declared.communication.CComm.{CComm}
-use Rattle.chi_core.specs.declared.communication.CComm.TheVariants as comm
 use Rattle.chi_core.specs.declared.expression.CExpr.{CExpr}
 use Rattle.chi_core.specs.declared.program.Core.{Core}
-use Rattle.chi_core.specs.declared.program.FuncDef.{FuncDef}
-use Rattle.chi_core.specs.declared.program.ProcDef.{ProcDef}
 use Rattle.chi_core.specs.declared.statement.Branch.{Branch, out-Branch}
 use Rattle.chi_core.specs.declared.statement.CAlt.{CAlt, CAlt-F, out-CAlt}
 use Rattle.chi_core.specs.declared.statement.CAlt.TheVariants as alternative
 use Rattle.chi_core.specs.declared.statement.CStat.{CStat, CStat-F, out-CStat}
 use Rattle.chi_core.specs.declared.statement.CStat.TheVariants as s
-use Rattle.chi_core.specs.declared.target.CStep.{CStep}
-use Rattle.chi_core.specs.declared.target.CStep.TheVariants as step
-use Rattle.chi_core.specs.declared.target.CTarget.{CTarget}
-use Rattle.chi_core.specs.Kinds.{Kind, kind_of, kinds_of, Every, without_ways_and_names, erased}
+use Rattle.chi_core.specs.Kinds.{kinds_of, Every}
 use Rattle.chi_core.specs.Scopes.{Scope, function_home, process_home}
 use Rattle.chi_core.specs.SetSlots.{Known, also_all, sets, params_known}
 use Rattle.chi_core.specs.Sound.{Sound}
-use Rattle.chi_core.specs.SoundParts as q
-use Rattle.chi_core.specs.SoundParts.{StepsLead, ChannelAt, SoundComm}
+use Rattle.chi_core.specs.SoundParts.{SoundComm}
 use Rattle.chi_core.specs.SoundStatements as t
 use Rattle.chi_core.specs.SoundStatements.{SoundStat, SoundBlock, SoundBranches, SoundAlternatives, SoundAlternative}
-use Rattle.chi_core.proofs.Erased.{kind_at}
 use Rattle.chi_gen_parts.specs.Soundness.{SoundCommAt}
 use Rattle.chi_code.specs.declared.code.Around.{Around}
 use Rattle.chi_gen.specs.Soundness.{in_loop, SoundAt, SoundBranchAt, SoundAlternativeAt, SoundBody}

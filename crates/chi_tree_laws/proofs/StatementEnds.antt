@@ -25,7 +25,7 @@ use Rattle.chi_tree_spell.specs.Expressions.{spelled_expr}
 use Rattle.chi_tree_spell.specs.Statements.{spelled_exprs, spelled_walk, assigned_tokens, spelled_element, spelled_elements, else_tokens, to_end, spelled_alternative, spelled_branch, spelled_step, spelled_statement}
 use Rattle.chi_tree.specs.Statements.{is_run_shown, step, statement_of, elements_of, last_ends, ends_element, ends_in_end}
 use Rattle.chi_tree.specs.View.{Built}
-use Rattle.chi_tree_spell.specs.Marks.{unmarked}
+use Rattle.chi_tree_spell.specs.Marks.{plain}
 use Rattle.chi_tree_spell.specs.Words.{Tokens, token_of, name_token, all, separated}
 use Rattle.chi_tree_spell.proofs.ProgramSpelling.{block_spelling}
 use Rattle.chi_tree_spell.proofs.StatementTokens.{element-Make, element-Unwind, statement-Select, statement-If, statement-While, statement-For, statement-Run, statement-Start, step-tokens}
@@ -42,12 +42,12 @@ use Rattle.chi_tree_laws.proofs.StatementsBuilt.{Stated, open_ended, launch, bui
 layer_ends : (t : Token) (x : Element-F Element) → last_is_end (t ∷ spelled_element (roll-Element x)) ≡ ends_element x
 layer_ends t (Element-F.Make target name arguments) =
     ap (λ e. last_is_end (t ∷ spelled_element e)) (element.rolls-Make target name arguments)
-    ∙ ap (λ ts. last_is_end (t ∷ ts)) (element-Make unmarked target name arguments)
+    ∙ ap (λ ts. last_is_end (t ∷ ts)) (element-Make plain target name arguments)
     ∙ last_of (t ∷ assigned_tokens target) (name_token name) (Sign LeftParen ∷ spelled_exprs arguments ++ Sign RightParen ∷ [])
     ∙ last_of (name_token name ∷ Sign LeftParen ∷ spelled_exprs arguments) (Sign RightParen) []
 layer_ends t (Element-F.Unwind place walk elements) =
     ap (λ e. last_is_end (t ∷ spelled_element e)) (element.rolls-Unwind place walk elements)
-    ∙ ap (λ ts. last_is_end (t ∷ ts)) (element-Unwind unmarked place walk elements)
+    ∙ ap (λ ts. last_is_end (t ∷ ts)) (element-Unwind plain place walk elements)
     ∙ last_of (t ∷ Word UnwindWord ∷ spelled_walk walk ++ Sign Colon ∷ spelled_elements elements) (Word EndWord) []
 
 element_ends : (t : Token) (e : Element) → last_is_end (t ∷ spelled_element e) ≡ ends_element (out-Element e)
@@ -61,8 +61,8 @@ list_ends t other (e ∷ f ∷ es) =
 
 launched_ends : (runs : Bool) (place : Place) (es : List Element)
     → last_is_end (spelled_statement (if runs then statement.Run place es else statement.Start place es)) ≡ last_ends es
-launched_ends true place es = ap last_is_end (statement-Run unmarked place es) ∙ list_ends (Word RunWord) refl es
-launched_ends false place es = ap last_is_end (statement-Start unmarked place es) ∙ list_ends (Word StartWord) refl es
+launched_ends true place es = ap last_is_end (statement-Run plain place es) ∙ list_ends (Word RunWord) refl es
+launched_ends false place es = ap last_is_end (statement-Start plain place es) ∙ list_ends (Word StartWord) refl es
 
 launch_ends : {room : Room} {t : Built} → Is grammar room (part s.Launch) t → last_is_end (spelled_statement (statement_of t)) ≡ ends_in_end t
 launch_ends (is.part (is.both {u = u} (is.left (is.word {x = x} e)) p)) = launched_ends (is_run_shown x.token) x.place (elements_of u)
@@ -72,7 +72,7 @@ launch_ends (is.part (is.both {u = u} (is.right (is.word {x = x} e)) p)) = launc
 
 open_spelling : (room : Room) (t : Built) → Is grammar room (part s.Open) t → spelled_statement (statement_of t) ≡ map token_of (spelling t)
 open_spelling room t p =
-    sym (append-nil (spelled_statement (statement_of t))) ∙ sym (step-tokens unmarked (step (statement_of t) false))
+    sym (append-nil (spelled_statement (statement_of t))) ∙ sym (step-tokens plain (step (statement_of t) false))
     ∙ sym (append-nil (spelled_step (step (statement_of t) false)))
     ∙ block_spelling room (node s.Block (pair t none)) (is.part (is.right (is.right (is.both p is.never))))
     ∙ ap (map token_of) (append-nil (spelling t))
@@ -89,12 +89,12 @@ stated_open (launch u e) = ap (λ st. last_is_end (spelled_statement st)) (sym u
 
 select_ends : (place : Place) (xs : List Alternative) → last_is_end (spelled_statement (statement.Select place xs)) ≡ true
 select_ends place xs =
-    ap last_is_end (statement-Select unmarked place xs)
+    ap last_is_end (statement-Select plain place xs)
     ∙ last_of (Word SelectWord ∷ separated (Word AltWord) (map spelled_alternative xs)) (Word EndWord) []
 
 if_ends : (place : Place) (bs : List Branch) (block : List Step) → last_is_end (spelled_statement (statement.If place bs block)) ≡ true
 if_ends place bs block =
-    ap last_is_end (statement-If unmarked place bs block)
+    ap last_is_end (statement-If plain place bs block)
     ∙ last_of (Word IfWord ∷ separated (Word ElifWord) (map spelled_branch bs) ++ else_tokens (map spelled_step block)) (Word EndWord) []
 
 to_end_ends : (ts : Tokens) (block : List Step) → last_is_end (ts ++ to_end (map spelled_step block)) ≡ true
@@ -103,10 +103,10 @@ to_end_ends ts block =
     ∙ last_of (Sign Colon ∷ all (map spelled_step block)) (Word EndWord) []
 
 while_ends : (place : Place) (e : Expr) (block : List Step) → last_is_end (spelled_statement (statement.While place e block)) ≡ true
-while_ends place e block = ap last_is_end (statement-While unmarked place e block) ∙ to_end_ends (Word WhileWord ∷ spelled_expr e) block
+while_ends place e block = ap last_is_end (statement-While plain place e block) ∙ to_end_ends (Word WhileWord ∷ spelled_expr e) block
 
 for_ends : (place : Place) (walk : Walk) (block : List Step) → last_is_end (spelled_statement (statement.For place walk block)) ≡ true
-for_ends place walk block = ap last_is_end (statement-For unmarked place walk block) ∙ to_end_ends (Word ForWord ∷ spelled_walk walk) block
+for_ends place walk block = ap last_is_end (statement-For plain place walk block) ∙ to_end_ends (Word ForWord ∷ spelled_walk walk) block
 
 -- the last token of each formed statement
 told : {ends : Bool} {b d : ℕ} {st : Statement} → FormedStatement ends b d st → last_is_end (spelled_statement st) ≡ ends

@@ -17,7 +17,7 @@ use Rattle.chi_tree.specs.Parts as s
 use Rattle.chi_tree.specs.Rules.{grammar}
 use Rattle.chi_tree.specs.View.{Built, type_of, expr_of}
 use Rattle.chi_tree.specs.Statements.{block_of, item_of, items_of, program_of, last_place}
-use Rattle.chi_tree_spell.specs.Marks.{unmarked, Mark, mark, IsMarkOf, OneByOne, Agree}
+use Rattle.chi_tree_spell.specs.Marks.{plain, Mark, mark, IsMarkOf, OneByOne, Agree}
 use Rattle.chi_tree_spell.specs.Marks as marks
 use Rattle.chi_tree_spell.specs.Words.{Tokens, token_of, all}
 use Rattle.chi_tree_spell.specs.Expressions.{spelled_expr, spelled_type, marked_expr, marked_type}
@@ -30,7 +30,7 @@ use Rattle.chi_tree_spell.proofs.EachPart.{type_read, expr_read, block_read, pro
 abbrev tokens_alone : Reading
 tokens_alone = record {
   X = Token;
-  put = unmarked;
+  put = plain;
   Fits = λ t x. t ≡ x.token;
   fits_bare = λ x. refl;
   fits_kept = λ x. refl;

@@ -8,7 +8,7 @@ use Rattle.chi_token.specs.declared.token.Token.TheVariants.{Sign}
 use Rattle.chi_tree.specs.declared.expr.Expr.{Expr}
 use Rattle.chi_tree.specs.declared.expr.Postfix.{Postfix}
 use Rattle.chi_tree.specs.declared.expr.Postfix.TheVariants.{Slice}
-use Rattle.chi_tree_spell.specs.Marks.{unmarked}
+use Rattle.chi_tree_spell.specs.Marks.{plain}
 use Rattle.chi_tree_spell.specs.Words.{Tokens, if_any}
 use Rattle.chi_tree_spell.specs.Expressions.{step_tokens, spelled_expr, spelled_postfix}
 use Rattle.chi_tree_spell.proofs.ExprTokens.{postfix-Slice}
@@ -27,4 +27,4 @@ slice_put p place from upto has by old a b c d e new is first second third fourt
     ∙ ap (λ ts. ts ++ if_any (option_map spelled_expr upto)) (third ∙ ap (λ ts. ts ++ Sign Colon ∷ []) (second
     ∙ ap (λ ts. ts ++ if_any (option_map spelled_expr from)) first))))
     ∙ regrouped old _ _ _
-    ∙ ap (λ ts. old ++ ts) (sym (ap spelled_postfix is ∙ postfix-Slice unmarked place from upto has by))
+    ∙ ap (λ ts. old ++ ts) (sym (ap spelled_postfix is ∙ postfix-Slice plain place from upto has by))

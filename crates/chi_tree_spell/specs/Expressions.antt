@@ -16,7 +16,7 @@ use Rattle.chi_tree.specs.declared.expr.Expr.{Expr, Expr-F, fold-Expr}
 use Rattle.chi_tree.specs.declared.expr.Postfix.{Postfix, Postfix-F, fold-Postfix}
 use Rattle.chi_tree.specs.declared.expr.Entry.{Entry, Entry-F, fold-Entry}
 use Rattle.chi_tree.specs.declared.expr.Link.{Link, Link-F, fold-Link}
-use Rattle.chi_tree_spell.specs.Marks.{Put, unmarked, Mark, mark}
+use Rattle.chi_tree_spell.specs.Marks.{Put, plain, Mark, mark}
 use Rattle.chi_tree_spell.specs.Words.{Tokens, operator_token, relation_token, prefix_token, cast_token, type_token, truth_token, if_any, all, separated}
 
 -- a formal: what its type, where one stands before it, and its name are spelled as
@@ -166,52 +166,52 @@ module _ {X : Type 0} (put : Put X) where
 -- the tokens alone
 
 abbrev pub commas : List Tokens → Tokens
-commas = put_commas unmarked
+commas = put_commas plain
 
 abbrev pub round : Tokens → Tokens
-round = put_round unmarked
+round = put_round plain
 
 abbrev pub square : Tokens → Tokens
-square = put_square unmarked
+square = put_square plain
 
 abbrev pub curly : Tokens → Tokens
-curly = put_curly unmarked
+curly = put_curly plain
 
 abbrev pub further : Declared Token → Tokens
-further = put_further unmarked
+further = put_further plain
 
 abbrev pub step_tokens : Bool → Option Tokens → Tokens
-step_tokens = put_by unmarked
+step_tokens = put_by plain
 
 abbrev pub way_tokens : Way → Tokens
-way_tokens = put_way unmarked
+way_tokens = put_way plain
 
 abbrev pub size_tokens : Option Tokens → Tokens
-size_tokens = put_size unmarked
+size_tokens = put_size plain
 
 abbrev pub carried_tokens : Option Tokens → Tokens
-carried_tokens = put_carried unmarked
+carried_tokens = put_carried plain
 
 abbrev pub spelled_expr : Expr → Tokens
-spelled_expr = put_expr unmarked
+spelled_expr = put_expr plain
 
 abbrev pub spelled_postfix : Postfix → Tokens
-spelled_postfix = put_postfix unmarked
+spelled_postfix = put_postfix plain
 
 abbrev pub spelled_type : TypeTree → Tokens
-spelled_type = put_type unmarked
+spelled_type = put_type plain
 
 abbrev pub spelled_entry : Entry → Tokens
-spelled_entry = put_entry unmarked
+spelled_entry = put_entry plain
 
 abbrev pub spelled_link : Link → Tokens
-spelled_link = put_link unmarked
+spelled_link = put_link plain
 
 abbrev pub declared : Formal → Declared Token
-declared = put_declared unmarked
+declared = put_declared plain
 
 abbrev pub spelled_formals : List Formal → Tokens
-spelled_formals = put_formals unmarked
+spelled_formals = put_formals plain
 
 -- the tokens with the places that the nodes keep
 

@@ -8,8 +8,8 @@ use Rattle.chi_token.specs.declared.token.Token.{Token}
 abbrev pub Put : Type 0 → Type 0
 Put X = Token → Option Place → X
 
-abbrev pub unmarked : Put Token
-unmarked token place = token
+abbrev pub plain : Put Token
+plain token place = token
 
 -- a token, and its place where the node keeps it
 pub record Mark : Type 0 where

@@ -26,7 +26,7 @@ use Rattle.chi_tree.specs.declared.definition.Definition.{Definition}
 use Rattle.chi_tree.specs.declared.definition.Definition.TheVariants as definition
 use Rattle.chi_tree.specs.declared.definition.Item.{Item}
 use Rattle.chi_tree.specs.declared.definition.Program.{Program}
-use Rattle.chi_tree_spell.specs.Marks.{Put, unmarked, Mark, mark, Agree}
+use Rattle.chi_tree_spell.specs.Marks.{Put, plain, Mark, mark, Agree}
 use Rattle.chi_tree_spell.specs.Words.{Tokens, write_word, if_any, all, each_after, separated}
 use Rattle.chi_tree_spell.specs.Expressions.{bare, kept, put_name, put_commas, put_round, put_curly, put_expr, put_postfix, put_type, put_formals}
 
@@ -182,83 +182,83 @@ module _ {X : Type 0} (put : Put X) where
 -- the tokens alone
 
 abbrev pub spelled_name : Name → Tokens
-spelled_name n = put_name unmarked n ∷ []
+spelled_name n = put_name plain n ∷ []
 
 abbrev pub spelled_names : List Name → Tokens
-spelled_names = put_names unmarked
+spelled_names = put_names plain
 
 abbrev pub spelled_exprs : List Expr → Tokens
-spelled_exprs = put_exprs unmarked
+spelled_exprs = put_exprs plain
 
 abbrev pub semicolon_if : Bool → Tokens
-semicolon_if = put_semicolon unmarked
+semicolon_if = put_semicolon plain
 
 abbrev pub initial_tokens : Option Initial → Tokens
-initial_tokens = put_initial unmarked
+initial_tokens = put_initial plain
 
 abbrev pub spelled_variable : Variable → Tokens
-spelled_variable = put_variable unmarked
+spelled_variable = put_variable plain
 
 abbrev pub spelled_target : Target → Tokens
-spelled_target = put_target unmarked
+spelled_target = put_target plain
 
 abbrev pub spelled_walk : Walk → Tokens
-spelled_walk = put_walk unmarked
+spelled_walk = put_walk plain
 
 abbrev pub spelled_communication : Communication → Tokens
-spelled_communication = put_communication unmarked
+spelled_communication = put_communication plain
 
 abbrev pub assigned_tokens : Option Target → Tokens
-assigned_tokens = put_assigned unmarked
+assigned_tokens = put_assigned plain
 
 abbrev pub spelled_element : Element → Tokens
-spelled_element = put_element unmarked
+spelled_element = put_element plain
 
 abbrev pub spelled_elements : List Element → Tokens
-spelled_elements = put_elements unmarked
+spelled_elements = put_elements plain
 
 abbrev pub guard_tokens : Option Expr → Tokens
-guard_tokens = put_guard unmarked
+guard_tokens = put_guard plain
 
 abbrev pub body_tokens : List Tokens → Tokens
-body_tokens = put_body unmarked
+body_tokens = put_body plain
 
 abbrev pub else_tokens : List Tokens → Tokens
-else_tokens = put_else unmarked
+else_tokens = put_else plain
 
 abbrev pub to_end : List Tokens → Tokens
-to_end = put_to_end unmarked
+to_end = put_to_end plain
 
 abbrev pub spelled_step : Step → Tokens
-spelled_step = put_step unmarked
+spelled_step = put_step plain
 
 abbrev pub spelled_statement : Statement → Tokens
-spelled_statement = put_statement unmarked
+spelled_statement = put_statement plain
 
 abbrev pub spelled_branch : Branch → Tokens
-spelled_branch = put_branch unmarked
+spelled_branch = put_branch plain
 
 abbrev pub spelled_alternative : Alternative → Tokens
-spelled_alternative = put_alternative unmarked
+spelled_alternative = put_alternative plain
 
 abbrev pub spelled_block : List Step → Tokens
-spelled_block = put_block unmarked
+spelled_block = put_block plain
 
 abbrev pub spelled_head : Option TypeTree → Name → Tokens
-spelled_head = put_head unmarked
+spelled_head = put_head plain
 
 abbrev pub spelled_body : List Formal → List Step → Tokens
-spelled_body = put_callable unmarked
+spelled_body = put_callable plain
 
 abbrev pub spelled_definition : Definition → Tokens
-spelled_definition = put_definition unmarked
+spelled_definition = put_definition plain
 
 abbrev pub spelled_item : Item → Tokens
-spelled_item = put_item unmarked
+spelled_item = put_item plain
 
 -- the tokens of a source
 abbrev pub spelled : Program → Tokens
-spelled = put_program unmarked
+spelled = put_program plain
 
 -- the tokens with the places that the nodes keep
 

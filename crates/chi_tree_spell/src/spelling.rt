@@ -12,9 +12,10 @@ pub fn spell(alloc: Global, tree: &Program) -> Result<Vec<Token>, NoMemory>
     ensures spelled { IfOk result (λ tokens. tokens.items ≡ spelled tree.now) }
 {
     let mut speller = Speller {
+        alloc,
         tokens: Vec::new(alloc),
     };
     speller.items(tree.items.as_slice())?;
-    let Speller { tokens } = speller;
+    let Speller { tokens, .. } = speller;
     Ok(tokens)
 }

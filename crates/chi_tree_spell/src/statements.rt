@@ -41,18 +41,35 @@ impl Speller {
             Statement::Pass(_) => self.word(Keyword::PassWord),
             Statement::Break(_) => self.word(Keyword::BreakWord),
             Statement::Continue(_) => self.word(Keyword::ContinueWord),
-            Statement::Select { alternatives, .. } => self.select(alternatives.as_slice()),
+            Statement::Select { alternatives, .. } => {
+                self.word(Keyword::SelectWord)?;
+                self.alternatives(alternatives.as_slice())?;
+                self.word(Keyword::EndWord)
+            }
             Statement::If {
                 branches,
                 otherwise,
                 ..
-            } => self.choice(branches.as_slice(), otherwise.as_slice()),
+            } => {
+                self.word(Keyword::IfWord)?;
+                self.branches(branches.as_slice())?;
+                self.otherwise(otherwise.as_slice())?;
+                self.word(Keyword::EndWord)
+            }
             Statement::While {
                 condition,
                 block,
                 ..
-            } => self.repetition(condition, block.as_slice()),
-            Statement::For { walk, block, .. } => self.loop_over(walk, block.as_slice()),
+            } => {
+                self.word(Keyword::WhileWord)?;
+                self.expr(condition)?;
+                self.to_end(block.as_slice())
+            }
+            Statement::For { walk, block, .. } => {
+                self.word(Keyword::ForWord)?;
+                self.walk(walk)?;
+                self.to_end(block.as_slice())
+            }
             Statement::Return { value, .. } => self.return_value(value),
             Statement::Exit { value, .. } => self.exit(value),
             Statement::Run { elements, .. } => self.launch(Keyword::RunWord, elements.as_slice()),
@@ -125,49 +142,6 @@ impl Speller {
         self.text(text)?;
         self.more_exprs(values.as_slice())?;
         self.sign(Sign::RightParen)
-    }
-
-    #[cycle(statement)]
-    fn select(&mut self, alternatives: &[Alternative]) -> Result<(), NoMemory>
-        ensures { OnOk result (self.new.tokens.items ≡ self.old.tokens.items ++
-            token.Word keyword.SelectWord ∷ separated (token.Word keyword.AltWord) (map spelled_alternative alternatives.now) ++ token.Word keyword.EndWord ∷ []) }
-    {
-        self.word(Keyword::SelectWord)?;
-        self.alternatives(alternatives)?;
-        self.word(Keyword::EndWord)
-    }
-
-    #[cycle(statement)]
-    fn choice(&mut self, branches: &[Branch], otherwise: &[Step]) -> Result<(), NoMemory>
-        ensures { OnOk result (self.new.tokens.items ≡ self.old.tokens.items ++
-            token.Word keyword.IfWord ∷ separated (token.Word keyword.ElifWord) (map spelled_branch branches.now) ++ else_tokens (map spelled_step otherwise.now) ++ token.Word keyword.EndWord ∷ []) }
-    {
-        self.word(Keyword::IfWord)?;
-        self.branches(branches)?;
-        self.otherwise(otherwise)?;
-        self.word(Keyword::EndWord)
-    }
-
-    /// A loop with a condition.
-    #[cycle(statement)]
-    fn repetition(&mut self, condition: &Expr, block: &[Step]) -> Result<(), NoMemory>
-        ensures { OnOk result (self.new.tokens.items ≡ self.old.tokens.items ++
-            token.Word keyword.WhileWord ∷ spelled_expr condition.now ++ to_end (map spelled_step block.now)) }
-    {
-        self.word(Keyword::WhileWord)?;
-        self.expr(condition)?;
-        self.to_end(block)
-    }
-
-    /// A loop over a container.
-    #[cycle(statement)]
-    fn loop_over(&mut self, walk: &Walk, block: &[Step]) -> Result<(), NoMemory>
-        ensures { OnOk result (self.new.tokens.items ≡ self.old.tokens.items ++
-            token.Word keyword.ForWord ∷ spelled_walk walk.now ++ to_end (map spelled_step block.now)) }
-    {
-        self.word(Keyword::ForWord)?;
-        self.walk(walk)?;
-        self.to_end(block)
     }
 
     /// A block from its colon to its end.

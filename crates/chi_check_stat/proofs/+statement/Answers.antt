@@ -15,7 +15,7 @@ use Rattle.chi_check_stat_lines.specs.States.{block}
 use Rattle.chi_check_stat_lines.specs.Stated.{Stated, in_turn, joined}
 use Rattle.chi_check_stat_lines.proofs.Turns.{step_next, step_made, step_noted, end_next, end_made, end_noted}
 use Rattle.chi_check_stat.proofs.Folds.{step_is}
-use Rattle.chi_check_stat.proofs.StatementSteps.{next_declare, made_declare, noted_declare, next_select, made_select, noted_select, next_if, made_if, noted_if, next_while, made_while, noted_while, next_for, made_for, noted_for, next_run, made_run, noted_run, next_start, made_start, noted_start}
+use Rattle.chi_check_stat.proofs.StatementSteps.{next_declare, made_declare, noted_declare, next_assign, made_assign, noted_assign, next_communicate, made_communicate, noted_communicate, next_pass, made_pass, noted_pass, next_break, made_break, noted_break, next_continue, made_continue, noted_continue, next_select, made_select, noted_select, next_if, made_if, noted_if, next_while, made_while, noted_while, next_for, made_for, noted_for, next_return, made_return, noted_return, next_exit, made_exit, noted_exit, next_run, made_run, noted_run, next_start, made_start, noted_start, next_finish, made_finish, noted_finish, next_write, made_write, noted_write}
 use Rattle.chi_check_stat.proofs.AlternativeSteps.{next_guarded, made_guarded, noted_guarded, next_unwind, made_unwind, noted_unwind, next_branch, made_branch, noted_branch}
 use Rattle.chi_check_stat.proofs.+statement.Goals as goal
 
@@ -107,6 +107,51 @@ statements::check_statement-returns-in-Declare-clause-made t c = grind (arith, c
 pub statements::check_statement-returns-in-Declare-clause-noted : goal.statements::check_statement-returns-in-Declare-clause-noted
 statements::check_statement-returns-in-Declare-clause-noted t c = grind (arith, common_steps, noted_declare)
 
+pub statements::check_statement-returns-in-Assign-clause-next : goal.statements::check_statement-returns-in-Assign-clause-next
+statements::check_statement-returns-in-Assign-clause-next t c = grind (arith, common_steps, next_assign)
+
+pub statements::check_statement-returns-in-Assign-clause-made : goal.statements::check_statement-returns-in-Assign-clause-made
+statements::check_statement-returns-in-Assign-clause-made t c = grind (arith, common_steps, made_assign)
+
+pub statements::check_statement-returns-in-Assign-clause-noted : goal.statements::check_statement-returns-in-Assign-clause-noted
+statements::check_statement-returns-in-Assign-clause-noted t c = grind (arith, common_steps, noted_assign)
+
+pub statements::check_statement-returns-in-Communicate-clause-next : goal.statements::check_statement-returns-in-Communicate-clause-next
+statements::check_statement-returns-in-Communicate-clause-next t c = grind (arith, common_steps, next_communicate)
+
+pub statements::check_statement-returns-in-Communicate-clause-made : goal.statements::check_statement-returns-in-Communicate-clause-made
+statements::check_statement-returns-in-Communicate-clause-made t c = grind (arith, common_steps, made_communicate)
+
+pub statements::check_statement-returns-in-Communicate-clause-noted : goal.statements::check_statement-returns-in-Communicate-clause-noted
+statements::check_statement-returns-in-Communicate-clause-noted t c = grind (arith, common_steps, noted_communicate)
+
+pub statements::check_statement-returns-in-Pass-clause-next : goal.statements::check_statement-returns-in-Pass-clause-next
+statements::check_statement-returns-in-Pass-clause-next t c = grind (arith, common_steps, next_pass)
+
+pub statements::check_statement-returns-in-Pass-clause-made : goal.statements::check_statement-returns-in-Pass-clause-made
+statements::check_statement-returns-in-Pass-clause-made t c = grind (arith, common_steps, made_pass)
+
+pub statements::check_statement-returns-in-Pass-clause-noted : goal.statements::check_statement-returns-in-Pass-clause-noted
+statements::check_statement-returns-in-Pass-clause-noted t c = grind (arith, common_steps, noted_pass)
+
+pub statements::check_statement-returns-in-Break-clause-next : goal.statements::check_statement-returns-in-Break-clause-next
+statements::check_statement-returns-in-Break-clause-next t c = grind (arith, common_steps, next_break)
+
+pub statements::check_statement-returns-in-Break-clause-made : goal.statements::check_statement-returns-in-Break-clause-made
+statements::check_statement-returns-in-Break-clause-made t c = grind (arith, common_steps, made_break)
+
+pub statements::check_statement-returns-in-Break-clause-noted : goal.statements::check_statement-returns-in-Break-clause-noted
+statements::check_statement-returns-in-Break-clause-noted t c = grind (arith, common_steps, noted_break)
+
+pub statements::check_statement-returns-in-Continue-clause-next : goal.statements::check_statement-returns-in-Continue-clause-next
+statements::check_statement-returns-in-Continue-clause-next t c = grind (arith, common_steps, next_continue)
+
+pub statements::check_statement-returns-in-Continue-clause-made : goal.statements::check_statement-returns-in-Continue-clause-made
+statements::check_statement-returns-in-Continue-clause-made t c = grind (arith, common_steps, made_continue)
+
+pub statements::check_statement-returns-in-Continue-clause-noted : goal.statements::check_statement-returns-in-Continue-clause-noted
+statements::check_statement-returns-in-Continue-clause-noted t c = grind (arith, common_steps, noted_continue)
+
 pub statements::check_statement-returns-in-Select-clause-next : goal.statements::check_statement-returns-in-Select-clause-next
 statements::check_statement-returns-in-Select-clause-next t c = grind (arith, common_steps, next_select)
 
@@ -144,7 +189,7 @@ statements::check_statement-returns-in-While-clause-next t c = grind (arith, com
 
 pub statements::check_statement-returns-in-While-clause-made : goal.statements::check_statement-returns-in-While-clause-made
 statements::check_statement-returns-in-While-clause-made t c =
-    let b = c.as_slice-body.ensures.same in
+    let b = c.as_slice-in-While.ensures.same in
     IfOk-weaker c.check_while.result _ _ (λ r d. d ∙ (λ j. looped c.in-While.place.line (test_in c.args.home.now c.args.state.now.names c.in-While.condition).made (block (map (stepping_in c.args.home.now true) (b j)) c.args.state.now).made) ∙ sym (made_while c.args.home.now c.args.statement.now c.args.loops c.args.state.now _ _ _ c.in-While.is)) c.check_while.ensures.made
 
 pub statements::check_statement-returns-in-While-clause-noted : goal.statements::check_statement-returns-in-While-clause-noted
@@ -160,6 +205,24 @@ statements::check_statement-returns-in-For-clause-made t c =
 
 pub statements::check_statement-returns-in-For-clause-noted : goal.statements::check_statement-returns-in-For-clause-noted
 statements::check_statement-returns-in-For-clause-noted t c = grind (arith, common_steps, noted_for)
+
+pub statements::check_statement-returns-in-Return-clause-next : goal.statements::check_statement-returns-in-Return-clause-next
+statements::check_statement-returns-in-Return-clause-next t c = grind (arith, common_steps, next_return)
+
+pub statements::check_statement-returns-in-Return-clause-made : goal.statements::check_statement-returns-in-Return-clause-made
+statements::check_statement-returns-in-Return-clause-made t c = grind (arith, common_steps, made_return)
+
+pub statements::check_statement-returns-in-Return-clause-noted : goal.statements::check_statement-returns-in-Return-clause-noted
+statements::check_statement-returns-in-Return-clause-noted t c = grind (arith, common_steps, noted_return)
+
+pub statements::check_statement-returns-in-Exit-clause-next : goal.statements::check_statement-returns-in-Exit-clause-next
+statements::check_statement-returns-in-Exit-clause-next t c = grind (arith, common_steps, next_exit)
+
+pub statements::check_statement-returns-in-Exit-clause-made : goal.statements::check_statement-returns-in-Exit-clause-made
+statements::check_statement-returns-in-Exit-clause-made t c = grind (arith, common_steps, made_exit)
+
+pub statements::check_statement-returns-in-Exit-clause-noted : goal.statements::check_statement-returns-in-Exit-clause-noted
+statements::check_statement-returns-in-Exit-clause-noted t c = grind (arith, common_steps, noted_exit)
 
 pub statements::check_statement-returns-in-Run-clause-next : goal.statements::check_statement-returns-in-Run-clause-next
 statements::check_statement-returns-in-Run-clause-next t c = grind (arith, common_steps, next_run)
@@ -178,6 +241,24 @@ statements::check_statement-returns-in-Start-clause-made t c = grind (arith, com
 
 pub statements::check_statement-returns-in-Start-clause-noted : goal.statements::check_statement-returns-in-Start-clause-noted
 statements::check_statement-returns-in-Start-clause-noted t c = grind (arith, common_steps, noted_start)
+
+pub statements::check_statement-returns-in-Finish-clause-next : goal.statements::check_statement-returns-in-Finish-clause-next
+statements::check_statement-returns-in-Finish-clause-next t c = grind (arith, common_steps, next_finish)
+
+pub statements::check_statement-returns-in-Finish-clause-made : goal.statements::check_statement-returns-in-Finish-clause-made
+statements::check_statement-returns-in-Finish-clause-made t c = grind (arith, common_steps, made_finish)
+
+pub statements::check_statement-returns-in-Finish-clause-noted : goal.statements::check_statement-returns-in-Finish-clause-noted
+statements::check_statement-returns-in-Finish-clause-noted t c = grind (arith, common_steps, noted_finish)
+
+pub statements::check_statement-returns-in-Write-clause-next : goal.statements::check_statement-returns-in-Write-clause-next
+statements::check_statement-returns-in-Write-clause-next t c = grind (arith, common_steps, next_write)
+
+pub statements::check_statement-returns-in-Write-clause-made : goal.statements::check_statement-returns-in-Write-clause-made
+statements::check_statement-returns-in-Write-clause-made t c = grind (arith, common_steps, made_write)
+
+pub statements::check_statement-returns-in-Write-clause-noted : goal.statements::check_statement-returns-in-Write-clause-noted
+statements::check_statement-returns-in-Write-clause-noted t c = grind (arith, common_steps, noted_write)
 
 pub alternatives::check_alternative-returns-in-Guarded-clause-next : goal.alternatives::check_alternative-returns-in-Guarded-clause-next
 alternatives::check_alternative-returns-in-Guarded-clause-next t c = grind (arith, common_steps, next_guarded)

@@ -1,4 +1,4 @@
-use Rattle.std.proofs.Common.{◌∙◌, ◌++◌, ap, sym, subst, arith, rules}
+use Rattle.std.proofs.Common.{◌∙◌, ◌++◌, ap, sym, arith, rules}
 use Rattle.std.proofs.lemmas.Grind.{common_steps}
 use Rattle.chi_core.specs.declared.statement.CAlt.{the_lemmas}
 use Rattle.chi_core.specs.declared.statement.CAlt.TheVariants as alternative

@@ -3,7 +3,7 @@ use Rattle.std.proofs.lemmas.Grind.{common_steps}
 use Rattle.chi_core.specs.declared.statement.CStat.{the_lemmas}
 use Rattle.chi_core.specs.declared.statement.CAlt.TheVariants as alternative
 use Rattle.chi_core.specs.declared.statement.CStat.TheVariants as s
-use Rattle.chi_code.specs.Sizes.{block_size, branches_size, fronts_size}
+use Rattle.chi_code.specs.Sizes.{block_size}
 use Rattle.chi_code.specs.StatementLayout.{looping, walking}
 use Rattle.chi_gen_sizes.specs.Measuring.{AltsMeasured, BlockMeasured, BranchesMeasured}
 use Rattle.chi_gen_sizes.proofs.MeasuredBlocks.{block_total, branches_total, fronts_total, block_long, branches_long, alternatives_long, at_statement, at_branch, at_alternative, tests_of, otherwise_of, while_of, for_of, select_of, branch_of, body_of, unwind_of}
