@@ -3,6 +3,7 @@
 #![tactic(auto)]
 
 mod boxed;
+mod holder;
 mod items;
 mod no_memory;
 mod row;
