@@ -17,8 +17,7 @@ fn begins(entries: &[Entry], wanted: &[(u32, u32, u64)]) -> bool {
 #[test]
 fn a_sender_has_its_code(rt: HostRuntime) -> Result<(), Fail> {
     sound_programs_have_one_code();
-    let source =
-        "proc S(chan! int a): while true: a!1 end end model M(): chan int a; run S(a) end";
+    let source = "proc S(chan! int a): while true: a!1 end end model M(): chan int a; run S(a) end";
     let code = code_of(&rt, rt.alloc(), source)?;
     let instrs = code.instrs.as_slice();
     assert_eq!(&rt; instrs.len(), 20);
@@ -33,7 +32,8 @@ fn a_sender_has_its_code(rt: HostRuntime) -> Result<(), Fail> {
 
 #[test]
 fn functions_stand_before_processes(rt: HostRuntime) -> Result<(), Fail> {
-    let source = "const int k = 2; func bool f(int n): return n > k and n < 7 end model M(): pass end";
+    let source =
+        "const int k = 2; func bool f(int n): return n > k and n < 7 end model M(): pass end";
     let code = code_of(&rt, rt.alloc(), source)?;
     let instrs = code.instrs.as_slice();
     assert_eq!(&rt; code.consts, 1);
