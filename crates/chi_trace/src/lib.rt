@@ -25,6 +25,3 @@ pub const FIRST_LINE: &str = "trace 2";
 
 /// The first line of a trace of version 1, without its line feed.
 pub const FIRST_LINE_1: &str = "trace 1";
-
-#[cfg(test)]
-mod tests;

@@ -1,7 +1,7 @@
-use crate::{
+use chi_core::Label;
+use chi_trace::{
     Detail, Event, LogFault, TraceFault, line_of, line_up, log_up, read_line, read_line_1,
 };
-use chi_core::Label;
 use std::alloc::Global;
 use std::test::Fail;
 
