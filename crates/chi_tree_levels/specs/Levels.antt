@@ -1,5 +1,5 @@
--- How many levels lie over one another in the core that is made of an expression.
-use Rattle.std.specs.Prelude.{ℕ, ◌+◌, max, List, [], ◌∷◌, Option, None, Some}
+-- How many levels lie over one another, at most, in the core that is made of an expression.
+use Rattle.std.specs.Prelude.{ℕ, ◌+◌, length, max, List, [], ◌∷◌, Option, None, Some}
 use Rattle.chi_tree.specs.declared.type_tree.TypeTree.{TypeTree, TypeTree-F, fold-TypeTree}
 use Rattle.chi_tree.specs.declared.type_tree.Formal.{Formal, Formal-F, fold-Formal}
 use Rattle.chi_tree.specs.declared.expr.Expr.{Expr, Expr-F, fold-Expr}
@@ -17,10 +17,10 @@ abbrev pub where_some : Option ℕ → ℕ
 where_some None = 0
 where_some (Some part) = part
 
--- Operands of one level group from the left, and so do parts of parts: each puts what stands before it a level deeper.
+-- Operands of one level group from the left, and so do parts of parts: each puts what stands before it a level deeper, so
+-- that under so many operators or parts the first may lie so many levels deeper.
 abbrev pub piled : ℕ → List ℕ → ℕ
-piled under [] = under
-piled under (part ∷ parts) = piled (1 + max under part) parts
+piled first parts = length parts + max first (highest parts)
 
 abbrev pub expr_step : Expr-F ℕ ℕ ℕ ℕ ℕ ℕ → ℕ
 expr_step (Expr-F.Chain first links) = piled first links

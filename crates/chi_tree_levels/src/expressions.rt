@@ -1,7 +1,7 @@
 //! Expressions. A chain of operators is flat in the tree and a pile in the core, for each of its operators takes
 //! all that stands before it as an operand; so do indexes, slices and fields that follow one another.
 
-ghost use Rattle.std.specs.Prelude.{◌≡◌, ◌-◌, ◌^◌, map, min};
+ghost use Rattle.std.specs.Prelude.{◌≡◌, ◌+◌, ◌-◌, ◌^◌, map, max, min};
 ghost use Rattle.chi_tree_levels.specs.Levels.{levels, link_levels, entry_levels, part_levels, where_some, highest, piled};
 ghost use Rattle.std.specs.Option.{option_map};
 
@@ -15,7 +15,7 @@ pub fn levels_of(e: &Expr) -> u32
     ensures { result ≡ min (levels e.now) (2 ^ 32 - 1) }
 {
     match e {
-        Expr::Chain { first, links } => over_links(levels_of(first.get()), links.as_slice()),
+        Expr::Chain { first, links } => chain_levels(first.get(), links.as_slice()),
         Expr::Prefix { operand, .. } | Expr::Cast { operand, .. } => above(levels_of(
             operand.get(),
         )),
@@ -28,10 +28,7 @@ pub fn levels_of(e: &Expr) -> u32
             levels_of(base.get()),
             levels_of(exponent.get()),
         ),
-        Expr::Part { whole, postfixes } => over_postfixes(
-            levels_of(whole.get()),
-            postfixes.as_slice(),
-        ),
+        Expr::Part { whole, postfixes } => parted_levels(whole.get(), postfixes.as_slice()),
         Expr::Call { arguments, .. } => above(highest_of(arguments.as_slice())),
         Expr::TupleOf { parts, .. } => above(highest_of(parts.as_slice())),
         Expr::ListOf { elements, .. } | Expr::SetOf { elements, .. } => above(highest_of(
@@ -67,28 +64,56 @@ pub(crate) fn above_both(one: u32, other: u32) -> u32
     one.max(other).saturating_add(1)
 }
 
-/// Operators that follow one another, over what has so many levels.
+/// A first operand, and operators with further ones.
 #[cycle(levels)]
-fn over_links(first: u32, links: &[Link]) -> u32
-    ensures { result ≡ min (piled first (map link_levels links.now)) (2 ^ 32 - 1) }
+fn chain_levels(first: &Expr, links: &[Link]) -> u32
+    ensures { result ≡ min (piled (levels first.now) (map link_levels links.now)) (2 ^ 32 - 1) }
 {
-    let mut under = first;
-    for link in links {
-        under = above_both(under, levels_of(&link.operand));
-    }
-    under
+    let highest = highest_link(links);
+    above_by(links.len(), levels_of(first).max(highest))
 }
 
-/// Indexes, slices and fields that follow one another, over what has so many levels.
+/// A whole, and indexes, slices and fields of it.
 #[cycle(levels)]
-fn over_postfixes(whole: u32, postfixes: &[Postfix]) -> u32
-    ensures { result ≡ min (piled whole (map part_levels postfixes.now)) (2 ^ 32 - 1) }
+fn parted_levels(whole: &Expr, postfixes: &[Postfix]) -> u32
+    ensures { result ≡ min (piled (levels whole.now) (map part_levels postfixes.now)) (2 ^ 32 - 1) }
 {
-    let mut under = whole;
-    for postfix in postfixes {
-        under = above_both(under, levels_within(postfix));
+    let highest = highest_postfix(postfixes);
+    above_by(postfixes.len(), levels_of(whole).max(highest))
+}
+
+/// So many levels above what has so many.
+fn above_by(count: usize, part: u32) -> u32
+    ensures { result ≡ min (count + part) (2 ^ 32 - 1) }
+{
+    match u32::try_from(count) {
+        Ok(count) => part.saturating_add(count),
+        Err(_) => u32::MAX,
     }
-    under
+}
+
+/// The levels of the highest operand.
+#[cycle(levels)]
+fn highest_link(links: &[Link]) -> u32
+    ensures { result ≡ min (highest (map link_levels links.now)) (2 ^ 32 - 1) }
+{
+    let mut greatest = 0;
+    for link in links {
+        greatest = levels_of(&link.operand).max(greatest);
+    }
+    greatest
+}
+
+/// The levels of the highest expression within indexes and slices.
+#[cycle(levels)]
+fn highest_postfix(postfixes: &[Postfix]) -> u32
+    ensures { result ≡ min (highest (map part_levels postfixes.now)) (2 ^ 32 - 1) }
+{
+    let mut greatest = 0;
+    for postfix in postfixes {
+        greatest = levels_within(postfix).max(greatest);
+    }
+    greatest
 }
 
 /// The levels of the expressions within an index or a slice.
