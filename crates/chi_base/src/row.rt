@@ -1,7 +1,7 @@
 ghost use Rattle.std.specs.Prelude.{◌≡◌, ◌<◌, ◌≤◌, ◌++◌, ◌+◌, ◌∷◌, [], drop, insert, length, remove, slice_get, slice_index_or, slice_set, take, Some, IfOk, IfSome, IsSome, OnOk, option_copied, ◌↔◌};
 
 use crate::NoMemory;
-use crate::shared::{Copied, copies_of};
+use crate::shared::{Copied, copies_of, has_other_owners};
 use std::alloc::Global;
 use std::collections::VecDeque;
 use std::marker::Model;
@@ -50,10 +50,6 @@ impl<T> Row<T> {
     {
         self.shared.as_ref().get(place)
     }
-
-    fn has_other_owners(&self) -> bool {
-        Rc::strong_count(&self.shared) != 1
-    }
 }
 
 impl<T: Drop> Row<T> {
@@ -89,11 +85,13 @@ impl<T: Drop + Copied> Row<T> {
         }
     }
 
-    /// Sees to it that nobody else has the elements, so that `Rc::get_mut` lends them.
+    /// Sees to it that nobody else has the elements, so that `Rc::get_mut` lends them. No contract of `Rc` says so: how
+    /// many owners there are is no part of what contracts see. Where it lent them not, that would be told as want of
+    /// memory, which is the one answer that no clause ties to a cause.
     fn make_own(&mut self, alloc: Global) -> Result<(), NoMemory>
         ensures same { self.new ≡ self.old }
     {
-        if self.has_other_owners() {
+        if has_other_owners(&self.shared) {
             let (first, second) = self.shared.as_ref().as_slices();
             let copies = copies_of_both(alloc, first, second)?;
             self.shared = Rc::new(alloc, VecDeque::from_vec(copies))?;
@@ -154,7 +152,7 @@ impl<T: Drop + Copied> Row<T> {
         requires inside { from + size ≤ length self }
         ensures part { IfOk result (λ row. row ≡ take size (drop from self)) }
     {
-        if self.has_other_owners() {
+        if has_other_owners(&self.shared) {
             return Ok(self.copied_part(alloc, from, size)?);
         }
         let mut row = self;
@@ -227,7 +225,7 @@ impl<T: Drop + Copied> Row<T> {
         match Rc::get_mut(&mut self.shared) {
             Some(values) => match values.remove(place) {
                 Some(old) => Ok(old),
-                None => Err(NoMemory),
+                None => unreachable!(),
             },
             None => Err(NoMemory),
         }
@@ -242,7 +240,7 @@ impl<T: Drop + Copied> Row<T> {
         match Rc::get_mut(&mut self.shared) {
             Some(values) => match values.pop_front() {
                 Some(first) => Ok(first),
-                None => Err(NoMemory),
+                None => unreachable!(),
             },
             None => Err(NoMemory),
         }

@@ -71,11 +71,12 @@ impl<T: Drop + Copied> Shared<T> {
         }
     }
 
-    /// Sees to it that nobody else has the elements, so that `Rc::get_mut` lends them.
+    /// Sees to it that nobody else has the elements, so that `Rc::get_mut` lends them; where it didn't, that would be told
+    /// as want of memory, as `Row` says.
     fn make_own(&mut self, alloc: Global) -> Result<(), NoMemory>
         ensures same { self.new ≡ self.old }
     {
-        if Rc::strong_count(&self.shared) != 1 {
+        if has_other_owners(&self.shared) {
             let copies = copies_of(alloc, self.shared.as_ref().as_slice())?;
             self.shared = Rc::new(alloc, copies)?;
         }
@@ -106,6 +107,11 @@ impl<T: Drop + Copied> Shared<T> {
             None => Err(NoMemory),
         }
     }
+}
+
+/// Whether what is shared has another owner.
+pub(crate) fn has_other_owners<C>(shared: &Rc<C>) -> bool {
+    Rc::strong_count(shared) != 1
 }
 
 /// A copy of each value, in a vector that has room for no more.
