@@ -69,12 +69,12 @@ pub(crate) fn is_count(name: Predefined, count: usize) -> bool
         | Predefined::DictValues
         | Predefined::Constant
         | Predefined::Bernoulli
+        | Predefined::Exponential
         | Predefined::Ready
         | Predefined::Finished => count == 1,
         Predefined::Del | Predefined::Uniform | Predefined::Binomial => count == 2,
         Predefined::Insert => count == 3,
         Predefined::Min | Predefined::Max => count > 1,
         Predefined::Range => count > 0 && count < 4,
-        Predefined::Exponential => false,
     }
 }

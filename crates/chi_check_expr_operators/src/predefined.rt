@@ -253,6 +253,13 @@ fn binomial(alloc: Global, arguments: Items<Made>) -> Result<Option<Made>, NoMem
     )
 }
 
+fn exponential(alloc: Global, arguments: Items<Made>) -> Result<Option<Made>, NoMemory>
+    ensures { IfOk result (λ n. n ≡ spec.exponential arguments) }
+{
+    let outcome = Ty::Dist(Boxed::new(alloc, Ty::Real)?);
+    wanting(alloc, OpName::Exponential, &[Ty::Real], outcome, arguments)
+}
+
 /// What a name makes of its one argument.
 fn of_one(alloc: Global, name: Predefined, arguments: Items<Made>) -> Result<Option<Made>, NoMemory>
     ensures { IfOk result (λ n. n ≡ spec.one (spec.of_single name) arguments) }
@@ -318,7 +325,7 @@ pub fn predefined(
         Predefined::Uniform => draw_between(alloc, arguments),
         Predefined::Bernoulli => bernoulli(alloc, arguments),
         Predefined::Binomial => binomial(alloc, arguments),
-        Predefined::Exponential => Ok(None),
+        Predefined::Exponential => exponential(alloc, arguments),
         Predefined::Ready => wanting(alloc, OpName::Ready, &[Ty::Timer], Ty::Bool, arguments),
         Predefined::Finished => wanting(alloc, OpName::Finished, &[Ty::Inst], Ty::Bool, arguments),
         _ => of_one(alloc, name, arguments),

@@ -140,13 +140,16 @@ extreme name ms = option_map (λ t. made (expression.Op name (map (λ m. convert
 abbrev pub range : List Made → Option Made
 range bounds = if list_all (λ m. is_int (out-Ty m.ty)) bounds then Some (as_they_are op.Range bounds (ty.ListOf ty.Int)) else None
 
--- ---- chances
+-- ---- chances and means
 
 abbrev pub bernoulli : List Made → Option Made
 bernoulli ms = wanting op.Bernoulli (ty.Real ∷ []) (ty.Dist ty.Bool) ms
 
 abbrev pub binomial : List Made → Option Made
 binomial ms = wanting op.Binomial (ty.Int ∷ ty.Real ∷ []) (ty.Dist ty.Int) ms
+
+abbrev pub exponential : List Made → Option Made
+exponential ms = wanting op.Exponential (ty.Real ∷ []) (ty.Dist ty.Real) ms
 
 -- ---- the table
 
@@ -172,7 +175,7 @@ is_count name.Constant count = nat_eq count 1
 is_count name.Uniform count = nat_eq count 2
 is_count name.Bernoulli count = nat_eq count 1
 is_count name.Binomial count = nat_eq count 2
-is_count name.Exponential count = false
+is_count name.Exponential count = nat_eq count 1
 is_count name.Ready count = nat_eq count 1
 is_count name.Finished count = nat_eq count 1
 
@@ -205,8 +208,7 @@ of_single name.DictValues m = values m
 of_single name.Constant m = constant m
 of_single _ m = None
 
--- What a predefined name makes of its arguments. `insert` has a rule of its own, since its third argument is a name, and
--- `exponential` isn't defined for any.
+-- What a predefined name makes of its arguments. `insert` has a rule of its own, since its third argument is a name.
 abbrev pub predefined : Predefined → List Made → Option Made
 predefined name.Min ms = extreme op.Min ms
 predefined name.Max ms = extreme op.Max ms
@@ -219,7 +221,7 @@ predefined name.Range ms = range ms
 predefined name.Uniform ms = two uniform ms
 predefined name.Bernoulli ms = bernoulli ms
 predefined name.Binomial ms = binomial ms
-predefined name.Exponential ms = None
+predefined name.Exponential ms = exponential ms
 predefined name.Ready ms = wanting op.Ready (ty.Timer ∷ []) ty.Bool ms
 predefined name.Finished ms = wanting op.Finished (ty.Inst ∷ []) ty.Bool ms
 predefined p ms = one (of_single p) ms

@@ -6,7 +6,7 @@ use chi_check_expr::Site;
 use std::test::Fail;
 
 /// Expressions of a process, each with its core.
-const CORES: [(&str, &str); 65] = [
+const CORES: [(&str, &str); 66] = [
     ("(i)", "Var(1)"),
     ("+r", "Var(2)"),
     ("-(+i)", "Op(Neg, [Var(1)])"),
@@ -106,6 +106,7 @@ const CORES: [(&str, &str); 65] = [
     ),
     ("constant(i)", "Op(Constant, [Var(1)])"),
     ("bernoulli(i)", "Op(Bernoulli, [Op(Widen, [Var(1)])])"),
+    ("exponential(i)", "Op(Exponential, [Op(Widen, [Var(1)])])"),
     ("int(i)", "Op(ToInt, [Var(1)])"),
     ("timer(i)", "Op(ToTimer, [Op(Widen, [Var(1)])])"),
     (

@@ -324,7 +324,9 @@ module _ (scope : Scope) (set : Set) where
   predefined_sound name.Binomial s place ms m at rule count h e =
       wanting_sound scope set op.Binomial (ty.Int ∷ ty.Real ∷ []) (ty.Dist ty.Int) _ (Ty-F.Dist ty.Int) ms m row.binomial_int (always scope.role op.Binomial _ refl) (λ i. kind_int i ∷ kind_real i ∷ [])
       (dist_kind ty.Int ty.Int refl erased_int) (sound_dist _ ty.Int (sound_int _)) h e
-  predefined_sound name.Exponential s place ms m at rule count h e = absurd (cc)
+  predefined_sound name.Exponential s place ms m at rule count h e =
+      wanting_sound scope set op.Exponential (ty.Real ∷ []) (ty.Dist ty.Real) _ (Ty-F.Dist ty.Real) ms m row.exponential_real (always scope.role op.Exponential _ refl) (λ i. kind_real i ∷ [])
+      (dist_kind ty.Real ty.Real refl erased_real) (sound_dist _ ty.Real (sound_real _)) h e
   predefined_sound name.Ready s place ms m at rule count h e =
       wanting_sound scope set op.Ready (ty.Timer ∷ []) ty.Bool _ Ty-F.Bool ms m row.ready_timer (may_run s scope.role place op.Ready _ at rule) (λ i. kind_timer i ∷ []) kind_bool (sound_bool _) h e
   predefined_sound name.Finished s place ms m at rule count h e =

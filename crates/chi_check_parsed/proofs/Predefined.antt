@@ -106,7 +106,7 @@ arguments_on name.Uniform ms h = on_then BothShort MadeShort (λ ab. uniform ab.
     (λ ab k. on_any MadeShort _ (number_of (out-Ty ab.0.ty) (out-Ty ab.1.ty)) (λ t. both_as_short op.Uniform t ab.0 ab.1 (ty.Dist t) k.0 k.1)) (pair_on ms h)
 arguments_on name.Bernoulli ms h = wanting_on op.Bernoulli (ty.Real ∷ []) (ty.Dist ty.Bool) ms h
 arguments_on name.Binomial ms h = wanting_on op.Binomial (ty.Int ∷ ty.Real ∷ []) (ty.Dist ty.Int) ms h
-arguments_on name.Exponential ms h = tt
+arguments_on name.Exponential ms h = wanting_on op.Exponential (ty.Real ∷ []) (ty.Dist ty.Real) ms h
 arguments_on name.Ready ms h = wanting_on op.Ready (ty.Timer ∷ []) ty.Bool ms h
 arguments_on name.Finished ms h = wanting_on op.Finished (ty.Inst ∷ []) ty.Bool ms h
 arguments_on name.Abs ms h = one_argument name.Abs ms h

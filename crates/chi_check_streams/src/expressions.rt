@@ -16,7 +16,7 @@ fn has_stream(name: OpName) -> bool
     ensures { result ≡ has_stream name }
 {
     match name {
-        OpName::Uniform | OpName::Bernoulli | OpName::Binomial => true,
+        OpName::Uniform | OpName::Bernoulli | OpName::Binomial | OpName::Exponential => true,
         _ => false,
     }
 }

@@ -7,7 +7,7 @@ use Rattle.chi_types.specs.declared.ty.Ty.{Ty, Ty-F, out-Ty}
 use Rattle.chi_value.specs.declared.value.Value.{Value, Value-F, out-Value, fold_out-Value, map-Value}
 use Rattle.chi_value.specs.Alike.{drawn_kind, parts_alike, is_alike_to, elements_alike, alike_step, alike}
 use Rattle.chi_core.specs.Kinds.{Kind, Every, entry_of}
-use Rattle.chi_core.specs.Of.{World, Of, of_bool, of_int, of_real, of_text, of_choice, of_tuple, of_list, of_set, of_dictionary, of_channel, of_dist, of_timer, of_no_instance, of_instance, PartsOf, no_part, one_part, IsOf, Yields, always_bool, always_int, always_real, some_int, some_real, some_bool, some_count}
+use Rattle.chi_core.specs.Of.{World, Of, of_bool, of_int, of_real, of_text, of_choice, of_tuple, of_list, of_set, of_dictionary, of_channel, of_dist, of_timer, of_no_instance, of_instance, PartsOf, no_part, one_part, IsOf, Yields, always_bool, always_int, always_real, some_int, some_real, some_bool, some_count, some_wait}
 
 -- a test that each element passes, which is made of the element
 pub all_pass : {A B : Type 0} (test : B → Bool) (f : A → B) (xs : List A) → Every (λ x. test (f x) ≡ true) xs → list_all test (map f xs) ≡ true
@@ -35,6 +35,7 @@ drawn _ _ (some_int a b stream l) = refl
 drawn _ _ (some_real a b stream l) = refl
 drawn _ _ (some_bool chance stream l) = refl
 drawn _ _ (some_count trials chance stream l) = refl
+drawn _ _ (some_wait mean stream l) = refl
 
 module _ (w : World) where
   -- the elements of one container and of another, where each is alike to each

@@ -31,7 +31,7 @@ use Rattle.chi_core.specs.Arithmetic.{whole, real, timer, on_int, on_real, on_nu
 use Rattle.chi_core.specs.Comparisons.{tells, truth, compared}
 use Rattle.chi_core.specs.Containers.{done, range_of, bounds, slice_by}
 use Rattle.chi_core.specs.Casts.{as_meant, int_from, real_from, truth_meant, truth_from, string_of, has_finished}
-use Rattle.chi_core.specs.Distributions.{constant_in, stream_in, uniform_in, bernoulli_in, binomial_in, distribution, by_stream, after_drawing, draw_from}
+use Rattle.chi_core.specs.Distributions.{constant_in, stream_in, uniform_in, bernoulli_in, binomial_in, exponential_in, distribution, by_stream, after_drawing, draw_from}
 use Rattle.chi_core.specs.Operators.{sum, difference, product, applied}
 use Rattle.chi_core.proofs.Used.{Within, Uses, within-then, within-if, uses-gives, uses-wanted}
 
@@ -221,6 +221,7 @@ uses-applied scene op.Constant (a ∷ []) = uses-wanted (option_map value.Dist (
 uses-applied scene op.Uniform (a ∷ b ∷ stream ∷ []) = uses-by_stream (uniform_in (out-Value a) (out-Value b)) stream
 uses-applied scene op.Bernoulli (chance ∷ stream ∷ []) = uses-by_stream (bernoulli_in (out-Value chance)) stream
 uses-applied scene op.Binomial (trials ∷ chance ∷ stream ∷ []) = uses-by_stream (binomial_in (out-Value trials) (out-Value chance)) stream
+uses-applied scene op.Exponential (mean ∷ stream ∷ []) = uses-by_stream (exponential_in (out-Value mean)) stream
 uses-applied scene op.Ready (a ∷ []) = uses-wanted (option_map value.Bool (option_map (λ due. int_le due scene.clock) (due_of a)))
 uses-applied scene op.Finished (a ∷ []) = λ view.
     within-then view.left (wanted (instance_of a) view) (has_finished scene) (uses-wanted (instance_of a) view) (uses-has_finished scene)

@@ -34,6 +34,10 @@ abbrev pub binomial_in : Value-F Value → Value-F Value → ℕ → Option Dist
 binomial_in (Value-F.Int trials) (Value-F.Real chance) stream = Some (dist.Binomial trials chance stream)
 binomial_in _ _ stream = None
 
+abbrev pub exponential_in : Value-F Value → ℕ → Option Dist
+exponential_in (Value-F.Real mean) stream = Some (dist.Exponential mean stream)
+exponential_in _ stream = None
+
 abbrev pub distribution : Option Dist → Does Value
 distribution made = wanted (option_map value.Dist made)
 
@@ -52,6 +56,9 @@ bernoulli_of chance = by_stream (bernoulli_in (out-Value chance))
 
 abbrev pub binomial_of : Value → Value → Value → Does Value
 binomial_of trials chance = by_stream (binomial_in (out-Value trials) (out-Value chance))
+
+abbrev pub exponential_of : Value → Value → Does Value
+exponential_of mean = by_stream (exponential_in (out-Value mean))
 
 abbrev pub value_drawn : Drawn → Value
 value_drawn (drawn.Bool x) = value.Bool x

@@ -42,6 +42,7 @@ pub data Yields : Dist → Kind → Type 0 where
   some_real : (a b : ℤ) (stream : ℕ) → stream < stream_count → Yields (dist.UniformReal a b stream) Ty-F.Real
   some_bool : (chance : ℤ) (stream : ℕ) → stream < stream_count → Yields (dist.Bernoulli chance stream) Ty-F.Bool
   some_count : (trials chance : ℤ) (stream : ℕ) → stream < stream_count → Yields (dist.Binomial trials chance stream) Ty-F.Int
+  some_wait : (mean : ℤ) (stream : ℕ) → stream < stream_count → Yields (dist.Exponential mean stream) Ty-F.Real
 
 -- a list is short enough for a value
 abbrev pub IsShort : {A : Type 0} → List A → Type 0

@@ -108,6 +108,7 @@ pub data OpKind : OpName → List Kind → Kind → Type 0 where
   uniform_real : OpKind op.Uniform (Ty-F.Real ∷ Ty-F.Real ∷ []) (Ty-F.Dist ty.Real)
   bernoulli_bool : OpKind op.Bernoulli (Ty-F.Real ∷ []) (Ty-F.Dist ty.Bool)
   binomial_int : OpKind op.Binomial (Ty-F.Int ∷ Ty-F.Real ∷ []) (Ty-F.Dist ty.Int)
+  exponential_real : OpKind op.Exponential (Ty-F.Real ∷ []) (Ty-F.Dist ty.Real)
   ready_timer : OpKind op.Ready (Ty-F.Timer ∷ []) Ty-F.Bool
   finished_instance : OpKind op.Finished (Ty-F.Inst ∷ []) Ty-F.Bool
   time_now : OpKind op.Time [] Ty-F.Real
@@ -128,6 +129,7 @@ abbrev pub has_stream : OpName → Bool
 has_stream op.Uniform = true
 has_stream op.Bernoulli = true
 has_stream op.Binomial = true
+has_stream op.Exponential = true
 has_stream _ = false
 
 -- what depends on the run: its draws, its time and its instances, and so also the casts to and from timers

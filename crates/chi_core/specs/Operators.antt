@@ -14,7 +14,7 @@ use Rattle.chi_core.specs.Arithmetic.{whole, real, widened, negated, absolute, s
 use Rattle.chi_core.specs.Comparisons.{tells, opposite, equal, different, below, at_most, above, at_least}
 use Rattle.chi_core.specs.Containers.{done, element_at, without, size_of, is_empty, range_of, sliced}
 use Rattle.chi_core.specs.Casts.{to_int, to_real, to_truth, to_text, to_timer, is_ready, is_finished}
-use Rattle.chi_core.specs.Distributions.{constant_of, uniform_of, bernoulli_of, binomial_of, sample_of}
+use Rattle.chi_core.specs.Distributions.{constant_of, uniform_of, bernoulli_of, binomial_of, exponential_of, sample_of}
 
 -- `+`: of numbers the sum; of sets and dictionaries what is in either; of strings and lists one after the other
 abbrev pub sum : Value → Value → Value-F Value → Value-F Value → Does Value
@@ -81,6 +81,7 @@ applied scene op.Constant (a ∷ []) = constant_of a
 applied scene op.Uniform (a ∷ b ∷ stream ∷ []) = uniform_of a b stream
 applied scene op.Bernoulli (chance ∷ stream ∷ []) = bernoulli_of chance stream
 applied scene op.Binomial (trials ∷ chance ∷ stream ∷ []) = binomial_of trials chance stream
+applied scene op.Exponential (mean ∷ stream ∷ []) = exponential_of mean stream
 applied scene op.Ready (a ∷ []) = is_ready scene a
 applied scene op.Finished (a ∷ []) = is_finished scene a
 applied scene op.Time [] = gives (value.Real scene.clock)

@@ -49,10 +49,11 @@ pub enum OpName {
     DictKeys,
     DictValues,
     Constant,
-    /// Its last operand is the stream from which is drawn, as of the two below.
+    /// Its last operand is the stream from which is drawn, as of the three below.
     Uniform,
     Bernoulli,
     Binomial,
+    Exponential,
     Ready,
     Finished,
     Time,
@@ -112,6 +113,7 @@ impl OpName {
             OpName::Uniform => "uniform",
             OpName::Bernoulli => "bernoulli",
             OpName::Binomial => "binomial",
+            OpName::Exponential => "exponential",
             OpName::Ready => "ready",
             OpName::Finished => "finished",
             OpName::Time => "time",

@@ -14,7 +14,7 @@ use Rattle.chi_value.specs.declared.value.Value.TheVariants as value
 use Rattle.chi_core.specs.declared.fault.FaultKind.TheVariants.{BadDistribution}
 use Rattle.chi_core.specs.declared.view.View.{View}
 use Rattle.chi_core.specs.Answer.{Gives, Fails, Amiss, then_do, wanted}
-use Rattle.chi_core.specs.Distributions.{stream_in, uniform_in, bernoulli_in, binomial_in, distribution, by_stream, value_drawn, after_drawing, draw_from, sample_of}
+use Rattle.chi_core.specs.Distributions.{stream_in, uniform_in, bernoulli_in, binomial_in, exponential_in, distribution, by_stream, value_drawn, after_drawing, draw_from, sample_of}
 use Rattle.chi_core.specs.Reading.{int_in, int_of, real_in, real_of}
 
 -- the stream that is named
@@ -106,6 +106,14 @@ module _ (n : ℕ) (view : View) where
   bernoulli_is_in (Value-F.Real y) x e = let same : y ≡ x = cc in ap (λ x. Gives (value.Dist (dist.Bernoulli x n)) view) same
   bernoulli_is_in _ x e = absurd (cc)
 
+  mean_in : (m : Value-F Value) → distribution (exponential_in m n) view ≢ Amiss → real_in m ≢ None
+  mean_in (Value-F.Real x) h = λ e. absurd (cc)
+  mean_in _ h = absurd (h refl)
+
+  exponential_is_in : (m : Value-F Value) (x : ℤ) → real_in m ≡ Some x → distribution (exponential_in m n) view ≡ Gives (value.Dist (dist.Exponential x n)) view
+  exponential_is_in (Value-F.Real y) x e = let same : y ≡ x = cc in ap (λ x. Gives (value.Dist (dist.Exponential x n)) view) same
+  exponential_is_in _ x e = absurd (cc)
+
   count_first_in : (t c : Value-F Value) → distribution (binomial_in t c n) view ≢ Amiss → int_in t ≢ None
   count_first_in (Value-F.Int x) c h = λ e. absurd (cc)
   count_first_in _ c h = absurd (h refl)
@@ -127,6 +135,12 @@ module _ (n : ℕ) (view : View) where
   pub bernoulli_is : (c : Value) (x : ℤ) → real_of c ≡ Some x → distribution (bernoulli_in (out-Value c) n) view ≡ Gives (value.Dist (dist.Bernoulli x n)) view
   bernoulli_is c = bernoulli_is_in (out-Value c)
 
+  pub mean : (m : Value) → distribution (exponential_in (out-Value m) n) view ≢ Amiss → real_of m ≢ None
+  mean m = mean_in (out-Value m)
+
+  pub exponential_is : (m : Value) (x : ℤ) → real_of m ≡ Some x → distribution (exponential_in (out-Value m) n) view ≡ Gives (value.Dist (dist.Exponential x n)) view
+  exponential_is m = exponential_is_in (out-Value m)
+
   pub count_first : (t c : Value) → distribution (binomial_in (out-Value t) (out-Value c) n) view ≢ Amiss → int_of t ≢ None
   count_first t c = count_first_in (out-Value t) (out-Value c)
 
@@ -139,6 +153,8 @@ module _ (n : ℕ) (view : View) where
 pub ruleset uniforms = (to_z-of_z, int_second, real_second, ints_are, reals_are)
 
 pub ruleset trials = (to_z-of_z, count_first, count_chance, binomial_is)
+
+pub ruleset means = (to_z-of_z, mean, exponential_is)
 
 -- what is drawn
 module _ (seed : ℕ) (d : Dist) (view : View) where

@@ -3,7 +3,7 @@
 ghost use Rattle.std.specs.Prelude.{◌≡◌, ◌≢◌, None, Some, IfOk, IfErr};
 ghost use Rattle.chi_value.specs.declared.value.Value.{out-Value};
 ghost use Rattle.chi_core.specs.Answer.{Gives, Amiss};
-ghost use Rattle.chi_core.specs.Distributions.{constant_of, distribution, stream_in, uniform_in, bernoulli_in, binomial_in, uniform_of, bernoulli_of, binomial_of, value_drawn, after_drawing, sample_of};
+ghost use Rattle.chi_core.specs.Distributions.{constant_of, distribution, stream_in, uniform_in, bernoulli_in, binomial_in, exponential_in, uniform_of, bernoulli_of, binomial_of, exponential_of, value_drawn, after_drawing, sample_of};
 ghost use Rattle.chi_dist.specs.Draws.{sampled};
 ghost use Rattle.chi_core_apply.specs.Failures.{IsFailure};
 ghost use Rattle.chi_core_apply.specs.Scenery.{scene_of};
@@ -158,6 +158,34 @@ pub fn binomial_of(
     ensures { IfOk result (λ v. binomial_of trials.now chance.now stream.now view.now ≡ Gives v view.now) }
 {
     binomial_from(alloc, trials, chance, stream_in(stream), view)
+}
+
+#[tactic(auto, using(crate::proofs::Drawing::means))]
+fn exponential_from(
+    alloc: Global,
+    mean: &Value,
+    stream: u32,
+    view: &View,
+) -> Result<Value, NoMemory>
+    requires { distribution (exponential_in (out-Value mean.now) stream) view.now ≢ Amiss }
+    ensures { IfOk result (λ v. distribution (exponential_in (out-Value mean.now) stream) view.now ≡ Gives v view.now) }
+{
+    let dist = Dist::Exponential(real_in(mean), stream);
+    Ok(Value::Dist(Boxed::new(alloc, dist)?))
+}
+
+/// A real with a mean, exponentially distributed.
+#[tactic(auto, using(crate::proofs::Drawing::by_streams))]
+pub fn exponential_of(
+    alloc: Global,
+    mean: &Value,
+    stream: &Value,
+    view: &View,
+) -> Result<Value, NoMemory>
+    requires { exponential_of mean.now stream.now view.now ≢ Amiss }
+    ensures { IfOk result (λ v. exponential_of mean.now stream.now view.now ≡ Gives v view.now) }
+{
+    exponential_from(alloc, mean, stream_in(stream), view)
 }
 
 fn value_drawn(drawn: Drawn) -> Value

@@ -1,6 +1,6 @@
 //! Exact results of numbers, where 64 bits hold them.
 
-ghost use Rattle.std.specs.Prelude.{◌≡◌, ◌≢◌, ◌+ℤ◌, ◌-ℤ◌, ◌*ℤ◌, neg_ℤ, nat_abs, ℕ, pos};
+ghost use Rattle.std.specs.Prelude.{◌≡◌, ◌≢◌, ◌+ℤ◌, ◌-ℤ◌, ◌*ℤ◌, ◌≤ℤ◌, neg_ℤ, nat_abs, ℕ, pos};
 ghost use Rattle.chi_num.specs.Power.{power};
 ghost use Rattle.chi_num.specs.Results.{fitted, floor_of, rounded};
 ghost use Rattle.chi_num.specs.Units.{units_per_one};
@@ -55,6 +55,7 @@ pub fn floor_quotient(x: i64, y: i64) -> Result<i64, NumFault>
 
 #[tactic(auto, using(crate::proofs::Numbers::exact))]
 pub fn power_of(x: i64, y: i64) -> Result<i64, NumFault>
+    requires { pos 0 ≤ℤ y }
     ensures { (n : ℕ) → y ≡ pos n → result ≡ fitted (power x n) }
 {
     int_pow(x, y)

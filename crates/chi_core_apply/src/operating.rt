@@ -16,7 +16,9 @@ use crate::containers::{
     element_at, enumerated, is_empty, is_in, is_within, keys_in, looked_up, popped, popped_off,
     range_of, size_of, values_in, without,
 };
-use crate::distributions::{bernoulli_of, binomial_of, constant_of, sample_of, uniform_of};
+use crate::distributions::{
+    bernoulli_of, binomial_of, constant_of, exponential_of, sample_of, uniform_of,
+};
 use crate::failure::Failure;
 use crate::least::best_of;
 use crate::operands::{Operands, split_operands};
@@ -77,6 +79,7 @@ fn of_none(alloc: Global, s: &Scenery<'_>, name: OpName, view: &mut View) -> Res
         | OpName::Uniform
         | OpName::Bernoulli
         | OpName::Binomial
+        | OpName::Exponential
         | OpName::Ready
         | OpName::Finished
         | OpName::Widen
@@ -149,6 +152,7 @@ pub fn of_one(
         | OpName::Uniform
         | OpName::Bernoulli
         | OpName::Binomial
+        | OpName::Exponential
         | OpName::Time => unreachable!(),
     }
 }
@@ -189,6 +193,7 @@ pub fn of_two(
         OpName::Max => Ok(best_of(true, a, b, &[], view)),
         OpName::Range => Ok(range_of(alloc, a, b, &Value::Int(1), view)?),
         OpName::Bernoulli => Ok(bernoulli_of(alloc, a, b, view)?),
+        OpName::Exponential => Ok(exponential_of(alloc, a, b, view)?),
         OpName::Slice(first, last, by) => {
             let bounds = slice::from_ref(b);
             Ok(sliced(alloc, (first, last, by), a, bounds, view)?)
@@ -302,6 +307,7 @@ fn of_more(
         | OpName::DictValues
         | OpName::Constant
         | OpName::Bernoulli
+        | OpName::Exponential
         | OpName::Ready
         | OpName::Finished
         | OpName::Time

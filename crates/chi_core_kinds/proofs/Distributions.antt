@@ -15,9 +15,9 @@ use Rattle.chi_dist.specs.Draws.{stream_count, taken_after, draws, unless_faulty
 use Rattle.chi_core.specs.declared.scene.Scene.{Scene}
 use Rattle.chi_core.specs.declared.view.View.{View}
 use Rattle.chi_core.specs.Answer.{wanted, then_do}
-use Rattle.chi_core.specs.Distributions.{constant_in, stream_in, uniform_in, bernoulli_in, binomial_in, distribution, by_stream, constant_of, uniform_of, bernoulli_of, binomial_of, value_drawn, after_drawing, draw_from, sample_of}
+use Rattle.chi_core.specs.Distributions.{constant_in, stream_in, uniform_in, bernoulli_in, binomial_in, exponential_in, distribution, by_stream, constant_of, uniform_of, bernoulli_of, binomial_of, exponential_of, value_drawn, after_drawing, draw_from, sample_of}
 use Rattle.chi_core.specs.Kinds.{Kind}
-use Rattle.chi_core.specs.Of.{World, Of, of_bool, of_int, of_real, of_dist, IsOf, Yields, always_bool, always_int, always_real, some_int, some_real, some_bool, some_count}
+use Rattle.chi_core.specs.Of.{World, Of, of_bool, of_int, of_real, of_dist, IsOf, Yields, always_bool, always_int, always_real, some_int, some_real, some_bool, some_count, some_wait}
 use Rattle.chi_core.proofs.Worlds.{same_world}
 use Rattle.chi_core_kinds.specs.Laws.{WellOf}
 use Rattle.chi_core_kinds.specs.Well.{FitsView, Kept, Same}
@@ -71,6 +71,9 @@ module _ (w : World) where
     binomial : (x y : Value-F Value) → Of w x Ty-F.Int → Of w y Ty-F.Real → WellOf w (Ty-F.Dist ty.Int) (distribution (binomial_in x y stream))
     binomial _ _ (of_int trials) (of_real chance) = well_dist w (dist.Binomial trials chance stream) ty.Int Ty-F.Int ty.outs-Int (some_count trials chance stream l)
 
+    exponential : (x : Value-F Value) → Of w x Ty-F.Real → WellOf w (Ty-F.Dist ty.Real) (distribution (exponential_in x stream))
+    exponential _ (of_real mean) = well_dist w (dist.Exponential mean stream) ty.Real Ty-F.Real ty.outs-Real (some_wait mean stream l)
+
     pub well_uniform_int : (a b : Value) → IsOf w Ty-F.Int a → IsOf w Ty-F.Int b → WellOf w (Ty-F.Dist ty.Int) (uniform_of a b (value.Int (pos stream)))
     well_uniform_int a b h k = streamed (Ty-F.Dist ty.Int) (uniform_in (out-Value a) (out-Value b)) (uniform_int (out-Value a) (out-Value b) h k)
 
@@ -82,6 +85,9 @@ module _ (w : World) where
 
     pub well_binomial : (a b : Value) → IsOf w Ty-F.Int a → IsOf w Ty-F.Real b → WellOf w (Ty-F.Dist ty.Int) (binomial_of a b (value.Int (pos stream)))
     well_binomial a b h k = streamed (Ty-F.Dist ty.Int) (binomial_in (out-Value a) (out-Value b)) (binomial (out-Value a) (out-Value b) h k)
+
+    pub well_exponential : (a : Value) → IsOf w Ty-F.Real a → WellOf w (Ty-F.Dist ty.Real) (exponential_of a (value.Int (pos stream)))
+    well_exponential a h = streamed (Ty-F.Dist ty.Real) (exponential_in (out-Value a)) (exponential (out-Value a) h)
 
 -- draws
 
@@ -116,6 +122,7 @@ module _ (w : World) (view : View) (fits : FitsView w view) (seed : ℕ) where
   drawn_of _ _ (some_real a b stream l) = taken_well w Ty-F.Real view fits stream _ _ (λ k. a_real w _) l _
   drawn_of _ _ (some_bool chance stream l) = taken_well w Ty-F.Bool view fits stream _ _ (λ k. a_bool w _) l _
   drawn_of _ _ (some_count trials chance stream l) = taken_well w Ty-F.Int view fits stream _ _ (λ k. an_int w _) l _
+  drawn_of _ _ (some_wait mean stream l) = taken_well w Ty-F.Real view fits stream _ _ (λ k. a_real w _) l _
 
 sample_layer : (w : World) (scene : Scene) (t : Ty) (x : Value-F Value) → Of w x (Ty-F.Dist t) → WellOf w (out-Ty t) (draw_from scene x)
 sample_layer w scene _ _ (of_dist d t yields) view fits = drawn_of w view fits scene.seed d (out-Ty t) yields

@@ -16,7 +16,7 @@ use Rattle.chi_core.specs.declared.scene.Scene.{Scene}
 use Rattle.chi_core.specs.Containers.{done}
 use Rattle.chi_core.specs.Kinds.{Kind}
 use Rattle.chi_core.specs.Of.{World, Of, of_int, of_real, of_text, of_list, of_set, of_dictionary, IsOf, AreOf, none_of, one_of}
-use Rattle.chi_core.specs.OperatorKinds.{OpKind, has_stream, not_bool, add_ints, add_reals, join_texts, join_lists, unite_sets, unite_dictionaries, subtract_ints, subtract_reals, subtract_sets, subtract_keys, multiply_ints, multiply_reals, intersect_sets, divide_reals, divide_ints, remainder_of_ints, power_of_ints, negate_int, negate_real, equal_plain, differ_plain, less_ordered, at_most_ordered, greater_ordered, at_least_ordered, in_list, in_set, in_dictionary, subset_of_set, sample_dist, index_list, index_text, look_up, slice_list, slice_text, absolute_int, absolute_real, sign_of_int, sign_of_real, least_int, least_real, greatest_int, greatest_real, floor_of_real, ceiling_of_real, round_real, size_of, empty_of, pop_list, pop_set, pop_dictionary, delete_element, range_to, range_from, range_by, enumerate_list, keys_of_dictionary, values_of_dictionary, constant_bool, constant_int, constant_real, uniform_int, uniform_real, bernoulli_bool, binomial_int, ready_timer, finished_instance, time_now, widen_int, int_of_int, int_of_text, real_of_int, real_of_real, real_of_text, real_of_timer, text_of_plain, bool_of_bool, bool_of_text, timer_of_real}
+use Rattle.chi_core.specs.OperatorKinds.{OpKind, has_stream, not_bool, add_ints, add_reals, join_texts, join_lists, unite_sets, unite_dictionaries, subtract_ints, subtract_reals, subtract_sets, subtract_keys, multiply_ints, multiply_reals, intersect_sets, divide_reals, divide_ints, remainder_of_ints, power_of_ints, negate_int, negate_real, equal_plain, differ_plain, less_ordered, at_most_ordered, greater_ordered, at_least_ordered, in_list, in_set, in_dictionary, subset_of_set, sample_dist, index_list, index_text, look_up, slice_list, slice_text, absolute_int, absolute_real, sign_of_int, sign_of_real, least_int, least_real, greatest_int, greatest_real, floor_of_real, ceiling_of_real, round_real, size_of, empty_of, pop_list, pop_set, pop_dictionary, delete_element, range_to, range_from, range_by, enumerate_list, keys_of_dictionary, values_of_dictionary, constant_bool, constant_int, constant_real, uniform_int, uniform_real, bernoulli_bool, binomial_int, exponential_real, ready_timer, finished_instance, time_now, widen_int, int_of_int, int_of_text, real_of_int, real_of_real, real_of_text, real_of_timer, text_of_plain, bool_of_bool, bool_of_text, timer_of_real}
 use Rattle.chi_core.specs.Operators.{applied, sum, difference, product}
 use Rattle.chi_core_kinds.specs.Laws.{WellOf}
 use Rattle.chi_core_kinds.proofs.Arithmetic.{well_whole, well_real, well_widened, well_negated_int, well_negated_real, well_absolute_int, well_absolute_real, well_sign_int, well_sign_real, well_floored, well_ceiled, well_nearest, well_quotient, well_divided, well_remainder, well_powered, well_best_of_ints, well_best_of_reals}
@@ -24,7 +24,7 @@ use Rattle.chi_core_kinds.proofs.Casts.{well_int_of_int, well_int_of_text, well_
 use Rattle.chi_core_kinds.proofs.Comparisons.{well_opposite, well_compares, ordered_plain}
 use Rattle.chi_core_kinds.proofs.Composing.{well_gives}
 use Rattle.chi_core_kinds.proofs.Dictionaries.{well_unite, well_minus_keys, well_lookup, well_in_dictionary, well_keys, well_values, well_pop_dictionary}
-use Rattle.chi_core_kinds.proofs.Distributions.{well_constant_bool, well_constant_int, well_constant_real, well_uniform_int, well_uniform_real, well_bernoulli, well_binomial, well_sample}
+use Rattle.chi_core_kinds.proofs.Distributions.{well_constant_bool, well_constant_int, well_constant_real, well_uniform_int, well_uniform_real, well_bernoulli, well_binomial, well_exponential, well_sample}
 use Rattle.chi_core_kinds.proofs.ListOperators.{well_size, well_empty, well_in_list, well_pop_list}
 use Rattle.chi_core_kinds.proofs.Ranges.{well_sliced_list, well_sliced_text, well_range, well_enumerate}
 use Rattle.chi_core_kinds.proofs.Sequences.{well_join_texts, well_join_lists, well_element_at, well_byte_at, well_without}
@@ -143,6 +143,7 @@ module _ (w : World) (scene : Scene) (same : scene.names.kinds ≡ w.names) wher
   well_applied _ _ _ uniform_real e values are = absurd (cc)
   well_applied _ _ _ bernoulli_bool e values are = absurd (cc)
   well_applied _ _ _ binomial_int e values are = absurd (cc)
+  well_applied _ _ _ exponential_real e values are = absurd (cc)
   well_applied _ _ _ ready_timer e _ (one_of a _ _ _ h none_of) = well_ready w scene a h
   well_applied _ _ _ finished_instance e _ (one_of a _ _ _ h none_of) = well_finished w scene a h
   well_applied _ _ _ time_now e _ none_of = well_gives w (λ v x. IsOf v Ty-F.Real x) (value.Real scene.clock) (a_real w scene.clock)
@@ -166,4 +167,5 @@ module _ (w : World) (scene : Scene) (stream : ℕ) (inside : stream < stream_co
   well_streamed _ _ _ uniform_real e _ (one_of a _ _ _ h (one_of b _ _ _ l none_of)) = well_uniform_real w stream inside a b h l
   well_streamed _ _ _ bernoulli_bool e _ (one_of a _ _ _ h none_of) = well_bernoulli w stream inside a h
   well_streamed _ _ _ binomial_int e _ (one_of a _ _ _ h (one_of b _ _ _ l none_of)) = well_binomial w stream inside a b h l
+  well_streamed _ _ _ exponential_real e _ (one_of a _ _ _ h none_of) = well_exponential w stream inside a h
   well_streamed _ _ _ _ e values are = absurd (cc)

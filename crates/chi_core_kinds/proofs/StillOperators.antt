@@ -31,7 +31,7 @@ use Rattle.chi_core.specs.Arithmetic.{whole, real, timer, on_int, on_real, on_nu
 use Rattle.chi_core.specs.Comparisons.{tells, truth, compared}
 use Rattle.chi_core.specs.Containers.{done, range_of, bounds, slice_by}
 use Rattle.chi_core.specs.Casts.{as_meant, int_from, real_from, truth_meant, truth_from, string_of, has_finished}
-use Rattle.chi_core.specs.Distributions.{constant_in, stream_in, uniform_in, bernoulli_in, binomial_in, distribution, by_stream, after_drawing, draw_from}
+use Rattle.chi_core.specs.Distributions.{constant_in, stream_in, uniform_in, bernoulli_in, binomial_in, exponential_in, distribution, by_stream, after_drawing, draw_from}
 use Rattle.chi_core.specs.Operators.{sum, difference, product, applied}
 use Rattle.chi_core_kinds.proofs.Still.{Stays, Still, stays_then, stays_if, still_gives, still_wanted}
 
@@ -221,6 +221,7 @@ still_applied scene op.Constant (a ∷ []) = still_wanted (option_map value.Dist
 still_applied scene op.Uniform (a ∷ b ∷ stream ∷ []) = still_by_stream (uniform_in (out-Value a) (out-Value b)) stream
 still_applied scene op.Bernoulli (chance ∷ stream ∷ []) = still_by_stream (bernoulli_in (out-Value chance)) stream
 still_applied scene op.Binomial (trials ∷ chance ∷ stream ∷ []) = still_by_stream (binomial_in (out-Value trials) (out-Value chance)) stream
+still_applied scene op.Exponential (mean ∷ stream ∷ []) = still_by_stream (exponential_in (out-Value mean)) stream
 still_applied scene op.Ready (a ∷ []) = still_wanted (option_map value.Bool (option_map (λ due. int_le due scene.clock) (due_of a)))
 still_applied scene op.Finished (a ∷ []) = λ view.
     stays_then view (wanted (instance_of a) view) (has_finished scene) (still_wanted (instance_of a) view) (still_has_finished scene)

@@ -306,6 +306,18 @@ binomial_row : of op.Binomial ((int 3) ∷ (value.Real (pos 5)) ∷ (int 2) ∷ 
 unfolding denote.Hole.Carrier.out digits numbers number_of power sampled
 binomial_row = simp operations
 
+exponential_row : of op.Exponential ((value.Real (pos 5)) ∷ (int 2) ∷ []) ≡ gives (value.Dist (dist.Exponential (pos 5) 2))
+unfolding denote.Hole.Carrier.out digits numbers number_of power sampled
+exponential_row = simp operations
+
+exponential_no_stream : of op.Exponential ((value.Real (pos 5)) ∷ (int 64) ∷ []) ≡ Amiss
+unfolding denote.Hole.Carrier.out digits numbers number_of power sampled
+exponential_no_stream = simp operations
+
+sample_no_mean : of op.Sample ((value.Dist (dist.Exponential (pos 0) 0)) ∷ []) ≡ Fails BadDistribution
+unfolding denote.Hole.Carrier.out digits numbers number_of power sampled
+sample_no_mean = simp operations
+
 sample_constant : of op.Sample ((value.Dist (dist.ConstInt (pos 7))) ∷ []) ≡ gives (int 7)
 unfolding denote.Hole.Carrier.out digits numbers number_of power sampled
 sample_constant = simp operations

@@ -1,5 +1,9 @@
 mod Between
+mod ExponentialOrder
+mod ExponentialRows
 mod Kept
+mod Leading
+mod Logarithm
 mod Period
 mod Rows
 mod Sampled

@@ -1,13 +1,16 @@
 -- What `sampled` says of each distribution, by what was drawn.
-use Rattle.std.proofs.Common.{◌≡◌, ℕ, ◌<◌, List, length, Option, Some, None, IsSomeAnd, slice_get, Bool, ℤ, pos, true, nat_lt, refl, sym, ap, rules}
-use Rattle.std.specs.Prelude.{count_by, unsigned_abs}
+use Rattle.std.proofs.Common.{◌≡◌, ℕ, ◌<◌, List, length, Option, Some, None, IsSomeAnd, slice_get, Bool, ℤ, pos, ◌<ℤ◌, ◌≤ℤ◌, true, false, nat_lt, refl, sym, ap, subst, rules}
+use Rattle.std.specs.Int.Signed.{lt_z_yes, le_z_yes}
+use Rattle.std.specs.Prelude.{T, count_by, unsigned_abs, int_lt, int_le, ◌&&◌, if◌then◌else◌}
 use Rattle.std.proofs.lemmas.Option.{slice_get-get_or}
 use Rattle.chi_num.specs.declared.dist.Dist.{Dist}
 use Rattle.chi_num.specs.declared.dist.Dist.TheVariants as dist
 use Rattle.chi_dist.specs.declared.drawn.Drawn.{Drawn}
 use Rattle.chi_dist.specs.declared.drawn.Drawn.TheVariants as drawn
 use Rattle.chi_dist.specs.declared.fault.DistFault.{DistFault}
-use Rattle.chi_dist.specs.Draws.{Draws, draw, draws_from, between, succeeds, bounds_fault, chance_fault, trials_fault, draws, refuses, taking, sampled, after_draws, fault_of, has_stream}
+use Rattle.chi_dist.specs.declared.fault.DistFault.TheVariants.{BadBounds}
+use Rattle.chi_dist.specs.Draws.{Draws, draw, draws_from, between, succeeds, bounds_fault, chance_fault, trials_fault, mean_fault, draws, refuses, taking, sampled, after_draws, fault_of, has_stream}
+use Rattle.chi_dist.specs.Exponential.{most_mean, exponential_units}
 
 -- so many draws were taken from a stream, and what is made of them has a property
 abbrev Took : Draws → Draws → ℕ → ℕ → (ℕ → Type 0) → Type 0
@@ -86,6 +89,12 @@ draws_count g new d trials chance r stream size count is good t e q =
     by_stream None t = t
     by_stream (Some k) t = (ap (λ n. drawn.Int (pos n)) (sym t.0), t.1)
 
+pub draws_wait : (g new : Draws) (d : Dist) (mean r : ℤ) (stream word : ℕ) → d ≡ dist.Exponential mean stream → fault_of d ≡ None
+    → Took g new stream 1 (λ k. word ≡ draw g.seed stream k) → r ≡ exponential_units mean word → sampled g.seed g.taken d ≡ draws (drawn.Real r) new.taken
+unfolding sampled
+draws_wait g new d mean r stream word is good t e =
+    rw (is, e) (took_one g new stream word _ (λ w. drawn.Real (exponential_units mean w)) (rw is at good) t)
+
 -- ---- what refuses it
 
 pub refuses_all : (seed : ℕ) (taken : List ℕ) (d : Dist) (fault : DistFault) → length taken ≡ 64 → has_stream d ≡ true → fault_of d ≡ Some fault
@@ -102,3 +111,16 @@ refuses_all seed taken (dist.Bernoulli chance stream) fault all there bad =
     refused taken stream 1 (chance_fault chance) fault _ (rw all (within stream there)) bad
 refuses_all seed taken (dist.Binomial trials chance stream) fault all there bad =
     refused taken stream (unsigned_abs trials) (trials_fault trials chance) fault _ (rw all (within stream there)) bad
+refuses_all seed taken (dist.Exponential mean stream) fault all there bad =
+    refused taken stream 1 (mean_fault mean) fault _ (rw all (within stream there)) bad
+
+-- ---- a mean without a fault lies in its range
+
+pub mean_within : (mean : ℤ) → mean_fault mean ≡ None → (pos 0 <ℤ mean) × (mean ≤ℤ most_mean)
+mean_within mean good = by_tests (int_lt (pos 0) mean) (int_le mean most_mean) refl refl good
+  where
+    by_tests : (a b : Bool) → int_lt (pos 0) mean ≡ a → int_le mean most_mean ≡ b → (if a && b then None else Some BadBounds) ≡ None
+        → (pos 0 <ℤ mean) × (mean ≤ℤ most_mean)
+    by_tests true true e f good = (lt_z_yes (subst T (sym e) tt), le_z_yes (subst T (sym f) tt))
+    by_tests true false e f good = absurd (cc)
+    by_tests false b e f good = absurd (cc)

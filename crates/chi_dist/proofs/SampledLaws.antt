@@ -29,6 +29,7 @@ same_streams seed taken (dist.UniformInt a b stream) x after e = stored (slice_g
 same_streams seed taken (dist.UniformReal a b stream) x after e = stored (slice_get taken stream) _ taken stream 1 _ x after e
 same_streams seed taken (dist.Bernoulli p stream) x after e = stored (slice_get taken stream) _ taken stream 1 _ x after e
 same_streams seed taken (dist.Binomial n p stream) x after e = stored (slice_get taken stream) _ taken stream (unsigned_abs n) _ x after e
+same_streams seed taken (dist.Exponential m stream) x after e = stored (slice_get taken stream) _ taken stream 1 _ x after e
 
 -- ---- where the stream isn't there
 
@@ -61,3 +62,4 @@ wrong_told seed taken (dist.UniformInt a b stream) all = told taken stream _ _ _
 wrong_told seed taken (dist.UniformReal a b stream) all = told taken stream _ _ _ all
 wrong_told seed taken (dist.Bernoulli p stream) all = told taken stream _ _ _ all
 wrong_told seed taken (dist.Binomial n p stream) all = told taken stream _ _ _ all
+wrong_told seed taken (dist.Exponential m stream) all = told taken stream _ _ _ all

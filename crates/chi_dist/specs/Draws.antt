@@ -10,6 +10,7 @@ use Rattle.chi_dist.specs.declared.drawn.Drawn.{Drawn}
 use Rattle.chi_dist.specs.declared.drawn.Drawn.TheVariants as drawn
 use Rattle.chi_dist.specs.declared.fault.DistFault.{DistFault}
 use Rattle.chi_dist.specs.declared.fault.DistFault.TheVariants.{BadBounds, BadChance, TooMany}
+use Rattle.chi_dist.specs.Exponential.{most_mean, exponential_units}
 
 -- how many streams there are
 abbrev pub stream_count : ℕ
@@ -48,7 +49,7 @@ succeeds chance word = int_lt (pos (word * 1_000_000_000 / 2 ^ 64)) chance
 abbrev pub most_trials : ℤ
 most_trials = pos 10_000
 
--- what is wrong with bounds, with a chance, and with a number of trials and their chance
+-- what is wrong with bounds, with a chance, with a number of trials and their chance, and with a mean
 abbrev pub bounds_fault : ℤ → ℤ → Option DistFault
 bounds_fault a b = if int_lt a b then None else Some BadBounds
 
@@ -61,6 +62,9 @@ trials_fault trials chance =
     else if int_lt most_trials trials then Some TooMany
     else chance_fault chance
 
+abbrev pub mean_fault : ℤ → Option DistFault
+mean_fault mean = if int_lt (pos 0) mean && int_le mean most_mean then None else Some BadBounds
+
 -- what is wrong with the parameters of a distribution, if anything
 abbrev pub fault_of : Dist → Option DistFault
 fault_of (dist.ConstBool x) = None
@@ -70,6 +74,7 @@ fault_of (dist.UniformInt a b stream) = bounds_fault a b
 fault_of (dist.UniformReal a b stream) = bounds_fault a b
 fault_of (dist.Bernoulli chance stream) = chance_fault chance
 fault_of (dist.Binomial trials chance stream) = trials_fault trials chance
+fault_of (dist.Exponential mean stream) = mean_fault mean
 
 -- a value is drawn, and so many draws are then taken from each stream; or the distribution is refused, and none is;
 -- or its stream isn't there
@@ -103,6 +108,8 @@ sampled seed taken (dist.Bernoulli chance stream) =
 sampled seed taken (dist.Binomial trials chance stream) =
     taking taken stream (unsigned_abs trials) (trials_fault trials chance)
     (λ k. drawn.Int (pos (count_by (succeeds chance) (draws_from seed stream k (unsigned_abs trials)))))
+sampled seed taken (dist.Exponential mean stream) =
+    taking taken stream 1 (mean_fault mean) (λ k. drawn.Real (exponential_units mean (draw seed stream k)))
 
 -- the stream of a distribution is there; a constant needs none
 abbrev pub has_stream : Dist → Bool
@@ -113,6 +120,7 @@ has_stream (dist.UniformInt a b stream) = nat_lt stream stream_count
 has_stream (dist.UniformReal a b stream) = nat_lt stream stream_count
 has_stream (dist.Bernoulli chance stream) = nat_lt stream stream_count
 has_stream (dist.Binomial trials chance stream) = nat_lt stream stream_count
+has_stream (dist.Exponential mean stream) = nat_lt stream stream_count
 
 -- what a generator has: its seed, and how many draws were taken from each of its streams
 pub record Draws : Type 0 where

@@ -3,6 +3,7 @@
 ghost use Rattle.std.specs.Prelude.{◌≡◌, ◌<◌, IfOk, IfErr, OnErr, IsSomeAnd, IsTrue, count_by, slice_get};
 ghost use Rattle.chi_dist.specs.Draws.{draw, draws_from, stream_count, succeeds, draws_of, after_draws, has_stream, sampled, draws, refuses};
 
+use crate::exponential::exponential_units;
 use crate::parameters::{fault_of, trial_count};
 use crate::shares::{between, succeeds};
 use crate::stream::Stream;
@@ -67,6 +68,10 @@ pub fn sample_after(seed: u64, taken: &mut [u64; 64], dist: &Dist) -> Result<Dra
         Dist::Binomial(trials, chance, stream) => {
             let count = successes_after(seed, taken, stream, trial_count(trials), chance);
             Ok(Drawn::Int(i64::from(count)))
+        }
+        Dist::Exponential(mean, stream) => {
+            let word = draw_after(seed, taken, stream);
+            Ok(Drawn::Real(exponential_units(mean, word)))
         }
     }
 }

@@ -3,6 +3,7 @@
 
 mod counted;
 mod drawn;
+mod exponential;
 mod fault;
 mod generator;
 mod laws;
@@ -12,9 +13,10 @@ mod stream;
 
 pub use counted::sample_after;
 pub use drawn::Drawn;
+pub use exponential::exponential_units;
 pub use fault::DistFault;
 pub use generator::Generator;
-pub use laws::draws_law;
+pub use laws::{draws_law, exponential_law};
 
 #[cfg(test)]
 mod tests;

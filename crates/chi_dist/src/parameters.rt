@@ -1,7 +1,7 @@
 //! What is wrong with the parameters of a distribution.
 
 ghost use Rattle.std.specs.Prelude.{◌≡◌, ◌≤ℤ◌, pos, unsigned_abs};
-ghost use Rattle.chi_dist.specs.Draws.{fault_of, bounds_fault, chance_fault, trials_fault, most_trials};
+ghost use Rattle.chi_dist.specs.Draws.{fault_of, bounds_fault, chance_fault, trials_fault, mean_fault, most_trials};
 
 use crate::DistFault;
 use crate::shares::UNITS_PER_ONE;
@@ -9,6 +9,9 @@ use chi_num::{Dist, Real};
 
 /// The greatest number of trials.
 const MOST_TRIALS: i64 = 10_000;
+
+/// The greatest mean, in units.
+const MOST_MEAN: i64 = 100_000_000_000_000_000;
 
 pub fn fault_of(dist: &Dist) -> Option<DistFault>
     ensures { result ≡ fault_of dist.now }
@@ -19,6 +22,7 @@ pub fn fault_of(dist: &Dist) -> Option<DistFault>
         Dist::UniformReal(from, to, _) => bounds_fault(from.units(), to.units()),
         Dist::Bernoulli(chance, _) => chance_fault(chance),
         Dist::Binomial(trials, chance, _) => trials_fault(trials, chance),
+        Dist::Exponential(mean, _) => mean_fault(mean),
     }
 }
 
@@ -51,6 +55,16 @@ fn trials_fault(trials: i64, chance: Real) -> Option<DistFault>
         Some(DistFault::TooMany)
     } else {
         chance_fault(chance)
+    }
+}
+
+fn mean_fault(mean: Real) -> Option<DistFault>
+    ensures { result ≡ mean_fault mean }
+{
+    if 0 < mean.units() && mean.units() <= MOST_MEAN {
+        None
+    } else {
+        Some(DistFault::BadBounds)
     }
 }
 

@@ -1,8 +1,13 @@
-use crate::{DistFault, Drawn, Generator, sample_after};
+ghost use Rattle.std.specs.Prelude.{◌<ℤ◌, ◌≤ℤ◌, pos};
+ghost use Rattle.chi_dist.specs.Exponential.{most_mean};
+
+use crate::{DistFault, Drawn, Generator, exponential_units, sample_after};
 use chi_num::{Dist, Real};
 use std::process::Abort;
 
 const ONE: i64 = 1_000_000_000;
+
+const MOST_MEAN: i64 = 100_000_000 * ONE;
 
 fn real(units: i64) -> Real {
     Real::from_units(units)
@@ -107,6 +112,28 @@ fn samples(rt: &impl Abort) {
     }
 }
 
+// The same of exponential ones. By an independent program, of that draw.
+fn exponential_samples(rt: &impl Abort) {
+    for (dist, wanted) in [
+        (
+            Dist::Exponential(real(ONE), 0),
+            Ok(Drawn::Real(real(2_027_199_894))),
+        ),
+        (
+            Dist::Exponential(real(MOST_MEAN), 0),
+            Ok(Drawn::Real(real(202_719_989_400_000_000))),
+        ),
+        (Dist::Exponential(real(0), 0), Err(DistFault::BadBounds)),
+        (
+            Dist::Exponential(real(MOST_MEAN + 1), 0),
+            Err(DistFault::BadBounds),
+        ),
+    ] {
+        let mut generator = Generator::new(42);
+        assert_eq!(rt; generator.sample(&dist), wanted, "{dist:?}");
+    }
+}
+
 // A constant and a fault draw nothing, and each other distribution as many as it has trials.
 fn draws_taken(rt: &impl Abort) {
     for (dist, taken) in [
@@ -115,6 +142,8 @@ fn draws_taken(rt: &impl Abort) {
         (Dist::Binomial(10_001, real(ONE), 0), 0),
         (Dist::UniformInt(0, 9, 0), 1),
         (Dist::Binomial(5, real(ONE / 2), 0), 5),
+        (Dist::Exponential(real(ONE), 0), 1),
+        (Dist::Exponential(real(0), 0), 0),
     ] {
         let mut generator = Generator::new(42);
         let _ = generator.sample(&dist);
@@ -136,6 +165,7 @@ fn samples_by_counts(rt: &impl Abort) {
         Dist::UniformInt(7, 7, 3),
         Dist::Bernoulli(real(ONE / 2), 60),
         Dist::UniformReal(real(0), real(ONE), 3),
+        Dist::Exponential(real(ONE), 5),
         Dist::ConstInt(1),
     ] {
         assert_eq!(rt;
@@ -159,9 +189,56 @@ fn samples_by_counts(rt: &impl Abort) {
     );
 }
 
+const WORDS: [u64; 6] = [0, 1, (1 << 62) - 1, (1 << 63) - 1, u64::MAX - 1, u64::MAX];
+
+// Draws of a mean, of words at both ends.
+fn has_draws(rt: &impl Abort, mean: i64, wanted: [i64; 6])
+    requires above { pos 0 <ℤ mean }
+    requires most { mean ≤ℤ most_mean }
+{
+    for (word, units) in WORDS.into_iter().zip(wanted) {
+        assert_eq!(rt;
+            exponential_units(Real::from_units(mean), word).units(),
+            units,
+            "mean {mean}, word {word}"
+        );
+    }
+}
+
+// The least mean, 1.0 and the greatest, by an independent program.
+#[test]
+fn exponential_draws(rt: HostRuntime) {
+    has_draws(&rt, 1, [44, 43, 1, 0, 0, 0]);
+    has_draws(
+        &rt,
+        ONE,
+        [
+            44_361_419_584,
+            43_668_272_403,
+            1_386_294_362,
+            693_147_181,
+            0,
+            0,
+        ],
+    );
+    has_draws(
+        &rt,
+        MOST_MEAN,
+        [
+            4_436_141_958_400_000_000,
+            4_366_827_240_300_000_000,
+            138_629_436_200_000_000,
+            69_314_718_100_000_000,
+            0,
+            0,
+        ],
+    );
+}
+
 #[test]
 fn samplings(rt: HostRuntime) {
     samples(&rt);
+    exponential_samples(&rt);
     draws_taken(&rt);
     samples_by_counts(&rt);
 }

@@ -15,4 +15,6 @@ pub enum Dist {
     Bernoulli(Real, u32),
     /// How many of so many trials succeed, each with this chance.
     Binomial(i64, Real, u32),
+    /// A real with this mean, above 0.0 and at most 100,000,000.0, exponentially distributed.
+    Exponential(Real, u32),
 }

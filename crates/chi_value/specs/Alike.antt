@@ -15,6 +15,7 @@ drawn_kind (dist.UniformInt low high stream) = 1
 drawn_kind (dist.UniformReal low high stream) = 2
 drawn_kind (dist.Bernoulli chance stream) = 0
 drawn_kind (dist.Binomial count chance stream) = 1
+drawn_kind (dist.Exponential mean stream) = 2
 
 -- equally many parts, each of which, given by what it is alike to, is alike to the other part at its place
 abbrev pub parts_alike : List (Value → Bool) → List Value → Bool

@@ -1,6 +1,6 @@
 use Rattle.std.proofs.Common.{◌≡◌, rules, sym, ◌∙◌, to_z, of_z, w64}
 use Rattle.chi_dist.specs.Draws.{between, draws_of}
-use Rattle.chi_dist.proofs.Sampled.{refuses_all, draws_bool_const, draws_int_const, draws_real_const, draws_int, draws_real, draws_bool, draws_count}
+use Rattle.chi_dist.proofs.Sampled.{refuses_all, draws_bool_const, draws_int_const, draws_real_const, draws_int, draws_real, draws_bool, draws_count, draws_wait, mean_within}
 use Rattle.chi_dist.proofs.counted.sample_after.Goals as goal
 
 pub returns-in-Some-clause-refused : goal.returns-in-Some-clause-refused
@@ -39,3 +39,14 @@ pub returns-in-Binomial-clause-value : goal.returns-in-Binomial-clause-value
 returns-in-Binomial-clause-value c =
     draws_count (draws_of c.args.seed c.args.taken.now) (draws_of c.args.seed c.successes_after-count.new.taken) c.args.dist.now c.in-Binomial.trials c.in-Binomial.chance _ c.in-Binomial.stream
     c.trial_count.result c.successes_after-count.result c.in-Binomial.is (sym c.in_default.ensures) c.successes_after-count.ensures.count (search rules) (search rules)
+
+pub returns-in-Exponential-clause-value : goal.returns-in-Exponential-clause-value
+returns-in-Exponential-clause-value c =
+    draws_wait (draws_of c.args.seed c.args.taken.now) (draws_of c.args.seed c.draw_after-word-in-Exponential.new.taken) c.args.dist.now c.in-Exponential.mean _ c.in-Exponential.stream
+    c.draw_after-word-in-Exponential.result c.in-Exponential.is (sym c.in_default.ensures) c.draw_after-word-in-Exponential.ensures.draw c.exponential_units.ensures
+
+pub exponential_units-requires-clause-above : goal.exponential_units-requires-clause-above
+exponential_units-requires-clause-above c = (mean_within c.in-Exponential.mean (rw c.in-Exponential.is at (sym c.in_default.ensures))).0
+
+pub exponential_units-requires-clause-most : goal.exponential_units-requires-clause-most
+exponential_units-requires-clause-most c = (mean_within c.in-Exponential.mean (rw c.in-Exponential.is at (sym c.in_default.ensures))).1
