@@ -40,19 +40,22 @@ ChangeFits core model w (Goes config text) = ConfigFits core model w config
 ChangeFits core model w (Exits v) = SoundVerdict core (Exit v)
 
 pub kinded_with : (core : Core) (model : ProcDef) → slice_get core.procs core.model ≡ Some model → (w : World) (config : Config) → ConfigFits core model w config → (view : View) → FitsView w view
-    → Kinded core (with_view view config)
-kinded_with core model is w config h view fits = record {
-  world = w;
-  names = h.names;
-  constants = h.constants;
-  channels = fits.channels;
-  streams = fits.streams;
-  instances = h.instances;
-  model = model;
-  is = is;
-  each = h.each;
-  few = h.few;
-}
+    → (u : World) → Wider u w → (later : Kinded core (with_view view config)) × Wider u later.world
+kinded_with core model is w config h view fits u wider = (
+  record {
+    world = w;
+    names = h.names;
+    constants = h.constants;
+    channels = fits.channels;
+    streams = fits.streams;
+    instances = h.instances;
+    model = model;
+    is = is;
+    each = h.each;
+    few = h.few;
+  },
+  wider,
+)
 
 module _ (core : Core) (model : ProcDef) (w : World) (config : Config) (h : ConfigFits core model w config) where
   abbrev IsKinded : World → Instance → Type 0

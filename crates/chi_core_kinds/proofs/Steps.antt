@@ -1,4 +1,5 @@
--- A step of an enabled label in a kinded configuration of a sound program leads to a kinded one, or ends with a verdict that can be told.
+-- A step of an enabled label in a kinded configuration of a sound program leads to a kinded one in a world as wide or
+-- wider, or ends with a verdict that can be told.
 use Rattle.std.proofs.Common.{◌≡◌, ◌<◌, ℕ, zero, suc, ℤ, false, cond, nat_eq, eq-eqb, ne_eqb, List, [], ◌∷◌, length, Option, Some, None, refl, sym, ap, subst, ◌∙◌}
 use Rattle.std.proofs.lemmas.Bool.{eqb-false}
 use Rattle.std.specs.Prelude.{slice_get, int_lt, IsTrue}
@@ -16,21 +17,41 @@ use Rattle.chi_core.specs.Config.{Config, Instance, Offer, State, Running, Waiti
 use Rattle.chi_core.specs.Kinded.{ActFits, StateFits, KindedInstance, Kinded}
 use Rattle.chi_core.specs.Kinds.{Kind, Every}
 use Rattle.chi_core.specs.Meeting.{offer_at, resumed, met, paired, woken_by, woken, joined_in, joined, next_due, may_reach, advanced}
-use Rattle.chi_core.specs.Of.{World}
+use Rattle.chi_core.specs.Of.{World, Wider}
 use Rattle.chi_core.specs.Options.{none_under_way, enabled}
 use Rattle.chi_core.specs.Performing.{Change, Goes, Exits, quietly, performed}
 use Rattle.chi_core.specs.Scopes.{process_home, exit_of}
 use Rattle.chi_core.specs.Sound.{Sound}
-use Rattle.chi_core.specs.Step.{Outcome, after_step, first_done, local_in, local, no_fault, fault_in, name_of, line_of, taken, step}
+use Rattle.chi_core.specs.Step as outcome
+use Rattle.chi_core.specs.Step.{Outcome, Next, Over, after_step, first_done, local_in, local, no_fault, fault_in, name_of, line_of, taken, step}
 use Rattle.chi_core.specs.Terms.{Term}
 use Rattle.chi_core.proofs.Worlds.{same_world}
 use Rattle.chi_core_kinds.specs.Well.{FitsView, Kept}
-use Rattle.chi_core_kinds.specs.Keeps.{GoesKinded, KeepsKinded}
+use Rattle.chi_core_kinds.specs.Keeps.{SoundVerdict, GoesKinded, KeepsKinded, GoesWider, KeepsCarried}
 use Rattle.chi_core_kinds.proofs.Configs.{ConfigFits, ChangeFits, kinded_with, fits_with}
 use Rattle.chi_core_kinds.proofs.Enabled.{Offers, IsEnabled, runs, meets, wakes, joins, goes_on, enabled_is}
 use Rattle.chi_core_kinds.proofs.Operations.{Laws}
 use Rattle.chi_core_kinds.proofs.Meetings.{Receives, nothing, met_receives, Resumes, act_fits, resumes, goes_on_from, all_over}
 use Rattle.chi_core_kinds.proofs.Performing.{FirstWell, well_performed}
+
+-- both that are said of a step
+abbrev GoesOn : Core → World → Outcome → Type 0
+GoesOn core w (Next config text left) = (later : Kinded core config) × Wider w later.world
+GoesOn core w (Over verdict) = SoundVerdict core verdict
+GoesOn core w outcome.Spent = Unit {0}
+GoesOn core w outcome.Amiss = ⊥
+
+kinded_on : (core : Core) (w : World) (o : Outcome) → GoesOn core w o → GoesKinded core o
+kinded_on core w (Next config text left) on = on.0
+kinded_on core w (Over verdict) on = on
+kinded_on core w outcome.Spent on = tt
+kinded_on core w outcome.Amiss on = on
+
+wider_on : (core : Core) (w : World) (o : Outcome) → GoesOn core w o → GoesWider core w o
+wider_on core w (Next config text left) on = on
+wider_on core w (Over verdict) on = tt
+wider_on core w outcome.Spent on = tt
+wider_on core w outcome.Amiss on = on
 
 module _ (laws : Laws) (core : Core) (fine : Sound core) (config : Config) (h : Kinded core config) where
   abbrev w : World
@@ -45,16 +66,16 @@ module _ (laws : Laws) (core : Core) (fine : Sound core) (config : Config) (h : 
   view_fits : (left : ℕ) → FitsView w (view_of config left)
   view_fits left = record { channels = h.channels; streams = h.streams; instances = h.instances }
 
-  goes_after : (fault : FaultKind → Outcome) → ((kind : FaultKind) → GoesKinded core (fault kind)) → (a : Answer Change) → Kept w (ChangeFits core h.model) a → GoesKinded core (after_step fault a)
-  goes_after fault ends (Gives (Goes new text) view) k = kinded_with core h.model h.is k.world new k.is view k.fits
+  goes_after : (fault : FaultKind → Outcome) → ((kind : FaultKind) → GoesOn core w (fault kind)) → (a : Answer Change) → Kept w (ChangeFits core h.model) a → GoesOn core w (after_step fault a)
+  goes_after fault ends (Gives (Goes new text) view) k = kinded_with core h.model h.is k.world new k.is view k.fits w k.wider
   goes_after fault ends (Gives (Exits v) view) k = k.is
   goes_after fault ends (Fails kind) k = ends kind
   goes_after fault ends answer.Spent k = tt
   goes_after fault ends answer.Amiss k = k
 
   -- where the answer is known
-  goes_to : (a : Answer Change) (new : Config) (left : ℕ) → a ≡ Gives (quietly new) (view_of config left) → ConfigFits core h.model w new → GoesKinded core (after_step no_fault a)
-  goes_to a new left e fit = subst (λ z. GoesKinded core (after_step no_fault z)) (sym e) (kinded_with core h.model h.is w new fit (view_of config left) (view_fits left))
+  goes_to : (a : Answer Change) (new : Config) (left : ℕ) → a ≡ Gives (quietly new) (view_of config left) → ConfigFits core h.model w new → GoesOn core w (after_step no_fault a)
+  goes_to a new left e fit = subst (λ z. GoesOn core w (after_step no_fault z)) (sym e) (kinded_with core h.model h.is w new fit (view_of config left) (view_fits left) w (same_world w))
 
   -- an item of an instance
 
@@ -65,21 +86,21 @@ module _ (laws : Laws) (core : Core) (fine : Sound core) (config : Config) (h : 
   has_item [] (Joining numbers) e r none = absurd (cc)
   has_item [] Finished e r none = absurd (cc)
 
-  can_fault : (i : Instance) (k : KindedInstance core exit w i) (line : ℕ) (kind : FaultKind) → GoesKinded core (fault_in (name_of core i.definition) line kind)
-  can_fault i k line kind = subst (λ o. GoesKinded core (fault_in (option_map (λ d. d.name) o) line kind)) (sym k.is) tt
+  can_fault : (i : Instance) (k : KindedInstance core exit w i) (line : ℕ) (kind : FaultKind) → GoesOn core w (fault_in (name_of core i.definition) line kind)
+  can_fault i k line kind = subst (λ o. GoesOn core w (fault_in (option_map (λ d. d.name) o) line kind)) (sym k.is) tt
 
   goes_first : (p : ℕ) (i : Instance) (k : KindedInstance core exit w i) (running : i.state ≡ Running) (left : ℕ) (term : Term) → (term ≡ [] → ⊥)
-      → FirstWell laws core fine config h p i k running term → GoesKinded core (first_done core config p i term (view_of config left))
+      → FirstWell laws core fine config h p i k running term → GoesOn core w (first_done core config p i term (view_of config left))
   goes_first p i k running left [] some well = absurd (some refl)
   goes_first p i k running left (item ∷ rest) some well =
       goes_after (fault_in (name_of core i.definition) (line_of item)) (can_fault i k (line_of item)) (performed core config p (record i { term = rest }) item (view_of config left))
       (well (view_of config left) (view_fits left))
 
-  goes_local : (p : ℕ) (i : Instance) → slice_get config.instances p ≡ Some i → i.state ≡ Running → (left : ℕ) → GoesKinded core (local core config p (slice_get config.instances p) (view_of config left))
+  goes_local : (p : ℕ) (i : Instance) → slice_get config.instances p ≡ Some i → i.state ≡ Running → (left : ℕ) → GoesOn core w (local core config p (slice_get config.instances p) (view_of config left))
   goes_local p i e running left =
       let k : KindedInstance core exit w i = h.each p i e in
-      subst (λ o. GoesKinded core (local core config p o (view_of config left))) (sym e)
-      (subst (λ s. GoesKinded core (local_in core config p i s (view_of config left))) (sym running)
+      subst (λ o. GoesOn core w (local core config p o (view_of config left))) (sym e)
+      (subst (λ s. GoesOn core w (local_in core config p i s (view_of config left))) (sym running)
       (goes_first p i k running left i.term (has_item i.term i.state k.settled running) (well_performed laws core fine config h p i k running)))
 
   -- offers
@@ -131,11 +152,11 @@ module _ (laws : Laws) (core : Core) (fine : Sound core) (config : Config) (h : 
         meet : Instance → View → Answer Change
         meet from now = giving (λ receiver. quietly (with_instance (with_instance config p from) q receiver)) (resumed r slot x g.i now)
 
-    goes_pair : (left : ℕ) → GoesKinded core (taken core config (label.Pair p a q b) (view_of config left))
+    goes_pair : (left : ℕ) → GoesOn core w (taken core config (label.Pair p a q b) (view_of config left))
     goes_pair left = goes_to _ last left (answers (view_of config left)) last_fits
 
   goes_wake : (p a : ℕ) (o : Offer) (due : ℤ) → Offers config p a o → o.act ≡ act.Delay due → int_lt config.clock due ≡ false → (left : ℕ)
-      → GoesKinded core (taken core config (label.Wake p a) (view_of config left))
+      → GoesOn core w (taken core config (label.Wake p a) (view_of config left))
   goes_wake p a o due f delays reached left = goes_to _ (with_instance config p now.now) left answers (fits_with core h.model w config fits w (same_world w) refl p now.now now.kinded)
     where
       now : Resumes core exit w o None None f.i
@@ -148,7 +169,7 @@ module _ (laws : Laws) (core : Core) (fine : Sound core) (config : Config) (h : 
           ∙ ap (giving (λ woken. quietly (with_instance config p woken))) (now.gives_it (view_of config left))
 
   goes_join : (p : ℕ) (i : Instance) (waited : List ℕ) → slice_get config.instances p ≡ Some i → i.state ≡ Joining waited → IsTrue (none_under_way config waited) → (left : ℕ)
-      → GoesKinded core (taken core config (label.Join p) (view_of config left))
+      → GoesOn core w (taken core config (label.Join p) (view_of config left))
   goes_join p i waited e waits none left =
       goes_to _ (with_instance config p (record i { state = Running })) left answers
       (fits_with core h.model w config fits w (same_world w) refl p (record i { state = Running }) (goes_on_from core exit w i k))
@@ -164,23 +185,28 @@ module _ (laws : Laws) (core : Core) (fine : Sound core) (config : Config) (h : 
           ap (λ z. joined config p z (view_of config left)) e ∙ ap (λ s. joined_in config p i s (view_of config left)) waits
           ∙ ap (λ t. cond t (Gives (quietly (with_instance config p (record i { state = Running }))) (view_of config left)) answer.Amiss) (all_over config waited there none)
 
-  goes_advance : (t : ℤ) → next_due config ≡ Some t → IsTrue (may_reach config.until t) → (left : ℕ) → GoesKinded core (taken core config label.Advance (view_of config left))
+  goes_advance : (t : ℤ) → next_due config ≡ Some t → IsTrue (may_reach config.until t) → (left : ℕ) → GoesOn core w (taken core config label.Advance (view_of config left))
   goes_advance t e reach left =
       goes_to _ (record config { clock = t }) left
       (ap (λ z. advanced config z (view_of config left)) e ∙ ap (λ b. cond b (Gives (quietly (record config { clock = t })) (view_of config left)) answer.Amiss) reach)
       (record { names = h.names; constants = h.constants; instances = h.instances; each = h.each; few = h.few })
 
-  goes_taken : (l : Label) → IsEnabled config l → (left : ℕ) → GoesKinded core (taken core config l (view_of config left))
+  goes_taken : (l : Label) → IsEnabled config l → (left : ℕ) → GoesOn core w (taken core config l (view_of config left))
   goes_taken _ (runs p i e running) left = goes_local p i e running left
   goes_taken _ (meets p a q b o r channel x slot f g other sends receives) left = goes_pair p a q b o r channel x slot f g other sends receives left
   goes_taken _ (wakes p a o due f delays reached) left = goes_wake p a o due f delays reached left
   goes_taken _ (joins p i waited e waits none) left = goes_join p i waited e waits none left
   goes_taken _ (goes_on t e reach) left = goes_advance t e reach left
 
-  goes_step : (l : Label) → IsEnabled config l → (left : ℕ) → GoesKinded core (step core config l left)
+  goes_step : (l : Label) → IsEnabled config l → (left : ℕ) → GoesOn core w (step core config l left)
   unfolding step
   goes_step l is zero = tt
   goes_step l is (suc left) = goes_taken l is left
 
 pub steps_keep : Laws → (core : Core) → Sound core → KeepsKinded core
-steps_keep laws core fine config h l enabled left = goes_step laws core fine config h l (enabled_is config l enabled) left
+steps_keep laws core fine config h l enabled left =
+    kinded_on core h.world (step core config l left) (goes_step laws core fine config h l (enabled_is config l enabled) left)
+
+pub steps_widen : Laws → (core : Core) → Sound core → KeepsCarried core
+steps_widen laws core fine config h l enabled left =
+    wider_on core h.world (step core config l left) (goes_step laws core fine config h l (enabled_is config l enabled) left)

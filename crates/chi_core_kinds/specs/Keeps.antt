@@ -14,7 +14,7 @@ use Rattle.chi_core.specs.Beginning.{Beginning, Begins, Breaks, start}
 use Rattle.chi_core.specs.Config.{Config}
 use Rattle.chi_core.specs.Kinded.{Kinded}
 use Rattle.chi_core.specs.Kinds.{kinds_of}
-use Rattle.chi_core.specs.Of.{at_start, AreOf}
+use Rattle.chi_core.specs.Of.{World, Wider, at_start, AreOf}
 use Rattle.chi_core.specs.Options.{enabled}
 use Rattle.chi_core.specs.Step as outcome
 use Rattle.chi_core.specs.Step.{Outcome, Next, Over, step}
@@ -37,6 +37,13 @@ GoesKinded core (Over verdict) = SoundVerdict core verdict
 GoesKinded core outcome.Spent = Unit {0}
 GoesKinded core outcome.Amiss = ⊥
 
+-- where a step goes on, what each channel carries is as it was, and only channels are new
+abbrev pub GoesWider : Core → World → Outcome → Type 0
+GoesWider core w (Next config text left) = (later : Kinded core config) × Wider w later.world
+GoesWider core w (Over verdict) = Unit {0}
+GoesWider core w outcome.Spent = Unit {0}
+GoesWider core w outcome.Amiss = ⊥
+
 -- how a run begins: in a kinded configuration, or a fault in a constant ends it
 abbrev pub BeginsKinded : Core → Beginning → Type 0
 BeginsKinded core (Begins config) = Kinded core config
@@ -54,3 +61,9 @@ abbrev pub KeepsKinded : Core → Type 0
 KeepsKinded core =
     (config : Config) → Kinded core config → (label : Label) → Contains (enabled config) label → (left : ℕ)
     → GoesKinded core (step core config label left)
+
+-- each step of an enabled label in a kinded configuration of a core that goes on keeps what the channels carry
+abbrev pub KeepsCarried : Core → Type 0
+KeepsCarried core =
+    (config : Config) → (kinded : Kinded core config) → (label : Label) → Contains (enabled config) label → (left : ℕ)
+    → GoesWider core kinded.world (step core config label left)

@@ -1,6 +1,6 @@
 use Rattle.chi_core_kinds.proofs.Beginnings.{begins_always}
 use Rattle.chi_core_kinds.proofs.Operations.{Laws}
-use Rattle.chi_core_kinds.proofs.Steps.{steps_keep}
+use Rattle.chi_core_kinds.proofs.Steps.{steps_keep, steps_widen}
 use Rattle.chi_core_kinds.proofs.step_laws.kinded_law.Goals as goal
 
 pub returns : goal.returns
@@ -22,4 +22,4 @@ returns c =
       formats = c.texts_are_there.ensures.formats;
       quotes = c.texts_are_there.ensures.quoted;
     } in
-    record { begins = begins_always laws; keeps = steps_keep laws }
+    record { begins = begins_always laws; keeps = steps_keep laws; carried = steps_widen laws }
