@@ -1,6 +1,7 @@
 pub mod Answers
 pub mod Arguments
 pub mod Commands
+pub mod FaultNumbers
 pub mod Numbers
 pub mod Parsing
 pub mod Ranges

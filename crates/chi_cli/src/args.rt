@@ -21,6 +21,22 @@ pub enum ArgFault {
     NoMemory,
 }
 
+impl ArgFault {
+    ghost use Rattle.chi_cli.specs.FaultNumbers.{number_of};
+
+    /// The number of the fault, which stands for it where it isn't told which argument is meant.
+    pub fn number(self) -> Option<u8>
+        ensures number { result ≡ number_of self }
+    {
+        match self {
+            ArgFault::Count => Some(4),
+            ArgFault::Kind(_) => Some(5),
+            ArgFault::Text(_) => Some(6),
+            ArgFault::NoMemory => None,
+        }
+    }
+}
+
 impl From<NoMemory> for ArgFault {
     ghost from_gives = { λ _ e. e ≡ fault.NoMemory };
 

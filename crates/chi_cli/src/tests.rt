@@ -45,3 +45,15 @@ fn an_argument_is_read(rt: HostRuntime) -> Result<(), Fail> {
     assert!(rt; matches!(int_of(rt.alloc(), b"x")?, Err(ArgFault::Text(1))));
     Ok(())
 }
+
+#[test]
+fn faults_of_arguments_have_numbers(rt: HostRuntime) {
+    for (fault, number) in [
+        (ArgFault::Count, Some(4)),
+        (ArgFault::Kind(1), Some(5)),
+        (ArgFault::Text(1), Some(6)),
+        (ArgFault::NoMemory, None),
+    ] {
+        assert_eq!(&rt; fault.number(), number, "{fault}");
+    }
+}

@@ -1,4 +1,5 @@
 pub mod Cursors
+pub mod FaultNumbers
 pub mod Faults
 pub mod Fractions
 pub mod Gaps

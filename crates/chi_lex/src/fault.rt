@@ -22,6 +22,22 @@ pub enum LexFault {
     NoMemory,
 }
 
+impl LexFault {
+    ghost use Rattle.chi_lex.specs.FaultNumbers.{number_of};
+
+    /// The number of the fault, which stands for it where its place isn't told.
+    pub fn number(self) -> Option<u8>
+        ensures number { result ≡ number_of self }
+    {
+        match self {
+            LexFault::BadByte(_) => Some(1),
+            LexFault::OpenString(_) => Some(2),
+            LexFault::BadEscape(_) => Some(3),
+            LexFault::NoMemory => None,
+        }
+    }
+}
+
 impl From<NoMemory> for LexFault {
     ghost from_gives = { λ _ e. e ≡ fault.NoMemory };
 

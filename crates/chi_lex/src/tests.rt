@@ -185,3 +185,16 @@ fn the_largest_sources_are_read(rt: HostRuntime) -> Result<(), Fail> {
     }
     Ok(())
 }
+
+#[test]
+fn faults_have_numbers(rt: HostRuntime) {
+    let place = Place { line: 1, column: 1 };
+    for (fault, number) in [
+        (LexFault::BadByte(place), Some(1)),
+        (LexFault::OpenString(place), Some(2)),
+        (LexFault::BadEscape(place), Some(3)),
+        (LexFault::NoMemory, None),
+    ] {
+        assert_eq!(&rt; fault.number(), number, "{fault}");
+    }
+}
