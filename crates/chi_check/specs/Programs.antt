@@ -43,7 +43,7 @@ first_model number (definition.Proc place tree name formals steps ∷ ds) = firs
 first_model number (definition.Func place tree name formals steps ∷ ds) = first_model number ds
 first_model number (definition.Enum place name values ∷ ds) = first_model number ds
 first_model number (definition.Const place tree name equals value ∷ ds) = first_model number ds
-first_model number (definition.Type place name tree ∷ ds) = first_model number ds
+first_model number (definition.TypeWord place name tree ∷ ds) = first_model number ds
 first_model number (definition.Xper place name steps ∷ ds) = first_model number ds
 
 -- a file without a model breaks a rule at its last token

@@ -36,7 +36,7 @@ fn first_model(items: &[Item]) -> Result<Option<u32>, NoMemory>
             Definition::Func { .. }
             | Definition::Enum { .. }
             | Definition::Const { .. }
-            | Definition::Type { .. }
+            | Definition::TypeWord { .. }
             | Definition::Xper { .. } => {}
         }
     }

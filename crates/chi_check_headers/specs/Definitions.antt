@@ -86,7 +86,7 @@ late_named name k own counted s = record { next = counted (named_late name k s);
 abbrev pub sketching : Definition → Turn Sketch (List (List ℕ))
 sketching (definition.Enum place name values) s = enumeration_named name values s
 sketching (definition.Const place tree name equals value) s = late_named name (known.Untyped kind.Constant) [] (λ s. s) s
-sketching (definition.Type place name tree) s = late_named name (known.Untyped kind.Type) [] (λ s. s) s
+sketching (definition.TypeWord place name tree) s = late_named name (known.Untyped kind.Type) [] (λ s. s) s
 sketching (definition.Func place tree name formals steps) s = late_named name (known.Untyped kind.Function) [] (λ s. s) s
 sketching (definition.Proc place tree name formals steps) s = late_named name (known.Untyped kind.Process) [] one_process s
 sketching (definition.Model place tree name formals steps) s = late_named name (known.Model s.processes) [] one_process s
@@ -149,7 +149,7 @@ type_defined all name tree s =
 
 abbrev pub early_defined : Names → Definition → Turn Early ConstDef
 early_defined all (definition.Const place tree name equals value) s = constant_defined all place tree name equals value s
-early_defined all (definition.Type place name tree) s = type_defined all name tree s
+early_defined all (definition.TypeWord place name tree) s = type_defined all name tree s
 early_defined all (definition.Enum place name values) s = done s
 early_defined all (definition.Func place tree name formals steps) s = done s
 early_defined all (definition.Proc place tree name formals steps) s = done s
@@ -172,7 +172,7 @@ late_name (definition.Model place tree name formals steps) = Some name
 late_name (definition.Xper place name steps) = Some name
 late_name (definition.Enum place name values) = None
 late_name (definition.Const place tree name equals value) = None
-late_name (definition.Type place name tree) = None
+late_name (definition.TypeWord place name tree) = None
 
 abbrev pub with_late : Names → Names → Option Name → Names
 with_late all names None = names

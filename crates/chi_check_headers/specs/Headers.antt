@@ -78,7 +78,7 @@ header_in names (definition.Proc place tree name formals steps) = with_header (p
 header_in names (definition.Model place tree name formals steps) = with_header (process_header names tree formals)
 header_in names (definition.Enum place name values) = record { faults = []; given = None }
 header_in names (definition.Const place tree name equals value) = record { faults = []; given = None }
-header_in names (definition.Type place name tree) = record { faults = []; given = None }
+header_in names (definition.TypeWord place name tree) = record { faults = []; given = None }
 header_in names (definition.Xper place name steps) = record { faults = []; given = None }
 
 abbrev pub header_faults : List (Found (Option Header)) → List Fault

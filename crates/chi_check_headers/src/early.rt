@@ -217,7 +217,7 @@ fn define_early(
             equals,
             value,
         } => define_constant(alloc, all, *place, ty, name, *equals, value, early, kept),
-        Definition::Type { name, ty, .. } => define_type(alloc, all, name, ty, early, kept),
+        Definition::TypeWord { name, ty, .. } => define_type(alloc, all, name, ty, early, kept),
         Definition::Enum { .. }
         | Definition::Func { .. }
         | Definition::Proc { .. }

@@ -168,7 +168,7 @@ pub(crate) fn header_in(
         }
         Definition::Enum { .. }
         | Definition::Const { .. }
-        | Definition::Type { .. }
+        | Definition::TypeWord { .. }
         | Definition::Xper { .. } => Ok(None),
     }
 }

@@ -39,7 +39,7 @@ fn late_name(definition: &Definition) -> Option<&Name>
         | Definition::Proc { name, .. }
         | Definition::Model { name, .. }
         | Definition::Xper { name, .. } => Some(name),
-        Definition::Enum { .. } | Definition::Const { .. } | Definition::Type { .. } => None,
+        Definition::Enum { .. } | Definition::Const { .. } | Definition::TypeWord { .. } => None,
     }
 }
 

@@ -149,7 +149,7 @@ fn name_definition(
         Definition::Const { name, .. } => {
             name_late(name, Known::Untyped(NameKind::Constant), sketch, kept)?;
         }
-        Definition::Type { name, .. } => {
+        Definition::TypeWord { name, .. } => {
             name_late(name, Known::Untyped(NameKind::Type), sketch, kept)?;
         }
         Definition::Func { name, .. } => {

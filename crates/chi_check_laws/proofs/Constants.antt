@@ -180,7 +180,7 @@ module _ (core : Core) (consts : List ConstDef) (streamed : core.consts ≡ (eac
 
   one_next : (all : Names) (d : Definition) (prior rest more : List ConstDef) (s : Early) → (early_defined all d s).made ≡ Some more → consts ≡ prior ++ (more ++ rest) → Before prior s → Next core prior more (early_defined all d s).next
   one_next all (definition.Const place tree name equals value) prior rest more s e whole h = constant_next all place tree name equals value prior rest more s e whole h
-  one_next all (definition.Type place name tree) prior rest more s e whole h = type_next all name tree prior more s e h
+  one_next all (definition.TypeWord place name tree) prior rest more s e whole h = type_next all name tree prior more s e h
   one_next all (definition.Enum place name values) prior rest more s e whole h = none_next prior more s s e refl h.1 h
   one_next all (definition.Func place tree name formals steps) prior rest more s e whole h = none_next prior more s s e refl h.1 h
   one_next all (definition.Proc place tree name formals steps) prior rest more s e whole h = none_next prior more s s e refl h.1 h

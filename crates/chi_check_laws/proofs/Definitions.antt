@@ -88,7 +88,7 @@ type_keeps all name tree s h e =
 
 early_keeps : (all : Names) (d : Definition) → Keeps FineEarly (early_defined all d)
 early_keeps all (definition.Const place tree name equals value) s h e = constant_keeps all place tree name equals value s h e
-early_keeps all (definition.Type place name tree) s h e = type_keeps all name tree s h e
+early_keeps all (definition.TypeWord place name tree) s h e = type_keeps all name tree s h e
 early_keeps all (definition.Enum place name values) s h e = (tt, h)
 early_keeps all (definition.Func place tree name formals steps) s h e = (tt, h)
 early_keeps all (definition.Proc place tree name formals steps) s h e = (tt, h)
@@ -136,7 +136,7 @@ module _ (P : Known → Type 0) where
     late_entries names (definition.Xper place name steps) n h = meant_as names name (known_in all name.text) (known.Xper n.0) n.1 (entries_with P names name.text (known.Xper n.0) h (xper n.0))
     late_entries names (definition.Enum place name values) n h = h
     late_entries names (definition.Const place tree name equals value) n h = h
-    late_entries names (definition.Type place name tree) n h = h
+    late_entries names (definition.TypeWord place name tree) n h = h
 
     pub all_late_entries : (names : Names) (ds : List Definition) → EachNamed all ds → Entries P names → Entries P (with_all_late all names ds)
     all_late_entries names [] n h = h

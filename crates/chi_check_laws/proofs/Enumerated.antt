@@ -128,7 +128,7 @@ made_values name values s x e = some_same (texts values ∷ []) x (ap (option_ma
 one_enumerated : (d : Definition) (es x : Kinds) (s : Sketch) → (sketching d s).made ≡ Some x → Enumerated es s → Enumerated (es ++ x) (sketching d s).next
 one_enumerated (definition.Enum place name values) es x s e h = subst (λ x. Enumerated (es ++ x) (enumeration_named name values s).next) (made_values name values s x e) (enumeration_next es name values s h)
 one_enumerated (definition.Const place tree name equals value) es x s e h = counted_so (es ++ x) s _ refl refl (none_more es x s e h)
-one_enumerated (definition.Type place name tree) es x s e h = counted_so (es ++ x) s _ refl refl (none_more es x s e h)
+one_enumerated (definition.TypeWord place name tree) es x s e h = counted_so (es ++ x) s _ refl refl (none_more es x s e h)
 one_enumerated (definition.Func place tree name formals steps) es x s e h = counted_so (es ++ x) s _ refl refl (none_more es x s e h)
 one_enumerated (definition.Proc place tree name formals steps) es x s e h = counted_so (es ++ x) s _ refl refl (none_more es x s e h)
 one_enumerated (definition.Model place tree name formals steps) es x s e h = counted_so (es ++ x) s _ refl refl (none_more es x s e h)
@@ -159,7 +159,7 @@ sound_values values h = record { values = subst (λ n. 0 < n) (sym (texts_count 
 one_sound : (d : Definition) (x : Kinds) (s : Sketch) → Spelled d → (sketching d s).made ≡ Some x → Each SoundEnumeration x
 one_sound (definition.Enum place name values) x s h e = subst (Each SoundEnumeration) (made_values name values s x e) (sound_values values h, tt)
 one_sound (definition.Const place tree name equals value) x s h e = subst (Each SoundEnumeration) (some_same [] x e) tt
-one_sound (definition.Type place name tree) x s h e = subst (Each SoundEnumeration) (some_same [] x e) tt
+one_sound (definition.TypeWord place name tree) x s h e = subst (Each SoundEnumeration) (some_same [] x e) tt
 one_sound (definition.Func place tree name formals steps) x s h e = subst (Each SoundEnumeration) (some_same [] x e) tt
 one_sound (definition.Proc place tree name formals steps) x s h e = subst (Each SoundEnumeration) (some_same [] x e) tt
 one_sound (definition.Model place tree name formals steps) x s h e = subst (Each SoundEnumeration) (some_same [] x e) tt

@@ -104,7 +104,7 @@ one_fits (definition.Proc place tree name formals steps) h names x w m = some_sa
 one_fits (definition.Model place tree name formals steps) h names x w m = some_same [] x m
 one_fits (definition.Enum place name values) h names x w m = some_same [] x m
 one_fits (definition.Const place tree name equals value) h names x w m = some_same [] x m
-one_fits (definition.Type place name tree) h names x w m = some_same [] x m
+one_fits (definition.TypeWord place name tree) h names x w m = some_same [] x m
 one_fits (definition.Xper place name steps) h names x w m = some_same [] x m
 
 one_stays : (d : Definition) (h : Option Header) (names : Names) → BodyIsWhole d → (function_of d h names).next ≡ names
@@ -114,7 +114,7 @@ one_stays (definition.Proc place tree name formals steps) h names w = refl
 one_stays (definition.Model place tree name formals steps) h names w = refl
 one_stays (definition.Enum place name values) h names w = refl
 one_stays (definition.Const place tree name equals value) h names w = refl
-one_stays (definition.Type place name tree) h names w = refl
+one_stays (definition.TypeWord place name tree) h names w = refl
 one_stays (definition.Xper place name steps) h names w = refl
 
 pub functions_stay : (ds : List Definition) (hs : List (Option Header)) (names : Names) → EachIsWhole ds → (in_turn (functions_of ds hs) names).next ≡ names
@@ -159,7 +159,7 @@ one_runs (definition.Model place tree name formals steps) (Some h) names x w m =
 one_runs (definition.Func place tree name formals steps) h names x w m = some_same [] x m
 one_runs (definition.Enum place name values) h names x w m = some_same [] x m
 one_runs (definition.Const place tree name equals value) h names x w m = some_same [] x m
-one_runs (definition.Type place name tree) h names x w m = some_same [] x m
+one_runs (definition.TypeWord place name tree) h names x w m = some_same [] x m
 one_runs (definition.Xper place name steps) h names x w m = some_same [] x m
 
 one_remains : (d : Definition) (h : Option Header) (names : Names) → BodyIsWhole d → (process_of d h names).next ≡ names
@@ -170,7 +170,7 @@ one_remains (definition.Model place tree name formals steps) (Some h) names w = 
 one_remains (definition.Func place tree name formals steps) h names w = refl
 one_remains (definition.Enum place name values) h names w = refl
 one_remains (definition.Const place tree name equals value) h names w = refl
-one_remains (definition.Type place name tree) h names w = refl
+one_remains (definition.TypeWord place name tree) h names w = refl
 one_remains (definition.Xper place name steps) h names w = refl
 
 pub processes_run : (ds : List Definition) (hs : List (Option Header)) (names : Names) (ps : List ProcDef) → EachIsWhole ds → (in_turn (processes_of ds hs) names).made ≡ Some ps → Runs names ds hs ps

@@ -103,7 +103,7 @@ HeaderTyped (definition.Model place tree name formals steps) None = ⊥
 HeaderTyped (definition.Model place tree name formals steps) (Some h) = EachComes h.formals × Comes (exit_of h.home)
 HeaderTyped (definition.Enum place name values) h = Unit {0}
 HeaderTyped (definition.Const place tree name equals value) h = Unit {0}
-HeaderTyped (definition.Type place name tree) h = Unit {0}
+HeaderTyped (definition.TypeWord place name tree) h = Unit {0}
 HeaderTyped (definition.Xper place name steps) h = Unit {0}
 
 abbrev pub HeadersTyped : List Definition → List (Option Header) → Type 0
@@ -159,7 +159,7 @@ module _ (names : Names) (all : Entries StandsForOne names) where
   header_typed (definition.Model place tree name formals steps) h e = process_typed tree formals h e
   header_typed (definition.Enum place name values) h e = tt
   header_typed (definition.Const place tree name equals value) h e = tt
-  header_typed (definition.Type place name tree) h e = tt
+  header_typed (definition.TypeWord place name tree) h e = tt
   header_typed (definition.Xper place name steps) h e = tt
 
   pub headers_typed : (ds : List Definition) → IsTrue (headers_are_typed ds) → header_faults (map (header_in names) ds) ≡ [] → HeadersTyped ds (map (λ h. h.given) (map (header_in names) ds))

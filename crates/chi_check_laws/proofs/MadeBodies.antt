@@ -87,7 +87,7 @@ module _ (all : Names) where
   headed_fine (definition.Xper place name steps) h s n t f = meant_as Fine s.names name (known_in all name.text) (known.Xper n.0) n.1 (entries_with Fine s.names name.text (known.Xper n.0) f tt)
   headed_fine (definition.Enum place name values) h s n t f = f
   headed_fine (definition.Const place tree name equals value) h s n t f = f
-  headed_fine (definition.Type place name tree) h s n t f = f
+  headed_fine (definition.TypeWord place name tree) h s n t f = f
 
   pub all_headed_fine : (ds : List Definition) (hs : List (Option Header)) (s : Bodies) → EachNamed all ds → HeadersTyped ds hs → FineBodies s → FineBodies (with_all_headed all ds hs s)
   all_headed_fine [] hs s n t f = f
@@ -128,7 +128,7 @@ function_keeps (definition.Proc place tree name formals steps) h t names f e = (
 function_keeps (definition.Model place tree name formals steps) h t names f e = (tt, f)
 function_keeps (definition.Enum place name values) h t names f e = (tt, f)
 function_keeps (definition.Const place tree name equals value) h t names f e = (tt, f)
-function_keeps (definition.Type place name tree) h t names f e = (tt, f)
+function_keeps (definition.TypeWord place name tree) h t names f e = (tt, f)
 function_keeps (definition.Xper place name steps) h t names f e = (tt, f)
 
 running_leaves : (name : Name) (h : Header) (formals : List Formal) (steps : List Step) (names : Names) → FineNames names → EachComes h.formals → Comes (exit_of h.home)
@@ -145,7 +145,7 @@ process_keeps (definition.Model place tree name formals steps) (Some h) t names 
 process_keeps (definition.Func place tree name formals steps) h t names f e = (tt, f)
 process_keeps (definition.Enum place name values) h t names f e = (tt, f)
 process_keeps (definition.Const place tree name equals value) h t names f e = (tt, f)
-process_keeps (definition.Type place name tree) h t names f e = (tt, f)
+process_keeps (definition.TypeWord place name tree) h t names f e = (tt, f)
 process_keeps (definition.Xper place name steps) h t names f e = (tt, f)
 
 each_function : (ds : List Definition) (hs : List (Option Header)) → HeadersTyped ds hs → EachKeeps FineNames (functions_of ds hs)

@@ -197,7 +197,7 @@ module _ (core : Core) (funcs : List FuncDef) (procs : List ProcDef) (calls runs
       (b.0 ∙ none_after fs x fits, b.1 ∙ none_after ps y runs, meant_as (Seen core) s.names name (known_in all name.text) (known.Xper n.0) n.1 (entries_with (Seen core) s.names name.text (known.Xper n.0) b.2 tt))
   headed_before all names (definition.Enum place name values) h s fs x more ps y rest fits runs sound n e f b = (b.0 ∙ none_after fs x fits, b.1 ∙ none_after ps y runs, b.2)
   headed_before all names (definition.Const place tree name equals value) h s fs x more ps y rest fits runs sound n e f b = (b.0 ∙ none_after fs x fits, b.1 ∙ none_after ps y runs, b.2)
-  headed_before all names (definition.Type place name tree) h s fs x more ps y rest fits runs sound n e f b = (b.0 ∙ none_after fs x fits, b.1 ∙ none_after ps y runs, b.2)
+  headed_before all names (definition.TypeWord place name tree) h s fs x more ps y rest fits runs sound n e f b = (b.0 ∙ none_after fs x fits, b.1 ∙ none_after ps y runs, b.2)
 
   pub all_seen : (all names : Names) (ds : List Definition) (hs : List (Option Header)) (s : Bodies) (fs more : List FuncDef) (ps rest : List ProcDef) → Fits names ds hs more → Runs names ds hs rest → HeadersSound N ds hs → EachNamed all ds
       → funcs ≡ fs ++ more → procs ≡ ps ++ rest → Before fs ps s → Entries (Seen core) (with_all_headed all ds hs s).names

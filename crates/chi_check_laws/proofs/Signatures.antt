@@ -90,7 +90,7 @@ HeaderSound n (definition.Model place tree name formals steps) None = ⊥
 HeaderSound n (definition.Model place tree name formals steps) (Some h) = SoundHeader n formals h
 HeaderSound n (definition.Enum place name values) h = Unit {0}
 HeaderSound n (definition.Const place tree name equals value) h = Unit {0}
-HeaderSound n (definition.Type place name tree) h = Unit {0}
+HeaderSound n (definition.TypeWord place name tree) h = Unit {0}
 HeaderSound n (definition.Xper place name steps) h = Unit {0}
 
 abbrev pub HeadersSound : ℕ → List Definition → List (Option Header) → Type 0
@@ -170,7 +170,7 @@ module _ (n : ℕ) where
     header_sound (definition.Model place tree name formals steps) = process_sound tree formals
     header_sound (definition.Enum place name values) = tt
     header_sound (definition.Const place tree name equals value) = tt
-    header_sound (definition.Type place name tree) = tt
+    header_sound (definition.TypeWord place name tree) = tt
     header_sound (definition.Xper place name steps) = tt
 
     pub headers_sound : (ds : List Definition) → HeadersSound n ds (map (λ h. h.given) (map (header_in names) ds))

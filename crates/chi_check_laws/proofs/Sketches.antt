@@ -43,7 +43,7 @@ enumeration_leads name values s =
 sketching_leads : (d : Definition) → Leads (sketching d)
 sketching_leads (definition.Enum place name values) s = enumeration_leads name values s
 sketching_leads (definition.Const place tree name equals value) s = extends_with s.all name.text (known.Untyped kind.Constant)
-sketching_leads (definition.Type place name tree) s = extends_with s.all name.text (known.Untyped kind.Type)
+sketching_leads (definition.TypeWord place name tree) s = extends_with s.all name.text (known.Untyped kind.Type)
 sketching_leads (definition.Func place tree name formals steps) s = extends_with s.all name.text (known.Untyped kind.Function)
 sketching_leads (definition.Proc place tree name formals steps) s = extends_with s.all name.text (known.Untyped kind.Process)
 sketching_leads (definition.Model place tree name formals steps) s = extends_with s.all name.text (known.Model s.processes)
@@ -58,7 +58,7 @@ each_leads (d ∷ ds) = (sketching_leads d, each_leads ds)
 abbrev pub Named : Names → Definition → Type 0
 Named all (definition.Enum place name values) = Unit {0}
 Named all (definition.Const place tree name equals value) = Unit {0}
-Named all (definition.Type place name tree) = Unit {0}
+Named all (definition.TypeWord place name tree) = Unit {0}
 Named all (definition.Func place tree name formals steps) = known_in all name.text ≡ Some (known.Untyped kind.Function)
 Named all (definition.Proc place tree name formals steps) = known_in all name.text ≡ Some (known.Untyped kind.Process)
 Named all (definition.Model place tree name formals steps) = (number : ℕ) × (known_in all name.text ≡ Some (known.Model number))
@@ -71,7 +71,7 @@ EachNamed all (d ∷ ds) = Named all d × EachNamed all ds
 named_kept : (a b : Names) → Extends a b → (d : Definition) → Named a d → Named b d
 named_kept a b f (definition.Enum place name values) h = tt
 named_kept a b f (definition.Const place tree name equals value) h = tt
-named_kept a b f (definition.Type place name tree) h = tt
+named_kept a b f (definition.TypeWord place name tree) h = tt
 named_kept a b f (definition.Func place tree name formals steps) h = f name.text (known.Untyped kind.Function) h
 named_kept a b f (definition.Proc place tree name formals steps) h = f name.text (known.Untyped kind.Process) h
 named_kept a b f (definition.Model place tree name formals steps) h = (h.0, f name.text (known.Model h.0) h.1)
@@ -80,7 +80,7 @@ named_kept a b f (definition.Xper place name steps) h = (h.0, f name.text (known
 named_now : (d : Definition) (s : Sketch) → (sketching d s).faults ≡ [] → Named (sketching d s).next.all d
 named_now (definition.Enum place name values) s e = tt
 named_now (definition.Const place tree name equals value) s e = tt
-named_now (definition.Type place name tree) s e = tt
+named_now (definition.TypeWord place name tree) s e = tt
 named_now (definition.Func place tree name formals steps) s e = fresh_known s.all name (known.Untyped kind.Function) (left_nil (new_name_rule s.all name) _ e)
 named_now (definition.Proc place tree name formals steps) s e = fresh_known s.all name (known.Untyped kind.Process) (left_nil (new_name_rule s.all name) _ e)
 named_now (definition.Model place tree name formals steps) s e = (s.processes, fresh_known s.all name (known.Model s.processes) (left_nil (new_name_rule s.all name) _ e))
@@ -121,7 +121,7 @@ enumeration_keeps name values s h e =
 sketching_keeps : (d : Definition) → Keeps FineSketch (sketching d)
 sketching_keeps (definition.Enum place name values) s h e = enumeration_keeps name values s h e
 sketching_keeps (definition.Const place tree name equals value) s h e = (tt, h)
-sketching_keeps (definition.Type place name tree) s h e = (tt, h)
+sketching_keeps (definition.TypeWord place name tree) s h e = (tt, h)
 sketching_keeps (definition.Func place tree name formals steps) s h e = (tt, h)
 sketching_keeps (definition.Proc place tree name formals steps) s h e = (tt, h)
 sketching_keeps (definition.Model place tree name formals steps) s h e = (tt, h)

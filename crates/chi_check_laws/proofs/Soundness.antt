@@ -138,7 +138,7 @@ model_there names k (definition.Proc place tree name formals steps ∷ ds) (Some
 model_there names k (definition.Func place tree name formals steps ∷ ds) (h ∷ hs) before ps n m c s r e = passed_by names ds hs before r.0 r.1 ps n m r.2 r.4 (model_there names k ds hs before r.1 n m c s.1 r.3 e)
 model_there names k (definition.Enum place name values ∷ ds) (h ∷ hs) before ps n m c s r e = passed_by names ds hs before r.0 r.1 ps n m r.2 r.4 (model_there names k ds hs before r.1 n m c s.1 r.3 e)
 model_there names k (definition.Const place tree name equals value ∷ ds) (h ∷ hs) before ps n m c s r e = passed_by names ds hs before r.0 r.1 ps n m r.2 r.4 (model_there names k ds hs before r.1 n m c s.1 r.3 e)
-model_there names k (definition.Type place name tree ∷ ds) (h ∷ hs) before ps n m c s r e = passed_by names ds hs before r.0 r.1 ps n m r.2 r.4 (model_there names k ds hs before r.1 n m c s.1 r.3 e)
+model_there names k (definition.TypeWord place name tree ∷ ds) (h ∷ hs) before ps n m c s r e = passed_by names ds hs before r.0 r.1 ps n m r.2 r.4 (model_there names k ds hs before r.1 n m c s.1 r.3 e)
 model_there names k (definition.Xper place name steps ∷ ds) (h ∷ hs) before ps n m c s r e = passed_by names ds hs before r.0 r.1 ps n m r.2 r.4 (model_there names k ds hs before r.1 n m c s.1 r.3 e)
 
 -- ---- each constant, function and process with its streams

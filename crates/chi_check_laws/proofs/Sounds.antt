@@ -141,7 +141,7 @@ module _ (core : Core) (names : Names) (seen : Entries (Seen core) names) where
   one_function (definition.Model place tree name formals steps) h x more sp sound fits t rest = none_more x more fits t rest
   one_function (definition.Enum place name values) h x more sp sound fits t rest = none_more x more fits t rest
   one_function (definition.Const place tree name equals value) h x more sp sound fits t rest = none_more x more fits t rest
-  one_function (definition.Type place name tree) h x more sp sound fits t rest = none_more x more fits t rest
+  one_function (definition.TypeWord place name tree) h x more sp sound fits t rest = none_more x more fits t rest
   one_function (definition.Xper place name steps) h x more sp sound fits t rest = none_more x more fits t rest
 
   pub functions_sound : (ds : List Definition) (hs : List (Option Header)) (fs : List FuncDef) → EachSpelled ds → HeadersSound N ds hs → Fits names ds hs fs → Each Texts fs → Each SoundCounted fs
@@ -162,7 +162,7 @@ module _ (core : Core) (names : Names) (seen : Entries (Seen core) names) where
   one_process (definition.Func place tree name formals steps) h x more sp sound fits t rest = none_runs x more fits t rest
   one_process (definition.Enum place name values) h x more sp sound fits t rest = none_runs x more fits t rest
   one_process (definition.Const place tree name equals value) h x more sp sound fits t rest = none_runs x more fits t rest
-  one_process (definition.Type place name tree) h x more sp sound fits t rest = none_runs x more fits t rest
+  one_process (definition.TypeWord place name tree) h x more sp sound fits t rest = none_runs x more fits t rest
   one_process (definition.Xper place name steps) h x more sp sound fits t rest = none_runs x more fits t rest
 
   pub processes_sound : (ds : List Definition) (hs : List (Option Header)) (ps : List ProcDef) → EachSpelled ds → HeadersSound N ds hs → Runs names ds hs ps → Each Spoken ps → Each RunsSound ps

@@ -15,7 +15,7 @@ BodyIsWhole (definition.Proc place tree name formals steps) = IsTrue (steps_are_
 BodyIsWhole (definition.Model place tree name formals steps) = IsTrue (steps_are_whole steps)
 BodyIsWhole (definition.Enum place name values) = Unit {0}
 BodyIsWhole (definition.Const place tree name equals value) = Unit {0}
-BodyIsWhole (definition.Type place name tree) = Unit {0}
+BodyIsWhole (definition.TypeWord place name tree) = Unit {0}
 BodyIsWhole (definition.Xper place name steps) = Unit {0}
 
 abbrev pub EachIsWhole : List Definition → Type 0

@@ -16,7 +16,7 @@ formals_of (definition.Proc place tree name formals steps) = formals
 formals_of (definition.Model place tree name formals steps) = formals
 formals_of (definition.Enum place name values) = []
 formals_of (definition.Const place tree name equals value) = []
-formals_of (definition.Type place name tree) = []
+formals_of (definition.TypeWord place name tree) = []
 formals_of (definition.Xper place name steps) = []
 
 abbrev pub header_is_typed : Definition → Bool

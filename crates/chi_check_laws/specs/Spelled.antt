@@ -17,7 +17,7 @@ Spelled (definition.Func place tree name formals steps) = IsName name.text
 Spelled (definition.Proc place tree name formals steps) = IsName name.text
 Spelled (definition.Model place tree name formals steps) = IsName name.text
 Spelled (definition.Const place tree name equals value) = Unit {0}
-Spelled (definition.Type place name tree) = Unit {0}
+Spelled (definition.TypeWord place name tree) = Unit {0}
 Spelled (definition.Xper place name steps) = Unit {0}
 
 abbrev pub EachSpelled : List Definition → Type 0

@@ -116,7 +116,7 @@ fn type_name(
     let (_, from) = take(tokens, middle, Class::Sign(Sign::Assign))?;
     let (ty, end) = any_type(alloc, tokens, from, room)?;
     Ok((
-        Definition::Type {
+        Definition::TypeWord {
             place: word.place,
             name,
             ty,

@@ -45,7 +45,7 @@ fn two_fields(alloc: Global) -> Result<TypeTree, NoMemory> {
 fn pair(alloc: Global) -> Result<Definition, NoMemory> {
     let name = name(alloc, b"pair")?;
     let ty = two_fields(alloc)?;
-    Ok(Definition::Type {
+    Ok(Definition::TypeWord {
         place: HERE,
         name,
         ty,

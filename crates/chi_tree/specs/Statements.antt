@@ -271,7 +271,7 @@ abbrev pub definition_of : Built → Definition
 definition_of (node s.Defined t) = definition_of t
 definition_of (node s.EnumDef (pair w (pair n (pair eq (pair l (pair ns r)))))) = definition.Enum (place_in w) (name_in n) (names_in ns)
 definition_of (node s.ConstDef (pair w (pair t (pair n (pair eq e))))) = definition.Const (place_in w) (type_of t) (name_in n) (place_in eq) (expr_of e)
-definition_of (node s.TypeDef (pair w (pair n (pair eq t)))) = definition.Type (place_in w) (name_in n) (type_of t)
+definition_of (node s.TypeDef (pair w (pair n (pair eq t)))) = definition.TypeWord (place_in w) (name_in n) (type_of t)
 definition_of (node s.FuncDef (pair w (pair t (pair n (pair ps b))))) = definition.Func (place_in w) (type_of t) (name_in n) (parameters_of ps) (body_of b)
 definition_of (node s.ProcDef (pair w (pair h (pair ps b)))) =
     let head : Option TypeTree × Name = head_of h in definition.Proc (place_in w) head.0 head.1 (parameters_of ps) (body_of b)

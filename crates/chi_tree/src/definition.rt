@@ -35,7 +35,7 @@ pub enum Definition {
         equals: Place,
         value: Expr,
     },
-    Type {
+    TypeWord {
         place: Place,
         name: Name,
         ty: TypeTree,

@@ -145,7 +145,7 @@ build_definition b (formed.constant {place = place} {at = at} {name = n} p q) = 
 build_definition b (formed.type_name {place = place} {name = n} p) = let u = build_type b p in record {
   tree = node s.Defined (node s.TypeDef (pair (word_at place TypeWord) (pair (name_leaf n) (pair (mark Assign) u.tree))));
   built = is.part (is.right (is.right (is.left (is.part (is.both (is.word refl) (is.both (is.word refl) (is.both (is.word refl) u.built)))))));
-  shown = ap (λ t. definition.Type place n t) u.shown;
+  shown = ap (λ t. definition.TypeWord place n t) u.shown;
   nests = ap (λ ns. outside ∷ outside ∷ outside ∷ ns) u.nests;
 }
 build_definition b (formed.function {place = place} {name = n} p q r) =

@@ -276,8 +276,8 @@ refilled_definition (definition.Enum p n names) =
     keep (λ q. keep (λ r. pass (pass (bind (between (map refilled_name names)) (λ ns. pass (done (definition.Enum q (name_at n.text r) ns)))))))
 refilled_definition (definition.Const p ty n at e) =
     keep (λ q. bind (refilled_type ty) (λ t. keep (λ r. keep (λ s. last (refilled_expr e) (λ x. definition.Const q t (name_at n.text r) s x)))))
-refilled_definition (definition.Type p n ty) =
-    keep (λ q. keep (λ r. pass (last (refilled_type ty) (λ t. definition.Type q (name_at n.text r) t))))
+refilled_definition (definition.TypeWord p n ty) =
+    keep (λ q. keep (λ r. pass (last (refilled_type ty) (λ t. definition.TypeWord q (name_at n.text r) t))))
 refilled_definition (definition.Func p ty n fs block) =
     keep (λ q. bind (refilled_type ty) (λ t. keep (λ r. last (callable_reader fs block) (λ z. definition.Func q t (name_at n.text r) z.0 z.1))))
 refilled_definition (definition.Proc p ty n fs block) =

@@ -37,7 +37,7 @@ shown_definition (node s.EnumDef (pair w (pair n (pair eq (pair l (pair ns r))))
     λ i. definition.Enum (shown_place w i) (shown_name n i) (shown_names ns i)
 shown_definition (node s.ConstDef (pair w (pair t (pair n (pair eq e))))) =
     λ i. definition.Const (shown_place w i) (shown_type t i) (shown_name n i) (shown_place eq i) (shown_expr e i)
-shown_definition (node s.TypeDef (pair w (pair n (pair eq t)))) = λ i. definition.Type (shown_place w i) (shown_name n i) (shown_type t i)
+shown_definition (node s.TypeDef (pair w (pair n (pair eq t)))) = λ i. definition.TypeWord (shown_place w i) (shown_name n i) (shown_type t i)
 shown_definition (node s.FuncDef (pair w (pair t (pair n (pair ps b))))) =
     λ i. definition.Func (shown_place w i) (shown_type t i) (shown_name n i) (shown_parameters ps i) (shown_body b i)
 shown_definition (node s.ProcDef (pair w (pair h (pair ps b)))) =

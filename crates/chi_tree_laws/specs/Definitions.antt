@@ -32,7 +32,7 @@ pub data FormedDefinition : ℕ → ℕ → Definition → Type 0 where
   constant : {b d : ℕ} {place at : Place} {t : TypeTree} {name : Name} {e : Expr}
       → FormedType d t → FormedExpr level.Expr d e → FormedDefinition b d (definition.Const place t name at e)
   -- "type" name "=" type
-  type_name : {b d : ℕ} {place : Place} {name : Name} {t : TypeTree} → FormedType d t → FormedDefinition b d (definition.Type place name t)
+  type_name : {b d : ℕ} {place : Place} {name : Name} {t : TypeTree} → FormedType d t → FormedDefinition b d (definition.TypeWord place name t)
   -- "func" type name "(" [ formals ] ")" ":" block "end"
   function : {b d : ℕ} {place : Place} {t : TypeTree} {name : Name} {fs : List Formal} {block : List Step}
       → FormedType d t → FormedParameters d fs → FormedInner b d block → FormedDefinition b d (definition.Func place t name fs block)

@@ -153,7 +153,7 @@ defined_body parameters block = bracketed (formal_nestings parameters) ++ to_end
 abbrev pub definition_nestings : Definition → Nestings
 definition_nestings (definition.Enum place name names) = outside ∷ outside ∷ outside ∷ bracketed (names_nestings names)
 definition_nestings (definition.Const place ty name at value) = outside ∷ type_nestings ty ++ outside ∷ outside ∷ expr_nestings value
-definition_nestings (definition.Type place name ty) = outside ∷ outside ∷ outside ∷ type_nestings ty
+definition_nestings (definition.TypeWord place name ty) = outside ∷ outside ∷ outside ∷ type_nestings ty
 definition_nestings (definition.Func place ty name parameters block) = outside ∷ type_nestings ty ++ outside ∷ defined_body parameters block
 definition_nestings (definition.Proc place ty name parameters block) = outside ∷ head_nestings ty ++ defined_body parameters block
 definition_nestings (definition.Model place ty name parameters block) = outside ∷ head_nestings ty ++ defined_body parameters block

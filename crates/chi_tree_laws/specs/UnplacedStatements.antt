@@ -105,7 +105,7 @@ abbrev pub unplaced_definition : Definition → Definition
 unplaced_definition (definition.Enum place name names) = definition.Enum nowhere (unplaced_name name) (map unplaced_name names)
 unplaced_definition (definition.Const place ty name at value) =
     definition.Const nowhere (unplaced_type ty) (unplaced_name name) nowhere (unplaced_expr value)
-unplaced_definition (definition.Type place name ty) = definition.Type nowhere (unplaced_name name) (unplaced_type ty)
+unplaced_definition (definition.TypeWord place name ty) = definition.TypeWord nowhere (unplaced_name name) (unplaced_type ty)
 unplaced_definition (definition.Func place ty name parameters block) =
     definition.Func nowhere (unplaced_type ty) (unplaced_name name) (map unplaced_formal parameters) (unplaced_block block)
 unplaced_definition (definition.Proc place ty name parameters block) =

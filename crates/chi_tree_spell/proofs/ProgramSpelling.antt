@@ -90,7 +90,7 @@ agreed_last (marks.more h p) = is_last _ _
 last_after : (d : Definition) (ms : List Mark) {xs : List Spanned} → Agree (put_definition mark d ++ ms) xs → IsLastPlace xs (last_place xs)
 last_after (definition.Enum place name values) ms p = agreed_last p
 last_after (definition.Const place ty name equals value) ms p = agreed_last p
-last_after (definition.Type place name ty) ms p = agreed_last p
+last_after (definition.TypeWord place name ty) ms p = agreed_last p
 last_after (definition.Func place result_type name formals block) ms p = agreed_last p
 last_after (definition.Proc place exit_type name formals block) ms p = agreed_last p
 last_after (definition.Model place exit_type name formals block) ms p = agreed_last p

@@ -163,7 +163,7 @@ module _ {X : Type 0} (put : Put X) where
       kept put (Word EnumWord) place ∷ put_name put name ∷ bare put (Sign Assign) ∷ put_curly put (put_names values)
   put_definition (definition.Const place ty name equals value) =
       kept put (Word ConstWord) place ∷ put_type put ty ++ put_name put name ∷ kept put (Sign Assign) equals ∷ put_expr put value
-  put_definition (definition.Type place name ty) =
+  put_definition (definition.TypeWord place name ty) =
       kept put (Word TypeWord) place ∷ put_name put name ∷ bare put (Sign Assign) ∷ put_type put ty
   put_definition (definition.Func place result_type name formals block) =
       kept put (Word FuncWord) place ∷ put_type put result_type ++ put_name put name ∷ put_callable formals block

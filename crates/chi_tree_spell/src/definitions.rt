@@ -42,7 +42,7 @@ impl Speller {
                 self.sign(Sign::Assign)?;
                 self.expr(value)
             }
-            Definition::Type { name, ty, .. } => {
+            Definition::TypeWord { name, ty, .. } => {
                 self.word(Keyword::TypeWord)?;
                 self.name(name)?;
                 self.sign(Sign::Assign)?;

@@ -27,4 +27,4 @@ returns-in_err-ty c = failed grammar table _ definition_of _ (part s.TypeDef) _ 
 pub returns : goal.returns
 returns c = read grammar table _ (definition_of) c.requires.inside
     (runs.part (runs.both (run_word grammar table _ c.in_ok-word.ensures) (runs.both (c.in_ok-name.ensures c.args.room).runs (runs.both (run_word grammar table _ c.in_ok-from.ensures) c.in_ok-ty.ensures.runs))))
-    (λ i. definition.Type c.in_ok-word.word.now.place ((c.in_ok-name.ensures c.args.room).shows i) (c.in_ok-ty.ensures.shows i))
+    (λ i. definition.TypeWord c.in_ok-word.word.now.place ((c.in_ok-name.ensures c.args.room).shows i) (c.in_ok-ty.ensures.shows i))
