@@ -14,3 +14,4 @@ pub mod Headline
 pub mod Simulations
 pub mod Delivery
 pub mod Turns
+pub mod Limits

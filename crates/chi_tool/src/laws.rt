@@ -9,6 +9,7 @@ ghost use Rattle.chi_lex.specs.Reading.{Reads};
 ghost use Rattle.chi_tree_spell.specs.Statements.{spelled};
 ghost use Rattle.chi_token.specs.declared.place.Spanned.{Spanned};
 ghost use Rattle.chi_token.specs.Tokens.{IsToken};
+ghost use Rattle.chi_tool.specs.Limits.{LimitsAre};
 ghost use Rattle.chi_tool.specs.Refusals.{Report};
 ghost use Rattle.chi_tool.specs.Report.{IsReport, IsReportOfSource};
 ghost use Rattle.chi_tool.specs.Running.{Course, IsRunOf, MayHave};
@@ -78,3 +79,10 @@ pub fn tokens_law()
     ensures { (source : List ℕ) (tokens : List Spanned) (program : Program) → Reads source tokens → IsProgram tokens program
         → All IsToken (spelled program) }
 {}
+
+/// The numbers that are the program's limits, each of which the definitions cite by its constant.
+pub fn limits_law()
+    ensures { LimitsAre }
+{
+    chi_core::limits_law();
+}
