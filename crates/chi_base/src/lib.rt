@@ -3,7 +3,6 @@
 #![tactic(auto)]
 
 mod boxed;
-mod holder;
 mod items;
 mod no_memory;
 mod row;

@@ -1,8 +1,7 @@
 ghost use Rattle.std.specs.Prelude.{◌≡◌, ◌<◌, ◌≤◌, ◌++◌, ◌+◌, ◌∷◌, [], drop, insert, length, remove, slice_get, slice_index_or, slice_set, take, Some, IfOk, IfSome, IsSome, OnOk, option_copied, ◌↔◌};
 
 use crate::NoMemory;
-use crate::holder::{has_other_owners, make_own, taken};
-use crate::shared::Copied;
+use crate::shared::{Copied, copies_of, has_other_owners};
 use std::alloc::Global;
 use std::collections::VecDeque;
 use std::marker::Model;
@@ -77,7 +76,27 @@ impl<T: Drop + Copied> Row<T> {
         ensures same { IfOk result (λ values. values.items ≡ self) }
     {
         let Row { shared } = self;
-        Ok(taken(alloc, shared)?)
+        match Rc::try_unwrap(shared) {
+            Ok(values) => Ok(values.into_vec()),
+            Err(shared) => {
+                let (first, second) = shared.as_ref().as_slices();
+                Ok(copies_of_both(alloc, first, second)?)
+            }
+        }
+    }
+
+    /// Sees to it that nobody else has the elements, so that `Rc::get_mut` lends them. No contract of `Rc` says so: how
+    /// many owners there are is no part of what contracts see. Where it lent them not, that would be told as want of
+    /// memory, which is the one answer that no clause ties to a cause.
+    fn make_own(&mut self, alloc: Global) -> Result<(), NoMemory>
+        ensures same { self.new ≡ self.old }
+    {
+        if has_other_owners(&self.shared) {
+            let (first, second) = self.shared.as_ref().as_slices();
+            let copies = copies_of_both(alloc, first, second)?;
+            self.shared = Rc::new(alloc, VecDeque::from_vec(copies))?;
+        }
+        Ok(())
     }
 
     /// Stores a value in the place of another, which comes out.
@@ -86,7 +105,7 @@ impl<T: Drop + Copied> Row<T> {
         ensures taken { IfOk result (λ old. slice_get self.old place ≡ Some old) }
         ensures rest { OnOk result (self.new ≡ slice_set self.old place value) }
     {
-        make_own(alloc, &mut self.shared)?;
+        self.make_own(alloc)?;
         match Rc::get_mut(&mut self.shared) {
             Some(values) => Ok(mem::replace(&mut values[place], value)),
             None => Err(NoMemory),
@@ -97,7 +116,7 @@ impl<T: Drop + Copied> Row<T> {
     pub fn push(&mut self, alloc: Global, value: T) -> Result<(), NoMemory>
         ensures pushed { OnOk result (self.new ≡ self.old ++ value ∷ []) }
     {
-        make_own(alloc, &mut self.shared)?;
+        self.make_own(alloc)?;
         match Rc::get_mut(&mut self.shared) {
             Some(values) => {
                 values.push_back(value)?;
@@ -161,7 +180,7 @@ impl<T: Drop + Copied> Row<T> {
     fn truncate(&mut self, alloc: Global, size: usize) -> Result<(), NoMemory>
         ensures kept { OnOk result (self.new ≡ take size self.old) }
     {
-        make_own(alloc, &mut self.shared)?;
+        self.make_own(alloc)?;
         match Rc::get_mut(&mut self.shared) {
             Some(values) => {
                 values.truncate(size);
@@ -186,7 +205,7 @@ impl<T: Drop + Copied> Row<T> {
         requires inside { place ≤ length self.old }
         ensures inserted { OnOk result (self.new ≡ insert self.old place value) }
     {
-        make_own(alloc, &mut self.shared)?;
+        self.make_own(alloc)?;
         match Rc::get_mut(&mut self.shared) {
             Some(values) => {
                 values.insert(place, value)?;
@@ -202,7 +221,7 @@ impl<T: Drop + Copied> Row<T> {
         ensures taken { IfOk result (λ old. slice_get self.old place ≡ Some old) }
         ensures rest { OnOk result (self.new ≡ remove self.old place) }
     {
-        make_own(alloc, &mut self.shared)?;
+        self.make_own(alloc)?;
         match Rc::get_mut(&mut self.shared) {
             Some(values) => match values.remove(place) {
                 Some(old) => Ok(old),
@@ -217,7 +236,7 @@ impl<T: Drop + Copied> Row<T> {
         requires some { 0 < length self.old }
         ensures taken { IfOk result (λ first. self.old ≡ first ∷ self.new) }
     {
-        make_own(alloc, &mut self.shared)?;
+        self.make_own(alloc)?;
         match Rc::get_mut(&mut self.shared) {
             Some(values) => match values.pop_front() {
                 Some(first) => Ok(first),
@@ -226,4 +245,18 @@ impl<T: Drop + Copied> Row<T> {
             None => Err(NoMemory),
         }
     }
+}
+
+/// A copy of each element of two stretches.
+fn copies_of_both<T: Drop + Copied>(
+    alloc: Global,
+    first: &[T],
+    second: &[T],
+) -> Result<Vec<T>, NoMemory>
+    ensures same { IfOk result (λ copies. copies.items ≡ first.now ++ second.now) }
+{
+    let mut copies = copies_of(alloc, first)?;
+    let mut more = copies_of(alloc, second)?;
+    copies.append(&mut more)?;
+    Ok(copies)
 }

@@ -1,7 +1,6 @@
 ghost use Rattle.std.specs.Prelude.{◌≡◌, ◌<◌, ◌∷◌, length, slice_get, slice_set, Some, IfOk, OnOk};
 
 use crate::NoMemory;
-use crate::holder::{make_own, taken};
 use std::alloc::Global;
 use std::marker::Model;
 use std::mem;
@@ -66,7 +65,22 @@ impl<T: Drop + Copied> Shared<T> {
         ensures same { IfOk result (λ values. values.items ≡ self) }
     {
         let Shared { shared } = self;
-        Ok(taken(alloc, shared)?)
+        match Rc::try_unwrap(shared) {
+            Ok(values) => Ok(values),
+            Err(shared) => Ok(copies_of(alloc, shared.as_ref().as_slice())?),
+        }
+    }
+
+    /// Sees to it that nobody else has the elements, so that `Rc::get_mut` lends them; where it didn't, that would be told
+    /// as want of memory, as `Row` says.
+    fn make_own(&mut self, alloc: Global) -> Result<(), NoMemory>
+        ensures same { self.new ≡ self.old }
+    {
+        if has_other_owners(&self.shared) {
+            let copies = copies_of(alloc, self.shared.as_ref().as_slice())?;
+            self.shared = Rc::new(alloc, copies)?;
+        }
+        Ok(())
     }
 
     /// Stores a value in the place of another, which comes out.
@@ -75,7 +89,7 @@ impl<T: Drop + Copied> Shared<T> {
         ensures taken { IfOk result (λ old. slice_get self.old place ≡ Some old) }
         ensures rest { OnOk result (self.new ≡ slice_set self.old place value) }
     {
-        make_own(alloc, &mut self.shared)?;
+        self.make_own(alloc)?;
         match Rc::get_mut(&mut self.shared) {
             Some(values) => Ok(mem::replace(&mut values[place], value)),
             None => Err(NoMemory),
@@ -87,12 +101,17 @@ impl<T: Drop + Copied> Shared<T> {
         requires some { 0 < length self.old }
         ensures taken { IfOk result (λ first. self.old ≡ first ∷ self.new) }
     {
-        make_own(alloc, &mut self.shared)?;
+        self.make_own(alloc)?;
         match Rc::get_mut(&mut self.shared) {
             Some(values) => Ok(values.remove(0)),
             None => Err(NoMemory),
         }
     }
+}
+
+/// Whether what is shared has another owner.
+pub(crate) fn has_other_owners<C>(shared: &Rc<C>) -> bool {
+    Rc::strong_count(shared) != 1
 }
 
 /// A copy of each value, in a vector that has room for no more.
