@@ -3,6 +3,7 @@ pub mod TokenLaw
 pub mod Sinks
 pub mod LawClauses
 pub mod Sources
+pub mod Shown
 pub mod Logged
 pub mod Runs
 pub mod Wishes

@@ -1,5 +1,5 @@
 -- The turns of a run: what each of them leaves of it.
-use Rattle.std.proofs.Common.{Bool, ◌≡◌, ℕ, ◌+◌, ◌*◌, ◌-◌, ◌<◌, ◌≤◌, ◌^◌, ℤ, List, [], ◌∷◌, ◌++◌, Option, Some, None, length, sym, ◌∙◌, ap, subst, refl, arith, append-nil, length-append}
+use Rattle.std.proofs.Common.{◌≡◌, ℕ, ◌+◌, ◌*◌, ◌-◌, ◌<◌, ◌≤◌, ◌^◌, ℤ, List, [], ◌∷◌, ◌++◌, Option, Some, None, length, sym, ◌∙◌, ap, subst, refl, arith, append-nil, length-append}
 use Rattle.std.specs.Prelude.{IfSome, option_map}
 use Rattle.std.specs.List.{slice_get}
 use Rattle.chi_sched.specs.Policies.{Answers, GivesOne, IsAsked}
@@ -26,6 +26,7 @@ use Rattle.chi_plain.specs.declared.stepped.Stepped.{Stepped}
 use Rattle.chi_plain.specs.declared.stepped.Stepped.TheVariants.{Next, Over, Spent}
 use Rattle.chi_plain.specs.Stage as stages
 use Rattle.chi_plain.specs.Stage.{Stage, At, Ended, Lost, Runner, Begun, actors_at, options_at, verdict_at, clock_at, MayTell, MayStep, Steps, Appends}
+use Rattle.chi_trace.specs.declared.filter.Filter.{Filter}
 use Rattle.chi_tool.specs.Running.{IsCourse}
 use Rattle.chi_tool.specs.Turns.{GoesOn, PicksAt, EndsWith, first_log, Logs, LogsBy, LoggedSoFar, Leads, IsThere, Keeps}
 use Rattle.chi_tool.proofs.Logged.{TurnLaw, log_begins, log_of_none, log_on, log_over, log_whole}
@@ -102,16 +103,16 @@ turns_left left (At config) = 2 * left + 1
 turns_left left (Ended end) = 2 * left
 turns_left left Lost = 0
 
-module _ (law : TurnLaw) (gives : ℕ → ℕ → ℕ → Type 0) (trace : Bool) (core : Core) (first : Stage) (bound : ℕ) where
+module _ (law : TurnLaw) (gives : ℕ → ℕ → ℕ → Type 0) (trace : Option Filter) (core : Core) (first : Stage) (bound : ℕ) where
   -- a run begins
   leads_first : (beginning : Beginning) (stage : Stage) → Begun beginning stage → (pick : Pick)
       → Leads trace core beginning pick bound stage 0 bound [] (first_log trace)
   leads_first (Begins config) stage is pick =
       let P : Stage → Type 0 = λ s. Leads trace core (Begins config) pick bound s 0 bound [] (first_log trace) in
-      subst P (sym is) ([], refl, law.begins core pick bound config, log_begins law core trace config bound)
+      subst P (sym is) ([], refl, law.begins core pick bound config, log_begins core trace config bound)
   leads_first (Breaks end) stage is pick =
       let P : Stage → Type 0 = λ s. Leads trace core (Breaks end) pick bound s 0 bound [] (first_log trace) in
-      subst P (sym is) ([], record { picked = refl; logged = log_of_none law core trace end bound })
+      subst P (sym is) ([], record { picked = refl; logged = log_of_none core trace end bound })
   leads_first beginning.Amiss stage is pick = absurd is
 
   pub begins : (runner : Runner) → runner.core ≡ core → runner.stage ≡ first → IsThere runner.stage → (output log : List ℕ) → output ≡ []
@@ -164,7 +165,7 @@ module _ (law : TurnLaw) (gives : ℕ → ℕ → ℕ → Type 0) (trace : Bool)
           course_as begin pick l.0 end verdict clock output output log same t refl
           (record {
             picked = law.at_rest core begin pick bound l.0 output config left l.2 end is;
-            logged = log_whole law core begin bound l.0 log config left trace l.3 end output;
+            logged = log_whole core begin bound l.0 log config left trace l.3 end output;
           })
 
       by_stage : (stage : Stage) → Leads trace core begin pick bound stage turn left output log → verdict_at stage ≡ Some verdict → IfSome (clock_at stage) (λ time'. clock ≡ time')
@@ -215,7 +216,7 @@ module _ (law : TurnLaw) (gives : ℕ → ℕ → ℕ → Type 0) (trace : Bool)
           course_as begin pick l.0 (ending_at OutOfSteps config) OutOfSteps clock before after' log refl same_time same_output
           (record {
             picked = law.cut_off core begin pick bound l.0 before config left l.2 label (may_at pick config label l.0 l.1 (p pick answers)) s.0;
-            logged = log_whole law core begin bound l.0 log config left trace l.3 (ending_at OutOfSteps config) before;
+            logged = log_whole core begin bound l.0 log config left trace l.3 (ending_at OutOfSteps config) before;
           })
 
       by_stage : (stage stage' : Stage) → Leads trace core begin pick bound stage turn left before log → PicksAt gives turn stage label → GoesOn stage
@@ -252,7 +253,7 @@ module _ (law : TurnLaw) (gives : ℕ → ℕ → ℕ → Type 0) (trace : Bool)
           let old' = l begin begun pick answers in
           let long : length (old'.0 ++ label ∷ []) ≡ turn + 1 = length-append old'.0 (label ∷ []) ∙ ap (λ n. n + 1) old'.1 in
           let on = law.on core begin pick bound old'.0 before config left old'.2 label (may_at pick config label old'.0 old'.1 (p pick answers)) new' text rest e in
-          let logged = log_on law core begin bound old'.0 log config left trace old'.3 turn old'.1 label line g new' text rest e in (
+          let logged = log_on core begin bound old'.0 log config left trace old'.3 turn old'.1 label line g new' text rest e in (
             old'.0 ++ label ∷ [],
             long,
             subst (λ out. UnderWay core begin pick bound (old'.0 ++ label ∷ []) out new' (left - cost)) (sym is)
@@ -296,7 +297,7 @@ module _ (law : TurnLaw) (gives : ℕ → ℕ → ℕ → Type 0) (trace : Bool)
           let on = law.over core begin pick bound old'.0 before config left old'.2 label (may_at pick config label old'.0 old'.1 (p pick answers)) end.verdict s.0 in
           let same_output : before ≡ after' = sym (append-nil before) ∙ ap (λ x. before ++ x) (sym s.2) ∙ sym is in
           let P : Told → Type 0 = λ told. IsCourse trace core begin pick bound (record { told = told; log = log ++ line }) in
-          let logged = log_over law core begin bound old'.0 log config left trace old'.3 turn old'.1 label line g end.verdict s.0 (ending_at end.verdict config) before in
+          let logged = log_over core begin bound old'.0 log config left trace old'.3 turn old'.1 label line g end.verdict s.0 (ending_at end.verdict config) before in
           (old'.0 ++ label ∷ [], subst P (λ i. record { labels = old'.0 ++ label ∷ []; ending = sym s.1 i; output = same_output i }) (record { picked = on; logged = logged }))
 
       by_stage : (stage stage' : Stage) → ((begin : Beginning) → Begun begin first → (pick : Pick) → Answers gives pick → Leads trace core begin pick bound stage turn left before log)

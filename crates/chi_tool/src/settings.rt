@@ -1,10 +1,11 @@
 ghost use Rattle.std.specs.Prelude.{◌≡◌};
 
 use chi_num::Real;
+use chi_trace::Filter;
 
 /// On what terms a program is run, beside its arguments.
 #[derive(Debug, Drop)]
-pub struct Terms<P> {
+pub struct Terms<P, S> {
     /// Of its draws.
     pub seed: u64,
     /// On the costs of all its steps together.
@@ -13,13 +14,13 @@ pub struct Terms<P> {
     pub policy: P,
     /// The stopping time.
     pub until: Option<Real>,
-    /// Whether the run's trace is logged.
-    pub trace: bool,
+    /// What tells which events of the run's trace are logged, where that is wanted.
+    pub trace: Option<S>,
 }
 
-impl<P> Terms<P> {
+impl<P> Terms<P, Filter> {
     /// The same, with a policy in place of what names it.
-    pub fn with<Q>(&self, policy: Q) -> Terms<Q>
+    pub fn with<Q>(&self, policy: Q) -> Terms<Q, Filter>
         ensures { result ≡ record { seed = self.now.seed; bound = self.now.bound; policy = policy; until = self.now.until; trace = self.now.trace } }
     {
         Terms {

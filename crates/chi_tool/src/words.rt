@@ -18,13 +18,14 @@ pub fn task_of(request: Request) -> Task
             until,
             pick,
             trace,
+            probe,
         } => {
             let terms = Terms {
                 seed,
                 bound,
                 policy: pick,
                 until,
-                trace,
+                trace: if trace { Some(probe) } else { None },
             };
             let asked = Asked { terms, texts: args };
             Task::OfFile {
