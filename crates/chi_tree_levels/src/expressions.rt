@@ -11,14 +11,15 @@ use chi_tree::{Entry, Expr, Link, Postfix};
 
 /// How many levels the expression's core has at most, or the greatest u32 where that is more.
 #[cycle(levels)]
+#[tactic(auto, using(crate::proofs::Capped::over_both))]
 pub fn levels_of(e: &Expr) -> u32
     ensures { result ≡ min (levels e.now) (2 ^ 32 - 1) }
 {
     match e {
-        Expr::Chain { first, links } => above_by(
-            links.as_slice().len(),
-            levels_of(first.get()).max(highest_link(links.as_slice())),
-        ),
+        Expr::Chain { first, links } => {
+            let highest = highest_link(links.as_slice());
+            above_by(links.as_slice().len(), highest.max(levels_of(first.get())))
+        }
         Expr::Prefix { operand, .. } | Expr::Cast { operand, .. } => above(levels_of(
             operand.get(),
         )),
@@ -31,10 +32,13 @@ pub fn levels_of(e: &Expr) -> u32
             levels_of(base.get()),
             levels_of(exponent.get()),
         ),
-        Expr::Part { whole, postfixes } => above_by(
-            postfixes.as_slice().len(),
-            levels_of(whole.get()).max(highest_postfix(postfixes.as_slice())),
-        ),
+        Expr::Part { whole, postfixes } => {
+            let highest = highest_postfix(postfixes.as_slice());
+            above_by(
+                postfixes.as_slice().len(),
+                highest.max(levels_of(whole.get())),
+            )
+        }
         Expr::Call { arguments, .. } => above(highest_of(arguments.as_slice())),
         Expr::TupleOf { parts, .. } => above(highest_of(parts.as_slice())),
         Expr::ListOf { elements, .. } | Expr::SetOf { elements, .. } => above(highest_of(
