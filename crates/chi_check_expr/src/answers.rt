@@ -5,7 +5,7 @@ ghost use Rattle.chi_check_expr.specs.Answers.{Answers, CoreAndType, TypeAndDefa
 ghost use Rattle.chi_check_expr.specs.Clean.{Clean, HaveDefaults};
 ghost use Rattle.chi_check_expr.specs.Typing as spec;
 
-use crate::typing::{mean_in, type_in};
+use crate::entering::{mean_in, type_in};
 use chi_check_types::{Fault, Made, Meant, Scope, Site, TypeFault, default_of};
 use chi_core::CExpr;
 use chi_tree::{Expr, TypeTree};

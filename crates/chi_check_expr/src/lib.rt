@@ -3,11 +3,12 @@
 
 mod answers;
 mod calls;
+mod entering;
 mod fields;
 mod laws;
 mod typing;
 
 pub use answers::{type_expr, type_tree};
 pub use chi_check_types::{Known, Scope, Site, TypeFault};
+pub use entering::{MOST_LEVELS, mean_in, type_in};
 pub use laws::typing_is_exact;
-pub use typing::{mean_in, type_in};

@@ -1,3 +1,4 @@
+pub mod Begun
 pub mod Binding
 pub mod Leaving
 pub mod Slots

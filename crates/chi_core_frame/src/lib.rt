@@ -6,6 +6,7 @@ mod assigning;
 mod elements;
 mod given;
 mod operators;
+mod reusing;
 mod scalars;
 mod spots;
 mod stop;

@@ -1,3 +1,6 @@
+ghost use Rattle.std.specs.Prelude.{◌<ℤ◌, ◌≤ℤ◌, pos};
+ghost use Rattle.chi_dist.specs.Exponential.{most_mean};
+
 use crate::{DistFault, Drawn, Generator, exponential_units, sample_after};
 use chi_num::{Dist, Real};
 use std::process::Abort;
@@ -84,15 +87,6 @@ fn samples(rt: &impl Abort) {
         (Dist::Binomial(4, real(ONE), 0), Ok(Drawn::Int(4))),
         (Dist::Binomial(0, real(ONE), 0), Ok(Drawn::Int(0))),
         (Dist::Binomial(10_000, real(0), 0), Ok(Drawn::Int(0))),
-        // By an independent program, of that draw.
-        (
-            Dist::Exponential(real(ONE), 0),
-            Ok(Drawn::Real(real(2_027_199_894))),
-        ),
-        (
-            Dist::Exponential(real(MOST_MEAN), 0),
-            Ok(Drawn::Real(real(202_719_989_400_000_000))),
-        ),
         (Dist::UniformInt(7, 7, 0), Err(DistFault::BadBounds)),
         (
             Dist::UniformReal(real(1), real(0), 0),
@@ -111,6 +105,23 @@ fn samples(rt: &impl Abort) {
         (
             Dist::Binomial(10_000, real(ONE + 1), 0),
             Err(DistFault::BadChance),
+        ),
+    ] {
+        let mut generator = Generator::new(42);
+        assert_eq!(rt; generator.sample(&dist), wanted, "{dist:?}");
+    }
+}
+
+// The same of exponential ones. By an independent program, of that draw.
+fn exponential_samples(rt: &impl Abort) {
+    for (dist, wanted) in [
+        (
+            Dist::Exponential(real(ONE), 0),
+            Ok(Drawn::Real(real(2_027_199_894))),
+        ),
+        (
+            Dist::Exponential(real(MOST_MEAN), 0),
+            Ok(Drawn::Real(real(202_719_989_400_000_000))),
         ),
         (Dist::Exponential(real(0), 0), Err(DistFault::BadBounds)),
         (
@@ -178,48 +189,56 @@ fn samples_by_counts(rt: &impl Abort) {
     );
 }
 
-// The least mean, 1.0 and the greatest, with words at both ends, by an independent program.
+const WORDS: [u64; 6] = [0, 1, (1 << 62) - 1, (1 << 63) - 1, u64::MAX - 1, u64::MAX];
+
+// Draws of a mean, of words at both ends.
+fn has_draws(rt: &impl Abort, mean: i64, wanted: [i64; 6])
+    requires above { pos 0 <ℤ mean }
+    requires most { mean ≤ℤ most_mean }
+{
+    for (word, units) in WORDS.into_iter().zip(wanted) {
+        assert_eq!(rt;
+            exponential_units(Real::from_units(mean), word).units(),
+            units,
+            "mean {mean}, word {word}"
+        );
+    }
+}
+
+// The least mean, 1.0 and the greatest, by an independent program.
 #[test]
 fn exponential_draws(rt: HostRuntime) {
-    let words = [0, 1, (1 << 62) - 1, (1 << 63) - 1, u64::MAX - 1, u64::MAX];
-    for (mean, wanted) in [
-        (1, [44, 43, 1, 0, 0, 0]),
-        (
-            ONE,
-            [
-                44_361_419_584,
-                43_668_272_403,
-                1_386_294_362,
-                693_147_181,
-                0,
-                0,
-            ],
-        ),
-        (
-            MOST_MEAN,
-            [
-                4_436_141_958_400_000_000,
-                4_366_827_240_300_000_000,
-                138_629_436_200_000_000,
-                69_314_718_100_000_000,
-                0,
-                0,
-            ],
-        ),
-    ] {
-        for (word, units) in words.into_iter().zip(wanted) {
-            assert_eq!(&rt;
-                exponential_units(real(mean), word).units(),
-                units,
-                "mean {mean}, word {word}"
-            );
-        }
-    }
+    has_draws(&rt, 1, [44, 43, 1, 0, 0, 0]);
+    has_draws(
+        &rt,
+        ONE,
+        [
+            44_361_419_584,
+            43_668_272_403,
+            1_386_294_362,
+            693_147_181,
+            0,
+            0,
+        ],
+    );
+    has_draws(
+        &rt,
+        MOST_MEAN,
+        [
+            4_436_141_958_400_000_000,
+            4_366_827_240_300_000_000,
+            138_629_436_200_000_000,
+            69_314_718_100_000_000,
+            0,
+            0,
+        ],
+    );
 }
 
 #[test]
 fn samplings(rt: HostRuntime) {
     samples(&rt);
+    exponential_samples(&rt);
     draws_taken(&rt);
     samples_by_counts(&rt);
 }
