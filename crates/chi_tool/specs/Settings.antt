@@ -37,10 +37,10 @@ pub data Aim : Type 0 where
   checks : Aim
   lists : Aim
 
--- what is logged of a trace, if it is wanted: what the filter shows
-abbrev pub trace_by : Bool → Filter → Option Filter
-trace_by false filter = None
-trace_by true filter = Some filter
+-- what tells which events of a trace are logged, where it is wanted
+abbrev pub trace_by : {S : Type 0} → Bool → S → Option S
+trace_by false probe = None
+trace_by true probe = Some probe
 
 -- the policy that words name
 abbrev pub policy_of : words.Pick → Pick

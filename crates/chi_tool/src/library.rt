@@ -15,7 +15,7 @@ use crate::deliver::deliver;
 use crate::laws::{one_run_law, source_law};
 use crate::program::report_of_run;
 use crate::report::Reported;
-use crate::settings::Terms;
+use crate::settings::{Terms, trace_by};
 use crate::source::{Source, read};
 use crate::status::NO_MEMORY;
 use chi_base::NoMemory;
@@ -69,13 +69,6 @@ fn tell_terms<P: Chooser + Drop, S: Sieve + Drop, O: Sink, L: Sink>(
     }
 }
 
-/// What tells which events of a trace are logged, where it is wanted.
-fn sieve_of<S: Sieve + Drop>(trace: bool, probe: S) -> Option<S>
-    ensures { option_map S.keeps_to result ≡ trace_by trace (S.keeps_to probe) }
-{
-    if trace { Some(probe) } else { None }
-}
-
 /// Simulates a source: its first model with the arguments that texts mean, these draws, this bound on the costs of its
 /// steps and this stopping time. The policy picks among what may happen. With `trace` the log has a
 /// line for each label whose event the probe shows, before that of the verdict.
@@ -125,7 +118,7 @@ pub fn simulate_probed<P: Chooser + Drop, S: Sieve + Drop, O: Sink, L: Sink>(
     source_law();
     one_run_law();
     values_are_of_parameters();
-    let trace = sieve_of(trace, probe);
+    let trace = trace_by(trace, probe);
     let terms = Terms {
         seed,
         bound,

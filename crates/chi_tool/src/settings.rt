@@ -1,4 +1,5 @@
 ghost use Rattle.std.specs.Prelude.{◌≡◌};
+ghost use Rattle.chi_tool.specs.Settings.{trace_by};
 
 use chi_num::Real;
 use chi_trace::Filter;
@@ -31,4 +32,11 @@ impl<P> Terms<P, Filter> {
             trace: self.trace,
         }
     }
+}
+
+/// What tells which events of a trace are logged, where it is wanted.
+pub fn trace_by<S: Drop>(trace: bool, probe: S) -> Option<S>
+    ensures { result ≡ trace_by trace probe }
+{
+    if trace { Some(probe) } else { None }
 }

@@ -1,7 +1,7 @@
 ghost use Rattle.std.specs.Prelude.{◌≡◌};
 ghost use Rattle.chi_tool.specs.Words.{is_refusal, task_of};
 
-use crate::settings::Terms;
+use crate::settings::{Terms, trace_by};
 use crate::task::{Asked, Purpose, Task};
 use chi_cli::{CliFault, Request};
 
@@ -25,7 +25,7 @@ pub fn task_of(request: Request) -> Task
                 bound,
                 policy: pick,
                 until,
-                trace: if trace { Some(probe) } else { None },
+                trace: trace_by(trace, probe),
             };
             let asked = Asked { terms, texts: args };
             Task::OfFile {
