@@ -3,7 +3,6 @@ pub mod TokenLaw
 pub mod Sinks
 pub mod LawClauses
 pub mod Sources
-pub mod Shown
 pub mod Logged
 pub mod Runs
 pub mod Wishes

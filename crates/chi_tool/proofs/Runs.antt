@@ -17,7 +17,7 @@ use Rattle.chi_core.specs.Picks.{Pick, IsLawful}
 use Rattle.chi_core.specs.Runs.{Told, Derivation}
 use Rattle.chi_core.specs.Sound.{Sound}
 use Rattle.chi_trace.specs.declared.filter.Filter.{Filter}
-use Rattle.chi_trace_events.specs.Laws.{EachHasATrace}
+use Rattle.chi_trace_events.specs.Laws.{EachHasATrace, OneTrace}
 use Rattle.chi_plain.specs.Stage.{Stage, Begun}
 use Rattle.chi_core_runs.specs.Picked.{IsBeginning, PickedIsDerived, PickedOnce, PickedAlways}
 use Rattle.chi_sched.specs.Policies.{Answers}
@@ -34,7 +34,6 @@ use Rattle.chi_tool.specs.Settings.{Settings, Wanted, Aim, simulates, wanted_of,
 use Rattle.chi_tool.specs.Sources.{ComesTo}
 use Rattle.chi_tool.specs.Turns.{RunsTo}
 use Rattle.chi_tool.proofs.LawClauses.{CheckLaw, ValuesLaw, comes_sound}
-use Rattle.chi_tool.proofs.Shown.{some_shown, one_shown}
 
 -- what the three formulas pick is one of the choices
 
@@ -68,13 +67,12 @@ asked_settings fit core w values d is read bounded = record {
 some_log : EachHasATrace → (trace : Option Filter) (core : Core) → Sound core → (start' : Beginning) → IsBeginning core start' → (bound : ℕ) (told : Told)
     → Derivation core start' bound told → (log : List ℕ) × IsLogged trace core start' bound told log
 some_log traces None core sound start' is bound told derived = ([], refl)
-some_log traces (Some probe) core sound start' is bound told derived =
-    let t = traces core sound start' is bound told derived in some_shown probe core start' bound told t.0 t.1
+some_log traces (Some probe) core sound start' is bound told derived = traces probe core sound start' is bound told derived
 
-one_log : (trace : Option Filter) (core : Core) (start' : Beginning) (bound : ℕ) (told : Told) (log other : List ℕ)
+one_log : OneTrace → (trace : Option Filter) (core : Core) (start' : Beginning) (bound : ℕ) (told : Told) (log other : List ℕ)
     → IsLogged trace core start' bound told log → IsLogged trace core start' bound told other → log ≡ other
-one_log None core start' bound told log other l m = l ∙ sym m
-one_log (Some probe) core start' bound told log other l m = one_shown probe core start' bound told log other l m
+one_log one None core start' bound told log other l m = l ∙ sym m
+one_log one (Some probe) core start' bound told log other l m = one probe core start' bound told log other l m
 
 pub run_some : PickedAlways → PickedIsDerived → EachHasATrace → CheckLaw → (source : List ℕ) (core : Core) → length source ≤ MOST_BYTES → ComesTo source core
     → (s : Settings) → MayHave core s → (course : Course) × IsRunOf core s course
@@ -94,12 +92,12 @@ run_some always derived traces check source core within comes s may =
     let log = some_log traces s.trace core sound begun is s.bound p.0 (derived core begun s.pick s.bound p.0 p.1.0) in
     (record { told = p.0; log = log.0 }, record { picked = p.1.0; logged = log.1 })
 
-pub run_one : PickedOnce → (core : Core) (s : Settings) (course other : Course) → IsRunOf core s course → IsRunOf core s other → course ≡ other
-run_one once core s course other p q =
+pub run_one : PickedOnce → OneTrace → (core : Core) (s : Settings) (course other : Course) → IsRunOf core s course → IsRunOf core s other → course ≡ other
+run_one once one core s course other p q =
     let begun = start core s.arguments s.seed s.until in
     let told : course.told ≡ other.told = once core begun s.pick s.bound course.told other.told p.picked q.picked in
     let here : IsLogged s.trace core begun s.bound other.told course.log = subst (λ (t : Told). IsLogged s.trace core begun s.bound t course.log) told p.logged in
-    let log : course.log ≡ other.log = one_log s.trace core begun s.bound other.told course.log other.log here q.logged in
+    let log : course.log ≡ other.log = one_log one s.trace core begun s.bound other.told course.log other.log here q.logged in
     λ i. record { told = told i; log = log i }
 
 -- a run from its beginning is the run of the program with its settings

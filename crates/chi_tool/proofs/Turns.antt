@@ -109,10 +109,10 @@ module _ (law : TurnLaw) (gives : ℕ → ℕ → ℕ → Type 0) (trace : Optio
       → Leads trace core beginning pick bound stage 0 bound [] (first_log trace)
   leads_first (Begins config) stage is pick =
       let P : Stage → Type 0 = λ s. Leads trace core (Begins config) pick bound s 0 bound [] (first_log trace) in
-      subst P (sym is) ([], refl, law.begins core pick bound config, log_begins core trace config bound)
+      subst P (sym is) ([], refl, law.begins core pick bound config, log_begins law core trace config bound)
   leads_first (Breaks end) stage is pick =
       let P : Stage → Type 0 = λ s. Leads trace core (Breaks end) pick bound s 0 bound [] (first_log trace) in
-      subst P (sym is) ([], record { picked = refl; logged = log_of_none core trace end bound })
+      subst P (sym is) ([], record { picked = refl; logged = log_of_none law core trace end bound })
   leads_first beginning.Amiss stage is pick = absurd is
 
   pub begins : (runner : Runner) → runner.core ≡ core → runner.stage ≡ first → IsThere runner.stage → (output log : List ℕ) → output ≡ []
@@ -165,7 +165,7 @@ module _ (law : TurnLaw) (gives : ℕ → ℕ → ℕ → Type 0) (trace : Optio
           course_as begin pick l.0 end verdict clock output output log same t refl
           (record {
             picked = law.at_rest core begin pick bound l.0 output config left l.2 end is;
-            logged = log_whole core begin bound l.0 log config left trace l.3 end output;
+            logged = log_whole law core begin bound l.0 log config left trace l.3 end output;
           })
 
       by_stage : (stage : Stage) → Leads trace core begin pick bound stage turn left output log → verdict_at stage ≡ Some verdict → IfSome (clock_at stage) (λ time'. clock ≡ time')
@@ -216,7 +216,7 @@ module _ (law : TurnLaw) (gives : ℕ → ℕ → ℕ → Type 0) (trace : Optio
           course_as begin pick l.0 (ending_at OutOfSteps config) OutOfSteps clock before after' log refl same_time same_output
           (record {
             picked = law.cut_off core begin pick bound l.0 before config left l.2 label (may_at pick config label l.0 l.1 (p pick answers)) s.0;
-            logged = log_whole core begin bound l.0 log config left trace l.3 (ending_at OutOfSteps config) before;
+            logged = log_whole law core begin bound l.0 log config left trace l.3 (ending_at OutOfSteps config) before;
           })
 
       by_stage : (stage stage' : Stage) → Leads trace core begin pick bound stage turn left before log → PicksAt gives turn stage label → GoesOn stage
@@ -253,7 +253,7 @@ module _ (law : TurnLaw) (gives : ℕ → ℕ → ℕ → Type 0) (trace : Optio
           let old' = l begin begun pick answers in
           let long : length (old'.0 ++ label ∷ []) ≡ turn + 1 = length-append old'.0 (label ∷ []) ∙ ap (λ n. n + 1) old'.1 in
           let on = law.on core begin pick bound old'.0 before config left old'.2 label (may_at pick config label old'.0 old'.1 (p pick answers)) new' text rest e in
-          let logged = log_on core begin bound old'.0 log config left trace old'.3 turn old'.1 label line g new' text rest e in (
+          let logged = log_on law core begin bound old'.0 log config left trace old'.3 turn old'.1 label line g new' text rest e in (
             old'.0 ++ label ∷ [],
             long,
             subst (λ out. UnderWay core begin pick bound (old'.0 ++ label ∷ []) out new' (left - cost)) (sym is)
@@ -297,7 +297,7 @@ module _ (law : TurnLaw) (gives : ℕ → ℕ → ℕ → Type 0) (trace : Optio
           let on = law.over core begin pick bound old'.0 before config left old'.2 label (may_at pick config label old'.0 old'.1 (p pick answers)) end.verdict s.0 in
           let same_output : before ≡ after' = sym (append-nil before) ∙ ap (λ x. before ++ x) (sym s.2) ∙ sym is in
           let P : Told → Type 0 = λ told. IsCourse trace core begin pick bound (record { told = told; log = log ++ line }) in
-          let logged = log_over core begin bound old'.0 log config left trace old'.3 turn old'.1 label line g end.verdict s.0 (ending_at end.verdict config) before in
+          let logged = log_over law core begin bound old'.0 log config left trace old'.3 turn old'.1 label line g end.verdict s.0 (ending_at end.verdict config) before in
           (old'.0 ++ label ∷ [], subst P (λ i. record { labels = old'.0 ++ label ∷ []; ending = sym s.1 i; output = same_output i }) (record { picked = on; logged = logged }))
 
       by_stage : (stage stage' : Stage) → ((begin : Beginning) → Begun begin first → (pick : Pick) → Answers gives pick → Leads trace core begin pick bound stage turn left before log)

@@ -1,5 +1,5 @@
 -- What the run of a program is with its settings, and its report.
-use Rattle.std.specs.Prelude.{◌≡◌, ℕ, ◌^◌, ◌<◌, List, [], ◌++◌, Option, Some, None, filter, map, slice_get}
+use Rattle.std.specs.Prelude.{◌≡◌, ℕ, ◌^◌, ◌<◌, List, [], ◌++◌, Option, Some, None, slice_get}
 use Rattle.chi_core.specs.declared.program.Core.{Core}
 use Rattle.chi_core.specs.Beginning.{Beginning, start}
 use Rattle.chi_core.specs.declared.program.ProcDef.{ProcDef}
@@ -8,10 +8,8 @@ use Rattle.chi_core.specs.Of.{at_start, AreOf}
 use Rattle.chi_core.specs.Picks.{IsLawful, Pick, Picked}
 use Rattle.chi_core.specs.Runs.{Told}
 use Rattle.chi_core.specs.VerdictLine.{verdict_line_of}
-use Rattle.chi_trace.specs.declared.event.Event.{Event}
 use Rattle.chi_trace.specs.declared.filter.Filter.{Filter}
-use Rattle.chi_trace.specs.Filters.{shows}
-use Rattle.chi_trace_events.specs.Traces.{events_of, lines_of}
+use Rattle.chi_trace_events.specs.Traces.{IsTrace}
 use Rattle.chi_tool.specs.Refusals.{Report}
 use Rattle.chi_tool.specs.Settings.{Settings}
 use Rattle.chi_tool.specs.Statuses.{status_of}
@@ -25,16 +23,10 @@ pub record MayHave (core : Core) (s : Settings) : Type 0 where
   pub lawful : IsLawful s.pick
   pub bound : s.bound < 2 ^ 63
 
--- what is shown of the trace of a run: its first line, and the lines of those events that the probe shows
-pub record IsShown (probe : Filter) (core : Core) (beginning : Beginning) (bound : ℕ) (told : Told) (log : List ℕ) : Type 0 where
-  pub events : List Event
-  pub are : events_of core beginning bound told ≡ map Some events
-  pub is : log ≡ lines_of (filter (shows probe) events)
-
 -- what is logged of a run before the line of its verdict: what is shown of its trace, where that is wanted
 abbrev pub IsLogged : Option Filter → Core → Beginning → ℕ → Told → List ℕ → Type 0
 IsLogged None core beginning bound told log = log ≡ []
-IsLogged (Some probe) core beginning bound told log = IsShown probe core beginning bound told log
+IsLogged (Some probe) core beginning bound told log = IsTrace probe core beginning bound told log
 
 -- all that a run did, and what is logged of it
 pub record Course : Type 0 where

@@ -1,5 +1,5 @@
 -- Private to proofs: a run under a policy, turn by turn.
-use Rattle.std.specs.Prelude.{◌≡◌, ℕ, ◌+◌, ◌≤◌, ℤ, List, [], ◌++◌, length, filter, Option, Some, None, IfSome, if◌then◌else◌}
+use Rattle.std.specs.Prelude.{◌≡◌, ℕ, ◌+◌, ◌≤◌, ℤ, List, [], ◌++◌, length, Option, Some, None, IfSome}
 use Rattle.chi_sched.specs.Policies.{Answers}
 use Rattle.chi_core.specs.declared.program.Core.{Core}
 use Rattle.chi_core.specs.declared.label.Label.{Label}
@@ -10,15 +10,13 @@ use Rattle.chi_core.specs.Options.{ending}
 use Rattle.chi_core.specs.Config.{Config}
 use Rattle.chi_core.specs.Picks.{Pick, MayPick}
 use Rattle.chi_trace_events.specs.Traces.{lines_of}
-use Rattle.chi_trace_events.specs.Tracing.{ToldFrom}
+use Rattle.chi_trace_events.specs.Tracing.{TracedSoFar, shown_line}
 use Rattle.chi_plain.specs.declared.stepped.Stepped.{Stepped}
 use Rattle.chi_plain.specs.declared.stepped.Stepped.TheVariants.{Next, Over, Spent, NoMemory}
 use Rattle.chi_plain.specs.Stage.{Stage, At, Ended, Lost, Runner, Begun, IsEventAt, verdict_at, clock_at}
 use Rattle.chi_core_runs.specs.Turns.{UnderWay}
 use Rattle.chi_trace.specs.declared.event.Event.{Event}
 use Rattle.chi_trace.specs.declared.filter.Filter.{Filter}
-use Rattle.chi_trace.specs.Filters.{shows}
-use Rattle.chi_trace.specs.Lines.{event_line}
 use Rattle.chi_tool.specs.declared.run_end.RunEnd.{RunEnd}
 use Rattle.chi_tool.specs.declared.run_end.RunEnd.TheVariants as run_ends
 use Rattle.chi_tool.specs.Refusals.{Report}
@@ -41,10 +39,6 @@ abbrev pub first_log : Option Filter → List ℕ
 first_log None = []
 first_log (Some probe) = lines_of []
 
--- the line of an event that the probe shows
-abbrev pub shown_line : Filter → Event → List ℕ
-shown_line probe e = if shows probe e then event_line e else []
-
 -- what a turn adds to the log: the line of its label's event, where the trace is wanted and that is shown
 abbrev pub Logs : Option Filter → Core → Stage → ℕ → Label → List ℕ → Type 0
 Logs None core stage turn label line = line ≡ []
@@ -64,16 +58,10 @@ LogsBy trace core stage turn label before after' Over = (line : List ℕ) × Log
 LogsBy trace core stage turn label before after' Spent = after' ≡ before
 LogsBy trace core stage turn label before after' NoMemory = Unit {0}
 
--- what was shown along the labels that led to a configuration
-pub record ShownSoFar (probe : Filter) (core : Core) (beginning : Beginning) (bound : ℕ) (labels : List Label) (log : List ℕ) (config : Config) (left : ℕ) : Type 0 where
-  pub events : List Event
-  pub told : ToldFrom core beginning bound labels events config left
-  pub is : log ≡ lines_of (filter (shows probe) events)
-
--- so much was logged along them
+-- so much was logged along the labels that led to a configuration
 abbrev pub LoggedSoFar : Option Filter → Core → Beginning → ℕ → List Label → List ℕ → Config → ℕ → Type 0
 LoggedSoFar None core beginning bound labels log config left = log ≡ []
-LoggedSoFar (Some probe) core beginning bound labels log config left = ShownSoFar probe core beginning bound labels log config left
+LoggedSoFar (Some probe) core beginning bound labels log config left = TracedSoFar probe core beginning bound labels log config left
 
 -- the run that the policy picks is under way, or has come to its end
 abbrev pub Leads : Option Filter → Core → Beginning → Pick → ℕ → Stage → ℕ → ℕ → List ℕ → List ℕ → Type 0

@@ -24,6 +24,7 @@ use chi_num::Real;
 use chi_plain::{Plain, Stepped};
 use chi_sched::Chooser;
 use chi_trace::Sieve;
+use chi_trace_events::tracing_law;
 use chi_value::{TextFault, Value};
 use std::alloc::Global;
 
@@ -91,6 +92,7 @@ fn run_on<P: Chooser, S: Sieve>(
 {
     time_law();
     turn_law();
+    tracing_law();
     let mut left = bound;
     let mut turn = 0;
     'turn: loop {

@@ -8,4 +8,4 @@ returns-clause-some c =
     run_some c.picked_law.ensures.always c.picked_law.ensures.derived c.trace_law.ensures.some check
 
 pub returns-clause-one : goal.returns-clause-one
-returns-clause-one c = run_one c.picked_law.ensures.once
+returns-clause-one c = run_one c.picked_law.ensures.once c.trace_law.ensures.one
