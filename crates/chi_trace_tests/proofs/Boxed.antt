@@ -1,9 +1,10 @@
 -- A closure that was just boxed, as a probe: what its own clauses tell makes it keep to the filter.
 --     gives_box        a box of the closure may give what the closure may
 --     faithful_box     it keeps to the filter that the closure's answers tell
+--     read_alike       what is read of equal values is equal
 -- They take the table and the entry of the function that boxes it (`own-1` and `at-1-1` of its `OwnLists`) and what
 -- `into_dyn_box` ensures.
-use Rattle.std.proofs.Common.{◌≡◌, Bool, refl, subst, sym}
+use Rattle.std.proofs.Common.{◌≡◌, Bool, ap, refl, subst, sym}
 use Rattle.std.specs.Borrow.{Bor}
 use mir.Syntax.{Dict}
 use denote.Param.Members.{Mut}
@@ -14,7 +15,7 @@ use borrow.Pointer.Entry.{sure}
 use Rattle.chi_trace.specs.declared.event.Event.{Event}
 use Rattle.chi_trace.specs.declared.filter.Filter.{Filter}
 use Rattle.chi_trace.specs.Filters.{shows}
-use Rattle.chi_trace.specs.Probes.{Faithful, IsInRange}
+use Rattle.chi_trace.specs.Probes.{Faithful}
 
 -- an event, as a call passes it
 abbrev Passed : Type 0
@@ -37,3 +38,6 @@ module _ (T : Table (λ X. Mut X Passed Bool) Dict) (at : T.I) {i : T.I} {y : (T
       (λ is. gives_box event answer (answers event answer is)),
     );
   }
+
+pub read_alike : {A B : Type 0} {x y : A} → x ≡ y → (read : A → B) → read x ≡ read y
+read_alike same read = ap read same
