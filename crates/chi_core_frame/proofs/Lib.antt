@@ -1,5 +1,7 @@
 pub mod Binding
+pub mod Items
 pub mod Leaving
+pub mod Reusing
 pub mod Slots
 pub mod Spreading
 pub mod Stopping

@@ -5,7 +5,9 @@
 mod assigning;
 mod elements;
 mod given;
+mod items;
 mod operators;
+mod reusing;
 mod scalars;
 mod spots;
 mod stop;

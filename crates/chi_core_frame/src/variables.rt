@@ -15,7 +15,7 @@ use std::marker::Model;
 /// is set.
 #[derive(Debug, Drop)]
 pub struct Variables {
-    slots: Vec<Option<Value>>,
+    pub(crate) slots: Vec<Option<Value>>,
 }
 
 impl Model for Variables {
@@ -57,7 +57,7 @@ fn let_all_go(value: Value) {
 
 // Lets a value go, at once where it owns no memory.
 #[inline(always)]
-fn let_go(old: Option<Value>) {
+pub(crate) fn let_go(old: Option<Value>) {
     match old {
         None => {}
         Some(Value::Int(_)) => {}
@@ -105,7 +105,7 @@ impl Variables {
     /// Whether a slot is there and set.
     #[inline(always)]
     #[tactic(auto, using(crate::proofs::Slots::set))]
-    fn is_set(&self, slot: u32) -> bool
+    pub fn is_set(&self, slot: u32) -> bool
         ensures { IsTrue result ↔ (value_at self.now slot ≢ None) }
     {
         match self.slots.get(slot as usize) {

@@ -1,0 +1,10 @@
+pub mod Turns
+pub mod Keyed
+pub mod Stepped
+pub mod Counts
+pub mod Aims
+pub mod Hinting
+pub mod Fusing
+pub mod Loops
+pub mod Walks
+pub mod Answers
