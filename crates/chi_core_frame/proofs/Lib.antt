@@ -1,7 +1,7 @@
 pub mod Binding
-pub mod Items
+pub mod Placed
 pub mod Leaving
-pub mod Reusing
+pub mod Begun
 pub mod Slots
 pub mod Spreading
 pub mod Stopping

@@ -39,7 +39,7 @@ impl Variables {
     /// The place at which a variable has a list with an element that an index names, if the index is none that is counted
     /// from the end.
     #[inline(always)]
-    #[tactic(auto, using(crate::proofs::Items::places))]
+    #[tactic(auto, using(crate::proofs::Placed::places))]
     fn place_of(&self, slot: u32, key: &Value) -> Option<usize>
         ensures { IfSome result (λ place. HasItem self.now slot key.now place) }
     {
@@ -52,7 +52,7 @@ impl Variables {
     }
 
     /// Stores an element of a list. Where that isn't at once possible, the value comes back, and nothing has changed.
-    #[tactic(auto, using(crate::proofs::Items::storing))]
+    #[tactic(auto, using(crate::proofs::Placed::storing))]
     pub fn put_item(
         &mut self,
         alloc: Global,

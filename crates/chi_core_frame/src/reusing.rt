@@ -32,7 +32,7 @@ fn widen(slots: &mut Vec<Option<Value>>, count: usize) -> Result<(), NoMemory>
 
 // All slots, none of which is set, get the values at the end of a list.
 #[inline(always)]
-#[tactic(auto, using(crate::proofs::Reusing::filling))]
+#[tactic(auto, using(crate::proofs::Begun::filling))]
 fn fill(slots: &mut Vec<Option<Value>>, arity: usize, values: &mut Vec<Value>)
     requires enough { arity ≤ length values.old.items }
     requires unset { slots.old.items ≡ replicate arity None }
@@ -61,7 +61,7 @@ impl Variables {
     /// The variables of a body that begins: so many arguments, taken from the end of a list, in the first slots, and no
     /// other set.
     #[inline(always)]
-    #[tactic(auto, using(crate::proofs::Reusing::beginning))]
+    #[tactic(auto, using(crate::proofs::Begun::beginning))]
     pub fn begin(
         &mut self,
         slots: usize,

@@ -3,7 +3,7 @@ pub mod Keyed
 pub mod Stepped
 pub mod Counts
 pub mod Aims
-pub mod Hinting
+pub mod Hints
 pub mod Fusing
 pub mod Loops
 pub mod Walks

@@ -1,4 +1,4 @@
-use Rattle.chi_core_frame.proofs.Reusing.{Filled}
+use Rattle.chi_core_frame.proofs.Begun.{Filled}
 use Rattle.chi_core_frame.proofs.reusing.fill.Given as goal
 
 abbrev pub invariant-loop-left : goal.invariant-loop-left
