@@ -14,21 +14,21 @@ pub record Filled (arity left : ℕ) (slots : Variables) (old now : List Value) 
   pub last : List Value
   pub split : old ≡ now ++ last
   pub size : left + length last ≡ arity
-  pub slots : slots ≡ replicate left None ++ map Some last
+  pub stand : slots ≡ replicate left None ++ map Some last
 
 pub fill_begins : (arity : ℕ) (slots : Variables) (values : List Value) → slots ≡ replicate arity None → Filled arity arity slots values values
 fill_begins arity slots values e = record {
   last = [];
   split = sym (append-nil values);
   size = omega arith;
-  slots = e ∙ sym (append-nil (replicate arity None));
+  stand = e ∙ sym (append-nil (replicate arity None));
 }
 
 -- the next slot is there, and so is the value for it
 module _ (arity left : ℕ) (slots : Variables) (old now : List Value) (f : Filled arity left slots old now) where
   pub fill_there : 0 < left → left - 1 < length slots
   fill_there h =
-      let n : length slots ≡ left + length f.last = ap length f.slots ∙ length-append (replicate left None) (map Some f.last) ∙ (λ j. length-replicate left None j + length-map f.last Some j) in
+      let n : length slots ≡ left + length f.last = ap length f.stand ∙ length-append (replicate left None) (map Some f.last) ∙ (λ j. length-replicate left None j + length-map f.last Some j) in
       omega (arith, h, n)
 
   pub fill_enough : 0 < left → arity ≤ length old → now ≢ []
@@ -42,9 +42,9 @@ module _ (arity left : ℕ) (slots : Variables) (old now : List Value) (f : Fill
     last = x ∷ f.last;
     split = f.split ∙ ap (λ l. l ++ f.last) e ∙ append_assoc later (x ∷ []) f.last;
     size = let s = f.size in omega (arith, s, n);
-    slots =
+    stand =
         is
-        ∙ ap (λ l. slice_set l less (Some x)) (f.slots ∙ ap (λ n. replicate n None ++ map Some f.last) n ∙ ap (λ l. l ++ map Some f.last) (sym (replicate_more less None)) ∙ append_assoc (replicate less None) (None ∷ []) (map Some f.last))
+        ∙ ap (λ l. slice_set l less (Some x)) (f.stand ∙ ap (λ n. replicate n None ++ map Some f.last) n ∙ ap (λ l. l ++ map Some f.last) (sym (replicate_more less None)) ∙ append_assoc (replicate less None) (None ∷ []) (map Some f.last))
         ∙ set_last less (Some x) (map Some f.last);
   }
 
@@ -58,7 +58,7 @@ module _ (arity left : ℕ) (slots : Variables) (old now : List Value) (f : Fill
 
   pub filled_slots : slots ≡ map Some (drop (length old - arity) old)
   filled_slots =
-      f.slots
+      f.stand
       ∙ ap (λ n. replicate n None ++ map Some f.last) none
       ∙ ap (map Some) (sym (ap (λ n. drop n old) front ∙ ap (drop (length now)) f.split ∙ drop-append_seam now f.last))
 

@@ -1,7 +1,7 @@
-pub mod Binding
-pub mod Placed
-pub mod Leaving
 pub mod Begun
+pub mod Binding
+pub mod Leaving
+pub mod Placed
 pub mod Slots
 pub mod Spreading
 pub mod Stopping

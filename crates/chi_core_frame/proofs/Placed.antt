@@ -15,7 +15,7 @@ use Rattle.chi_core_frame.specs.Items.{HasItem}
 
 pub has_item : (variables : Variables) (slot place : ℕ) (items : List Value) (key : Value) → slice_get variables slot ≡ Some (Some (value.ListOf items)) → key ≡ value.Int (pos place) → place < length items
     → HasItem variables slot key place
-has_item variables slot place items key e k h = record { items = items; is = ap set_value e; key = k; inside = h }
+has_item variables slot place items key e k h = record { items = items; is = ap set_value e; place_is = k; inside = h }
 
 pub ruleset places = (has_item)
 
@@ -37,7 +37,7 @@ module _ (slot place : ℕ) (key x : Value) (variables : Variables) (view : View
   store_is : store_into slot (by key ∷ []) x variables view ≡ then_do (done (put (by (value.Int (pos place)) ∷ []) x (value.ListOf h.items)) view) then_set
   unfolding then_set
   store_is =
-      ap (λ k. store_into slot (by k ∷ []) x variables view) h.key
+      ap (λ k. store_into slot (by k ∷ []) x variables view) h.place_is
       ∙ ap (λ o. then_do (wanted o view) (λ v now. then_do (done (put (by (value.Int (pos place)) ∷ []) x v) now) then_set)) h.is
 
   stored_is : (new : Variables) → store_into slot (by key ∷ []) x variables view ≢ Amiss → with_slot slot (value.ListOf (slice_set h.items place x)) variables ≡ Some new
@@ -61,6 +61,6 @@ module _ (slot place : ℕ) (key : Value) (variables : Variables) (h : HasItem v
   pub item_stored : (row : List Value) (x : Value) (view : View) (new : Variables) → value_at variables slot ≡ Some (value.ListOf row) → store_into slot (by key ∷ []) x variables view ≢ Amiss
       → with_slot slot (value.ListOf (slice_set row place x)) variables ≡ Some new → store_into slot (by key ∷ []) x variables view ≡ Gives new view
   item_stored row x view new e fits is =
-      stored_is slot place key x variables view (record { items = row; is = e; key = h.key; inside = item_inside row e }) new fits is
+      stored_is slot place key x variables view (record { items = row; is = e; place_is = h.place_is; inside = item_inside row e }) new fits is
 
 pub ruleset storing = (item_set, item_row, item_inside, item_stored)

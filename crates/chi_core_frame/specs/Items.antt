@@ -8,5 +8,5 @@ use Rattle.chi_core.specs.Variables.{Variables, value_at}
 pub record HasItem (variables : Variables) (slot : ℕ) (key : Value) (place : ℕ) : Type 0 where
   pub items : List Value
   pub is : value_at variables slot ≡ Some (value.ListOf items)
-  pub key : key ≡ value.Int (pos place)
+  pub place_is : key ≡ value.Int (pos place)
   pub inside : place < length items
