@@ -28,7 +28,7 @@ fill_begins arity slots values e = record {
 module _ (arity left : ℕ) (slots : Variables) (old now : List Value) (f : Filled arity left slots old now) where
   pub fill_there : 0 < left → left - 1 < length slots
   fill_there h =
-      let n : length slots ≡ left + length f.last = ap length f.stand ∙ length-append (replicate left None) (map Some f.last) ∙ (λ j. length-replicate left None j + length-map f.last Some j) in
+      let n : length slots ≡ left + length f.last = ap length f.stand ∙ length-append (replicate left None) (map Some f.last) ∙ (λ j. length-replicate {A = Option Value} left None j + length-map f.last Some j) in
       omega (arith, h, n)
 
   pub fill_enough : 0 < left → arity ≤ length old → now ≢ []
