@@ -86,9 +86,9 @@ fn first_view() -> View
     }
 }
 
-fn ran(stop: Stop) -> Ran
-    ensures { (view : View) (answer : Answer (List Value)) → Stops stop answer → Says result view answer }
-    ensures { IsVal result → ⊥ }
+fn answer_of(stop: Stop) -> Ran
+    ensures says { (view : View) (answer : Answer (List Value)) → Stops stop answer → Says result view answer }
+    ensures none { IsVal result → ⊥ }
 {
     match stop {
         Stop::Fault(kind) => Ran::Fault(kind),
@@ -146,7 +146,7 @@ impl Exec {
             mem::swap(&mut m.frame.variables, &mut outlook.variables);
             Ran::Val(mem::replace(&mut m.stack, Vec::new(alloc)))
         } else {
-            ran(m.stop)
+            answer_of(m.stop)
         }
     }
 
