@@ -1,7 +1,6 @@
 pub mod Begun
 pub mod Binding
 pub mod Leaving
-pub mod Placed
 pub mod Slots
 pub mod Spreading
 pub mod Stopping

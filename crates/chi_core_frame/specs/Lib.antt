@@ -3,7 +3,6 @@ pub mod Assignments
 pub mod Bindings
 pub mod Elements
 pub mod Heads
-pub mod Items
 pub mod Operators
 pub mod Spots
 pub mod Stops

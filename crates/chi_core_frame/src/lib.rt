@@ -5,7 +5,6 @@
 mod assigning;
 mod elements;
 mod given;
-mod items;
 mod operators;
 mod reusing;
 mod scalars;

@@ -1,5 +1,5 @@
 -- The end of a run is what the expressions come to.
-use Rattle.std.proofs.Common.{◌≡◌, ◌≢◌, ℕ, zero, suc, ◌<◌, List, [], ◌∷◌, ◌++◌, reverse, length, Some, refl, sym, ap, subst, ◌∙◌, arith}
+use Rattle.std.proofs.Common.{◌≡◌, ◌≢◌, ℕ, zero, suc, pos, ◌<◌, List, [], ◌∷◌, ◌++◌, reverse, length, Some, refl, sym, ap, subst, ◌∙◌, arith}
 use Rattle.std.proofs.lemmas.List.{reverse-reverse, length-reverse}
 use Rattle.chi_value.specs.declared.value.Value.{Value}
 use Rattle.chi_core.specs.declared.expression.CExpr.{CExpr}
@@ -24,7 +24,7 @@ use Rattle.chi_exec.specs.declared.evaluating.Ran.{Ran}
 use Rattle.chi_exec.specs.declared.evaluating.Ran.TheVariants as ran
 use Rattle.chi_core_frame.specs.Stops.{Stops}
 use Rattle.chi_exec.specs.Evaluations.{Stretch, Ready, Says}
-use Rattle.chi_exec.specs.Constants.{ConstantAt, Sets}
+use Rattle.chi_exec.specs.Constants.{ConstantAt, ConstantReady, Sets}
 use Rattle.chi_exec.specs.Views.{EndedAt}
 
 module _ (m : Setting) where
@@ -84,6 +84,26 @@ module _ (code : Code) (scene : Scene) (at : ℕ) (variables : Variables) (view 
     stops_so (stop.Fault kind) h = faulted (in_expressions code scene) r.upto variables s _ r.right (comes_to core es r) kind h
     stops_so stop.Spent h = used_up (in_expressions code scene) r.upto variables s _ r.right (comes_to core es r) h
     stops_so stop.NoMemory h = tt
+
+-- The same, where what evaluations read is written in another way.
+module _ (code : Code) (found scene : Scene) (same : scene ≡ found) (at : ℕ) (variables : Variables) (view : View) (s : State) (is : s ≡ begun at variables view) where
+  pub list_halts : Ready code found at variables view → Halts (step (in_expressions code scene)) s
+  list_halts r = subst (λ (sc : Scene). Halts (step (in_expressions code sc)) s) (sym same) (starts code found at variables view s is r)
+
+  pub list_values : (core : Core) (es : List CExpr) → Stretch code found at variables view core es → (t : State) → Reaches (step (in_expressions code scene)) s (Rests t)
+      → evaluated core found variables es view ≡ Gives (reverse t.stack) t.view
+  list_values core es r t h =
+      values_are code found at variables view s is core es r t (subst (λ (sc : Scene). Reaches (step (in_expressions code sc)) s (Rests t)) same h)
+
+  -- what stretches have in common
+  pub list_variables : Ready code found at variables view → (t : State) → Reaches (step (in_expressions code scene)) s (Rests t) → t.frame.variables ≡ variables
+  list_variables r t h =
+      variables_stay code found at variables view s is r.core r.es r.stretch t (subst (λ (sc : Scene). Reaches (step (in_expressions code sc)) s (Rests t)) same h)
+
+  pub list_stops : (core : Core) (es : List CExpr) → Stretch code found at variables view core es → (why : Stop) → EndedAt (step (in_expressions code scene)) s why
+      → Stops why (evaluated core found variables es view)
+  list_stops core es r why h =
+      stops_so code found at variables view s is core es r why (subst (λ (sc : Scene). EndedAt (step (in_expressions code sc)) s why) same h)
 
 -- Constants.
 
@@ -149,3 +169,24 @@ module _ (code : Code) (at seed : ℕ) (before : List Value) (s : State) (is : s
     constant_stops (stop.Fault kind) h = fails_one _ kind (faulted (in_expressions code scene) r.upto [] s _ (giving_there _ r.right) constant_comes kind h)
     constant_stops stop.Spent h = spends_one _ (used_up (in_expressions code scene) r.upto [] s _ (giving_there _ r.right) constant_comes h)
     constant_stops stop.NoMemory h = tt
+
+-- what a constant reads, as the machine has it
+abbrev pub scene_before : Code → ℕ → List Value → Scene
+scene_before code seed before = record { names = code.names; seed = seed; clock = pos 0; constants = before; finished = [] }
+
+module _ (code : Code) (at seed : ℕ) (before : List Value) (scene : Scene) (same : scene ≡ scene_before code seed before) (s : State) (is : s ≡ begun at [] constant_view) where
+  as_meant : (core : Core) (c : ConstDef) → ConstantAt code at seed before core c → scene ≡ constant_scene core seed before
+  as_meant core c r = same ∙ (λ j. record { names = r.codes.names j; seed = seed; clock = pos 0; constants = before; finished = [] })
+
+  pub const_halts : ConstantReady code at seed before → Halts (step (in_expressions code scene)) s
+  const_halts r = constant_starts code at seed before s is scene r.core r.constant r.stands (as_meant r.core r.constant r.stands)
+
+  pub const_there : ConstantReady code at seed before → (t : State) → Reaches (step (in_expressions code scene)) s (Rests t) → 0 < length t.stack
+  const_there r t h = constant_there code at seed before s is scene r.core r.constant r.stands (as_meant r.core r.constant r.stands) t h
+
+  pub const_sets : (core : Core) (c : ConstDef) → ConstantAt code at seed before core c → (t : State) (v : Value) (rest now : List Value) → Reaches (step (in_expressions code scene)) s (Rests t)
+      → reverse t.stack ≡ rest ++ v ∷ [] → now ≡ before ++ v ∷ [] → Sets before now (constant_value core seed before c)
+  const_sets core c r t v rest now h e n = constant_sets code at seed before s is scene core c r (as_meant core c r) t v rest now h e n
+
+  pub const_stops : (core : Core) (c : ConstDef) → ConstantAt code at seed before core c → (why : Stop) → EndedAt (step (in_expressions code scene)) s why → Stops why (constant_value core seed before c)
+  const_stops core c r why h = constant_stops code at seed before s is scene core c r (as_meant core c r) why h

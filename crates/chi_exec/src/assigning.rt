@@ -154,7 +154,7 @@ fn key_path(alloc: Global, key: Value) -> Result<Vec<Path>, Stop>
     Ok(path)
 }
 
-// The value on top goes to an element of what a variable has: at once, if that is a list.
+// The value goes to an element of what a variable has.
 #[inline(always)]
 #[tactic(auto, using(crate::proofs::Turns::ended, crate::proofs::Turns::not_amiss))]
 fn store_item(
@@ -169,28 +169,11 @@ fn store_item(
     ensures goes { OnOk result (item_on slot key value (reverse m.old.stack.items) (state_of m.old) ≡ Goes (state_of m.new)) }
     ensures ends { IfErr result (λ stop. Ended stop (item_on slot key value (reverse m.old.stack.items) (state_of m.old))) }
 {
-    match m
-        .frame
-        .variables
-        .put_item(alloc, slot, &key, value, &m.view)?
-    {
-        None => {
-            m.at += 1;
-            Ok(())
-        }
-        Some(value) => {
-            let path = key_path(alloc, key)?;
-            store(
-                alloc,
-                &mut m.frame.variables,
-                Spot { slot, path },
-                value,
-                &m.view,
-            )?;
-            m.at += 1;
-            Ok(())
-        }
-    }
+    let path = key_path(alloc, key)?;
+    let spot = Spot { slot, path };
+    store(alloc, &mut m.frame.variables, spot, value, &m.view)?;
+    m.at += 1;
+    Ok(())
 }
 
 #[inline(never)]

@@ -1,6 +1,7 @@
 pub mod Back
 pub mod Cuts
 pub mod Forth
+pub mod Kept
 pub mod LineLaws
 pub mod Names
 pub mod Numbers
