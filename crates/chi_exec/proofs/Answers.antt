@@ -25,7 +25,8 @@ use Rattle.chi_exec.specs.declared.evaluating.Ran.TheVariants as ran
 use Rattle.chi_core_frame.specs.Stops.{Stops}
 use Rattle.chi_exec.specs.Evaluations.{Stretch, Ready, Says}
 use Rattle.chi_exec.specs.Constants.{ConstantAt, ConstantReady, Sets}
-use Rattle.chi_exec.specs.Views.{EndedAt}
+use Rattle.chi_exec.specs.declared.machinery.Machine.{Machine}
+use Rattle.chi_exec.specs.Views.{EndedAt, state_of}
 
 module _ (m : Setting) where
   halting : (z : ℕ) (variables : Variables) (s : State) (o : Answer (List Value)) → o ≢ Amiss → Values m z variables s o → Halts (step m) s
@@ -85,25 +86,30 @@ module _ (code : Code) (scene : Scene) (at : ℕ) (variables : Variables) (view 
     stops_so stop.Spent h = used_up (in_expressions code scene) r.upto variables s _ r.right (comes_to core es r) h
     stops_so stop.NoMemory h = tt
 
--- The same, where what evaluations read is written in another way.
-module _ (code : Code) (found scene : Scene) (same : scene ≡ found) (at : ℕ) (variables : Variables) (view : View) (s : State) (is : s ≡ begun at variables view) where
-  pub list_halts : Ready code found at variables view → Halts (step (in_expressions code scene)) s
-  list_halts r = subst (λ (sc : Scene). Halts (step (in_expressions code sc)) s) (sym same) (starts code found at variables view s is r)
+-- The same of a machine that has been set out, where what evaluations read is written in another way.
 
-  pub list_values : (core : Core) (es : List CExpr) → Stretch code found at variables view core es → (t : State) → Reaches (step (in_expressions code scene)) s (Rests t)
-      → evaluated core found variables es view ≡ Gives (reverse t.stack) t.view
-  list_values core es r t h =
-      values_are code found at variables view s is core es r t (subst (λ (sc : Scene). Reaches (step (in_expressions code sc)) s (Rests t)) same h)
+pub list_halts : (code : Code) (found : Scene) (at : ℕ) (variables : Variables) (view : View) (s : State) (scene : Scene) → Ready code found at variables view → s ≡ begun at variables view → scene ≡ found
+    → Halts (step (in_expressions code scene)) s
+list_halts code found at variables view s scene r is same = subst (λ (sc : Scene). Halts (step (in_expressions code sc)) s) (sym same) (starts code found at variables view s is r)
 
-  -- what stretches have in common
-  pub list_variables : Ready code found at variables view → (t : State) → Reaches (step (in_expressions code scene)) s (Rests t) → t.frame.variables ≡ variables
-  list_variables r t h =
-      variables_stay code found at variables view s is r.core r.es r.stretch t (subst (λ (sc : Scene). Reaches (step (in_expressions code sc)) s (Rests t)) same h)
+pub list_values : (code : Code) (found : Scene) (at : ℕ) (variables : Variables) (view : View) (s : State) (scene : Scene) (core : Core) (es : List CExpr) (m : Machine) (values : List Value) (left : View)
+    → Stretch code found at variables view core es → s ≡ begun at variables view → scene ≡ found → Reaches (step (in_expressions code scene)) s (Rests (state_of m)) → values ≡ m.stack.items → left ≡ m.view
+    → evaluated core found variables es view ≡ Gives values left
+list_values code found at variables view s scene core es m values left r is same h v l =
+    values_are code found at variables view s is core es r (state_of m) (subst (λ (sc : Scene). Reaches (step (in_expressions code sc)) s (Rests (state_of m))) same h)
+    ∙ (λ j. Gives ((reverse-reverse m.stack.items ∙ sym v) j) (sym l j))
 
-  pub list_stops : (core : Core) (es : List CExpr) → Stretch code found at variables view core es → (why : Stop) → EndedAt (step (in_expressions code scene)) s why
-      → Stops why (evaluated core found variables es view)
-  list_stops core es r why h =
-      stops_so code found at variables view s is core es r why (subst (λ (sc : Scene). EndedAt (step (in_expressions code sc)) s why) same h)
+pub list_variables : (code : Code) (found : Scene) (at : ℕ) (variables : Variables) (view : View) (s : State) (scene : Scene) (m : Machine)
+    → Ready code found at variables view → s ≡ begun at variables view → scene ≡ found → Reaches (step (in_expressions code scene)) s (Rests (state_of m)) → m.frame.value.variables ≡ variables
+list_variables code found at variables view s scene m r is same h =
+    variables_stay code found at variables view s is r.core r.es r.stretch (state_of m) (subst (λ (sc : Scene). Reaches (step (in_expressions code sc)) s (Rests (state_of m))) same h)
+
+pub list_stops : (code : Code) (found : Scene) (at : ℕ) (variables : Variables) (view : View) (s : State) (scene : Scene) (core : Core) (es : List CExpr) (why : Stop)
+    → Stretch code found at variables view core es → s ≡ begun at variables view → scene ≡ found → EndedAt (step (in_expressions code scene)) s why → Stops why (evaluated core found variables es view)
+list_stops code found at variables view s scene core es why r is same h =
+    stops_so code found at variables view s is core es r why (subst (λ (sc : Scene). EndedAt (step (in_expressions code sc)) s why) same h)
+
+pub ruleset lists = (list_halts, list_values, list_variables, list_stops)
 
 -- Constants.
 
@@ -153,7 +159,7 @@ module _ (code : Code) (at seed : ℕ) (before : List Value) (s : State) (is : s
     constant_told t h = (told (in_expressions code scene) r.upto [] s _ (giving_there _ r.right) constant_comes t h).gives
 
     pub constant_there : (t : State) → Reaches (step (in_expressions code scene)) s (Rests t) → 0 < length t.stack
-    constant_there t h = let n = one_there _ _ _ (constant_told t h) in omega (arith, n, length-reverse t.stack)
+    constant_there t h = let n : 0 < length (reverse t.stack) = one_there _ _ _ (constant_told t h) in omega (arith, n, length-reverse t.stack)
 
     pub constant_sets : (t : State) (v : Value) (rest now : List Value) → Reaches (step (in_expressions code scene)) s (Rests t) → reverse t.stack ≡ rest ++ v ∷ [] → now ≡ before ++ v ∷ []
         → Sets before now (constant_value core seed before c)
@@ -174,19 +180,29 @@ module _ (code : Code) (at seed : ℕ) (before : List Value) (s : State) (is : s
 abbrev pub scene_before : Code → ℕ → List Value → Scene
 scene_before code seed before = record { names = code.names; seed = seed; clock = pos 0; constants = before; finished = [] }
 
-module _ (code : Code) (at seed : ℕ) (before : List Value) (scene : Scene) (same : scene ≡ scene_before code seed before) (s : State) (is : s ≡ begun at [] constant_view) where
-  as_meant : (core : Core) (c : ConstDef) → ConstantAt code at seed before core c → scene ≡ constant_scene core seed before
-  as_meant core c r = same ∙ (λ j. record { names = r.codes.names j; seed = seed; clock = pos 0; constants = before; finished = [] })
+as_meant : (code : Code) (at seed : ℕ) (before : List Value) (scene : Scene) (core : Core) (c : ConstDef) → ConstantAt code at seed before core c → scene ≡ scene_before code seed before → scene ≡ constant_scene core seed before
+as_meant code at seed before scene core c r same = same ∙ (λ j. record { names = r.codes.names j; seed = seed; clock = pos 0; constants = before; finished = [] })
 
-  pub const_halts : ConstantReady code at seed before → Halts (step (in_expressions code scene)) s
-  const_halts r = constant_starts code at seed before s is scene r.core r.constant r.stands (as_meant r.core r.constant r.stands)
+pub const_halts : (code : Code) (at seed : ℕ) (before : List Value) (s : State) (scene : Scene) → ConstantReady code at seed before → s ≡ begun at [] constant_view → scene ≡ scene_before code seed before
+    → Halts (step (in_expressions code scene)) s
+const_halts code at seed before s scene r is same =
+    constant_starts code at seed before s is scene r.core r.constant r.stands (as_meant code at seed before scene r.core r.constant r.stands same)
 
-  pub const_there : ConstantReady code at seed before → (t : State) → Reaches (step (in_expressions code scene)) s (Rests t) → 0 < length t.stack
-  const_there r t h = constant_there code at seed before s is scene r.core r.constant r.stands (as_meant r.core r.constant r.stands) t h
+pub const_there : (code : Code) (at seed : ℕ) (before : List Value) (s : State) (scene : Scene) (m : Machine) → ConstantReady code at seed before → s ≡ begun at [] constant_view
+    → scene ≡ scene_before code seed before → Reaches (step (in_expressions code scene)) s (Rests (state_of m)) → 0 < length m.stack.items
+const_there code at seed before s scene m r is same h =
+    let n : 0 < length (reverse m.stack.items) = constant_there code at seed before s is scene r.core r.constant r.stands (as_meant code at seed before scene r.core r.constant r.stands same) (state_of m) h in
+    omega (arith, n, length-reverse m.stack.items)
 
-  pub const_sets : (core : Core) (c : ConstDef) → ConstantAt code at seed before core c → (t : State) (v : Value) (rest now : List Value) → Reaches (step (in_expressions code scene)) s (Rests t)
-      → reverse t.stack ≡ rest ++ v ∷ [] → now ≡ before ++ v ∷ [] → Sets before now (constant_value core seed before c)
-  const_sets core c r t v rest now h e n = constant_sets code at seed before s is scene core c r (as_meant core c r) t v rest now h e n
+pub const_sets : (code : Code) (at seed : ℕ) (before : List Value) (s : State) (scene : Scene) (core : Core) (c : ConstDef) (m : Machine) (v : Value) (rest now : List Value)
+    → ConstantAt code at seed before core c → s ≡ begun at [] constant_view → scene ≡ scene_before code seed before → Reaches (step (in_expressions code scene)) s (Rests (state_of m))
+    → m.stack.items ≡ rest ++ v ∷ [] → now ≡ before ++ v ∷ [] → Sets before now (constant_value core seed before c)
+const_sets code at seed before s scene core c m v rest now r is same h e n =
+    constant_sets code at seed before s is scene core c r (as_meant code at seed before scene core c r same) (state_of m) v rest now h (reverse-reverse m.stack.items ∙ e) n
 
-  pub const_stops : (core : Core) (c : ConstDef) → ConstantAt code at seed before core c → (why : Stop) → EndedAt (step (in_expressions code scene)) s why → Stops why (constant_value core seed before c)
-  const_stops core c r why h = constant_stops code at seed before s is scene core c r (as_meant core c r) why h
+pub const_stops : (code : Code) (at seed : ℕ) (before : List Value) (s : State) (scene : Scene) (core : Core) (c : ConstDef) (why : Stop)
+    → ConstantAt code at seed before core c → s ≡ begun at [] constant_view → scene ≡ scene_before code seed before → EndedAt (step (in_expressions code scene)) s why
+    → Stops why (constant_value core seed before c)
+const_stops code at seed before s scene core c why r is same h = constant_stops code at seed before s is scene core c r (as_meant code at seed before scene core c r same) why h
+
+pub ruleset consts = (const_halts, const_there, const_sets, const_stops)

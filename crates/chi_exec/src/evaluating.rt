@@ -123,6 +123,7 @@ impl Exec {
 
     /// The values of a list of expressions, whose code begins at a place. What the outlook has after any other answer is
     /// worth nothing further.
+    #[tactic(auto, using(crate::proofs::Answers::lists))]
     pub fn run_expr(&mut self, alloc: Global, code: &Code, at: u64, outlook: &mut Outlook) -> Ran
         requires right { AreRight self.old.hints.items code.now.instrs }
         requires ready { Ready code.now (scene_in code.now.names self.old.constants.items outlook.old) at outlook.old.variables outlook.old.view }
@@ -151,6 +152,7 @@ impl Exec {
     }
 
     /// Sets the next constant, whose code begins at a place: its value joins those that are set.
+    #[tactic(auto, using(crate::proofs::Answers::consts))]
     pub fn set_constant(
         &mut self,
         alloc: Global,

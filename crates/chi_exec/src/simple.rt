@@ -45,10 +45,12 @@ pub fn load(m: &mut Machine, alloc: Global, k: u32) -> Result<(), Stop>
     ensures ends { IfErr result (λ stop. Ended stop (load_on k (state_of m.old))) }
 {
     if let Value::Int(x) = m.frame.variables.get(k) {
-        return push(m, alloc, Value::Int(*x));
+        let x = *x;
+        return push(m, alloc, Value::Int(x));
     }
     if let Value::Chan(x) = m.frame.variables.get(k) {
-        return push(m, alloc, Value::Chan(*x));
+        let x = *x;
+        return push(m, alloc, Value::Chan(x));
     }
     load_copy(m, alloc, k)
 }
