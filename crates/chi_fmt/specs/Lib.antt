@@ -5,4 +5,6 @@ pub mod Lines
 pub mod Definitions
 pub mod Kept
 pub mod Comments
+pub mod Rows
+pub mod Pages
 pub mod Layout

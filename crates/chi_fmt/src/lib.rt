@@ -1,14 +1,13 @@
 //! The canonical layout: writes the tree of a source in one way, with the comments of the source.
 #![tactic(auto)]
 
-mod canonical;
 mod comment;
-mod comments;
 mod definitions;
 mod draft;
 mod elements;
 mod exprs;
 mod fault;
+mod found;
 mod line;
 mod lines;
 mod page;
@@ -19,8 +18,9 @@ mod spot;
 mod statements;
 mod types;
 mod words;
+mod written;
 
-pub use canonical::canonical;
 pub use comment::Comment;
-pub use comments::comments;
 pub use fault::FmtFault;
+pub use found::comments;
+pub use written::canonical;

@@ -1,7 +1,8 @@
 ghost use Rattle.std.specs.Prelude.{◌≡◌, ◌+◌, ◌++◌, ◌<◌, ◌≤◌, Err, IfOk, OnOk, length, nat_lt};
 ghost use Rattle.std.specs.List.{flat_map, prefix_len};
 ghost use Rattle.chi_token.specs.Spelling.{canonical_spelling};
-ghost use Rattle.chi_fmt.specs.Layout.{comment_text, empty_line, gap, kept_tokens, line_text, line_with, lines_text, semicolon_text, source_tokens, spaces, text_of};
+ghost use Rattle.chi_fmt.specs.Pages.{kept_tokens, line_with, lines_text, source_tokens};
+ghost use Rattle.chi_fmt.specs.Rows.{comment_text, empty_line, gap, line_text, semicolon_text, spaces, text_of};
 ghost use Rattle.chi_fmt.specs.declared.fault.FmtFault.TheVariants.{TooLong};
 
 use crate::comment::Comment;
@@ -43,10 +44,14 @@ impl Page {
         ensures within { OnOk result (length self.new.bytes.items ≤ MOST_BYTES) }
         ensures too_long { result ≡ Err TooLong → MOST_BYTES < length (self.old.bytes.items ++ spaces count) }
     {
-        for _ in 0..count {
-            self.put(b" ")?;
+        let (passed, count) = (self.bytes.len(), count as usize);
+        if MOST_BYTES - passed < count {
+            return Err(FmtFault::TooLong);
         }
-        Ok(())
+        match self.bytes.resize(passed + count, b' ') {
+            Ok(()) => Ok(()),
+            Err(_) => Err(FmtFault::NoMemory),
+        }
     }
 
     fn token(&mut self, token: &Token) -> Result<(), FmtFault>

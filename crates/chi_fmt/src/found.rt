@@ -46,10 +46,12 @@ impl Found {
     fn gap(&mut self, before: u32, gap: &[u8]) -> Result<(), NoMemory>
         ensures { OnOk result (self.new.comments.items ≡ self.old.comments.items ++ gap_comments before gap.now) }
     {
-        for line in gap.split(|byte| *byte == b'\n') {
-            self.line(before, line)?;
+        let mut rest = gap;
+        while let Some(stop) = rest.iter().position(|byte| *byte == b'\n') {
+            self.line(before, &rest[..stop])?;
+            rest = &rest[stop + 1..];
         }
-        Ok(())
+        self.line(before, rest)
     }
 
     /// That of a line of it, from its first hash sign on.
