@@ -7,6 +7,7 @@ use Rattle.chi_lex.specs.Gaps.{hash, is_blank, goes_on}
 use Rattle.chi_lex.specs.Places.{is_line_feed}
 use Rattle.chi_lex.proofs.Runs.{and_left, and_right, one_suc}
 use Rattle.chi_fmt.specs.declared.comment.Comment.{Comment}
+use Rattle.chi_fmt.specs.Reread.{IsCommentText}
 use Rattle.chi_fmt.specs.Comments.{comment, is_hash, line_comment, gap_comments}
 
 -- no comment where nothing stands
@@ -45,12 +46,6 @@ past_blank index c gap blank = by (is_line_feed c) refl (is_hash c) refl
     by false l' false h' = past_byte index c gap l' h'
 
 -- a comment's line
-
--- from its hash sign to before a line feed
-pub record IsCommentText (text : List ℕ) : Type 0 where
-  pub body : List ℕ
-  pub is : hash ∷ body ≡ text
-  pub one_line : list_all goes_on body ≡ true
 
 not_true : (b : Bool) → not b ≡ true → b ≡ false
 not_true true h = cc

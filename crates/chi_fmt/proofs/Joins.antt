@@ -24,50 +24,8 @@ use Rattle.chi_fmt.specs.declared.spot.Role.{Role}
 use Rattle.chi_fmt.specs.declared.spot.Role.TheVariants.{Usual, Prefix, Communicates, Opens, Closes}
 use Rattle.chi_fmt.specs.declared.spot.Spot.{Spot}
 use Rattle.chi_fmt.specs.Spaces.{closes, ends_close, opens, begins_close, holds_next, holds_last, is_bracket, takes_bracket, is_joined}
+use Rattle.chi_fmt.specs.Sound.{role_fits, is_sign, is_greater, is_usual, is_dot, is_name, starts_equal, is_tight, fits}
 use Rattle.chi_fmt.proofs.Standing.{Breaks, equals, spells, standing, sign-before}
-
--- what a line needs of its spots
-
-abbrev pub is_sign : Token → Bool
-is_sign (token.Sign sign) = true
-is_sign _ = false
-
-abbrev pub is_greater : Token → Bool
-is_greater (token.Sign Greater) = true
-is_greater _ = false
-
--- a role that isn't usual is that of a sign, and the last one that of `>`
-abbrev pub role_fits : Role → Token → Bool
-role_fits Usual t = true
-role_fits Prefix t = is_sign t
-role_fits Communicates t = is_sign t
-role_fits Opens t = is_sign t
-role_fits Closes t = is_greater t
-
-abbrev pub is_usual : Role → Bool
-is_usual Usual = true
-is_usual _ = false
-
-abbrev pub is_dot : Token → Bool
-is_dot (token.Sign Dot) = true
-is_dot _ = false
-
-abbrev pub is_name : Token → Bool
-is_name (token.Name bytes) = true
-is_name _ = false
-
-abbrev pub starts_equal : Token → Bool
-starts_equal (token.Sign Assign) = true
-starts_equal (token.Sign Equal) = true
-starts_equal _ = false
-
--- after the spot the next may stand without a space, whatever that one is
-abbrev pub is_tight : Spot → Bool
-is_tight s = opens s.token || not (is_usual s.role)
-
--- there it begins with no equals sign, and after a point it is a name
-abbrev pub fits : Spot → Spot → Bool
-fits s u = (not (is_tight s) || not (starts_equal u.token)) && (not (is_dot s.token) || is_name u.token)
 
 -- the bytes before which each token stands
 

@@ -1,3 +1,4 @@
+pub mod Blocks
 pub mod Gaps
 pub mod Joins
 pub mod Lengths

@@ -13,13 +13,14 @@ use Rattle.chi_fmt.specs.declared.comment.Comment.{Comment}
 use Rattle.chi_fmt.specs.declared.line.Line.{Line}
 use Rattle.chi_fmt.specs.declared.spot.Spot.{Spot}
 use Rattle.chi_fmt.specs.Comments.{comment}
+use Rattle.chi_fmt.specs.Reread.{token_at, IsCommentText, AreComments, before, semicolon_tokens, line_tokens, text_tokens, kept_spelling, moved}
+use Rattle.chi_fmt.specs.Sound.{AreTokens, is_row, AreRows}
 use Rattle.chi_fmt.specs.Rows.{spaces, text_of, semicolon_text, line_text, empty_line, comment_text}
 use Rattle.chi_fmt.specs.Pages.{one_if, source_tokens, stands_before, line_with, lines_text}
 use Rattle.chi_fmt.proofs.Standing.{Breaks, standing}
-use Rattle.chi_fmt.proofs.Gaps.{IsCommentText}
 use Rattle.chi_fmt.proofs.Scans.{Scans, nothing, blank, comment_line, one_token}
 use Rattle.chi_fmt.proofs.Joins.{close-breaks, feed-breaks}
-use Rattle.chi_fmt.proofs.RowScans.{IsRow, token_at, text-scans}
+use Rattle.chi_fmt.proofs.RowScans.{text-scans}
 
 -- blanks
 
@@ -35,14 +36,6 @@ empty-scan false back index tokens comments later = later
 empty-scan true back index tokens comments later = blank line_feed back index tokens comments refl later
 
 -- comments
-
--- each of them before the token with this index
-abbrev pub before : ℕ → List Comment → List Comment
-before index comments = map (λ c. comment index c.text) comments
-
-abbrev pub AreComments : List Comment → Type 0
-AreComments [] = Unit {0}
-AreComments (c ∷ cs) = IsCommentText c.text × AreComments cs
 
 pub comments-scan : (margin : ℕ) (here : List Comment) (back : List ℕ) (index : ℕ) (tokens : List Token) (comments : List Comment)
     → AreComments here → Scans back index tokens comments
@@ -65,14 +58,6 @@ pub semicolon-token : IsToken (token.Sign Semicolon)
 unfolding token_spelled_by sign_of value_at
 semicolon-token = (59 ∷ [], refl)
 
-abbrev pub semicolon_tokens : Bool → List Token
-semicolon_tokens false = []
-semicolon_tokens true = token.Sign Semicolon ∷ []
-
--- the tokens of a line that are kept
-abbrev pub line_tokens : Line → List Token
-line_tokens line = map token_at line.spots ++ semicolon_tokens line.semicolon.kept
-
 semicolon-breaks : (kept : Bool) (back : List ℕ) → Breaks (semicolon_text kept ++ line_feed ∷ back)
 semicolon-breaks false back = feed-breaks back
 semicolon-breaks true back = close-breaks Semicolon (line_feed ∷ back) refl (λ h. refl)
@@ -88,14 +73,10 @@ semicolon-scan true back index tokens comments later =
     (standing (token.Sign Semicolon) (line_feed ∷ back) semicolon-token (feed-breaks back))
     (blank line_feed back (index + 1) tokens comments refl later)
 
--- how many tokens the line has in the text
-abbrev pub text_tokens : Line → ℕ
-text_tokens line = length line.spots + one_if line.semicolon.kept
-
 pub line-scan : (line : Line) (back : List ℕ) (index : ℕ) (tokens : List Token) (comments : List Comment)
-    → IsRow line.spots → Scans back (index + text_tokens line) tokens comments
+    → AreTokens line.spots → is_row line.spots ≡ true → Scans back (index + text_tokens line) tokens comments
     → Scans (line_text line ++ back) index (line_tokens line ++ tokens) comments
-line-scan line back index tokens comments row later =
+line-scan line back index tokens comments are row later =
     let kept = line.semicolon.kept in
     let rest = semicolon_text kept ++ line_feed ∷ back in
     let whole : line_text line ++ back ≡ spaces line.margin ++ (text_of line.spots ++ rest) =
@@ -106,26 +87,10 @@ line-scan line back index tokens comments row later =
     subst (λ xs. Scans xs index (line_tokens line ++ tokens) comments) (sym whole)
     (spaces-scan line.margin (text_of line.spots ++ rest) index (line_tokens line ++ tokens) comments
     (subst (λ ts. Scans (text_of line.spots ++ rest) index ts comments) (sym (append_assoc (map token_at line.spots) (semicolon_tokens kept) tokens))
-    (text-scans line.spots rest index (semicolon_tokens kept ++ tokens) comments row (semicolon-breaks kept back)
+    (text-scans line.spots rest index (semicolon_tokens kept ++ tokens) comments are row (semicolon-breaks kept back)
     (semicolon-scan kept back (index + length line.spots) tokens comments (subst (λ n. Scans back n tokens comments) size later)))))
 
 -- lines
-
-abbrev pub AreRows : List Line → Type 0
-AreRows [] = Unit {0}
-AreRows (line ∷ lines) = IsRow line.spots × AreRows lines
-
--- the tokens that are kept
-abbrev pub kept_spelling : List Line → List Token
-kept_spelling [] = []
-kept_spelling (line ∷ lines) = line_tokens line ++ kept_spelling lines
-
--- the comments as they stand in the text, where it has so many tokens before these lines: each before the first token of its line
-abbrev pub moved : ℕ → ℕ → List Line → List Comment → List Comment
-moved index passed [] comments = before index comments
-moved index passed (line ∷ lines) comments =
-    before index (take_while (stands_before passed line) comments)
-    ++ moved (index + text_tokens line) (passed + source_tokens line) lines (drop (prefix_len (stands_before passed line) comments) comments)
 
 some-are : (n : ℕ) (cs : List Comment) → AreComments cs → AreComments (take n cs) × AreComments (drop n cs)
 some-are zero cs are = (tt, are)
@@ -152,5 +117,5 @@ lines-scan (line ∷ lines) comments index passed rows are =
     subst (λ xs. Scans xs index (line_tokens line ++ tokens) (before index here ++ more)) (sym whole)
     (empty-scan line.after_empty (flat_map (comment_text line.margin) here ++ (line_text line ++ rest)) index (line_tokens line ++ tokens) (before index here ++ more)
     (comments-scan line.margin here (line_text line ++ rest) index (line_tokens line ++ tokens) more parts.0
-    (line-scan line rest index tokens more rows.0
-    (lines-scan lines later (index + text_tokens line) (passed + source_tokens line) rows.1 parts.1))))
+    (line-scan line rest index tokens more rows.0 rows.1
+    (lines-scan lines later (index + text_tokens line) (passed + source_tokens line) rows.2 parts.1))))

@@ -8,31 +8,25 @@ use Rattle.chi_token.specs.Spelling.{canonical_spelling}
 use Rattle.chi_token.specs.Tokens.{IsToken}
 use Rattle.chi_lex.specs.Gaps.{space}
 use Rattle.chi_lex.specs.Reading.{longest_token}
-use Rattle.chi_lex.proofs.Runs.{StopsAt, and_right}
+use Rattle.chi_lex.proofs.Runs.{StopsAt, and_left, and_right}
 use Rattle.chi_fmt.specs.declared.comment.Comment.{Comment}
 use Rattle.chi_fmt.specs.declared.spot.Spot.{Spot}
 use Rattle.chi_fmt.specs.Spaces.{is_joined}
+use Rattle.chi_fmt.specs.Reread.{token_at}
 use Rattle.chi_fmt.specs.Rows.{gap, text_after, text_of}
 use Rattle.chi_fmt.proofs.Standing.{Breaks, standing}
 use Rattle.chi_fmt.proofs.Scans.{Scans, blank, one_token}
-use Rattle.chi_fmt.proofs.Joins.{is_dot, is_name, role_fits, fits, joined, name-stops, space-breaks}
+use Rattle.chi_fmt.specs.Sound.{is_dot, is_name, role_fits, fits, next_fits, is_row, AreTokens}
+use Rattle.chi_fmt.proofs.Joins.{joined, name-stops, space-breaks}
 
-abbrev pub token_at : Spot → Token
-token_at s = s.token
+role-of : (s : Spot) (ss : List Spot) → is_row (s ∷ ss) ≡ true → role_fits s.role s.token ≡ true
+role-of s ss row = and_left (role_fits s.role s.token) (next_fits s ss && is_row ss) row
 
--- a spot of a source, in a role that it can have
-pub record IsSound (s : Spot) : Type 0 where
-  pub spelled : IsToken s.token
-  pub role : role_fits s.role s.token ≡ true
+next-of : (s : Spot) (ss : List Spot) → is_row (s ∷ ss) ≡ true → next_fits s ss ≡ true
+next-of s ss row = and_left (next_fits s ss) (is_row ss) (and_right (role_fits s.role s.token) (next_fits s ss && is_row ss) row)
 
--- the next spot, if there is one, may stand after it
-abbrev pub Next : Spot → List Spot → Type 0
-Next s [] = Unit {0}
-Next s (u ∷ us) = fits s u ≡ true
-
-abbrev pub IsRow : List Spot → Type 0
-IsRow [] = Unit {0}
-IsRow (s ∷ ss) = IsSound s × Next s ss × IsRow ss
+row-of : (s : Spot) (ss : List Spot) → is_row (s ∷ ss) ≡ true → is_row ss ≡ true
+row-of s ss row = and_right (next_fits s ss) (is_row ss) (and_right (role_fits s.role s.token) (next_fits s ss && is_row ss) row)
 
 -- after a point stands no digit
 
@@ -47,24 +41,24 @@ gap-stops : (b : Bool) (bytes : List ℕ) → StopsAt is_digit bytes → StopsAt
 gap-stops true bytes stops = stops
 gap-stops false bytes stops = refl
 
-after-dot : (s : Spot) (more : List Spot) (back : List ℕ) → IsRow more → Next s more → is_dot s.token ≡ true → StopsAt is_digit back
+after-dot : (s : Spot) (more : List Spot) (back : List ℕ) → AreTokens more → next_fits s more ≡ true → is_dot s.token ≡ true → StopsAt is_digit back
     → StopsAt is_digit (text_after s more ++ back)
-after-dot s [] back row next dot stops = stops
-after-dot s (u ∷ more) back row next dot stops =
+after-dot s [] back are next dot stops = stops
+after-dot s (u ∷ more) back are next dot stops =
     subst (λ xs. StopsAt is_digit xs)
     (sym (append_assoc (gap s u ++ canonical_spelling u.token) (text_after u more) back ∙ append_assoc (gap s u) (canonical_spelling u.token) (text_after u more ++ back)))
     (gap-stops (is_joined s u) (canonical_spelling u.token ++ (text_after u more ++ back))
-    (name-stops u.token (text_after u more ++ back) row.0.spelled (dot_name s u next dot)))
+    (name-stops u.token (text_after u more ++ back) are.0 (dot_name s u next dot)))
 
 -- a row, from its first spot on
 
 row-scans : (s : Spot) (more : List Spot) (back : List ℕ) (index : ℕ) (tokens : List Token) (comments : List Comment)
-    → IsRow (s ∷ more) → Breaks back → Scans back (index + length (s ∷ more)) tokens comments
+    → AreTokens (s ∷ more) → is_row (s ∷ more) ≡ true → Breaks back → Scans back (index + length (s ∷ more)) tokens comments
     → Scans ((canonical_spelling s.token ++ text_after s more) ++ back) index (s.token ∷ map token_at more ++ tokens) comments
-row-scans s [] back index tokens comments row breaks later =
+row-scans s [] back index tokens comments are row breaks later =
     subst (λ xs. Scans (xs ++ back) index (s.token ∷ tokens) comments) (sym (append-nil (canonical_spelling s.token)))
-    (one_token s.token back index tokens comments row.0.spelled (standing s.token back row.0.spelled breaks) later)
-row-scans s (u ∷ more) back index tokens comments row breaks later =
+    (one_token s.token back index tokens comments are.0 (standing s.token back are.0 breaks) later)
+row-scans s (u ∷ more) back index tokens comments are row breaks later =
     by (is_joined s u) refl
   where
     rest : List ℕ
@@ -82,7 +76,7 @@ row-scans s (u ∷ more) back index tokens comments row breaks later =
     inner : Scans tail (index + 1) read comments
     inner =
         subst (λ xs. Scans xs (index + 1) read comments) (append_assoc (canonical_spelling u.token) (text_after u more) back)
-        (row-scans u more back (index + 1) tokens comments row.2 breaks (subst (λ n. Scans back n tokens comments) size later))
+        (row-scans u more back (index + 1) tokens comments are.1 (row-of s (u ∷ more) row) breaks (subst (λ n. Scans back n tokens comments) size later))
 
     whole : (b : Bool) → (canonical_spelling s.token ++ (cond b [] (space ∷ []) ++ canonical_spelling u.token ++ text_after u more)) ++ back
         ≡ canonical_spelling s.token ++ (cond b [] (space ∷ []) ++ tail)
@@ -96,21 +90,21 @@ row-scans s (u ∷ more) back index tokens comments row breaks later =
         → Scans ((canonical_spelling s.token ++ (cond b [] (space ∷ []) ++ canonical_spelling u.token ++ text_after u more)) ++ back) index (s.token ∷ read) comments
     by true at =
         subst (λ xs. Scans xs index (s.token ∷ read) comments) (sym (whole true))
-        (one_token s.token tail index read comments row.0.spelled
-        (joined s u rest row.0.spelled row.2.0.spelled row.0.role row.2.0.role row.1
-        (λ dot. after-dot u more back row.2.2 row.2.1 dot breaks.no_digit) at)
+        (one_token s.token tail index read comments are.0
+        (joined s u rest are.0 are.1.0 (role-of s (u ∷ more) row) (role-of u more (row-of s (u ∷ more) row)) (next-of s (u ∷ more) row)
+        (λ dot. after-dot u more back are.1.1 (next-of u more (row-of s (u ∷ more) row)) dot breaks.no_digit) at)
         inner)
     by false at =
         subst (λ xs. Scans xs index (s.token ∷ read) comments) (sym (whole false))
-        (one_token s.token (space ∷ tail) index read comments row.0.spelled
-        (standing s.token (space ∷ tail) row.0.spelled (space-breaks tail))
+        (one_token s.token (space ∷ tail) index read comments are.0
+        (standing s.token (space ∷ tail) are.0 (space-breaks tail))
         (blank space tail (index + 1) read comments refl inner))
 
 -- a whole row before bytes that go on with none of its tokens
 pub text-scans : (spots : List Spot) (back : List ℕ) (index : ℕ) (tokens : List Token) (comments : List Comment)
-    → IsRow spots → Breaks back → Scans back (index + length spots) tokens comments
+    → AreTokens spots → is_row spots ≡ true → Breaks back → Scans back (index + length spots) tokens comments
     → Scans (text_of spots ++ back) index (map token_at spots ++ tokens) comments
-text-scans [] back index tokens comments row breaks later =
+text-scans [] back index tokens comments are row breaks later =
     let size : index + 0 ≡ index = omega arith in
     subst (λ n. Scans back n tokens comments) size later
-text-scans (s ∷ more) back index tokens comments row breaks later = row-scans s more back index tokens comments row breaks later
+text-scans (s ∷ more) back index tokens comments are row breaks later = row-scans s more back index tokens comments are row breaks later

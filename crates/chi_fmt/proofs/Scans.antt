@@ -14,7 +14,8 @@ use Rattle.chi_lex.specs.Reading.{ReadsFrom, at_end, past_gap, past_token, longe
 use Rattle.chi_lex.proofs.Runs.{prefix_len-stop}
 use Rattle.chi_fmt.specs.declared.comment.Comment.{Comment}
 use Rattle.chi_fmt.specs.Comments.{comment, gap_comments, comments_from}
-use Rattle.chi_fmt.proofs.Gaps.{IsCommentText, past_blank, past_line_feed, past_comment}
+use Rattle.chi_fmt.specs.Reread.{IsCommentText}
+use Rattle.chi_fmt.proofs.Gaps.{past_blank, past_line_feed, past_comment}
 use Rattle.chi_fmt.proofs.Standing.{gap-standing}
 
 -- from the index of the next token on

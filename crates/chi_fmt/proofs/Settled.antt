@@ -10,21 +10,7 @@ use Rattle.chi_fmt.specs.declared.line.Semicolon.{Semicolon}
 use Rattle.chi_fmt.specs.Comments.{comment}
 use Rattle.chi_fmt.specs.Rows.{comment_text, empty_line, line_text}
 use Rattle.chi_fmt.specs.Pages.{one_if, source_tokens, kept_tokens, stands_before, line_with, lines_text}
-use Rattle.chi_fmt.proofs.LineScans.{before, moved, text_tokens}
-
--- a line as it is in the text: the `;` that is kept is written
-abbrev pub settled : Line → Line
-settled line = record {
-  after_empty = line.after_empty;
-  margin = line.margin;
-  spots = line.spots;
-  semicolon = record { written = line.semicolon.kept; kept = line.semicolon.kept };
-}
-
--- no line is without tokens
-abbrev pub HaveTokens : List Line → Type 0
-HaveTokens [] = Unit {0}
-HaveTokens (line ∷ lines) = (0 < length line.spots) × HaveTokens lines
+use Rattle.chi_fmt.specs.Reread.{before, moved, text_tokens, settled, HaveTokens}
 
 same_bit : (b : Bool) → one_if (b && b) ≡ one_if b
 same_bit true = refl

@@ -8,3 +8,5 @@ pub mod Comments
 pub mod Rows
 pub mod Pages
 pub mod Layout
+pub mod Sound
+pub mod Reread

@@ -86,6 +86,7 @@ impl Page {
         self.put(b" ")
     }
 
+    #[tactic(auto, using(crate::proofs::Lengths::longer))]
     fn spots(&mut self, spots: &[Spot]) -> Result<(), FmtFault>
         requires { length self.old.bytes.items ≤ MOST_BYTES }
         ensures added { OnOk result (self.new.bytes.items ≡ self.old.bytes.items ++ text_of spots.now) }
@@ -117,6 +118,7 @@ impl Page {
         Ok(())
     }
 
+    #[tactic(auto, using(crate::proofs::Lengths::longer))]
     fn line(&mut self, line: &Line) -> Result<(), FmtFault>
         requires { length self.old.bytes.items ≤ MOST_BYTES }
         ensures added { OnOk result (self.new.bytes.items ≡ self.old.bytes.items ++ line_text line.now) }
@@ -142,6 +144,7 @@ impl Page {
     }
 
     /// A comment on a line of its own.
+    #[tactic(auto, using(crate::proofs::Lengths::longer))]
     fn comment(&mut self, margin: u32, comment: &Comment) -> Result<(), FmtFault>
         requires { length self.old.bytes.items ≤ MOST_BYTES }
         ensures added { OnOk result (self.new.bytes.items ≡ self.old.bytes.items ++ comment_text margin comment.now) }
@@ -153,6 +156,7 @@ impl Page {
         self.put(b"\n")
     }
 
+    #[tactic(auto, using(crate::proofs::Lengths::longer))]
     fn comments(&mut self, margin: u32, comments: &[Comment]) -> Result<(), FmtFault>
         requires { length self.old.bytes.items ≤ MOST_BYTES }
         ensures added { OnOk result (self.new.bytes.items ≡ self.old.bytes.items ++ flat_map (comment_text margin) comments.now) }
@@ -166,6 +170,7 @@ impl Page {
     }
 
     /// A line, the comments that stand before it, and an empty line before these where one stands there.
+    #[tactic(auto, using(crate::proofs::Lengths::longer))]
     fn line_with(&mut self, line: &Line, comments: &[Comment]) -> Result<(), FmtFault>
         requires { length self.old.bytes.items ≤ MOST_BYTES }
         ensures added { OnOk result (self.new.bytes.items ≡ self.old.bytes.items ++ line_with line.now comments.now) }
@@ -178,6 +183,7 @@ impl Page {
     }
 
     /// Lines with the comments before them and after them.
+    #[tactic(auto, using(crate::proofs::Lengths::longer))]
     pub fn lines(&mut self, lines: &[Line], comments: &[Comment]) -> Result<(), FmtFault>
         requires { length self.old.bytes.items ≤ MOST_BYTES }
         ensures added { OnOk result (self.new.bytes.items ≡ self.old.bytes.items ++ lines_text 0 lines.now comments.now) }

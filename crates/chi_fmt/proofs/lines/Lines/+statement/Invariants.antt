@@ -6,7 +6,7 @@ use Rattle.chi_fmt.proofs.lines.Lines.+statement.Given as goal
 
 abbrev pub invariant-block-loop-step : goal.invariant-block-loop-step
 invariant-block-loop-step l =
-    l.self.lines.items ++ block_lines l.margin (map step_lines (drop l.step-index l.front ++ l.last ∷ []))
+    l.self.lines.items ++ block_lines l.margin (map step_lines (drop l.step-index l.front) ++ step_lines l.last ∷ [])
     ≡ l.fn.self.lines.items ++ block_lines l.margin (map step_lines l.fn.steps)
 
 abbrev pub invariant-alternatives-loop-alternative : goal.invariant-alternatives-loop-alternative

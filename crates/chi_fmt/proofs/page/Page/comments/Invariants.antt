@@ -1,6 +1,6 @@
 use Rattle.std.proofs.Common.{◌≡◌, ◌≤◌, ◌++◌, drop, length}
 use Rattle.std.specs.List.{flat_map}
-use Rattle.chi_lex.specs.declared.TheConstants.{MOST_BYTES}
+use Rattle.chi_lex.specs.declared.lexer.TheConstants.{MOST_BYTES}
 use Rattle.chi_fmt.specs.Rows.{comment_text}
 use Rattle.chi_fmt.proofs.Lengths.{Holds}
 use Rattle.chi_fmt.proofs.page.Page.comments.Given as goal

@@ -1,5 +1,5 @@
 use Rattle.std.proofs.Common.{◌≡◌, ◌≤◌, ◌++◌, drop, length}
-use Rattle.chi_lex.specs.declared.TheConstants.{MOST_BYTES}
+use Rattle.chi_lex.specs.declared.lexer.TheConstants.{MOST_BYTES}
 use Rattle.chi_fmt.specs.Rows.{text_after, text_of}
 use Rattle.chi_fmt.proofs.Lengths.{Holds}
 use Rattle.chi_fmt.proofs.page.Page.spots.Given as goal
