@@ -14,7 +14,6 @@ use Rattle.chi_tree.specs.declared.operator.PrefixSign.{PrefixSign}
 use Rattle.chi_tree.specs.declared.operator.PrefixSign.TheVariants as prefix
 use Rattle.chi_tree.specs.declared.operator.CastWord.{CastWord}
 use Rattle.chi_tree.specs.declared.operator.CastWord.TheVariants as cast
-use Rattle.chi_tree.specs.declared.type_tree.Name as names
 use Rattle.chi_tree.specs.declared.type_tree.TypeTree.{TypeTree}
 use Rattle.chi_tree.specs.declared.type_tree.TypeWord.{TypeWord}
 use Rattle.chi_tree.specs.declared.type_tree.TypeWord.TheVariants as type_word
@@ -44,41 +43,41 @@ use Rattle.chi_fmt.proofs.Starts.{Row, Start, Within, row_as, row-nothing, row-s
 -- tokens that are no brackets, no point and, but for some relations, no equals sign
 
 pub record Quiet (t : Token) : Type 0 where
-  pub opens : opens t ≡ false
-  pub dot : is_dot t ≡ false
+  pub no_open : opens t ≡ false
+  pub no_dot : is_dot t ≡ false
 
 pub record Calm (t : Token) : Type 0 where
-  pub opens : opens t ≡ false
-  pub dot : is_dot t ≡ false
-  pub equal : starts_equal t ≡ false
+  pub no_open : opens t ≡ false
+  pub no_dot : is_dot t ≡ false
+  pub no_equal : starts_equal t ≡ false
 
 operator-quiet : (o : Operator) → Quiet (operator_token o)
-operator-quiet operator.Or = record { opens = refl; dot = refl }
-operator-quiet _ = record { opens = refl; dot = refl }
+operator-quiet operator.Or = record { no_open = refl; no_dot = refl }
+operator-quiet _ = record { no_open = refl; no_dot = refl }
 
 relation-quiet : (r : RelationSign) → Quiet (relation_token r)
-relation-quiet relation.Less = record { opens = refl; dot = refl }
-relation-quiet _ = record { opens = refl; dot = refl }
+relation-quiet relation.Less = record { no_open = refl; no_dot = refl }
+relation-quiet _ = record { no_open = refl; no_dot = refl }
 
 cast-calm : (c : CastWord) → Calm (cast_token c)
-cast-calm cast.Int = record { opens = refl; dot = refl; equal = refl }
-cast-calm _ = record { opens = refl; dot = refl; equal = refl }
+cast-calm cast.Int = record { no_open = refl; no_dot = refl; no_equal = refl }
+cast-calm _ = record { no_open = refl; no_dot = refl; no_equal = refl }
 
 type-calm : (w : TypeWord) → Calm (type_token w)
-type-calm type_word.Bool = record { opens = refl; dot = refl; equal = refl }
-type-calm _ = record { opens = refl; dot = refl; equal = refl }
+type-calm type_word.Bool = record { no_open = refl; no_dot = refl; no_equal = refl }
+type-calm _ = record { no_open = refl; no_dot = refl; no_equal = refl }
 
 truth-calm : (b : Bool) → Calm (truth_token b)
-truth-calm true = record { opens = refl; dot = refl; equal = refl }
-truth-calm false = record { opens = refl; dot = refl; equal = refl }
+truth-calm true = record { no_open = refl; no_dot = refl; no_equal = refl }
+truth-calm false = record { no_open = refl; no_dot = refl; no_equal = refl }
 
 -- single parts
 
 after-sign : {xs : Spots} {ts : Tokens} (t : Token) → Quiet t → Row xs ts → Row (usual t None ∷ xs) (t ∷ ts)
-after-sign t q r = row-after t q.opens q.dot r
+after-sign t q r = row-after t q.no_open q.no_dot r
 
 after-word : {xs : Spots} {ts : Tokens} (t : Token) → Calm t → Row xs ts → Start (usual t None ∷ xs) (t ∷ ts)
-after-word t q r = start-after t q.opens q.dot q.equal r
+after-word t q r = start-after t q.no_open q.no_dot q.no_equal r
 
 prefix-start : {xs : Spots} {ts : Tokens} (w : PrefixSign) → Start xs ts → Start (prefix_spot w ∷ xs) (prefix_token w ∷ ts)
 prefix-start prefix.Minus s = start-tight (prefix_spot prefix.Minus) refl refl refl s

@@ -15,7 +15,7 @@ use Rattle.chi_token.specs.Signs.{sign_of, mark_of}
 use Rattle.chi_token.specs.Spelling.{canonical_spelling}
 use Rattle.chi_token.specs.Tables.{value_at}
 use Rattle.chi_token.specs.Texts.{quoted, text_of}
-use Rattle.chi_token.specs.Tokens.{IsToken, token_spelled_by, is_digits, is_real}
+use Rattle.chi_token.specs.Tokens.{IsToken, token_spelled_by, word_or_name, is_digits, is_real}
 use Rattle.chi_lex.specs.Fractions.{fraction_by, fraction_length}
 use Rattle.chi_lex.specs.Gaps.{space}
 use Rattle.chi_lex.specs.Reading.{longest_token}
@@ -116,16 +116,18 @@ digit_no_name c digit = grind (arith, nat_tests)
 name_no_digit : (bytes rest name : List ℕ) → token_spelled_by bytes ≡ Some (token.Name name) → StopsAt is_digit (bytes ++ rest)
 unfolding token_spelled_by
 name_no_digit [] rest name is = cc
-name_no_digit (c ∷ cs) rest name is = by (is_digit c) refl
+name_no_digit (c ∷ cs) rest name is =
+    by (is_name_start c) refl (is_digit c) refl (list_all is_name_byte cs) (is_digits (c ∷ cs)) (is_real (c ∷ cs)) (eqb c quote) is
   where
-    number : (i r : Bool) → cond i (Some (token.Int (c ∷ cs))) (cond r (Some (token.Real (c ∷ cs))) None) ≡ Some (token.Name name) → is_digit c ≡ false
-    number true r h = cc
-    number false true h = cc
-    number false false h = cc
+    bytes : List ℕ
+    bytes = c ∷ cs
 
-    by : (d : Bool) → is_digit c ≡ d → is_digit c ≡ false
-    by false at = at
-    by true at = number (is_digits (c ∷ cs)) (is_real (c ∷ cs)) (rw at at (rw (digit_no_name c at) at is))
+    by : (a : Bool) → is_name_start c ≡ a → (d : Bool) → is_digit c ≡ d → (n i r q : Bool) → cond a (cond n (Some (word_or_name (keyword_of bytes) bytes)) None) (cond d (cond i (Some (token.Int bytes)) (cond r (Some (token.Real bytes)) None)) (cond q (option_map (λ b. token.Text b) (text_of cs)) (option_map (λ s. token.Sign s) (sign_of bytes)))) ≡ Some (token.Name name) → is_digit c ≡ false
+    by a a' false d' n i r q h = d'
+    by true a' true d' n i r q h = let no : true ≡ false = sym a' ∙ digit_no_name c d' in cc
+    by false a' true d' n true r q h = cc
+    by false a' true d' n false true q h = cc
+    by false a' true d' n false false q h = cc
 
 pub name-stops : (t : Token) (rest : List ℕ) → IsToken t → is_name t ≡ true → StopsAt is_digit (canonical_spelling t ++ rest)
 name-stops (token.Name bytes) rest is h = name_no_digit bytes rest bytes (spells (token.Name bytes) is)
@@ -147,7 +149,7 @@ role_sign Prefix t u fit h = (fit, refl)
 role_sign Communicates t u fit h = (fit, refl)
 role_sign Opens t u fit h = (fit, refl)
 role_sign Closes (token.Sign sign) u fit h = (refl, refl)
-role_sign Closes (token.Word keyword) u fit h = cc
+role_sign Closes (token.Word _) u fit h = cc
 role_sign Closes (token.Name bytes) u fit h = cc
 role_sign Closes (token.Int bytes) u fit h = cc
 role_sign Closes (token.Real bytes) u fit h = cc

@@ -6,26 +6,15 @@ use Rattle.chi_token.specs.declared.token.Token.TheVariants.{Word, Sign}
 use Rattle.chi_tree_spell.specs.Words.{Tokens}
 use Rattle.chi_tree_spell.specs.Statements.{semicolon_if}
 use Rattle.chi_fmt.specs.declared.line.Line.{Line}
-use Rattle.chi_fmt.specs.declared.line.Semicolon as semicolons
 use Rattle.chi_fmt.specs.declared.spot.Spot.{Spot}
 use Rattle.chi_fmt.specs.Expressions.{Spots}
 use Rattle.chi_fmt.specs.Parts.{sign}
 use Rattle.chi_fmt.specs.Lines.{line, header, no_semicolon}
-use Rattle.chi_fmt.specs.Reread.{HaveTokens, token_at}
-use Rattle.chi_fmt.specs.Sound.{is_row}
+use Rattle.chi_fmt.specs.Reread.{HaveTokens, line_source, semicolon_tokens, source_of, token_at}
+use Rattle.chi_fmt.specs.Sound.{AreSound, is_row}
+use Rattle.std.proofs.lemmas.List.{map-append}
+use Rattle.chi_fmt.proofs.SoundRows.{begins_well, plain-row}
 use Rattle.chi_fmt.proofs.Starts.{Ending}
-
-abbrev pub AreSound : List Line → Type 0
-AreSound [] = Unit {0}
-AreSound (l ∷ ls) = (is_row l.spots ≡ true) × AreSound ls
-
--- the tokens of the source that lines have
-abbrev pub line_source : Line → Tokens
-line_source l = map token_at l.spots ++ semicolon_if l.semicolon.written
-
-abbrev pub source_of : List Line → Tokens
-source_of [] = []
-source_of (l ∷ ls) = line_source l ++ source_of ls
 
 pub record Sources (ls : List Line) (ts : Tokens) : Type 0 where
   pub sound : AreSound ls
@@ -33,6 +22,10 @@ pub record Sources (ls : List Line) (ts : Tokens) : Type 0 where
   pub same : source_of ls ≡ ts
 
 -- one line
+
+same_semicolon : (b : Bool) → semicolon_tokens b ≡ semicolon_if b
+same_semicolon true = refl
+same_semicolon false = refl
 
 some-spots : (xs : Spots) (ts : Tokens) → Ending xs ts → 0 < length xs
 some-spots [] ts e = let no : false ≡ true = e.begins (sign Assign ∷ []) in cc
@@ -45,7 +38,8 @@ pub one : (l : Line) (ts : Tokens) → Ending l.spots ts → Sources (l ∷ []) 
 one l ts e = record {
   sound = (sound-spots l.spots ts e, tt);
   have = (some-spots l.spots ts e, tt);
-  same = append-nil (line_source l) ∙ ap (λ us. us ++ semicolon_if l.semicolon.written) e.same;
+  same = append-nil (line_source l) ∙ ap (λ us. us ++ semicolon_tokens l.semicolon.written) e.same
+      ∙ ap (λ us. ts ++ us) (same_semicolon l.semicolon.written);
 }
 
 sound-append : (ls ms : List Line) → AreSound ls → AreSound ms → AreSound (ls ++ ms)
@@ -67,3 +61,28 @@ both {ls} {ms} {ts} {us} a b = record {
   have = have-append ls ms a.have b.have;
   same = source-append ls ms ∙ ap (λ l. l ++ source_of ms) a.same ∙ ap (λ l. ts ++ l) b.same;
 }
+
+pub nothing : Sources [] []
+nothing = record { sound = tt; have = tt; same = refl }
+
+pub sources_as : {ls ms : List Line} {ts us : Tokens} → ls ≡ ms → ts ≡ us → Sources ms us → Sources ls ts
+sources_as {ls} {ms} {ts} {us} e f s = record {
+  sound = subst AreSound (sym e) s.sound;
+  have = subst HaveTokens (sym e) s.have;
+  same = ap source_of e ∙ s.same ∙ sym f;
+}
+
+-- a line without a `;` of the source
+pub one-plain : (margin : ℕ) (xs : Spots) (ts : Tokens) → Ending xs ts → Sources (line margin xs no_semicolon ∷ []) ts
+one-plain margin xs ts e = sources_as refl (sym (append-nil ts)) (one (line margin xs no_semicolon) ts e)
+
+-- a line that ends with a colon
+ending-colon : (xs : Spots) (ts : Tokens) → Ending xs ts → Ending (xs ++ sign Colon ∷ []) (ts ++ Sign Colon ∷ [])
+ending-colon xs ts e = record {
+  begins = λ ys. subst (λ l. begins_well l ≡ true) (sym (append_assoc xs (sign Colon ∷ []) ys)) (e.begins (sign Colon ∷ ys));
+  row = λ ys b h. subst (λ l. is_row l ≡ true) (sym (append_assoc xs (sign Colon ∷ []) ys)) (e.row (sign Colon ∷ ys) refl (plain-row (Sign Colon) refl refl ys h));
+  same = map-append token_at xs (sign Colon ∷ []) ∙ ap (λ l. l ++ Sign Colon ∷ []) e.same;
+}
+
+pub header-one : (margin : ℕ) (xs : Spots) (ts : Tokens) → Ending xs ts → Sources (header margin xs ∷ []) (ts ++ Sign Colon ∷ [])
+header-one margin xs ts e = one-plain margin (xs ++ sign Colon ∷ []) (ts ++ Sign Colon ∷ []) (ending-colon xs ts e)

@@ -25,7 +25,7 @@ use Rattle.chi_tree_laws.specs.Expressions as formed_expr
 use Rattle.chi_tree_laws.specs.Statements.{FormedSteps, FormedTarget, FormedTargets, FormedVariable, FormedVariables, FormedWalk, FormedCommunication, FormedElement, FormedElements}
 use Rattle.chi_tree_laws.specs.Statements as formed
 use Rattle.chi_fmt.specs.Expressions.{Spots, spot, postfix_spots, commas, exprs_spots, round}
-use Rattle.chi_fmt.specs.Parts.{sign, word, assigned_spots, name_spot, names_spots, name_spots, variable_spots, target_spots, walk_spots, communicates, communication_spots, element_step, element_spots, elements_spots, guard_spots}
+use Rattle.chi_fmt.specs.Parts.{sign, word, assigned_spots, name_spot, names_spots, name_spots, variable_spots, target_spots, walk_spots, communicates, communication_spots, element_step, element_spots, elements_spots, offer_spots}
 use Rattle.chi_fmt.proofs.SpotsIn as spots
 use Rattle.chi_fmt.proofs.Starts.{Row, Start, Tail, Ending, start_as, row-nothing, row-start, row-after, row-tight, row-then, row-round, start-after, start-one, start-then, tail-row, tail-sign, ending-start, ending-then, ending-both}
 use Rattle.chi_fmt.proofs.ExprRows.{expr-start, if-row, exprs-within, postfix-row}
@@ -44,7 +44,7 @@ names-start n ns = start-then (start-one (Name n.text) refl refl refl) (names-af
 steps-row : {d : ℕ} {ps : List Postfix} → FormedSteps d ps → Row (all (map postfix_spots ps)) (all (map spell.spelled_postfix ps))
 steps-row formed.no_steps = row-nothing
 steps-row (formed.index_step h hs) = row-then (postfix-row (formed_expr.index h)) (steps-row hs)
-steps-row (formed.field_step {d = d} hs) = row-then (postfix-row (formed_expr.field {d = d})) (steps-row hs)
+steps-row (formed.field_step {d = d} {name = n} hs) = row-then (postfix-row (formed_expr.field {d = d} {name = n})) (steps-row hs)
 
 pub target-start : {d : ℕ} {target : Target} → FormedTarget d target → Start (target_spots target) (spelled_target target)
 target-start {d} {target} h = start-after (Name target.name.text) refl refl refl (steps-row h)
@@ -95,7 +95,7 @@ communication-ending (formed.delay h) = ending-start (start-after (Word DelayWor
 
 -- an offer, after its condition where one is written
 pub offer-ending : {d : ℕ} {guard : Option Expr} {c : Communication} → FormedIfAny d guard → FormedCommunication d c
-    → Ending (guard_spots guard ++ communication_spots c) (guard_tokens guard ++ spelled_communication c)
+    → Ending (offer_spots guard c) (guard_tokens guard ++ spelled_communication c)
 offer-ending formed_expr.left_out j = communication-ending j
 offer-ending (formed_expr.given h) j = ending-both (start-then (expr-start h) (row-after (Sign Comma) refl refl row-nothing)) (communication-ending j)
 

@@ -59,7 +59,10 @@ row-scans s [] back index tokens comments are row breaks later =
     subst (λ xs. Scans (xs ++ back) index (s.token ∷ tokens) comments) (sym (append-nil (canonical_spelling s.token)))
     (one_token s.token back index tokens comments are.0 (standing s.token back are.0 breaks) later)
 row-scans s (u ∷ more) back index tokens comments are row breaks later =
+    let size : index + length (s ∷ u ∷ more) ≡ index + 1 + length (u ∷ more) = omega arith in
     by (is_joined s u) refl
+    (subst (λ xs. Scans xs (index + 1) (u.token ∷ map token_at more ++ tokens) comments) (append_assoc (canonical_spelling u.token) (text_after u more) back)
+    (row-scans u more back (index + 1) tokens comments are.1 (row-of s (u ∷ more) row) breaks (subst (λ n. Scans back n tokens comments) size later)))
   where
     rest : List ℕ
     rest = text_after u more ++ back
@@ -70,14 +73,6 @@ row-scans s (u ∷ more) back index tokens comments are row breaks later =
     read : List Token
     read = u.token ∷ map token_at more ++ tokens
 
-    size : index + length (s ∷ u ∷ more) ≡ index + 1 + length (u ∷ more)
-    size = omega arith
-
-    inner : Scans tail (index + 1) read comments
-    inner =
-        subst (λ xs. Scans xs (index + 1) read comments) (append_assoc (canonical_spelling u.token) (text_after u more) back)
-        (row-scans u more back (index + 1) tokens comments are.1 (row-of s (u ∷ more) row) breaks (subst (λ n. Scans back n tokens comments) size later))
-
     whole : (b : Bool) → (canonical_spelling s.token ++ (cond b [] (space ∷ []) ++ canonical_spelling u.token ++ text_after u more)) ++ back
         ≡ canonical_spelling s.token ++ (cond b [] (space ∷ []) ++ tail)
     whole b =
@@ -86,15 +81,15 @@ row-scans s (u ∷ more) back index tokens comments are row breaks later =
         (append_assoc (cond b [] (space ∷ []) ++ canonical_spelling u.token) (text_after u more) back
         ∙ append_assoc (cond b [] (space ∷ [])) (canonical_spelling u.token) rest)
 
-    by : (b : Bool) → is_joined s u ≡ b
+    by : (b : Bool) → is_joined s u ≡ b → Scans tail (index + 1) read comments
         → Scans ((canonical_spelling s.token ++ (cond b [] (space ∷ []) ++ canonical_spelling u.token ++ text_after u more)) ++ back) index (s.token ∷ read) comments
-    by true at =
+    by true at inner =
         subst (λ xs. Scans xs index (s.token ∷ read) comments) (sym (whole true))
         (one_token s.token tail index read comments are.0
         (joined s u rest are.0 are.1.0 (role-of s (u ∷ more) row) (role-of u more (row-of s (u ∷ more) row)) (next-of s (u ∷ more) row)
         (λ dot. after-dot u more back are.1.1 (next-of u more (row-of s (u ∷ more) row)) dot breaks.no_digit) at)
         inner)
-    by false at =
+    by false at inner =
         subst (λ xs. Scans xs index (s.token ∷ read) comments) (sym (whole false))
         (one_token s.token (space ∷ tail) index read comments are.0
         (standing s.token (space ∷ tail) are.0 (space-breaks tail))

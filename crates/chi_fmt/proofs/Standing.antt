@@ -98,7 +98,7 @@ bang_alone : (d : ℕ) → eqb d equals ≡ false → sign_of (33 ∷ d ∷ []) 
 unfolding sign_of value_at
 bang_alone d e = rw e refl
 
-sign-before : (sign : Sign) (back : List ℕ) → StopsAt (λ c. eqb c equals) back
+pub sign-before : (sign : Sign) (back : List ℕ) → StopsAt (λ c. eqb c equals) back
     → longest_token (mark_of sign ++ back) ≡ Some (token.Sign sign, length (mark_of sign))
 unfolding mark_of sign_of value_at
 sign-before LessEqual back stops = of_two 60 61 back LessEqual (begins 60 refl refl refl) refl

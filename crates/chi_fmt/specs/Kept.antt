@@ -1,6 +1,6 @@
 -- The tree with the `;` that the layout keeps: one after each statement that another follows, and no other.
 use Rattle.std.specs.Prelude.{Bool, false, List, [], ◌∷◌, map}
-use Rattle.chi_tree.specs.declared.statement.Step.{Step, Step-F, fold-Step, out-Step}
+use Rattle.chi_tree.specs.declared.statement.Step.{Step, Step-F, fold-Step}
 use Rattle.chi_tree.specs.declared.statement.Statement.{Statement, Statement-F, fold-Statement, roll-Statement}
 use Rattle.chi_tree.specs.declared.statement.Branch.{Branch, Branch-F, fold-Branch, roll-Branch}
 use Rattle.chi_tree.specs.declared.statement.Alternative.{Alternative, Alternative-F, fold-Alternative, roll-Alternative}
@@ -14,7 +14,7 @@ use Rattle.chi_fmt.specs.Lines.{is_some}
 -- statements in turn: a `;` after each but the last
 abbrev pub separated : List Step → List Step
 separated [] = []
-separated (first ∷ more) = step (out-Step first).statement (is_some more) ∷ separated more
+separated (first ∷ more) = step first.statement (is_some more) ∷ separated more
 
 abbrev pub kept_statement_step : Statement-F Alternative Statement Branch Step → Statement
 kept_statement_step (Statement-F.If place branches otherwise) = roll-Statement (Statement-F.If place branches (separated otherwise))
@@ -35,6 +35,15 @@ kept_alternative_step other = roll-Alternative other
 
 abbrev pub kept_step : Step → Step
 kept_step = fold-Step Alternative Statement Branch Step kept_alternative_step kept_statement_step kept_branch_step kept_step_step
+
+abbrev pub kept_statement : Statement → Statement
+kept_statement = fold-Statement Alternative Statement Branch Step kept_alternative_step kept_statement_step kept_branch_step kept_step_step
+
+abbrev pub kept_branch : Branch → Branch
+kept_branch = fold-Branch Alternative Statement Branch Step kept_alternative_step kept_statement_step kept_branch_step kept_step_step
+
+abbrev pub kept_alternative : Alternative → Alternative
+kept_alternative = fold-Alternative Alternative Statement Branch Step kept_alternative_step kept_statement_step kept_branch_step kept_step_step
 
 abbrev pub kept_block : List Step → List Step
 kept_block block = separated (map kept_step block)

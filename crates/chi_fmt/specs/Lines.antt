@@ -15,7 +15,7 @@ use Rattle.chi_fmt.specs.declared.line.Line.{Line}
 use Rattle.chi_fmt.specs.declared.line.Semicolon.{Semicolon}
 use Rattle.chi_fmt.specs.declared.spot.Role.TheVariants.{Usual}
 use Rattle.chi_fmt.specs.Expressions.{Spots, spot, expr_spots, exprs_spots, type_spots, commas, round}
-use Rattle.chi_fmt.specs.Parts.{word, sign, variable_spots, target_spots, walk_spots, communication_spots, elements_spots, guard_spots}
+use Rattle.chi_fmt.specs.Parts.{word, sign, variable_spots, target_spots, walk_spots, communication_spots, elements_spots, offer_spots}
 
 -- two spaces further in
 abbrev pub inside : ℕ → ℕ
@@ -123,7 +123,7 @@ branch_step branch = λ margin first. header margin (first ++ expr_spots branch.
 
 abbrev pub alternative_step : Alternative-F Led OfStatement Led InBlock → Led
 alternative_step (Alternative-F.Guarded guard communication block) = λ margin first.
-    lines_with margin (first ++ guard_spots guard ++ communication_spots communication) block
+    lines_with margin (first ++ offer_spots guard communication) block
 alternative_step (Alternative-F.Unwind place walk alternatives) = λ margin first.
     unwound_lines margin (first ++ word UnwindWord ∷ walk_spots walk) alternatives
 

@@ -78,3 +78,7 @@ elements_spots elements = commas (map element_spots elements)
 abbrev pub guard_spots : Option Expr → Spots
 guard_spots None = []
 guard_spots (Some guard) = expr_spots guard ++ sign Comma ∷ []
+
+-- what an alternative offers: its condition and its communication
+abbrev pub offer_spots : Option Expr → Communication → Spots
+offer_spots guard communication = guard_spots guard ++ communication_spots communication

@@ -32,6 +32,14 @@ abbrev pub semicolon_tokens : Bool → List Token
 semicolon_tokens false = []
 semicolon_tokens true = token.Sign Semicolon ∷ []
 
+-- the tokens of a line that the source has
+abbrev pub line_source : Line → List Token
+line_source line = map token_at line.spots ++ semicolon_tokens line.semicolon.written
+
+abbrev pub source_of : List Line → List Token
+source_of [] = []
+source_of (line ∷ lines) = line_source line ++ source_of lines
+
 -- the tokens of a line that are kept
 abbrev pub line_tokens : Line → List Token
 line_tokens line = map token_at line.spots ++ semicolon_tokens line.semicolon.kept

@@ -70,3 +70,7 @@ AreTokens (s ∷ ss) = IsToken s.token × AreTokens ss
 abbrev pub AreRows : List Line → Type 0
 AreRows [] = Unit {0}
 AreRows (line ∷ lines) = AreTokens line.spots × (is_row line.spots ≡ true) × AreRows lines
+
+abbrev pub AreSound : List Line → Type 0
+AreSound [] = Unit {0}
+AreSound (line ∷ lines) = (is_row line.spots ≡ true) × AreSound lines

@@ -34,7 +34,7 @@ begins_close _ = false
 -- none after a prefix sign, the `<` and the `>` of an empty container's type, and the `!` or `?` of a communication, unless
 -- after these a keyword follows
 abbrev pub is_word : Token → Bool
-is_word (token.Word keyword) = true
+is_word (token.Word _) = true
 is_word _ = false
 
 abbrev pub holds_next : Role → Token → Bool

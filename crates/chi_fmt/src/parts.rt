@@ -3,7 +3,7 @@ ghost use Rattle.std.specs.Option.{option_map};
 ghost use Rattle.chi_tree_spell.specs.Words.{if_any};
 ghost use Rattle.chi_fmt.specs.Expressions.{commas, expr_spots};
 ghost use Rattle.chi_token.specs.declared.keyword.Keyword.TheVariants as keyword;
-ghost use Rattle.chi_fmt.specs.Parts.{communicates, communication_spots, guard_spots, initial_spots, name_spots, names_spots, target_spots, variable_spots, walk_spots, word};
+ghost use Rattle.chi_fmt.specs.Parts.{communicates, communication_spots, guard_spots, initial_spots, name_spots, names_spots, offer_spots, target_spots, variable_spots, walk_spots, word};
 
 use crate::draft::Draft;
 use crate::spot::Role;
@@ -134,8 +134,20 @@ impl Draft {
         }
     }
 
+    /// What an alternative offers.
+    pub fn offer(
+        &mut self,
+        guard: &Option<Expr>,
+        communication: &Communication,
+    ) -> Result<(), NoMemory>
+        ensures { OnOk result (self.new.spots.items ≡ self.old.spots.items ++ offer_spots guard.now communication.now) }
+    {
+        self.guard(guard)?;
+        self.communication(communication)
+    }
+
     /// The condition of an alternative and a comma, where there is one.
-    pub fn guard(&mut self, guard: &Option<Expr>) -> Result<(), NoMemory>
+    fn guard(&mut self, guard: &Option<Expr>) -> Result<(), NoMemory>
         ensures { OnOk result (self.new.spots.items ≡ self.old.spots.items ++ guard_spots guard.now) }
     {
         match guard {

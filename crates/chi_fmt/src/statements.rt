@@ -167,8 +167,7 @@ impl Lines {
                 communication,
                 block,
             } => {
-                draft.guard(guard)?;
-                draft.communication(communication)?;
+                draft.offer(guard, communication)?;
                 self.with_body(margin, draft, block.as_slice())
             }
             Alternative::Unwind {
