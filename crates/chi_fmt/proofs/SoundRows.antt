@@ -89,12 +89,12 @@ inner-nothing = record { begins = λ ys h. h; row = rows-nothing }
 
 -- brackets, told by their signs
 
-bracket-row : {xs : Spots} (open close : Token) → role_fits Usual open ≡ true → is_dot open ≡ false → opens close ≡ false → is_dot close ≡ false
-    → starts_equal close ≡ false → Inner xs → Rows (spot open Usual ∷ xs ++ spot close Usual ∷ [])
-bracket-row {xs} open close r d o c e x ys h =
-    let after = plain-row close o c ys h in
-    subst (λ l. is_row (spot open Usual ∷ l) ≡ true) (sym (append_assoc xs (spot close Usual ∷ []) ys))
-    (tight-row (spot open Usual) r d (xs ++ spot close Usual ∷ ys) (x.begins (spot close Usual ∷ ys) (ap not e)) (x.row (spot close Usual ∷ ys) after))
+bracket-row : {xs : Spots} (opener closer : Token) → role_fits Usual opener ≡ true → is_dot opener ≡ false → opens closer ≡ false → is_dot closer ≡ false
+    → starts_equal closer ≡ false → Inner xs → Rows (spot opener Usual ∷ xs ++ spot closer Usual ∷ [])
+bracket-row {xs} opener closer r d o c e x ys h =
+    let after = plain-row closer o c ys h in
+    subst (λ l. is_row (spot opener Usual ∷ l) ≡ true) (sym (append_assoc xs (spot closer Usual ∷ []) ys))
+    (tight-row (spot opener Usual) r d (xs ++ spot closer Usual ∷ ys) (x.begins (spot closer Usual ∷ ys) (ap not e)) (x.row (spot closer Usual ∷ ys) after))
 
 pub round-row : {xs : Spots} → Inner xs → Rows (sign LeftParen ∷ xs ++ sign RightParen ∷ [])
 round-row x = bracket-row (token.Sign LeftParen) (token.Sign RightParen) refl refl refl refl refl x

@@ -85,9 +85,9 @@ within-start s = record { inner = inner-fine s.fine; same = s.same }
 pub within-nothing : Within [] []
 within-nothing = record { inner = inner-nothing; same = refl }
 
-bracketed : (open close : Token) (xs : Spots) (ts : Tokens) → map token_at xs ≡ ts
-    → map token_at (spot open Usual ∷ xs ++ spot close Usual ∷ []) ≡ open ∷ ts ++ close ∷ []
-bracketed open close xs ts x = ap (λ l. open ∷ l) (tokens-append xs (spot close Usual ∷ []) ts (close ∷ []) x refl)
+bracketed : (opener closer : Token) (xs : Spots) (ts : Tokens) → map token_at xs ≡ ts
+    → map token_at (spot opener Usual ∷ xs ++ spot closer Usual ∷ []) ≡ opener ∷ ts ++ closer ∷ []
+bracketed opener closer xs ts x = ap (λ l. opener ∷ l) (tokens-append xs (spot closer Usual ∷ []) ts (closer ∷ []) x refl)
 
 pub row-round : {xs : Spots} {ts : Tokens} → Within xs ts → Row (sign LeftParen ∷ xs ++ sign RightParen ∷ []) (token.Sign LeftParen ∷ ts ++ token.Sign RightParen ∷ [])
 row-round {xs} {ts} w = record { row = round-row w.inner; same = bracketed (token.Sign LeftParen) (token.Sign RightParen) xs ts w.same }
