@@ -6,7 +6,7 @@ use chi_check_expr::Site;
 use std::test::Fail;
 
 /// Expressions of a process, each with its core.
-const CORES: [(&str, &str); 65] = [
+const CORES: [(&str, &str); 66] = [
     ("(i)", "Var(1)"),
     ("+r", "Var(2)"),
     ("-(+i)", "Op(Neg, [Var(1)])"),
