@@ -63,8 +63,8 @@ no_default_fault command.Load rows = file_alone rows
 no_default_fault command.TraceUp rows = file_alone rows
 no_default_fault command.Sim rows =
     plain_option name.Seed refl _ (plain_option name.Steps refl _ (plain_option name.Policy refl _ (plain_option name.Salt refl _ (plain_option name.Until refl _
-    (one_more (built_option name.Trace) _ trace_default (one_more built_file _ (without_default built_file refl)
-    (one_more built_args _ (without_default built_args refl) no_more))))))) rows
+    (plain_option name.Probe refl _ (one_more (built_option name.Trace) _ trace_default (one_more built_file _ (without_default built_file refl)
+    (one_more built_args _ (without_default built_args refl) no_more)))))))) rows
 
 unchanged : (a : Rule) → a.defaults ≡ [] → (rows : List Row) → with_default rows a ≡ rows
 unchanged a is rows = rw is (each (has_row a.id rows)) where
@@ -88,6 +88,7 @@ finished_is command.TraceUp rows = unchanged built_file refl rows
 finished_is command.Sim rows =
     skip name.Seed refl (drop 1 (rules command.Sim)) rows ∙ skip name.Steps refl (drop 2 (rules command.Sim)) rows
     ∙ skip name.Policy refl (drop 3 (rules command.Sim)) rows ∙ skip name.Salt refl (drop 4 (rules command.Sim)) rows ∙ skip name.Until refl (drop 5 (rules command.Sim)) rows
+    ∙ skip name.Probe refl (drop 6 (rules command.Sim)) rows
     ∙ ap (λ (rs : List Row). with_default rs built_args) (unchanged built_file refl (with_default rows (built_option name.Trace)))
     ∙ unchanged built_args refl (with_default rows (built_option name.Trace))
 
@@ -112,6 +113,7 @@ option_apart name.Steps e = (refl, refl)
 option_apart name.Policy e = (refl, refl)
 option_apart name.Salt e = (refl, refl)
 option_apart name.Until e = (refl, refl)
+option_apart name.Probe e = (refl, refl)
 option_apart name.Trace e = absurd (cc)
 
 value_held : (name : Text) (given : Option Given) → bytes_eq name (codes "trace") ≡ false

@@ -71,6 +71,7 @@ used_option option.Steps value rows none = ap (with_text (codes "steps") value) 
 used_option option.Policy value rows none = ap (with_text (codes "policy") value) (none_out (codes "policy") rows none)
 used_option option.Salt value rows none = ap (with_text (codes "salt") value) (none_out (codes "salt") rows none)
 used_option option.Until value rows none = ap (with_text (codes "until") value) (none_out (codes "until") rows none)
+used_option option.Probe value rows none = ap (with_text (codes "probe") value) (none_out (codes "probe") rows none)
 used_option option.Trace value rows none = ap (with_text (codes "trace") (codes "true")) (none_out (codes "trace") rows none)
 
 no_option : (o : OptionName) → (bytes_eq (option_text o) (codes "file") ≡ false) × (bytes_eq (option_text o) (codes "args") ≡ false)
@@ -80,6 +81,7 @@ no_option option.Steps = (refl, refl, refl, refl)
 no_option option.Policy = (refl, refl, refl, refl)
 no_option option.Salt = (refl, refl, refl, refl)
 no_option option.Until = (refl, refl, refl, refl)
+no_option option.Probe = (refl, refl, refl, refl)
 no_option option.Trace = (refl, refl, refl, refl)
 
 -- the row of a name, after a use of an option
@@ -165,6 +167,7 @@ use_option option.Steps value rows = repeated (codes "steps") rows
 use_option option.Policy value rows = repeated (codes "policy") rows
 use_option option.Salt value rows = repeated (codes "salt") rows
 use_option option.Until value rows = repeated (codes "until") rows
+use_option option.Probe value rows = repeated (codes "probe") rows
 use_option option.Trace value rows = repeated (codes "trace") rows
 
 -- an option that was given already is refused, and no other

@@ -1,7 +1,7 @@
 -- The numbers of a request are in their ranges.
 use Rattle.std.proofs.Common.{◌≡◌, ℕ, ◌^◌, ◌*◌, ◌≤◌, ◌<◌, ◌&&◌, ◌++◌, ℤ, pos, Bool, true, false, nat_le, List, [], ◌∷◌, length, Option, Some, None, Result, Ok, Err, if◌then◌else◌, refl, sym, ap, ◌∙◌, subst, arith, rules}
 use Rattle.std.proofs.lemmas.Bool.{and_parts, leb-true}
-use Rattle.std.specs.Prelude.{IfOk, IfSome, int_lt, is_some, option_map}
+use Rattle.std.specs.Prelude.{IfOk, IfSome, bytes_eq, codes, int_lt, is_some, option_and_then, option_map}
 use Rattle.std.specs.Result.{result_ok}
 use Rattle.std.specs.Str.Parse.{digits_value}
 use Rattle.chi_num.specs.Decimal.{number_of, signed}
@@ -19,10 +19,14 @@ use Rattle.chi_cli.specs.declared.policy.PolicyName.TheVariants as policy
 use Rattle.chi_cli.specs.declared.request.Request.{Request}
 use Rattle.chi_cli.specs.declared.words.TheConstants.{STEPS, MOST_STEPS}
 use Rattle.chi_cli.specs.Commands.{Text, command_named}
-use Rattle.chi_cli.specs.Numbers.{is_numeral, number_in, number_or, time_in, time_or_none, within}
-use Rattle.chi_cli.specs.Ranges.{IsInRange, IsPick, IsTime}
+use Rattle.chi_trace.specs.declared.filter.EventKind.{EventKind}
+use Rattle.chi_trace.specs.declared.filter.Filter.{Filter}
+use Rattle.chi_trace.specs.declared.filter.Filter.TheVariants as filter
+use Rattle.chi_cli.specs.Numbers.{is_numeral, number_in, number_or, number_sought, time_in, time_or_none, within}
+use Rattle.chi_cli.specs.Probes.{kind_named, probe_in, probe_or_all, sought}
+use Rattle.chi_cli.specs.Ranges.{IsFilter, IsInRange, IsPick, IsTime}
 use Rattle.chi_cli.specs.Requests.{asked, check, code, command_request, each_once, load, load_of, one_word, pick_of, policy_or_first, request_of, run_asked, said_request, sim, sim_of_file, trace_up, value_given}
-use Rattle.chi_cli.specs.Splitting.{Said, split}
+use Rattle.chi_cli.specs.Splitting.{Said, name_in, split, value_in}
 use Rattle.chi_load.specs.declared.source.TheConstants.{MOST_MACHINES}
 
 abbrev Between : ℕ → ℕ → ℕ → Type 0
@@ -81,34 +85,88 @@ salted policy.First salt fits = tt
 salted policy.Last salt fits = tt
 salted policy.Spread salt fits = fits
 
+-- ---- what a probe looks for
+
+small : (text : Text) → IfSome (number_sought text) (λ n. n < 2 ^ 32)
+small text = each (nat_le (length text) 10) where
+  read : (o : Option ℕ) → number_in 0 4_294_967_295 text ≡ o → IfSome o (λ n. n < 2 ^ 32)
+  read None is = tt
+  read (Some n) is =
+      let most : n ≤ 4_294_967_295 = (numeral_within 0 4_294_967_295 text n (is_numeral text) is).1 in
+      omega arith
+
+  each : (short : Bool) → IfSome (if short then number_in 0 4_294_967_295 text else None) (λ n. n < 2 ^ 32)
+  each true = read (number_in 0 4_294_967_295 text) refl
+  each false = tt
+
+-- a filter, where one is sought and its number is one
+abbrev IsSought : Option (Option Filter) → Type 0
+IsSought found = IfSome found (λ probe. IfSome probe IsFilter)
+
+of_instance : (o : Option ℕ) → IfSome o (λ n. n < 2 ^ 32) → IfSome (option_map (λ n. filter.Instance n) o) IsFilter
+of_instance None small = tt
+of_instance (Some n) small = small
+
+of_channel : (o : Option ℕ) → IfSome o (λ n. n < 2 ^ 32) → IfSome (option_map (λ n. filter.Channel n) o) IsFilter
+of_channel None small = tt
+of_channel (Some n) small = small
+
+of_kind : (o : Option EventKind) → IsSought (option_map (λ k. Some (filter.Kind k)) o)
+of_kind None = tt
+of_kind (Some k) = tt
+
+sought_in_range : (name which : Text) → IsSought (sought name which)
+sought_in_range name which = each (bytes_eq name (codes "instance")) (bytes_eq name (codes "channel")) (bytes_eq name (codes "kind")) where
+  each : (a b c : Bool) → IsSought (if a then Some (option_map (λ n. filter.Instance n) (number_sought which))
+      else if b then Some (option_map (λ n. filter.Channel n) (number_sought which))
+      else if c then option_map (λ k. Some (filter.Kind k)) (kind_named which) else None)
+  each true b c = of_instance (number_sought which) (small which)
+  each false true c = of_channel (number_sought which) (small which)
+  each false false true = of_kind (kind_named which)
+  each false false false = tt
+
+probe_in_range : (value : Option Text) → IsSought (probe_or_all value)
+probe_in_range None = tt
+probe_in_range (Some word) = each (value_in word) where
+  each : (value : Option Text) → IsSought (option_and_then (sought (name_in word)) value)
+  each None = tt
+  each (Some which) = sought_in_range (name_in word) which
+
+-- ---- a run
+
 abbrev most_word : ℕ
 most_word = 18_446_744_073_709_551_615
 
-run_in_range : (file : Text) (args : List Text) (policy : PolicyName) (trace : Bool) (seed bound salt : Option ℕ) (until : Option (Option ℤ))
+run_in_range : (file : Text) (args : List Text) (policy : PolicyName) (trace : Bool) (seed bound salt : Option ℕ) (until : Option (Option ℤ)) (probe : Option Filter)
     → ((n : ℕ) → seed ≡ Some n → n ≤ most_word) → ((n : ℕ) → bound ≡ Some n → n ≤ MOST_STEPS) → ((n : ℕ) → salt ≡ Some n → n ≤ most_word)
-    → ((t : Option ℤ) → until ≡ Some t → IfSome t IsTime) → IfOk (run_asked file args policy trace seed bound salt until) IsInRange
-run_in_range file args policy trace (Some seed) (Some bound) (Some salt) (Some until) a b c d =
+    → ((t : Option ℤ) → until ≡ Some t → IfSome t IsTime) → IfSome probe IsFilter
+    → IfOk (run_asked file args policy trace seed bound salt until probe) IsInRange
+run_in_range file args policy trace (Some seed) (Some bound) (Some salt) (Some until) (Some probe) a b c d small =
     let fits : seed ≤ most_word = a seed refl in
     let salt_fits : salt ≤ most_word = c salt refl in
-    (omega arith, b bound refl, d until refl, salted policy salt (omega arith))
-run_in_range file args policy trace None bound salt until a b c d = tt
-run_in_range file args policy trace (Some seed) None salt until a b c d = tt
-run_in_range file args policy trace (Some seed) (Some bound) None until a b c d = tt
-run_in_range file args policy trace (Some seed) (Some bound) (Some salt) None a b c d = tt
+    (omega arith, b bound refl, d until refl, salted policy salt (omega arith), small)
+run_in_range file args policy trace None bound salt until probe a b c d small = tt
+run_in_range file args policy trace (Some seed) None salt until probe a b c d small = tt
+run_in_range file args policy trace (Some seed) (Some bound) None until probe a b c d small = tt
+run_in_range file args policy trace (Some seed) (Some bound) (Some salt) None probe a b c d small = tt
+run_in_range file args policy trace (Some seed) (Some bound) (Some salt) (Some until) None a b c d small = tt
 
-file_in_range : (file : Text) (args : List Text) (p : Option PolicyName) (options : List (OptionName × Text)) → IfOk (sim_of_file file args p options) IsInRange
-file_in_range file args None options = tt
-file_in_range file args (Some p) options = run_in_range file args p (is_some (value_given option.Trace options))
+file_in_range : (file : Text) (args : List Text) (p : Option PolicyName) (probe : Option (Option Filter)) (options : List (OptionName × Text)) → IsSought probe
+    → IfOk (sim_of_file file args p probe options) IsInRange
+file_in_range file args None probe options small = tt
+file_in_range file args (Some p) None options small = tt
+file_in_range file args (Some p) (Some probe) options small = run_in_range file args p (is_some (value_given option.Trace options))
     (number_or 0 0 most_word (value_given option.Seed options)) (number_or STEPS 0 MOST_STEPS (value_given option.Steps options))
-    (number_or 0 0 most_word (value_given option.Salt options)) (time_or_none (value_given option.Until options))
+    (number_or 0 0 most_word (value_given option.Salt options)) (time_or_none (value_given option.Until options)) probe
     (λ n e. (given_within 0 0 most_word (value_given option.Seed options) n (omega arith, omega arith) e).1)
     (λ n e. (given_within STEPS 0 MOST_STEPS (value_given option.Steps options) n (omega arith, omega arith) e).1)
     (λ n e. (given_within 0 0 most_word (value_given option.Salt options) n (omega arith, omega arith) e).1)
-    (λ t e. time_given (value_given option.Until options) t e)
+    (λ t e. time_given (value_given option.Until options) t e) small
 
 sim_in_range : (plain : List Text) (options : List (OptionName × Text)) → IfOk (sim plain options) IsInRange
 sim_in_range [] options = tt
-sim_in_range (file ∷ args) options = file_in_range file args (policy_or_first (value_given option.Policy options)) options
+sim_in_range (file ∷ args) options = file_in_range file args (policy_or_first (value_given option.Policy options))
+    (probe_or_all (value_given option.Probe options)) options (probe_in_range (value_given option.Probe options))
 
 load_in_range : (o : Option Text) → IfOk (load o) IsInRange
 load_in_range None = tt

@@ -11,6 +11,7 @@ pub mod Once
 pub mod OneAnswer
 pub mod Options
 pub mod Parsed
+pub mod ProbeWords
 pub mod ReadValues
 pub mod Rules
 pub mod Standing

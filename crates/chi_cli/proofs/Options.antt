@@ -116,6 +116,7 @@ full name.Steps rows text e = refl
 full name.Policy rows text e = refl
 full name.Salt rows text e = refl
 full name.Until rows text e = refl
+full name.Probe rows text e = refl
 full name.Trace rows text e = absurd (cc)
 
 lacks : (o : OptionName) (rows : List Row) → takes_value o ≡ true → none (use_fault false (built_option o) [] rows) ≡ false
@@ -124,6 +125,7 @@ lacks name.Steps rows e = refl
 lacks name.Policy rows e = refl
 lacks name.Salt rows e = refl
 lacks name.Until rows e = refl
+lacks name.Probe rows e = refl
 lacks name.Trace rows e = absurd (cc)
 
 -- where settling is a fault, an option is one

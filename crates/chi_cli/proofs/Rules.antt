@@ -35,19 +35,23 @@ long_found command.Load name = refl
 long_found command.TraceUp name = refl
 long_found command.Sim name = each
     (bytes_eq (option_text option.Seed) name) (bytes_eq (option_text option.Steps) name) (bytes_eq (option_text option.Policy) name)
-    (bytes_eq (option_text option.Salt) name) (bytes_eq (option_text option.Until) name) (bytes_eq (option_text option.Trace) name) where
-      each : (a b c d e f : Bool)
+    (bytes_eq (option_text option.Salt) name) (bytes_eq (option_text option.Until) name) (bytes_eq (option_text option.Probe) name)
+    (bytes_eq (option_text option.Trace) name) where
+      each : (a b c d e f g : Bool)
           → built_for (a || false) option.Seed (built_for (b || false) option.Steps (built_for (c || false) option.Policy
-          (built_for (d || false) option.Salt (built_for (e || false) option.Until (built_for (f || false) option.Trace None)))))
+          (built_for (d || false) option.Salt (built_for (e || false) option.Until (built_for (f || false) option.Probe
+          (built_for (g || false) option.Trace None))))))
           ≡ option_map built_option (if a then Some option.Seed else if b then Some option.Steps else if c then Some option.Policy
-          else if d then Some option.Salt else if e then Some option.Until else if f then Some option.Trace else None)
-      each true b c d e f = refl
-      each false true c d e f = refl
-      each false false true d e f = refl
-      each false false false true e f = refl
-      each false false false false true f = refl
-      each false false false false false true = refl
-      each false false false false false false = refl
+          else if d then Some option.Salt else if e then Some option.Until else if f then Some option.Probe
+          else if g then Some option.Trace else None)
+      each true b c d e f g = refl
+      each false true c d e f g = refl
+      each false false true d e f g = refl
+      each false false false true e f g = refl
+      each false false false false true f g = refl
+      each false false false false false true g = refl
+      each false false false false false false true = refl
+      each false false false false false false false = refl
 
 pub short_none : (c : Command) (x : ℕ) → arg_by_short (rules c) x ≡ None
 short_none command.Sim x = refl
@@ -66,6 +70,7 @@ id_found command.Sim name option.Steps e = refl
 id_found command.Sim name option.Policy e = refl
 id_found command.Sim name option.Salt e = refl
 id_found command.Sim name option.Until e = refl
+id_found command.Sim name option.Probe e = refl
 id_found command.Sim name option.Trace e = refl
 
 pub file_first : (c : Command) → arg_by_index (rules c) 1 ≡ Some built_file
@@ -88,4 +93,5 @@ takes option.Steps = refl
 takes option.Policy = refl
 takes option.Salt = refl
 takes option.Until = refl
+takes option.Probe = refl
 takes option.Trace = refl

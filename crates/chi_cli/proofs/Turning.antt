@@ -175,6 +175,7 @@ values_of_option name.Steps text e = refl
 values_of_option name.Policy text e = refl
 values_of_option name.Salt text e = refl
 values_of_option name.Until text e = refl
+values_of_option name.Probe text e = refl
 values_of_option name.Trace text e = absurd (cc)
 
 pub values_of_flag : (o : OptionName) (text : Text) → takes_value o ≡ false → given_values o text ≡ []
@@ -183,6 +184,7 @@ values_of_flag name.Steps text e = absurd (cc)
 values_of_flag name.Policy text e = absurd (cc)
 values_of_flag name.Salt text e = absurd (cc)
 values_of_flag name.Until text e = absurd (cc)
+values_of_flag name.Probe text e = absurd (cc)
 values_of_flag name.Trace text e = refl
 
 -- a word with two hyphens and a name, where any word may stand

@@ -21,7 +21,7 @@ command_named word =
 -- the options of each command
 abbrev pub options_of : Command → List OptionName
 options_of command.Sim =
-    option.Seed ∷ option.Steps ∷ option.Policy ∷ option.Salt ∷ option.Until ∷ option.Trace ∷ []
+    option.Seed ∷ option.Steps ∷ option.Policy ∷ option.Salt ∷ option.Until ∷ option.Probe ∷ option.Trace ∷ []
 options_of command.Check = []
 options_of command.Code = []
 options_of command.Load = []
@@ -34,6 +34,7 @@ option_text option.Steps = codes "steps"
 option_text option.Policy = codes "policy"
 option_text option.Salt = codes "salt"
 option_text option.Until = codes "until"
+option_text option.Probe = codes "probe"
 option_text option.Trace = codes "trace"
 
 -- an option has a value, but for those that say all by standing there

@@ -4,6 +4,7 @@ pub mod Commands
 pub mod FaultNumbers
 pub mod Numbers
 pub mod Parsing
+pub mod Probes
 pub mod Ranges
 pub mod Requests
 pub mod Saying

@@ -23,6 +23,10 @@ abbrev pub number_or : ℕ → ℕ → ℕ → Option Text → Option ℕ
 number_or default least most None = Some default
 number_or default least most (Some text) = number_in least most text
 
+-- of an instance or a channel: 1 to 10 digits of a number below 2^32
+abbrev pub number_sought : Text → Option ℕ
+number_sought text = if nat_le (length text) 10 then number_in 0 4_294_967_295 text else None
+
 -- a time in units of a billionth: a real without a minus
 abbrev pub time_in : Text → Option ℤ
 time_in text = if has_minus text then None else result_ok (answer_of (real_meant text))

@@ -5,6 +5,8 @@ use Rattle.chi_cli.specs.declared.request.Pick.TheVariants as pick
 use Rattle.chi_cli.specs.declared.request.Request.{Request}
 use Rattle.chi_cli.specs.declared.request.Request.TheVariants as request
 use Rattle.chi_cli.specs.declared.words.TheConstants.{MOST_STEPS}
+use Rattle.chi_trace.specs.declared.filter.Filter.{Filter}
+use Rattle.chi_trace.specs.declared.filter.Filter.TheVariants as filter
 use Rattle.chi_load.specs.declared.source.TheConstants.{MOST_MACHINES}
 
 abbrev pub IsPick : Pick → Type 0
@@ -16,9 +18,14 @@ IsPick (pick.Spread salt) = salt < 2 ^ 64
 abbrev pub IsTime : ℤ → Type 0
 IsTime time = (units : ℕ) × (time ≡ pos units)
 
+abbrev pub IsFilter : Filter → Type 0
+IsFilter (filter.Instance n) = n < 2 ^ 32
+IsFilter (filter.Channel n) = n < 2 ^ 32
+IsFilter _ = Unit {0}
+
 -- the seed and the salt fit 64 bits, the bound on steps is within its limit, and a factory has a machine and no more than it may have
 abbrev pub IsInRange : Request → Type 0
-IsInRange (request.Sim file args seed bound until pick trace) =
-    (seed < 2 ^ 64) × (bound ≤ MOST_STEPS) × IfSome until IsTime × IsPick pick
+IsInRange (request.Sim file args seed bound until pick trace probe) =
+    (seed < 2 ^ 64) × (bound ≤ MOST_STEPS) × IfSome until IsTime × IsPick pick × IsFilter probe
 IsInRange (request.Load n) = (1 ≤ n) × (n ≤ MOST_MACHINES)
 IsInRange _ = Unit {0}

@@ -15,7 +15,9 @@ use Rattle.chi_cli.specs.declared.request.Request.TheVariants as request
 use Rattle.chi_cli.specs.declared.words.TheConstants.{STEPS, MOST_STEPS}
 use Rattle.chi_cli.specs.Commands.{Text, command_named, option_text}
 use Rattle.chi_cli.specs.Numbers.{number_in, number_or, time_or_none}
+use Rattle.chi_cli.specs.Probes.{probe_or_all}
 use Rattle.chi_cli.specs.Splitting.{Said, split}
+use Rattle.chi_trace.specs.declared.filter.Filter.{Filter}
 use Rattle.chi_load.specs.declared.source.TheConstants.{MOST_MACHINES}
 
 -- the value that an option was given, if it was
@@ -45,23 +47,25 @@ pick_of policy.Last salt = pick.Last
 pick_of policy.Spread salt = pick.Spread salt
 
 -- a run of a file with arguments, where all its numbers are in their forms and ranges
-abbrev pub run_asked : Text → List Text → PolicyName → Bool → Option ℕ → Option ℕ → Option ℕ → Option (Option ℤ) → Result Request CliFault
-run_asked file args policy trace (Some seed) (Some bound) (Some salt) (Some until) =
-    Ok (request.Sim file args seed bound until (pick_of policy salt) trace)
-run_asked file args policy trace seed bound salt until = Err fault.BadNumber
+abbrev pub run_asked : Text → List Text → PolicyName → Bool → Option ℕ → Option ℕ → Option ℕ → Option (Option ℤ) → Option Filter → Result Request CliFault
+run_asked file args policy trace (Some seed) (Some bound) (Some salt) (Some until) (Some probe) =
+    Ok (request.Sim file args seed bound until (pick_of policy salt) trace probe)
+run_asked file args policy trace seed bound salt until probe = Err fault.BadNumber
 
 -- `sim`: the seed and the salt are below 2^64, and the bound on steps is within its limit
-abbrev pub sim_of_file : Text → List Text → Option PolicyName → List (OptionName × Text) → Result Request CliFault
-sim_of_file file args None options = Err fault.Usage
-sim_of_file file args (Some policy) options = run_asked file args policy (is_some (value_given option.Trace options))
+abbrev pub sim_of_file : Text → List Text → Option PolicyName → Option (Option Filter) → List (OptionName × Text) → Result Request CliFault
+sim_of_file file args None probe options = Err fault.Usage
+sim_of_file file args (Some policy) None options = Err fault.Usage
+sim_of_file file args (Some policy) (Some probe) options = run_asked file args policy (is_some (value_given option.Trace options))
     (number_or 0 0 18_446_744_073_709_551_615 (value_given option.Seed options))
     (number_or STEPS 0 MOST_STEPS (value_given option.Steps options))
     (number_or 0 0 18_446_744_073_709_551_615 (value_given option.Salt options))
-    (time_or_none (value_given option.Until options))
+    (time_or_none (value_given option.Until options)) probe
 
 abbrev pub sim : List Text → List (OptionName × Text) → Result Request CliFault
 sim [] options = Err fault.Usage
-sim (file ∷ args) options = sim_of_file file args (policy_or_first (value_given option.Policy options)) options
+sim (file ∷ args) options =
+    sim_of_file file args (policy_or_first (value_given option.Policy options)) (probe_or_all (value_given option.Probe options)) options
 
 -- one plain word and no other
 abbrev pub one_word : List Text → Option Text

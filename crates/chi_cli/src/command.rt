@@ -19,15 +19,17 @@ pub enum OptionName {
     Policy,
     Salt,
     Until,
+    Probe,
     Trace,
 }
 
-const SIM_OPTIONS: [OptionName; 6] = [
+const SIM_OPTIONS: [OptionName; 7] = [
     OptionName::Seed,
     OptionName::Steps,
     OptionName::Policy,
     OptionName::Salt,
     OptionName::Until,
+    OptionName::Probe,
     OptionName::Trace,
 ];
 
@@ -73,6 +75,7 @@ impl OptionName {
             OptionName::Policy => "policy",
             OptionName::Salt => "salt",
             OptionName::Until => "until",
+            OptionName::Probe => "probe",
             OptionName::Trace => "trace",
         }
     }

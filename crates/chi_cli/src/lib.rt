@@ -8,6 +8,7 @@ mod laws;
 mod number;
 mod parsing;
 mod policy;
+mod probe;
 mod reading;
 mod request;
 mod words;

@@ -4,7 +4,7 @@ ghost use Rattle.std.specs.Char.{digit_value, is_ascii_digit};
 ghost use Rattle.std.specs.List.{list_all};
 ghost use Rattle.std.specs.Str.Parse.{digits_value};
 ghost use Rattle.chi_num.specs.TextNumbers.{has_minus};
-ghost use Rattle.chi_cli.specs.Numbers.{is_numeral, number_in, number_or, time_in, time_or_none};
+ghost use Rattle.chi_cli.specs.Numbers.{is_numeral, number_in, number_or, number_sought, time_in, time_or_none};
 
 use chi_num::{Real, read_real};
 
@@ -28,6 +28,19 @@ pub fn number_or(default: u64, least: u64, most: u64, value: Option<&[u8]>) -> O
     match value {
         Some(text) => number_in(least, most, text),
         None => Some(default),
+    }
+}
+
+/// The number of an instance or a channel that a text is.
+pub fn number_sought(text: &[u8]) -> Option<u32>
+    ensures { result ≡ number_sought text.now }
+{
+    if text.len() > 10 {
+        return None;
+    }
+    match number_in(0, u64::from(u32::MAX), text) {
+        Some(number) => Some(number as u32),
+        None => None,
     }
 }
 

@@ -1,6 +1,7 @@
 use chi_base::Items;
 use chi_num::Real;
 use chi_token::Bytes;
+use chi_trace::Filter;
 
 /// Which of the labels that may come a run takes.
 #[derive(Clone, Copy, Debug)]
@@ -26,6 +27,8 @@ pub enum Request {
         pick: Pick,
         /// Whether the trace is wanted.
         trace: bool,
+        /// Which events of the trace are shown.
+        probe: Filter,
     },
     Check {
         file: Bytes,

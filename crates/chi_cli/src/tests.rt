@@ -1,5 +1,6 @@
 use crate::{ArgFault, CliFault, Pick, Request, read_args, read_words};
 use chi_token::Bytes;
+use chi_trace::{EventKind, Filter};
 use chi_types::Ty;
 use chi_value::Value;
 use std::alloc::Global;
@@ -25,6 +26,35 @@ fn words_are_read(rt: HostRuntime) -> Result<(), Fail> {
     assert!(rt; matches!(pick, Pick::Last));
     let refused = read_words(rt.alloc(), &["sim", "--seed", "x", "f"]);
     assert!(rt; matches!(refused, Err(CliFault::BadNumber)));
+    Ok(())
+}
+
+/// What `--probe` with this value looks for.
+fn probe_of(alloc: Global, value: &str) -> Result<Filter, CliFault> {
+    match read_words(alloc, &["sim", "--probe", value, "f"])? {
+        Request::Sim { probe, .. } => Ok(probe),
+        _ => Err(CliFault::Command),
+    }
+}
+
+/// More probes are in rows/, which don't tell a word of another form from a bad number.
+#[test]
+fn a_probe_is_read(rt: HostRuntime) -> Result<(), Fail> {
+    let join = Filter::Kind(EventKind::Join);
+    for (value, probe) in [
+        ("instance=0000000007", Ok(Filter::Instance(7))),
+        ("channel=4294967295", Ok(Filter::Channel(4_294_967_295))),
+        ("kind=join", Ok(join)),
+        ("instance=", Err(CliFault::BadNumber)),
+        ("instance=4294967296", Err(CliFault::BadNumber)),
+        ("channel=00000000001", Err(CliFault::BadNumber)),
+        ("instance=1=2", Err(CliFault::BadNumber)),
+        ("instance", Err(CliFault::Usage)),
+        ("kind=joins", Err(CliFault::Usage)),
+        ("process=1", Err(CliFault::Usage)),
+    ] {
+        assert_eq!(rt; probe_of(rt.alloc(), value), probe, "{value}");
+    }
     Ok(())
 }
 

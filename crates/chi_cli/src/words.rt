@@ -11,10 +11,12 @@ use crate::fault::CliFault;
 use crate::number::{number_in, number_or, time_or_none};
 use crate::parsing::matched;
 use crate::policy::PolicyName;
+use crate::probe::probe_or_all;
 use crate::request::Request;
 use chi_base::{Items, NoMemory};
 use chi_load::MOST_MACHINES;
 use chi_token::Bytes;
+use chi_trace::Filter;
 use clap::ArgMatches;
 use std::alloc::Global;
 
@@ -136,23 +138,27 @@ fn sim(alloc: Global, matches: &ArgMatches<'_>) -> Result<Request, CliFault>
     let Some(file) = text_of(matches, "file") else {
         return Err(CliFault::Usage);
     };
-    match PolicyName::asked(value_of(matches, OptionName::Policy)) {
-        Some(policy) => sim_of_file(alloc, file, policy, matches),
+    let Some(policy) = PolicyName::asked(value_of(matches, OptionName::Policy)) else {
+        return Err(CliFault::Usage);
+    };
+    match probe_or_all(value_of(matches, OptionName::Probe)) {
+        Some(probe) => sim_of_file(alloc, file, policy, probe, matches),
         None => Err(CliFault::Usage),
     }
 }
 
-/// A run of a file, where its policy is known.
+/// A run of a file, where its policy is known, and the filter, or that its number isn't one.
 fn sim_of_file(
     alloc: Global,
     file: &[u8],
     policy: PolicyName,
+    probe: Option<Filter>,
     matches: &ArgMatches<'_>,
 ) -> Result<Request, CliFault>
     ensures request { IfOk result (λ request. EachGiven command.Sim (rows_of (found_of matches.now))
-        (λ said. sim_of_file file.now (rest said.plain) (Some policy) said.options ≡ Ok request)) }
+        (λ said. sim_of_file file.now (rest said.plain) (Some policy) (Some probe) said.options ≡ Ok request)) }
     ensures fault { IfErr result (λ fault. EachGiven command.Sim (rows_of (found_of matches.now))
-        (λ said. IsRefused (sim_of_file file.now (rest said.plain) (Some policy) said.options) fault)) }
+        (λ said. IsRefused (sim_of_file file.now (rest said.plain) (Some policy) (Some probe) said.options) fault)) }
 {
     let trace = has_trace(matches);
     let Some(seed) = number_or(0, 0, u64::MAX, value_of(matches, OptionName::Seed)) else {
@@ -167,6 +173,9 @@ fn sim_of_file(
     let Some(until) = time_or_none(value_of(matches, OptionName::Until)) else {
         return Err(CliFault::BadNumber);
     };
+    let Some(probe) = probe else {
+        return Err(CliFault::BadNumber);
+    };
     Ok(Request::Sim {
         file: Bytes::copy_of(alloc, file)?,
         args: args_of(alloc, matches)?,
@@ -175,6 +184,7 @@ fn sim_of_file(
         until,
         pick: policy.pick(salt),
         trace,
+        probe,
     })
 }
 

@@ -1,7 +1,7 @@
 -- The program that a source comes to has one run.
-use Rattle.std.proofs.Common.{◌≡◌, ℕ, ◌<◌, ◌≤◌, Bool, true, false, List, [], length, Some, refl, sym, ◌∙◌, subst, arith}
+use Rattle.std.proofs.Common.{◌≡◌, ℕ, ◌<◌, ◌≤◌, List, [], length, true, Option, Some, None, option_map, refl, sym, ◌∙◌, subst, arith}
 use Rattle.std.proofs.Math.Nat.{mod-lt}
-use Rattle.std.specs.Prelude.{slice_get, ℤ, ◌-◌, Option, Result, Ok, Err, IfOk}
+use Rattle.std.specs.Prelude.{slice_get, ℤ, ◌-◌, Result, Ok, Err, IfOk}
 use Rattle.chi_base.specs.declared.no_memory.NoMemory.{NoMemory}
 use Rattle.chi_cli.specs.declared.request.Pick as words
 use Rattle.chi_cli.specs.declared.request.Pick.TheVariants as pick
@@ -16,6 +16,7 @@ use Rattle.chi_core.specs.Beginning.{Beginning, start}
 use Rattle.chi_core.specs.Picks.{Pick, IsLawful}
 use Rattle.chi_core.specs.Runs.{Told, Derivation}
 use Rattle.chi_core.specs.Sound.{Sound}
+use Rattle.chi_trace.specs.declared.filter.Filter.{Filter}
 use Rattle.chi_trace_events.specs.Laws.{EachHasATrace, OneTrace}
 use Rattle.chi_plain.specs.Stage.{Stage, Begun}
 use Rattle.chi_core_runs.specs.Picked.{IsBeginning, PickedIsDerived, PickedOnce, PickedAlways}
@@ -63,15 +64,15 @@ asked_settings fit core w values d is read bounded = record {
 
 -- a run that is picked has a log, and one alone
 
-some_log : EachHasATrace → (trace : Bool) (core : Core) → Sound core → (start' : Beginning) → IsBeginning core start' → (bound : ℕ) (told : Told)
+some_log : EachHasATrace → (trace : Option Filter) (core : Core) → Sound core → (start' : Beginning) → IsBeginning core start' → (bound : ℕ) (told : Told)
     → Derivation core start' bound told → (log : List ℕ) × IsLogged trace core start' bound told log
-some_log traces false core sound start' is bound told derived = ([], refl)
-some_log traces true core sound start' is bound told derived = traces core sound start' is bound told derived
+some_log traces None core sound start' is bound told derived = ([], refl)
+some_log traces (Some probe) core sound start' is bound told derived = traces probe core sound start' is bound told derived
 
-one_log : OneTrace → (trace : Bool) (core : Core) (start' : Beginning) (bound : ℕ) (told : Told) (log other : List ℕ)
+one_log : OneTrace → (trace : Option Filter) (core : Core) (start' : Beginning) (bound : ℕ) (told : Told) (log other : List ℕ)
     → IsLogged trace core start' bound told log → IsLogged trace core start' bound told other → log ≡ other
-one_log one false core start' bound told log other l m = l ∙ sym m
-one_log one true core start' bound told log other l m = one core start' bound told log other l m
+one_log one None core start' bound told log other l m = l ∙ sym m
+one_log one (Some probe) core start' bound told log other l m = one probe core start' bound told log other l m
 
 pub run_some : PickedAlways → PickedIsDerived → EachHasATrace → CheckLaw → (source : List ℕ) (core : Core) → length source ≤ MOST_BYTES → ComesTo source core
     → (s : Settings) → MayHave core s → (course : Course) × IsRunOf core s course
@@ -100,7 +101,7 @@ run_one once one core s course other p q =
     λ i. record { told = told i; log = log i }
 
 -- a run from its beginning is the run of the program with its settings
-pub begun_ran : (core : Core) (seed bound : ℕ) (arguments : List Value) (until : Option ℤ) (trace : Bool) (stage : Stage) (gives : ℕ → ℕ → ℕ → Type 0) (result : Result Reported NoMemory)
+pub begun_ran : (core : Core) (seed bound : ℕ) (arguments : List Value) (until : Option ℤ) (trace : Option Filter) (stage : Stage) (gives : ℕ → ℕ → ℕ → Type 0) (result : Result Reported NoMemory)
     → Begun (start core arguments seed until) stage
     → IfOk result (λ r. (beginning : Beginning) → Begun beginning stage → (pick : Pick) → Answers gives pick → RunsTo trace core beginning pick bound (report_in r))
     → IfOk result (λ r. (pick : Pick) → Answers gives pick
@@ -120,15 +121,21 @@ if_ok (Err lost) follows is = tt
 formula_given : (pick : Pick) → IsLawful pick → Answers (λ question count answer. answer ≡ pick question count) pick
 formula_given pick lawful question count asked = (lawful question count asked.numbered asked.some asked.counted, refl)
 
+-- a filter keeps to itself
+itself : (trace : Option Filter) → option_map (λ (filter : Filter). filter) trace ≡ trace
+itself None = refl
+itself (Some filter) = refl
+
 -- the report of a run with the formula that words ask for as its policy
 pub formula_ran : (p : words.Pick) (core : Core) (a : Asked) (result : Result Reported NoMemory) → a.terms.policy ≡ p
     → IfOk result (λ r. (pick : Pick) → Answers (λ question count answer. answer ≡ policy_of p question count) pick
-    → IsReportOfRun core (record { seed = a.terms.seed; bound = a.terms.bound; pick = pick; texts = a.texts; until = a.terms.until; trace = a.terms.trace }) (report_in r))
+    → IsReportOfRun core (record { seed = a.terms.seed; bound = a.terms.bound; pick = pick; texts = a.texts; until = a.terms.until; trace = option_map (λ (filter : Filter). filter) a.terms.trace }) (report_in r))
     → IfOk result (λ r. IsReportOfRun core (wanted_of a) (report_in r))
 formula_ran p core a (Ok r) same is =
-    let at : words.Pick → Type 0 = λ q.
-    IsReportOfRun core (record { seed = a.terms.seed; bound = a.terms.bound; pick = policy_of q; texts = a.texts; until = a.terms.until; trace = a.terms.trace }) (report_in r) in
-    subst at (sym same) (is (policy_of p) (formula_given (policy_of p) (named_lawful p)))
+    let at : words.Pick → Option Filter → Type 0 = λ q trace.
+    IsReportOfRun core (record { seed = a.terms.seed; bound = a.terms.bound; pick = policy_of q; texts = a.texts; until = a.terms.until; trace = trace }) (report_in r) in
+    subst (λ q. at q a.terms.trace) (sym same)
+    (subst (at p) (itself a.terms.trace) (is (policy_of p) (formula_given (policy_of p) (named_lawful p))))
 formula_ran p core a (Err lost) same is = tt
 
 -- the report of a source that comes to a program
@@ -137,7 +144,7 @@ pub program_reported : (source : List ℕ) (core : Core) (aim : Aim) (result : R
 program_reported source core aim result comes is = if_ok result (λ r of. program core comes of) is
 
 -- the same, whatever the policy picks
-pub terms_reported : (gives : ℕ → ℕ → ℕ → Type 0) (source : List ℕ) (core : Core) (seed bound : ℕ) (texts : List (List ℕ)) (until : Option ℤ) (trace : Bool) (result : Result Reported NoMemory)
+pub terms_reported : (gives : ℕ → ℕ → ℕ → Type 0) (source : List ℕ) (core : Core) (seed bound : ℕ) (texts : List (List ℕ)) (until : Option ℤ) (trace : Option Filter) (result : Result Reported NoMemory)
     → ComesTo source core
     → IfOk result (λ r. (pick : Pick) → Answers gives pick
     → IsReportOfRun core (record { seed = seed; bound = bound; pick = pick; texts = texts; until = until; trace = trace }) (report_in r))
@@ -147,7 +154,7 @@ terms_reported gives source core seed bound texts until trace result comes is = 
 
 -- the report of a model's run, with the arguments that were read, or the refusal of these; whatever the policy picks
 
-module _ (gives : ℕ → ℕ → ℕ → Type 0) (core : Core) (seed bound : ℕ) (texts : List (List ℕ)) (until : Option ℤ) (trace : Bool) (d : ProcDef)
+module _ (gives : ℕ → ℕ → ℕ → Type 0) (core : Core) (seed bound : ℕ) (texts : List (List ℕ)) (until : Option ℤ) (trace : Option Filter) (d : ProcDef)
     (is : slice_get core.procs core.model ≡ Some d) (result : Result Reported NoMemory) where
   abbrev Ran : Type 0
   Ran = IfOk result (λ r. (pick : Pick) → Answers gives pick

@@ -1,10 +1,11 @@
 -- What follows of a simulation, by the report that is delivered of it.
-use Rattle.std.proofs.Common.{◌≡◌, ◌≢◌, ℕ, ◌≤◌, true, List, [], length, ◌⊎◌, inl, inr, ◌∙◌, refl, arith}
+use Rattle.std.proofs.Common.{◌≡◌, ◌≢◌, ℕ, ◌≤◌, Bool, true, false, List, [], length, Option, option_map, ◌⊎◌, inl, inr, ◌∙◌, ap, subst, refl, arith}
 use Rattle.chi_cli.specs.declared.words.TheConstants.{MOST_STEPS}
 use Rattle.chi_lex.specs.declared.lexer.TheConstants.{MOST_BYTES}
 use Rattle.chi_core.specs.declared.program.Core.{Core}
 use Rattle.chi_core.specs.declared.verdict.Verdict.TheVariants as verdict
 use Rattle.chi_sched.specs.Policies.{Answers}
+use Rattle.chi_trace.specs.declared.filter.Filter.{Filter}
 use Rattle.chi_value.specs.declared.value.Value.{Value}
 use Rattle.chi_tool.specs.Arguments.{Means}
 use Rattle.chi_tool.specs.Call.{SinkUse, Took, SinkStood}
@@ -14,7 +15,7 @@ use Rattle.chi_tool.specs.Refusals.{Report}
 use Rattle.chi_tool.specs.Report as report
 use Rattle.chi_tool.specs.Report.{IsReportOfSource, program}
 use Rattle.chi_tool.specs.Running.{Course, IsRunOf, run_report}
-use Rattle.chi_tool.specs.Settings.{Wanted, Aim, simulates, MayBeAimed, settings_with}
+use Rattle.chi_tool.specs.Settings.{Wanted, Aim, simulates, MayBeAimed, settings_with, trace_by}
 use Rattle.chi_tool.specs.Simulations.{Simulation, as_call, SimulationHeadline, ComesOf, IsExactlyFor, SimulationCauses, IsSimulatedToItsEnd}
 use Rattle.chi_tool.specs.Sources.{ComesTo}
 use Rattle.chi_tool.specs.Statuses.{status_of}
@@ -29,6 +30,19 @@ use Rattle.chi_tool.proofs.Served.{Breaks, unbroken, delivered_breaks, delivered
 pub may_be_simulated : (gives : ℕ → ℕ → ℕ → Type 0) (w : Wanted) → w.bound ≤ MOST_STEPS → Answers gives w.pick → MayBeAimed (simulates w)
 may_be_simulated gives w within answers =
     (omega arith, λ question count early some few. (answers question count (record { numbered = early; some = some; counted = few })).0)
+
+-- the filter that a probe keeps to is wanted where the probe is
+kept : {S : Type 0} (keeps_to : S → Filter) (trace : Bool) (probe : S) → option_map keeps_to (trace_by trace probe) ≡ trace_by trace (keeps_to probe)
+kept keeps_to false probe = refl
+kept keeps_to true probe = refl
+
+pub tells_kept : {S : Type 0} (keeps_to : S → Filter) (trace : Bool) (probe : S) (shown : Option S) → shown ≡ trace_by trace probe
+    → (source : List ℕ) (wanted : Option Filter → Wanted) (status : ℕ) (out log : SinkUse)
+    → Tells (IsReportOfSource source (simulates (wanted (option_map keeps_to shown)))) status out log
+    → Tells (IsReportOfSource source (simulates (wanted (trace_by trace (keeps_to probe))))) status out log
+tells_kept keeps_to trace probe shown is source wanted status out log tells =
+    let same : option_map keeps_to shown ≡ trace_by trace (keeps_to probe) = ap (option_map keeps_to) is ∙ kept keeps_to trace probe in
+    subst (λ (t : Option Filter). Tells (IsReportOfSource source (simulates (wanted t))) status out log) same tells
 
 -- a simulation that was told of
 module _ (law : SourceLaw) (s : Simulation) (within : length s.source ≤ MOST_BYTES) (may : MayBeAimed (simulates s.wanted))

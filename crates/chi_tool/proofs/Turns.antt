@@ -1,5 +1,5 @@
 -- The turns of a run: what each of them leaves of it.
-use Rattle.std.proofs.Common.{Bool, ◌≡◌, ℕ, ◌+◌, ◌*◌, ◌-◌, ◌<◌, ◌≤◌, ◌^◌, ℤ, List, [], ◌∷◌, ◌++◌, Option, Some, None, length, sym, ◌∙◌, ap, subst, refl, arith, append-nil, length-append}
+use Rattle.std.proofs.Common.{◌≡◌, ℕ, ◌+◌, ◌*◌, ◌-◌, ◌<◌, ◌≤◌, ◌^◌, ℤ, List, [], ◌∷◌, ◌++◌, Option, Some, None, length, sym, ◌∙◌, ap, subst, refl, arith, append-nil, length-append}
 use Rattle.std.specs.Prelude.{IfSome, option_map}
 use Rattle.std.specs.List.{slice_get}
 use Rattle.chi_sched.specs.Policies.{Answers, GivesOne, IsAsked}
@@ -26,6 +26,7 @@ use Rattle.chi_plain.specs.declared.stepped.Stepped.{Stepped}
 use Rattle.chi_plain.specs.declared.stepped.Stepped.TheVariants.{Next, Over, Spent}
 use Rattle.chi_plain.specs.Stage as stages
 use Rattle.chi_plain.specs.Stage.{Stage, At, Ended, Lost, Runner, Begun, actors_at, options_at, verdict_at, clock_at, MayTell, MayStep, Steps, Appends}
+use Rattle.chi_trace.specs.declared.filter.Filter.{Filter}
 use Rattle.chi_tool.specs.Running.{IsCourse}
 use Rattle.chi_tool.specs.Turns.{GoesOn, PicksAt, EndsWith, first_log, Logs, LogsBy, LoggedSoFar, Leads, IsThere, Keeps}
 use Rattle.chi_tool.proofs.Logged.{TurnLaw, log_begins, log_of_none, log_on, log_over, log_whole}
@@ -102,7 +103,7 @@ turns_left left (At config) = 2 * left + 1
 turns_left left (Ended end) = 2 * left
 turns_left left Lost = 0
 
-module _ (law : TurnLaw) (gives : ℕ → ℕ → ℕ → Type 0) (trace : Bool) (core : Core) (first : Stage) (bound : ℕ) where
+module _ (law : TurnLaw) (gives : ℕ → ℕ → ℕ → Type 0) (trace : Option Filter) (core : Core) (first : Stage) (bound : ℕ) where
   -- a run begins
   leads_first : (beginning : Beginning) (stage : Stage) → Begun beginning stage → (pick : Pick)
       → Leads trace core beginning pick bound stage 0 bound [] (first_log trace)

@@ -1,5 +1,5 @@
 -- What the run of a program is with its settings, and its report.
-use Rattle.std.specs.Prelude.{◌≡◌, ℕ, ◌^◌, ◌<◌, Bool, true, false, List, [], ◌++◌, Some, slice_get}
+use Rattle.std.specs.Prelude.{◌≡◌, ℕ, ◌^◌, ◌<◌, List, [], ◌++◌, Option, Some, None, slice_get}
 use Rattle.chi_core.specs.declared.program.Core.{Core}
 use Rattle.chi_core.specs.Beginning.{Beginning, start}
 use Rattle.chi_core.specs.declared.program.ProcDef.{ProcDef}
@@ -8,6 +8,7 @@ use Rattle.chi_core.specs.Of.{at_start, AreOf}
 use Rattle.chi_core.specs.Picks.{IsLawful, Pick, Picked}
 use Rattle.chi_core.specs.Runs.{Told}
 use Rattle.chi_core.specs.VerdictLine.{verdict_line_of}
+use Rattle.chi_trace.specs.declared.filter.Filter.{Filter}
 use Rattle.chi_trace_events.specs.Traces.{IsTrace}
 use Rattle.chi_tool.specs.Refusals.{Report}
 use Rattle.chi_tool.specs.Settings.{Settings}
@@ -22,10 +23,10 @@ pub record MayHave (core : Core) (s : Settings) : Type 0 where
   pub lawful : IsLawful s.pick
   pub bound : s.bound < 2 ^ 63
 
--- what is logged of a run before the line of its verdict: its trace, where that is wanted
-abbrev pub IsLogged : Bool → Core → Beginning → ℕ → Told → List ℕ → Type 0
-IsLogged false core beginning bound told log = log ≡ []
-IsLogged true core beginning bound told log = IsTrace core beginning bound told log
+-- what is logged of a run before the line of its verdict: what is shown of its trace, where that is wanted
+abbrev pub IsLogged : Option Filter → Core → Beginning → ℕ → Told → List ℕ → Type 0
+IsLogged None core beginning bound told log = log ≡ []
+IsLogged (Some probe) core beginning bound told log = IsTrace probe core beginning bound told log
 
 -- all that a run did, and what is logged of it
 pub record Course : Type 0 where
@@ -33,7 +34,7 @@ pub record Course : Type 0 where
   pub log : List ℕ
 
 -- from this beginning, the policy picks this run, and that is logged of it
-pub record IsCourse (trace : Bool) (core : Core) (beginning : Beginning) (pick : Pick) (bound : ℕ) (course : Course) : Type 0 where
+pub record IsCourse (trace : Option Filter) (core : Core) (beginning : Beginning) (pick : Pick) (bound : ℕ) (course : Course) : Type 0 where
   pub picked : Picked core beginning pick bound course.told
   pub logged : IsLogged trace core beginning bound course.told course.log
 

@@ -1,8 +1,9 @@
 -- What a run is asked for with, beside its program.
-use Rattle.std.specs.Prelude.{ℕ, ◌^◌, ◌<◌, ℤ, Bool, false, List, [], Option, None}
+use Rattle.std.specs.Prelude.{ℕ, ◌^◌, ◌<◌, ℤ, Bool, true, false, List, [], Option, Some, None}
 use Rattle.chi_cli.specs.declared.request.Pick as words
 use Rattle.chi_cli.specs.declared.request.Pick.TheVariants as pick
 use Rattle.chi_cli.specs.declared.words.TheConstants.{STEPS}
+use Rattle.chi_trace.specs.declared.filter.Filter.{Filter}
 use Rattle.chi_value.specs.declared.value.Value.{Value}
 use Rattle.chi_core.specs.Picks.{Pick, IsLawful}
 use Rattle.chi_sched.specs.Policies.{first, last, spread}
@@ -11,14 +12,15 @@ use Rattle.chi_tool.specs.declared.task.Purpose.{Purpose}
 use Rattle.chi_tool.specs.declared.task.Purpose.TheVariants.{Simulate, Check, ListCode}
 
 -- The seed of its draws; the bound on the costs of all its steps together; the policy that picks among what may
--- happen; the arguments of its model; the stopping time, if there is one; and whether its trace is logged.
+-- happen; the arguments of its model; the stopping time, if there is one; and, where its trace is
+-- logged, which events are shown.
 pub record Settings : Type 0 where
   pub seed : ℕ
   pub bound : ℕ
   pub pick : Pick
   pub arguments : List Value
   pub until : Option ℤ
-  pub trace : Bool
+  pub trace : Option Filter
 
 -- the same, with the texts of the arguments
 pub record Wanted : Type 0 where
@@ -27,13 +29,18 @@ pub record Wanted : Type 0 where
   pub pick : Pick
   pub texts : List (List ℕ)
   pub until : Option ℤ
-  pub trace : Bool
+  pub trace : Option Filter
 
 -- what is done with a source: its program is run, is only checked, or has its code listed
 pub data Aim : Type 0 where
   simulates : Wanted → Aim
   checks : Aim
   lists : Aim
+
+-- what tells which events of a trace are logged, where it is wanted
+abbrev pub trace_by : {S : Type 0} → Bool → S → Option S
+trace_by false probe = None
+trace_by true probe = Some probe
 
 -- the policy that words name
 abbrev pub policy_of : words.Pick → Pick
@@ -56,7 +63,7 @@ settings_with w arguments = record { seed = w.seed; bound = w.bound; pick = w.pi
 
 -- where the words say nothing of it
 abbrev pub plain : Asked
-plain = record { terms = record { seed = 0; bound = STEPS; policy = pick.First; until = None; trace = false }; texts = [] }
+plain = record { terms = record { seed = 0; bound = STEPS; policy = pick.First; until = None; trace = None }; texts = [] }
 
 -- within what is counted
 abbrev pub IsBounded : Purpose → Type 0

@@ -1,4 +1,4 @@
-//! The top call: from words and files to a status and every byte that is written; and the library call, from a source.
+//! The top call: from words and files to a status and every byte that is written; and the library calls, from a source.
 #![tactic(auto)]
 
 mod arguments;
@@ -23,5 +23,5 @@ mod tracing;
 mod words;
 
 pub use laws::{limits_law, one_code_law, one_run_law, report_law, source_law, tokens_law};
-pub use library::simulate;
+pub use library::{simulate, simulate_probed};
 pub use top::chi;

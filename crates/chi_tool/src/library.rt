@@ -1,20 +1,21 @@
-//! The library call: a source is simulated, with whichever policy.
+//! The library calls: a source is simulated, with whichever policy, and with whichever probe of its trace.
 
-ghost use Rattle.std.specs.Prelude.{◌≡◌, ◌≤◌, ◌<◌, ◌^◌, false, IfOk, length};
+ghost use Rattle.std.specs.Prelude.{◌≡◌, ◌≤◌, ◌<◌, ◌^◌, false, IfOk, length, option_map};
 ghost use Rattle.chi_core.specs.Picks as picks;
 ghost use Rattle.chi_sched.specs.Policies.{Answers};
+ghost use Rattle.chi_trace.specs.declared.filter.Filter.TheVariants.{All};
 ghost use Rattle.chi_tool.specs.Call.{sink_use};
 ghost use Rattle.chi_tool.specs.Delivery.{Tells};
 ghost use Rattle.chi_tool.specs.Report.{IsReportOfSource};
 ghost use Rattle.chi_tool.specs.Reported.{report_in};
-ghost use Rattle.chi_tool.specs.Settings.{simulates};
+ghost use Rattle.chi_tool.specs.Settings.{simulates, trace_by};
 ghost use Rattle.chi_tool.specs.Simulations.{SimulationHeadline, SimulationCauses, IsSimulatedToItsEnd};
 
 use crate::deliver::deliver;
 use crate::laws::{one_run_law, source_law};
 use crate::program::report_of_run;
 use crate::report::Reported;
-use crate::settings::Terms;
+use crate::settings::{Terms, trace_by};
 use crate::source::{Source, read};
 use crate::status::NO_MEMORY;
 use chi_base::NoMemory;
@@ -24,19 +25,20 @@ use chi_lex::MOST_BYTES;
 use chi_num::Real;
 use chi_sched::Chooser;
 use chi_token::Bytes;
+use chi_trace::{Filter, Sieve};
 use std::alloc::Global;
 
 /// The report of a source that is to be simulated on these terms.
-fn report_of_terms<P: Chooser + Drop>(
+fn report_of_terms<P: Chooser + Drop, S: Sieve + Drop>(
     alloc: Global,
     source: &[u8],
     texts: &[Bytes],
-    terms: Terms<P>,
+    terms: Terms<P, S>,
 ) -> Result<Reported, NoMemory>
     requires within { length source.now ≤ MOST_BYTES }
     requires bound { terms.bound < 2 ^ 63 }
     ensures { IfOk result (λ r. (pick : picks.Pick) → Answers (P.gives terms.policy) pick
-        → IsReportOfSource source.now (simulates (record { seed = terms.seed; bound = terms.bound; pick = pick; texts = texts.now; until = terms.until; trace = terms.trace })) (report_in r)) }
+        → IsReportOfSource source.now (simulates (record { seed = terms.seed; bound = terms.bound; pick = pick; texts = texts.now; until = terms.until; trace = option_map S.keeps_to terms.trace })) (report_in r)) }
 {
     match read(alloc, source)? {
         Source::Refused(refusal) => Ok(refusal),
@@ -45,11 +47,11 @@ fn report_of_terms<P: Chooser + Drop>(
 }
 
 /// Delivers that report.
-fn tell_terms<P: Chooser + Drop, O: Sink, L: Sink>(
+fn tell_terms<P: Chooser + Drop, S: Sieve + Drop, O: Sink, L: Sink>(
     alloc: Global,
     source: &[u8],
     texts: &[Bytes],
-    terms: Terms<P>,
+    terms: Terms<P, S>,
     out: &mut O,
     log: &mut L,
 ) -> u8
@@ -58,7 +60,7 @@ fn tell_terms<P: Chooser + Drop, O: Sink, L: Sink>(
     requires within { length source.now ≤ MOST_BYTES }
     requires bound { terms.bound < 2 ^ 63 }
     ensures { (pick : picks.Pick) → Answers (P.gives terms.policy) pick
-        → Tells (IsReportOfSource source.now (simulates (record { seed = terms.seed; bound = terms.bound; pick = pick; texts = texts.now; until = terms.until; trace = terms.trace }))) result
+        → Tells (IsReportOfSource source.now (simulates (record { seed = terms.seed; bound = terms.bound; pick = pick; texts = texts.now; until = terms.until; trace = option_map S.keeps_to terms.trace }))) result
         (sink_use O.taken O.faults O.stopped out.old out.new) (sink_use L.taken L.faults L.stopped log.old log.new) }
 {
     match report_of_terms(alloc, source, texts, terms) {
@@ -69,7 +71,65 @@ fn tell_terms<P: Chooser + Drop, O: Sink, L: Sink>(
 
 /// Simulates a source: its first model with the arguments that texts mean, these draws, this bound on the costs of its
 /// steps and this stopping time. The policy picks among what may happen. With `trace` the log has a
-/// line for each label before that of the verdict.
+/// line for each label whose event the probe shows, before that of the verdict.
+pub fn simulate_probed<P: Chooser + Drop, S: Sieve + Drop, O: Sink, L: Sink>(
+    alloc: Global,
+    source: &[u8],
+    texts: &[Bytes],
+    seed: u64,
+    bound: u64,
+    until: Option<Real>,
+    policy: P,
+    probe: S,
+    trace: bool,
+    out: &mut O,
+    log: &mut L,
+) -> u8
+    requires out_goes { O.stopped out.old ≡ false }
+    requires log_goes { L.stopped log.old ≡ false }
+    requires within { length source.now ≤ MOST_BYTES }
+    requires bound { bound ≤ MOST_STEPS }
+
+    // Whichever function tells what the policy answers: the status and every byte are those of the report.
+    ensures headline { (pick : picks.Pick) → Answers (P.gives policy) pick → SimulationHeadline (record {
+      source = source.now;
+      wanted = record { seed = seed; bound = bound; pick = pick; texts = texts.now; until = until; trace = trace_by trace (S.keeps_to probe) };
+      status = result;
+      out = sink_use O.taken O.faults O.stopped out.old out.new;
+      log = sink_use L.taken L.faults L.stopped log.old log.new;
+    }) }
+    // Each status has its cause.
+    ensures causes { (pick : picks.Pick) → Answers (P.gives policy) pick → SimulationCauses (record {
+      source = source.now;
+      wanted = record { seed = seed; bound = bound; pick = pick; texts = texts.now; until = until; trace = trace_by trace (S.keeps_to probe) };
+      status = result;
+      out = sink_use O.taken O.faults O.stopped out.old out.new;
+      log = sink_use L.taken L.faults L.stopped log.old log.new;
+    }) }
+    // A program is run to its end.
+    ensures complete { (pick : picks.Pick) → Answers (P.gives policy) pick → IsSimulatedToItsEnd (record {
+      source = source.now;
+      wanted = record { seed = seed; bound = bound; pick = pick; texts = texts.now; until = until; trace = trace_by trace (S.keeps_to probe) };
+      status = result;
+      out = sink_use O.taken O.faults O.stopped out.old out.new;
+      log = sink_use L.taken L.faults L.stopped log.old log.new;
+    }) }
+{
+    source_law();
+    one_run_law();
+    values_are_of_parameters();
+    let trace = trace_by(trace, probe);
+    let terms = Terms {
+        seed,
+        bound,
+        policy,
+        until,
+        trace,
+    };
+    tell_terms(alloc, source, texts, terms, out, log)
+}
+
+/// The same, with a line for each label.
 pub fn simulate<P: Chooser + Drop, O: Sink, L: Sink>(
     alloc: Global,
     source: &[u8],
@@ -90,7 +150,7 @@ pub fn simulate<P: Chooser + Drop, O: Sink, L: Sink>(
     // Whichever function tells what the policy answers: the status and every byte are those of the report.
     ensures headline { (pick : picks.Pick) → Answers (P.gives policy) pick → SimulationHeadline (record {
       source = source.now;
-      wanted = record { seed = seed; bound = bound; pick = pick; texts = texts.now; until = until; trace = trace };
+      wanted = record { seed = seed; bound = bound; pick = pick; texts = texts.now; until = until; trace = trace_by trace All };
       status = result;
       out = sink_use O.taken O.faults O.stopped out.old out.new;
       log = sink_use L.taken L.faults L.stopped log.old log.new;
@@ -98,7 +158,7 @@ pub fn simulate<P: Chooser + Drop, O: Sink, L: Sink>(
     // Each status has its cause.
     ensures causes { (pick : picks.Pick) → Answers (P.gives policy) pick → SimulationCauses (record {
       source = source.now;
-      wanted = record { seed = seed; bound = bound; pick = pick; texts = texts.now; until = until; trace = trace };
+      wanted = record { seed = seed; bound = bound; pick = pick; texts = texts.now; until = until; trace = trace_by trace All };
       status = result;
       out = sink_use O.taken O.faults O.stopped out.old out.new;
       log = sink_use L.taken L.faults L.stopped log.old log.new;
@@ -106,21 +166,23 @@ pub fn simulate<P: Chooser + Drop, O: Sink, L: Sink>(
     // A program is run to its end.
     ensures complete { (pick : picks.Pick) → Answers (P.gives policy) pick → IsSimulatedToItsEnd (record {
       source = source.now;
-      wanted = record { seed = seed; bound = bound; pick = pick; texts = texts.now; until = until; trace = trace };
+      wanted = record { seed = seed; bound = bound; pick = pick; texts = texts.now; until = until; trace = trace_by trace All };
       status = result;
       out = sink_use O.taken O.faults O.stopped out.old out.new;
       log = sink_use L.taken L.faults L.stopped log.old log.new;
     }) }
 {
-    source_law();
-    one_run_law();
-    values_are_of_parameters();
-    let terms = Terms {
+    simulate_probed(
+        alloc,
+        source,
+        texts,
         seed,
         bound,
-        policy,
         until,
+        policy,
+        Filter::All,
         trace,
-    };
-    tell_terms(alloc, source, texts, terms, out, log)
+        out,
+        log,
+    )
 }

@@ -1,6 +1,6 @@
 //! What is done with the program that a source comes to.
 
-ghost use Rattle.std.specs.Prelude.{◌≡◌, ◌<◌, ◌^◌, Some, IfOk, slice_get};
+ghost use Rattle.std.specs.Prelude.{◌≡◌, ◌<◌, ◌^◌, Some, IfOk, option_map, slice_get};
 ghost use Rattle.chi_core.specs.Picks as picks;
 ghost use Rattle.chi_core.specs.Sound.{Sound};
 ghost use Rattle.chi_sched.specs.Policies.{Answers};
@@ -21,21 +21,22 @@ use chi_cli::{Pick, read_args, values_are_of_parameters};
 use chi_core::{Core, ProcDef};
 use chi_sched::{Chooser, First, Last, Spread};
 use chi_token::Bytes;
+use chi_trace::Sieve;
 use std::alloc::Global;
 
 /// The report of the run on these terms, with the arguments that the texts mean, or the refusal of these.
-fn run_model<P: Chooser + Drop>(
+fn run_model<P: Chooser + Drop, S: Sieve + Drop>(
     alloc: Global,
     core: &Core,
     model: &ProcDef,
     texts: &[Bytes],
-    terms: Terms<P>,
+    terms: Terms<P, S>,
 ) -> Result<Reported, NoMemory>
     requires sound { Sound core.now }
     requires model { slice_get core.now.procs core.now.model ≡ Some model.now }
     requires bound { terms.bound < 2 ^ 63 }
     ensures { IfOk result (λ r. (pick : picks.Pick) → Answers (P.gives terms.policy) pick
-        → IsReportOfRun core.now (record { seed = terms.seed; bound = terms.bound; pick = pick; texts = texts.now; until = terms.until; trace = terms.trace }) (report_in r)) }
+        → IsReportOfRun core.now (record { seed = terms.seed; bound = terms.bound; pick = pick; texts = texts.now; until = terms.until; trace = option_map S.keeps_to terms.trace }) (report_in r)) }
 {
     values_are_of_parameters();
     let params = model.params.as_slice();
@@ -54,16 +55,16 @@ fn run_model<P: Chooser + Drop>(
 }
 
 /// The report of a program that is to be run on these terms.
-pub fn report_of_run<P: Chooser + Drop>(
+pub fn report_of_run<P: Chooser + Drop, S: Sieve + Drop>(
     alloc: Global,
     core: &Core,
     texts: &[Bytes],
-    terms: Terms<P>,
+    terms: Terms<P, S>,
 ) -> Result<Reported, NoMemory>
     requires sound { Sound core.now }
     requires bound { terms.bound < 2 ^ 63 }
     ensures { IfOk result (λ r. (pick : picks.Pick) → Answers (P.gives terms.policy) pick
-        → IsReportOfRun core.now (record { seed = terms.seed; bound = terms.bound; pick = pick; texts = texts.now; until = terms.until; trace = terms.trace }) (report_in r)) }
+        → IsReportOfRun core.now (record { seed = terms.seed; bound = terms.bound; pick = pick; texts = texts.now; until = terms.until; trace = option_map S.keeps_to terms.trace }) (report_in r)) }
 {
     match core.procs.as_slice().get(core.model as usize) {
         Some(model) => run_model(alloc, core, model, texts, terms),

@@ -1,4 +1,4 @@
-ghost use Rattle.std.specs.Prelude.{◌≡◌, ◌<◌, ◌^◌, [], Some, IfOk, IsSomeAnd, slice_get};
+ghost use Rattle.std.specs.Prelude.{◌≡◌, ◌<◌, ◌^◌, [], Some, IfOk, IsSomeAnd, option_map, slice_get};
 ghost use Rattle.chi_core.specs.declared.program.ProcDef.{ProcDef};
 ghost use Rattle.chi_core.specs.Beginning.{Beginning};
 ghost use Rattle.chi_core.specs.Kinds.{kinds_of};
@@ -23,6 +23,7 @@ use chi_core_runs::{choice_law, options_law, time_law, turn_law};
 use chi_num::Real;
 use chi_plain::{Plain, Stepped};
 use chi_sched::Chooser;
+use chi_trace::Sieve;
 use chi_trace_events::tracing_law;
 use chi_value::{TextFault, Value};
 use std::alloc::Global;
@@ -72,22 +73,22 @@ fn picked_label<P: Chooser>(runner: &Plain<'_>, policy: &P, turn: u64) -> Label
 }
 
 /// Runs from the beginning: a label is picked at each turn, until the run is over or cut off.
-fn run_on<P: Chooser>(
+fn run_on<P: Chooser, S: Sieve>(
     alloc: Global,
     runner: &mut Plain<'_>,
     policy: &P,
     bound: u64,
-    trace: bool,
+    trace: &Option<S>,
     told: &mut Telling,
 ) -> Result<RunEnd, NoMemory>
     requires there { IsThere runner.old.stage }
     requires bound { bound < 2 ^ 63 }
     requires out { told.old.out.items ≡ [] }
-    requires log { told.old.log.items ≡ first_log trace }
+    requires log { told.old.log.items ≡ first_log (option_map S.keeps_to trace.now) }
     ensures same_core { runner.new.core ≡ runner.old.core }
     ensures told { IfOk result (λ end. end ≡ Over → IsSomeAnd (verdict_at runner.new.stage) (MayTell runner.old.core)) }
     ensures ran { IfOk result (λ end. (beginning : Beginning) → Begun beginning runner.old.stage → (pick : Pick) → Answers (P.gives policy.now) pick
-        → HasRun trace runner.old.core beginning pick bound runner.new.stage told.new.out.items told.new.log.items end) }
+        → HasRun (option_map S.keeps_to trace.now) runner.old.core beginning pick bound runner.new.stage told.new.out.items told.new.log.items end) }
 {
     time_law();
     turn_law();
@@ -112,19 +113,19 @@ fn run_on<P: Chooser>(
 }
 
 /// The report of a run from its beginning.
-fn run_from<P: Chooser>(
+fn run_from<P: Chooser, S: Sieve>(
     alloc: Global,
     core: &Core,
     runner: &mut Plain<'_>,
     policy: &P,
     bound: u64,
-    trace: bool,
+    trace: &Option<S>,
 ) -> Result<Reported, NoMemory>
     requires same_core { runner.old.core ≡ core.now }
     requires there { IsThere runner.old.stage }
     requires bound { bound < 2 ^ 63 }
     ensures { IfOk result (λ r. (beginning : Beginning) → Begun beginning runner.old.stage → (pick : Pick) → Answers (P.gives policy.now) pick
-        → RunsTo trace core.now beginning pick bound (report_in r)) }
+        → RunsTo (option_map S.keeps_to trace.now) core.now beginning pick bound (report_in r)) }
 {
     let out = Vec::new(alloc);
     let log = first_log(alloc, trace)?;
@@ -150,18 +151,18 @@ fn units_of(until: Option<Real>) -> Option<i64>
 }
 
 /// The report of a program's run on these terms, with these arguments.
-pub fn run<P: Chooser + Drop>(
+pub fn run<P: Chooser + Drop, S: Sieve + Drop>(
     alloc: Global,
     core: &Core,
     arguments: Vec<Value>,
-    terms: Terms<P>,
+    terms: Terms<P, S>,
 ) -> Result<Reported, NoMemory>
     requires sound { Sound core.now }
     requires arguments { (d : ProcDef) → slice_get core.now.procs core.now.model ≡ Some d
         → AreOf (at_start core.now.names.kinds) arguments.items (kinds_of d.params) }
     requires bound { terms.bound < 2 ^ 63 }
     ensures { IfOk result (λ r. (pick : Pick) → Answers (P.gives terms.policy) pick
-        → IsRunReport core.now (record { seed = terms.seed; bound = terms.bound; pick = pick; arguments = arguments.items; until = terms.until; trace = terms.trace }) (report_in r)) }
+        → IsRunReport core.now (record { seed = terms.seed; bound = terms.bound; pick = pick; arguments = arguments.items; until = terms.until; trace = option_map S.keeps_to terms.trace }) (report_in r)) }
 {
     let Terms {
         seed,
@@ -171,5 +172,5 @@ pub fn run<P: Chooser + Drop>(
         trace,
     } = terms;
     let mut runner = Plain::new(alloc, core, arguments, seed, units_of(until))?;
-    run_from(alloc, core, &mut runner, &policy, bound, trace)
+    run_from(alloc, core, &mut runner, &policy, bound, &trace)
 }

@@ -1,10 +1,12 @@
 ghost use Rattle.std.specs.Prelude.{◌≡◌};
+ghost use Rattle.chi_tool.specs.Settings.{trace_by};
 
 use chi_num::Real;
+use chi_trace::Filter;
 
 /// On what terms a program is run, beside its arguments.
 #[derive(Debug, Drop)]
-pub struct Terms<P> {
+pub struct Terms<P, S> {
     /// Of its draws.
     pub seed: u64,
     /// On the costs of all its steps together.
@@ -13,13 +15,13 @@ pub struct Terms<P> {
     pub policy: P,
     /// The stopping time.
     pub until: Option<Real>,
-    /// Whether the run's trace is logged.
-    pub trace: bool,
+    /// What tells which events of the run's trace are logged, where that is wanted.
+    pub trace: Option<S>,
 }
 
-impl<P> Terms<P> {
+impl<P> Terms<P, Filter> {
     /// The same, with a policy in place of what names it.
-    pub fn with<Q>(&self, policy: Q) -> Terms<Q>
+    pub fn with<Q>(&self, policy: Q) -> Terms<Q, Filter>
         ensures { result ≡ record { seed = self.now.seed; bound = self.now.bound; policy = policy; until = self.now.until; trace = self.now.trace } }
     {
         Terms {
@@ -30,4 +32,11 @@ impl<P> Terms<P> {
             trace: self.trace,
         }
     }
+}
+
+/// What tells which events of a trace are logged, where it is wanted.
+pub fn trace_by<S: Drop>(trace: bool, probe: S) -> Option<S>
+    ensures { result ≡ trace_by trace probe }
+{
+    if trace { Some(probe) } else { None }
 }

@@ -5,13 +5,14 @@ use crate::settings::Terms;
 use chi_base::{Items, NoMemory};
 use chi_cli::{Pick, STEPS};
 use chi_token::Bytes;
+use chi_trace::Filter;
 use std::alloc::Global;
 
 /// What a run is asked for with, beside its program.
 #[derive(Debug, Drop)]
 pub struct Asked {
     /// With the policy by its name.
-    pub terms: Terms<Pick>,
+    pub terms: Terms<Pick, Filter>,
     /// Those of the model's arguments.
     pub texts: Items<Bytes>,
 }
@@ -26,7 +27,7 @@ pub fn unasked(alloc: Global) -> Result<Asked, NoMemory>
             bound: STEPS,
             policy: Pick::First,
             until: None,
-            trace: false,
+            trace: None,
         },
         texts: Items::of(alloc, Vec::new(alloc))?,
     })

@@ -1,13 +1,13 @@
 //! What is written and logged of a run, turn by turn.
 
-ghost use Rattle.std.specs.Prelude.{◌≡◌, IfOk};
+ghost use Rattle.std.specs.Prelude.{◌≡◌, IfOk, option_map};
 ghost use Rattle.chi_plain.specs.Stage.{Appends, MayStep, Steps};
 ghost use Rattle.chi_tool.specs.Turns.{IfTold, LogsBy, Logs, first_log};
 
 use chi_base::NoMemory;
 use chi_core::Label;
 use chi_plain::{Plain, Stepped};
-use chi_trace::{FIRST_LINE, first_lines_law, line_of};
+use chi_trace::{FIRST_LINE, Sieve, first_lines_law, line_of};
 use std::alloc::Global;
 
 /// What a run has written, and what is logged of it before its verdict.
@@ -18,42 +18,44 @@ pub struct Telling {
 }
 
 /// The log before anything happens: the first line of the trace, where that is wanted.
-pub fn first_log(alloc: Global, trace: bool) -> Result<Vec<u8>, NoMemory>
-    ensures { IfOk result (λ log. log.items ≡ first_log trace) }
+pub fn first_log<S: Sieve>(alloc: Global, trace: &Option<S>) -> Result<Vec<u8>, NoMemory>
+    ensures { IfOk result (λ log. log.items ≡ first_log (option_map S.keeps_to trace.now)) }
 {
     first_lines_law();
     let mut log = Vec::new(alloc);
-    if trace {
+    if trace.is_some() {
         log.extend_from_slice(FIRST_LINE.as_bytes())?;
         log.push(b'\n')?;
     }
     Ok(log)
 }
 
-/// What a turn adds to the log: the line of its label's event, where the trace is wanted.
-fn line_at(
+/// What a turn adds to the log: the line of its label's event, where the trace is wanted and that is shown.
+fn line_at<S: Sieve>(
     alloc: Global,
     runner: &Plain<'_>,
-    trace: bool,
+    trace: &Option<S>,
     turn: u64,
     label: &Label,
 ) -> Result<Vec<u8>, NoMemory>
     requires may { MayStep runner.now.stage label.now }
-    ensures { IfOk result (λ line. Logs trace runner.now.core runner.now.stage turn label.now line.items) }
+    ensures { IfOk result (λ line. Logs (option_map S.keeps_to trace.now) runner.now.core runner.now.stage turn label.now line.items) }
 {
     let mut line = Vec::new(alloc);
-    if trace {
+    if let Some(sieve) = trace {
         let event = runner.event_of(turn, label)?;
-        line_of(alloc, &event, &mut line)?;
+        if sieve.shown(&event) {
+            line_of(alloc, &event, &mut line)?;
+        }
     }
     Ok(line)
 }
 
 /// Takes a label at its turn. What costs too much isn't logged.
-pub fn take_turn(
+pub fn take_turn<S: Sieve>(
     alloc: Global,
     runner: &mut Plain<'_>,
-    trace: bool,
+    trace: &Option<S>,
     turn: u64,
     label: &Label,
     left: u64,
@@ -63,7 +65,7 @@ pub fn take_turn(
     ensures same_core { runner.new.core ≡ runner.old.core }
     ensures steps { IfTold result (Appends told.old.out.items told.new.out.items
         (λ text. Steps runner.old.core runner.old.stage runner.new.stage label.now left text result)) }
-    ensures logs { LogsBy trace runner.old.core runner.old.stage turn label.now told.old.log.items told.new.log.items result }
+    ensures logs { LogsBy (option_map S.keeps_to trace.now) runner.old.core runner.old.stage turn label.now told.old.log.items told.new.log.items result }
 {
     let Ok(line) = line_at(alloc, runner, trace, turn, label) else {
         return Stepped::NoMemory;

@@ -1,7 +1,7 @@
 ghost use Rattle.std.specs.Prelude.{◌≡◌};
 ghost use Rattle.chi_tool.specs.Words.{is_refusal, task_of};
 
-use crate::settings::Terms;
+use crate::settings::{Terms, trace_by};
 use crate::task::{Asked, Purpose, Task};
 use chi_cli::{CliFault, Request};
 
@@ -18,13 +18,14 @@ pub fn task_of(request: Request) -> Task
             until,
             pick,
             trace,
+            probe,
         } => {
             let terms = Terms {
                 seed,
                 bound,
                 policy: pick,
                 until,
-                trace,
+                trace: trace_by(trace, probe),
             };
             let asked = Asked { terms, texts: args };
             Task::OfFile {

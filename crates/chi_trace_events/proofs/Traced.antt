@@ -1,5 +1,7 @@
--- Traces: each turn adds the line of its event, and a derivation of a sound program has exactly one trace.
-use Rattle.std.proofs.Common.{◌≡◌, ℕ, suc, List, [], ◌∷◌, ◌++◌, map, length, Option, Some, None, append_assoc, append-nil, sym, ◌∙◌, ap, subst, refl}
+-- Traces: each turn adds the line of its event, where the probe shows that, and a derivation of a sound program has exactly one trace.
+use Rattle.std.proofs.Common.{◌≡◌, ℕ, suc, Bool, true, false, cond, List, [], ◌∷◌, ◌++◌, filter, map, length, Option, Some, None, if◌then◌else◌, append_assoc, append-nil, sym, ◌∙◌, ap, subst, refl}
+use Rattle.std.proofs.lemmas.List.Concat.{flat_map-append}
+use Rattle.std.proofs.lemmas.List.Elements.{filter-append}
 use Rattle.std.specs.List.{flat_map}
 use Rattle.std.specs.Prelude.{unwrap_or}
 use Rattle.chi_core.specs.declared.label.Label.{Label}
@@ -20,72 +22,86 @@ use Rattle.chi_core_runs.specs.Tellings.{ToldSoFar}
 use Rattle.chi_core_runs.proofs.Tellings.{nothing_told, more_told, all_told, last_told}
 use Rattle.chi_core_runs.proofs.Turns.{along-none, along-step}
 use Rattle.chi_trace.specs.declared.event.Event.{Event}
+use Rattle.chi_trace.specs.declared.filter.Filter.{Filter}
+use Rattle.chi_trace.specs.Filters.{shows}
 use Rattle.chi_trace.specs.Lines.{first_line, event_line}
 use Rattle.chi_trace_events.specs.Laws.{EachHasAnEvent}
 use Rattle.chi_trace_events.specs.Traces.{event_at, event_told, lines_of, IsTrace}
-use Rattle.chi_trace_events.specs.Tracing.{TracedSoFar}
+use Rattle.chi_trace_events.specs.Tracing.{TracedSoFar, shown_line}
+
+-- one event more
 
 map-snoc : (events : List Event) (e : Event) → map Some (events ++ e ∷ []) ≡ map Some events ++ Some e ∷ []
 map-snoc [] e = refl
 map-snoc (x ∷ xs) e = ap (λ rest. Some x ∷ rest) (map-snoc xs e)
 
-flat-snoc : (events : List Event) (e : Event) → flat_map event_line (events ++ e ∷ []) ≡ flat_map event_line events ++ event_line e
-flat-snoc [] e = append-nil (event_line e)
-flat-snoc (x ∷ xs) e = ap (λ rest. event_line x ++ rest) (flat-snoc xs e) ∙ sym (append_assoc (event_line x) (flat_map event_line xs) (event_line e))
+lines-append : (events more : List Event) → lines_of (events ++ more) ≡ lines_of events ++ flat_map event_line more
+lines-append events more =
+    ap (λ rest. first_line ++ 10 ∷ rest) (flat_map-append event_line events more)
+    ∙ sym (append_assoc first_line (10 ∷ flat_map event_line events) (flat_map event_line more))
 
-lines-snoc : (events : List Event) (e : Event) → lines_of (events ++ e ∷ []) ≡ lines_of events ++ event_line e
-lines-snoc events e =
-    ap (λ rest. first_line ++ 10 ∷ rest) (flat-snoc events e)
-    ∙ sym (append_assoc first_line (10 ∷ flat_map event_line events) (event_line e))
+one_line : (e : Event) (shown : Bool) → flat_map event_line (cond shown (e ∷ []) []) ≡ (if shown then event_line e else [])
+one_line e true = append-nil (event_line e)
+one_line e false = refl
+
+shown-snoc : (probe : Filter) (events : List Event) (e : Event)
+    → lines_of (filter (shows probe) (events ++ e ∷ [])) ≡ lines_of (filter (shows probe) events) ++ shown_line probe e
+shown-snoc probe events e =
+    ap lines_of (filter-append (shows probe) events (e ∷ []))
+    ∙ lines-append (filter (shows probe) events) (filter (shows probe) (e ∷ []))
+    ∙ ap (λ line. lines_of (filter (shows probe) events) ++ line) (one_line e (shows probe e))
 
 -- the turns
 
-pub begins : (core : Core) (config : Config) (bound : ℕ) → TracedSoFar core (Begins config) bound [] (lines_of []) config bound
-begins core config bound = record { events = []; told = nothing_told (event_told core) nothing core config bound; is = refl }
+module _ (probe : Filter) (core : Core) where
+  pub begins : (config : Config) (bound : ℕ) → TracedSoFar probe core (Begins config) bound [] (lines_of []) config bound
+  begins config bound = record { events = []; told = nothing_told (event_told core) nothing core config bound; is = refl }
 
-module _ (core : Core) (bound : ℕ) (labels : List Label) (text : List ℕ) (config : Config) (left : ℕ) where
-  pub on : (start : Beginning) → TracedSoFar core start bound labels text config left
-      → (label : Label) (e : Event) → event_at core (length labels) config label ≡ Some e
-      → (new : Config) (written : List ℕ) (rest : ℕ) → step core config label left ≡ Next new written rest
-      → TracedSoFar core start bound (labels ++ label ∷ []) (text ++ event_line e) new rest
-  on (Begins first) t label e is new written rest goes = record {
-    events = t.events ++ e ∷ [];
-    told =
-        subst (λ (told : List (Option Event)). ToldSoFar (event_told core) nothing core first bound (labels ++ label ∷ []) told new rest)
-        (ap (λ (o : Option Event). map Some t.events ++ o ∷ []) is ∙ sym (map-snoc t.events e))
-        (more_told (event_told core) nothing core first bound labels (map Some t.events) config left t.told label new written rest goes);
-    is = ap (λ x. x ++ event_line e) t.is ∙ sym (lines-snoc t.events e);
-  }
-  on (Breaks end) t label e is new written rest goes = absurd t.told
-  on beginning.Amiss t label e is new written rest goes = absurd t.told
+  pub of_none : (broken end : Ending) (bound : ℕ) (output : List ℕ)
+      → IsTrace probe core (Breaks broken) bound (record { labels = []; ending = end; output = output }) (lines_of [])
+  of_none broken end bound output = record { events = []; are = refl; is = refl }
 
-  pub over : (start : Beginning) → TracedSoFar core start bound labels text config left
-      → (label : Label) (e : Event) → event_at core (length labels) config label ≡ Some e
-      → (verdict : Verdict) → step core config label left ≡ Over verdict → (end : Ending) (output : List ℕ)
-      → IsTrace core start bound (record { labels = labels ++ label ∷ []; ending = end; output = output }) (text ++ event_line e)
-  over (Begins first) t label e is verdict goes end output = record {
-    events = t.events ++ e ∷ [];
-    are =
-        all_told (event_told core) nothing core first bound labels (map Some t.events) config left t.told label verdict goes
-        ∙ ap (λ (o : Option Event). map Some t.events ++ o ∷ []) is ∙ sym (map-snoc t.events e);
-    is = ap (λ x. x ++ event_line e) t.is ∙ sym (lines-snoc t.events e);
-  }
-  over (Breaks broken) t label e is verdict goes end output = absurd t.told
-  over beginning.Amiss t label e is verdict goes end output = absurd t.told
+  module _ (bound : ℕ) (labels : List Label) (text : List ℕ) (config : Config) (left : ℕ) where
+    pub on : (start : Beginning) → TracedSoFar probe core start bound labels text config left
+        → (label : Label) (e : Event) → event_at core (length labels) config label ≡ Some e
+        → (new : Config) (written : List ℕ) (rest : ℕ) → step core config label left ≡ Next new written rest
+        → TracedSoFar probe core start bound (labels ++ label ∷ []) (text ++ shown_line probe e) new rest
+    on (Begins first) t label e is new written rest goes = record {
+      events = t.events ++ e ∷ [];
+      told =
+          subst (λ (told : List (Option Event)). ToldSoFar (event_told core) nothing core first bound (labels ++ label ∷ []) told new rest)
+          (ap (λ (o : Option Event). map Some t.events ++ o ∷ []) is ∙ sym (map-snoc t.events e))
+          (more_told (event_told core) nothing core first bound labels (map Some t.events) config left t.told label new written rest goes);
+      is = ap (λ x. x ++ shown_line probe e) t.is ∙ sym (shown-snoc probe t.events e);
+    }
+    on (Breaks end) t label e is new written rest goes = absurd t.told
+    on beginning.Amiss t label e is new written rest goes = absurd t.told
 
-  pub whole : (start : Beginning) → TracedSoFar core start bound labels text config left → (end : Ending) (output : List ℕ)
-      → IsTrace core start bound (record { labels = labels; ending = end; output = output }) text
-  whole (Begins first) t end output = record {
-    events = t.events;
-    are = last_told (event_told core) nothing core first bound labels (map Some t.events) config left t.told ∙ append-nil (map Some t.events);
-    is = t.is;
-  }
-  whole (Breaks broken) t end output = absurd t.told
-  whole beginning.Amiss t end output = absurd t.told
+    -- the last label ends the run
+    pub over : (start : Beginning) → TracedSoFar probe core start bound labels text config left
+        → (label : Label) (e : Event) → event_at core (length labels) config label ≡ Some e
+        → (verdict : Verdict) → step core config label left ≡ Over verdict → (end : Ending) (output : List ℕ)
+        → IsTrace probe core start bound (record { labels = labels ++ label ∷ []; ending = end; output = output }) (text ++ shown_line probe e)
+    over (Begins first) t label e is verdict goes end output = record {
+      events = t.events ++ e ∷ [];
+      are =
+          all_told (event_told core) nothing core first bound labels (map Some t.events) config left t.told label verdict goes
+          ∙ ap (λ (o : Option Event). map Some t.events ++ o ∷ []) is ∙ sym (map-snoc t.events e);
+      is = ap (λ x. x ++ shown_line probe e) t.is ∙ sym (shown-snoc probe t.events e);
+    }
+    over (Breaks broken) t label e is verdict goes end output = absurd t.told
+    over beginning.Amiss t label e is verdict goes end output = absurd t.told
 
-pub of_none : (core : Core) (broken end : Ending) (bound : ℕ) (output : List ℕ)
-    → IsTrace core (Breaks broken) bound (record { labels = []; ending = end; output = output }) (lines_of [])
-of_none core broken end bound output = record { events = []; are = refl; is = refl }
+    -- the run ends without a label more
+    pub whole : (start : Beginning) → TracedSoFar probe core start bound labels text config left → (end : Ending) (output : List ℕ)
+        → IsTrace probe core start bound (record { labels = labels; ending = end; output = output }) text
+    whole (Begins first) t end output = record {
+      events = t.events;
+      are = last_told (event_told core) nothing core first bound labels (map Some t.events) config left t.told ∙ append-nil (map Some t.events);
+      is = t.is;
+    }
+    whole (Breaks broken) t end output = absurd t.told
+    whole beginning.Amiss t end output = absurd t.told
 
 -- a trace is one
 
@@ -106,9 +122,10 @@ same_some (x ∷ xs) (y ∷ ys) e =
     tail [] = []
     tail (o ∷ os) = os
 
-pub one_trace : (core : Core) (start : Beginning) (bound : ℕ) (told : Told) (text other : List ℕ)
-    → IsTrace core start bound told text → IsTrace core start bound told other → text ≡ other
-one_trace core start bound told text other t u = t.is ∙ ap lines_of (same_some t.events u.events (sym t.are ∙ u.are)) ∙ sym u.is
+pub one_trace : (probe : Filter) (core : Core) (start : Beginning) (bound : ℕ) (told : Told) (text other : List ℕ)
+    → IsTrace probe core start bound told text → IsTrace probe core start bound told other → text ≡ other
+one_trace probe core start bound told text other t u =
+    t.is ∙ ap (λ (events : List Event). lines_of (filter (shows probe) events)) (same_some t.events u.events (sym t.are ∙ u.are)) ∙ sym u.is
 
 -- each derivation has one
 
@@ -138,15 +155,15 @@ module _ (core : Core) (sound : Sound core) (keeps : KeepsKinded core) (each : E
             ∙ (λ k. first.1 k ∷ rest.1 k),
       )
 
-pub each_trace : (core : Core) → Sound core → BeginsAlways core → KeepsKinded core → EachHasAnEvent
+pub each_trace : (probe : Filter) (core : Core) → Sound core → BeginsAlways core → KeepsKinded core → EachHasAnEvent
     → (start : Beginning) → IsBeginning core start → (bound : ℕ) (told : Told) → Derivation core start bound told
-    → (text : List ℕ) × IsTrace core start bound told text
-each_trace core sound begun keeps each start is bound told runs =
+    → (text : List ℕ) × IsTrace probe core start bound told text
+each_trace probe core sound begun keeps each start is bound told runs =
     by start (subst (BeginsKinded core) (sym is.begins) (begun is.model is.is is.arguments is.fit is.seed is.until)) runs
   where
-    by : (s : Beginning) → BeginsKinded core s → Derivation core s bound told → (text : List ℕ) × IsTrace core s bound told text
+    by : (s : Beginning) → BeginsKinded core s → Derivation core s bound told → (text : List ℕ) × IsTrace probe core s bound told text
     by (Begins config) kinded runs' =
         let e = events_along core sound keeps each told.labels 0 config bound told.ending kinded runs'.0 in
-        (lines_of e.0, record { events = e.0; are = e.1; is = refl })
+        (lines_of (filter (shows probe) e.0), record { events = e.0; are = e.1; is = refl })
     by (Breaks end) kinded runs' = (lines_of [], record { events = []; are = refl; is = refl })
     by beginning.Amiss kinded runs' = absurd kinded

@@ -10,6 +10,7 @@ use Rattle.chi_core.specs.Runs.{Told, Derivation}
 use Rattle.chi_core.specs.Sound.{Sound}
 use Rattle.chi_core_runs.specs.Picked.{IsBeginning}
 use Rattle.chi_trace.specs.declared.event.Event.{Event}
+use Rattle.chi_trace.specs.declared.filter.Filter.{Filter}
 use Rattle.chi_trace_events.specs.There.{IsThere}
 use Rattle.chi_trace_events.specs.Traces.{event_at, IsTrace}
 
@@ -25,14 +26,14 @@ EachHasAnEvent =
     (core : Core) → Sound core → (config : Config) → Kinded core config → (label : Label) → Contains (enabled config) label
     → (turn : ℕ) → (e : Event) × (event_at core turn config label ≡ Some e)
 
--- and each derivation of a sound program has a trace
+-- and of each derivation of a sound program a probe shows something
 abbrev pub EachHasATrace : Type 0
 EachHasATrace =
-    (core : Core) → Sound core → (start : Beginning) → IsBeginning core start → (bound : ℕ) (told : Told) → Derivation core start bound told
-    → (text : List ℕ) × IsTrace core start bound told text
+    (probe : Filter) (core : Core) → Sound core → (start : Beginning) → IsBeginning core start → (bound : ℕ) (told : Told) → Derivation core start bound told
+    → (text : List ℕ) × IsTrace probe core start bound told text
 
--- no run has two
+-- and nothing else
 abbrev pub OneTrace : Type 0
 OneTrace =
-    (core : Core) (start : Beginning) (bound : ℕ) (told : Told) (text other : List ℕ)
-    → IsTrace core start bound told text → IsTrace core start bound told other → text ≡ other
+    (probe : Filter) (core : Core) (start : Beginning) (bound : ℕ) (told : Told) (text other : List ℕ)
+    → IsTrace probe core start bound told text → IsTrace probe core start bound told other → text ≡ other

@@ -1,5 +1,5 @@
 -- The trace of a run: the event of each label that it took.
-use Rattle.std.specs.Prelude.{◌≡◌, ℕ, nat_le, ℤ, Bool, true, false, List, [], ◌∷◌, ◌++◌, length, codes, map, Option, Some, None, option_map, option_and_then, slice_get, if◌then◌else◌}
+use Rattle.std.specs.Prelude.{◌≡◌, ℕ, nat_le, ℤ, Bool, true, false, List, [], ◌∷◌, ◌++◌, length, codes, filter, map, Option, Some, None, option_map, option_and_then, slice_get, if◌then◌else◌}
 use Rattle.std.specs.List.{flat_map}
 use Rattle.chi_value.specs.declared.value.Value.{Value}
 use Rattle.chi_value.specs.Plain.{is_plain}
@@ -19,6 +19,8 @@ use Rattle.chi_core.specs.Terms.{Term}
 use Rattle.chi_trace.specs.declared.event.Detail.{Detail}
 use Rattle.chi_trace.specs.declared.event.Detail.TheVariants.{Bare, At, Of, Sent}
 use Rattle.chi_trace.specs.declared.event.Event.{Event}
+use Rattle.chi_trace.specs.declared.filter.Filter.{Filter}
+use Rattle.chi_trace.specs.Filters.{shows}
 use Rattle.chi_trace.specs.Lines.{first_line, event_line}
 use Rattle.chi_trace_events.specs.declared.value.TheConstants.{MOST_SHOWN}
 
@@ -93,8 +95,8 @@ events_of core beginning.Amiss bound told = []
 abbrev pub lines_of : List Event → List ℕ
 lines_of events = first_line ++ 10 ∷ flat_map event_line events
 
--- the text is the trace of a run: its first line, and the line of each label's event
-pub record IsTrace (core : Core) (beginning : Beginning) (bound : ℕ) (told : Told) (text : List ℕ) : Type 0 where
+-- the text is what a probe shows of the trace of a run: its first line, and the line of each label's event that it shows
+pub record IsTrace (probe : Filter) (core : Core) (beginning : Beginning) (bound : ℕ) (told : Told) (text : List ℕ) : Type 0 where
   pub events : List Event
   pub are : events_of core beginning bound told ≡ map Some events
-  pub is : text ≡ lines_of events
+  pub is : text ≡ lines_of (filter (shows probe) events)

@@ -1,5 +1,5 @@
 -- Private to proofs: the trace of a run that is under way, and how each turn goes on with it.
-use Rattle.std.specs.Prelude.{◌≡◌, ℕ, List, [], ◌∷◌, ◌++◌, map, length, Some}
+use Rattle.std.specs.Prelude.{◌≡◌, ℕ, List, [], ◌∷◌, ◌++◌, filter, map, length, Some, if◌then◌else◌}
 use Rattle.chi_core.specs.declared.label.Label.{Label}
 use Rattle.chi_core.specs.declared.program.Core.{Core}
 use Rattle.chi_core.specs.declared.verdict.Verdict.{Verdict}
@@ -11,6 +11,8 @@ use Rattle.chi_core.specs.Runs.{nothing}
 use Rattle.chi_core.specs.Step.{Next, Over, step}
 use Rattle.chi_core_runs.specs.Tellings.{ToldSoFar}
 use Rattle.chi_trace.specs.declared.event.Event.{Event}
+use Rattle.chi_trace.specs.declared.filter.Filter.{Filter}
+use Rattle.chi_trace.specs.Filters.{shows}
 use Rattle.chi_trace.specs.Lines.{event_line}
 use Rattle.chi_trace_events.specs.Traces.{event_at, event_told, lines_of, IsTrace}
 
@@ -21,41 +23,45 @@ ToldFrom core (Begins first) bound labels events config left =
 ToldFrom core (Breaks end) bound labels events config left = ⊥
 ToldFrom core beginning.Amiss bound labels events config left = ⊥
 
--- the text has the lines of a trace so far
-pub record TracedSoFar (core : Core) (beginning : Beginning) (bound : ℕ) (labels : List Label) (text : List ℕ) (config : Config) (left : ℕ) : Type 0 where
+-- the line of an event that the probe shows
+abbrev pub shown_line : Filter → Event → List ℕ
+shown_line probe e = if shows probe e then event_line e else []
+
+-- the text has the lines that are shown so far
+pub record TracedSoFar (probe : Filter) (core : Core) (beginning : Beginning) (bound : ℕ) (labels : List Label) (text : List ℕ) (config : Config) (left : ℕ) : Type 0 where
   pub events : List Event
   pub told : ToldFrom core beginning bound labels events config left
-  pub is : text ≡ lines_of events
+  pub is : text ≡ lines_of (filter (shows probe) events)
 
 abbrev pub TraceBegins : Type 0
-TraceBegins = (core : Core) (config : Config) (bound : ℕ) → TracedSoFar core (Begins config) bound [] (lines_of []) config bound
+TraceBegins = (probe : Filter) (core : Core) (config : Config) (bound : ℕ) → TracedSoFar probe core (Begins config) bound [] (lines_of []) config bound
 
 abbrev pub TraceGoesOn : Type 0
 TraceGoesOn =
-    (core : Core) (start : Beginning) (bound : ℕ) (labels : List Label) (text : List ℕ) (config : Config) (left : ℕ)
-    → TracedSoFar core start bound labels text config left
+    (probe : Filter) (core : Core) (start : Beginning) (bound : ℕ) (labels : List Label) (text : List ℕ) (config : Config) (left : ℕ)
+    → TracedSoFar probe core start bound labels text config left
     → (label : Label) (e : Event) → event_at core (length labels) config label ≡ Some e
     → (new : Config) (written : List ℕ) (rest : ℕ) → step core config label left ≡ Next new written rest
-    → TracedSoFar core start bound (labels ++ label ∷ []) (text ++ event_line e) new rest
+    → TracedSoFar probe core start bound (labels ++ label ∷ []) (text ++ shown_line probe e) new rest
 
 -- the last label ends the run
 abbrev pub TraceIsOver : Type 0
 TraceIsOver =
-    (core : Core) (start : Beginning) (bound : ℕ) (labels : List Label) (text : List ℕ) (config : Config) (left : ℕ)
-    → TracedSoFar core start bound labels text config left
+    (probe : Filter) (core : Core) (start : Beginning) (bound : ℕ) (labels : List Label) (text : List ℕ) (config : Config) (left : ℕ)
+    → TracedSoFar probe core start bound labels text config left
     → (label : Label) (e : Event) → event_at core (length labels) config label ≡ Some e
     → (verdict : Verdict) → step core config label left ≡ Over verdict → (end : Ending) (output : List ℕ)
-    → IsTrace core start bound (record { labels = labels ++ label ∷ []; ending = end; output = output }) (text ++ event_line e)
+    → IsTrace probe core start bound (record { labels = labels ++ label ∷ []; ending = end; output = output }) (text ++ shown_line probe e)
 
 -- the run ends without a label more
 abbrev pub TraceIsWhole : Type 0
 TraceIsWhole =
-    (core : Core) (start : Beginning) (bound : ℕ) (labels : List Label) (text : List ℕ) (config : Config) (left : ℕ)
-    → TracedSoFar core start bound labels text config left → (end : Ending) (output : List ℕ)
-    → IsTrace core start bound (record { labels = labels; ending = end; output = output }) text
+    (probe : Filter) (core : Core) (start : Beginning) (bound : ℕ) (labels : List Label) (text : List ℕ) (config : Config) (left : ℕ)
+    → TracedSoFar probe core start bound labels text config left → (end : Ending) (output : List ℕ)
+    → IsTrace probe core start bound (record { labels = labels; ending = end; output = output }) text
 
 -- a constant ended it
 abbrev pub TraceOfNone : Type 0
 TraceOfNone =
-    (core : Core) (broken end : Ending) (bound : ℕ) (output : List ℕ)
-    → IsTrace core (Breaks broken) bound (record { labels = []; ending = end; output = output }) (lines_of [])
+    (probe : Filter) (core : Core) (broken end : Ending) (bound : ℕ) (output : List ℕ)
+    → IsTrace probe core (Breaks broken) bound (record { labels = []; ending = end; output = output }) (lines_of [])

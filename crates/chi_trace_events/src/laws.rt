@@ -15,7 +15,7 @@ pub fn events_law()
     values_are_of_kinds();
 }
 
-/// Each derivation of a sound program has exactly one trace.
+/// Of each derivation of a sound program a probe shows exactly one text.
 pub fn trace_law()
     ensures some { EachHasATrace }
     ensures one { OneTrace }
@@ -24,7 +24,8 @@ pub fn trace_law()
     events_law();
 }
 
-/// The trace of a run that is under way: each turn adds the line of its label's event, and at the end it is whole.
+/// What a probe shows of a run that is under way: each turn adds the line of its label's event, where that is shown, and
+/// at the end it is whole.
 pub fn tracing_law()
     ensures begins { TraceBegins }
     ensures on { TraceGoesOn }

@@ -1,5 +1,7 @@
-//! Tests of the lines of a trace, and of logs that are brought up.
+//! Tests of the lines of a trace, of logs that are brought up, and of filters.
 #![tactic(auto)]
 
+#[cfg(test)]
+mod filters;
 #[cfg(test)]
 mod tests;

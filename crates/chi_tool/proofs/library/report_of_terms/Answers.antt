@@ -1,4 +1,4 @@
-use Rattle.std.proofs.Common.{subst}
+use Rattle.std.proofs.Common.{option_map, subst}
 use Rattle.chi_tool.specs.Readings.{IsReadAs, SoundlyComes}
 use Rattle.chi_tool.specs.Report.{refused}
 use Rattle.chi_tool.proofs.Runs.{terms_reported}
@@ -14,5 +14,5 @@ returns-in-Refused g c pick answers = refused (subst (IsReadAs c.args.source.now
 pub returns-in-Program : goal.returns-in-Program
 returns-in-Program g c =
     let comes : SoundlyComes c.args.source.now c.in-Program.core = subst (IsReadAs c.args.source.now) c.in-Program.is c.in_ok-refusal.ensures in
-    terms_reported (g.P.Chooser.gives c.args.terms.policy) c.args.source.now c.in-Program.core c.args.terms.seed c.args.terms.bound c.args.texts.now c.args.terms.until c.args.terms.trace
+    terms_reported (g.P.Chooser.gives c.args.terms.policy) c.args.source.now c.in-Program.core c.args.terms.seed c.args.terms.bound c.args.texts.now c.args.terms.until (option_map g.S.Sieve.keeps_to c.args.terms.trace)
     c.report_of_run.result comes.comes c.report_of_run.ensures

@@ -3,6 +3,6 @@ use Rattle.chi_trace_events.proofs.laws.trace_law.Goals as goal
 
 pub returns : goal.returns
 returns c = record {
-  some = λ core sound. each_trace core sound (c.kinded_law.ensures.begins core sound) (c.kinded_law.ensures.keeps core sound) c.events_law.ensures.event;
+  some = λ probe core sound. each_trace probe core sound (c.kinded_law.ensures.begins core sound) (c.kinded_law.ensures.keeps core sound) c.events_law.ensures.event;
   one = one_trace;
 }
