@@ -10,5 +10,5 @@ mod typing;
 
 pub use answers::{type_expr, type_tree};
 pub use chi_check_types::{Known, Scope, Site, TypeFault};
-pub use entering::{MOST_LEVELS, mean_in, type_in};
+pub use entering::{MOST_HEIGHT, mean_in, type_in};
 pub use laws::typing_is_exact;

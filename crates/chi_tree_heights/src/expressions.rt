@@ -2,41 +2,41 @@
 //! all that stands before it as an operand; so do indexes, slices and fields that follow one another.
 
 ghost use Rattle.std.specs.Prelude.{◌≡◌, ◌+◌, ◌-◌, ◌^◌, map, max, min};
-ghost use Rattle.chi_tree_levels.specs.Levels.{levels, link_levels, entry_levels, part_levels, where_some, highest};
+ghost use Rattle.chi_tree_heights.specs.Heights.{height, link_height, entry_height, part_height, where_some, highest};
 ghost use Rattle.std.specs.Option.{option_map};
 
-use crate::types::type_levels_of;
+use crate::types::type_height_of;
 use chi_base::Boxed;
 use chi_tree::{Entry, Expr, Link, Postfix};
 
-/// How many levels the expression's core has at most, or the greatest u32 where that is more.
-#[cycle(levels)]
+/// The height that the expression's core has at most, or the greatest u32 where that is more.
+#[cycle(height)]
 #[tactic(auto, using(crate::proofs::Capped::over_both))]
-pub fn levels_of(e: &Expr) -> u32
-    ensures { result ≡ min (levels e.now) (2 ^ 32 - 1) }
+pub fn height_of(e: &Expr) -> u32
+    ensures { result ≡ min (height e.now) (2 ^ 32 - 1) }
 {
     match e {
         Expr::Chain { first, links } => {
             let highest = highest_link(links.as_slice());
-            above_by(links.as_slice().len(), highest.max(levels_of(first.get())))
+            above_by(links.as_slice().len(), highest.max(height_of(first.get())))
         }
-        Expr::Prefix { operand, .. } | Expr::Cast { operand, .. } => above(levels_of(
+        Expr::Prefix { operand, .. } | Expr::Cast { operand, .. } => above(height_of(
             operand.get(),
         )),
-        Expr::Round { inner, .. } => above(levels_of(inner.get())),
+        Expr::Round { inner, .. } => above(height_of(inner.get())),
         Expr::Relation { left, right, .. } => above_both(
-            levels_of(left.get()),
-            levels_of(right.get()),
+            height_of(left.get()),
+            height_of(right.get()),
         ),
         Expr::Power { base, exponent, .. } => above_both(
-            levels_of(base.get()),
-            levels_of(exponent.get()),
+            height_of(base.get()),
+            height_of(exponent.get()),
         ),
         Expr::Part { whole, postfixes } => {
             let highest = highest_postfix(postfixes.as_slice());
             above_by(
                 postfixes.as_slice().len(),
-                highest.max(levels_of(whole.get())),
+                highest.max(height_of(whole.get())),
             )
         }
         Expr::Call { arguments, .. } => above(highest_of(arguments.as_slice())),
@@ -45,11 +45,11 @@ pub fn levels_of(e: &Expr) -> u32
             elements.as_slice(),
         )),
         Expr::DictOf { entries, .. } => above(highest_entry(entries.as_slice())),
-        Expr::EmptyList { element, .. } | Expr::EmptySet { element, .. } => above(type_levels_of(
+        Expr::EmptyList { element, .. } | Expr::EmptySet { element, .. } => above(type_height_of(
             element.get(),
         )),
         Expr::EmptyDict { key, value, .. } => {
-            above_both(type_levels_of(key.get()), type_levels_of(value.get()))
+            above_both(type_height_of(key.get()), type_height_of(value.get()))
         }
         Expr::Int { .. }
         | Expr::Real { .. }
@@ -60,21 +60,21 @@ pub fn levels_of(e: &Expr) -> u32
     }
 }
 
-/// A level above what has so many.
+/// One above what has this height.
 pub(crate) fn above(part: u32) -> u32
     ensures { result ≡ min (1 + part) (2 ^ 32 - 1) }
 {
     part.saturating_add(1)
 }
 
-/// A level above both parts.
+/// One above both parts.
 pub(crate) fn above_both(one: u32, other: u32) -> u32
     ensures { result ≡ min (1 + max one other) (2 ^ 32 - 1) }
 {
     one.max(other).saturating_add(1)
 }
 
-/// So many levels above what has so many.
+/// So far above what has this height.
 fn above_by(count: usize, part: u32) -> u32
     ensures { result ≡ min (count + part) (2 ^ 32 - 1) }
 {
@@ -84,37 +84,37 @@ fn above_by(count: usize, part: u32) -> u32
     }
 }
 
-/// The levels of the highest operand.
-#[cycle(levels)]
+/// The height of the highest operand.
+#[cycle(height)]
 fn highest_link(links: &[Link]) -> u32
-    ensures { result ≡ min (highest (map link_levels links.now)) (2 ^ 32 - 1) }
+    ensures { result ≡ min (highest (map link_height links.now)) (2 ^ 32 - 1) }
 {
     let mut greatest = 0;
     for link in links {
-        greatest = levels_of(&link.operand).max(greatest);
+        greatest = height_of(&link.operand).max(greatest);
     }
     greatest
 }
 
-/// The levels of the highest expression within indexes and slices.
-#[cycle(levels)]
+/// The height of the highest expression within indexes and slices.
+#[cycle(height)]
 fn highest_postfix(postfixes: &[Postfix]) -> u32
-    ensures { result ≡ min (highest (map part_levels postfixes.now)) (2 ^ 32 - 1) }
+    ensures { result ≡ min (highest (map part_height postfixes.now)) (2 ^ 32 - 1) }
 {
     let mut greatest = 0;
     for postfix in postfixes {
-        greatest = levels_within(postfix).max(greatest);
+        greatest = height_within(postfix).max(greatest);
     }
     greatest
 }
 
-/// The levels of the expressions within an index or a slice.
-#[cycle(levels)]
-fn levels_within(postfix: &Postfix) -> u32
-    ensures { result ≡ min (part_levels postfix.now) (2 ^ 32 - 1) }
+/// The height of the expressions within an index or a slice.
+#[cycle(height)]
+fn height_within(postfix: &Postfix) -> u32
+    ensures { result ≡ min (part_height postfix.now) (2 ^ 32 - 1) }
 {
     match postfix {
-        Postfix::Index { index, .. } => levels_of(index.get()),
+        Postfix::Index { index, .. } => height_of(index.get()),
         Postfix::Slice { from, upto, by, .. } => {
             optional(from).max(optional(upto)).max(optional(by))
         }
@@ -122,38 +122,38 @@ fn levels_within(postfix: &Postfix) -> u32
     }
 }
 
-/// The levels of an expression that may be left out.
-#[cycle(levels)]
+/// The height of an expression that may be left out.
+#[cycle(height)]
 pub(crate) fn optional(e: &Option<Boxed<Expr>>) -> u32
-    ensures { result ≡ min (where_some (option_map levels e.now)) (2 ^ 32 - 1) }
+    ensures { result ≡ min (where_some (option_map height e.now)) (2 ^ 32 - 1) }
 {
     match e {
-        Some(e) => levels_of(e.get()),
+        Some(e) => height_of(e.get()),
         None => 0,
     }
 }
 
-/// The levels of the highest of expressions that stand beside each other.
-#[cycle(levels)]
+/// The height of the highest of expressions that stand beside each other.
+#[cycle(height)]
 fn highest_of(parts: &[Expr]) -> u32
-    ensures { result ≡ min (highest (map levels parts.now)) (2 ^ 32 - 1) }
+    ensures { result ≡ min (highest (map height parts.now)) (2 ^ 32 - 1) }
 {
     let mut greatest = 0;
     for part in parts {
-        greatest = levels_of(part).max(greatest);
+        greatest = height_of(part).max(greatest);
     }
     greatest
 }
 
-/// The levels of the highest key or value.
-#[cycle(levels)]
+/// The height of the highest key or value.
+#[cycle(height)]
 fn highest_entry(entries: &[Entry]) -> u32
-    ensures { result ≡ min (highest (map entry_levels entries.now)) (2 ^ 32 - 1) }
+    ensures { result ≡ min (highest (map entry_height entries.now)) (2 ^ 32 - 1) }
 {
     let mut greatest = 0;
     for entry in entries {
-        greatest = levels_of(&entry.key)
-            .max(levels_of(&entry.value))
+        greatest = height_of(&entry.key)
+            .max(height_of(&entry.value))
             .max(greatest);
     }
     greatest

@@ -1,4 +1,4 @@
--- How many levels lie over one another, at most, in the core that is made of an expression.
+-- The height of the core that is made of an expression, at most: how many operators and parts lie over one another in it.
 use Rattle.std.specs.Prelude.{ℕ, ◌+◌, length, max, List, [], ◌∷◌, Option, None, Some}
 use Rattle.chi_tree.specs.declared.type_tree.TypeTree.{TypeTree, TypeTree-F, fold-TypeTree}
 use Rattle.chi_tree.specs.declared.type_tree.Formal.{Formal, Formal-F, fold-Formal}
@@ -7,7 +7,7 @@ use Rattle.chi_tree.specs.declared.expr.Postfix.{Postfix, Postfix-F, fold-Postfi
 use Rattle.chi_tree.specs.declared.expr.Entry.{Entry, Entry-F, fold-Entry}
 use Rattle.chi_tree.specs.declared.expr.Link.{Link, Link-F, fold-Link}
 
--- the greatest of the levels of parts that stand beside each other
+-- the greatest of the heights of parts that stand beside each other
 abbrev pub highest : List ℕ → ℕ
 highest [] = 0
 highest (part ∷ parts) = max part (highest parts)
@@ -17,8 +17,8 @@ abbrev pub where_some : Option ℕ → ℕ
 where_some None = 0
 where_some (Some part) = part
 
--- Operands of one level group from the left, and so do parts of parts: each puts what stands before it a level deeper, so
--- that under so many operators or parts the first may lie so many levels deeper.
+-- Operands of one level group from the left, and so do parts of parts: each takes what stands before it as an operand, so
+-- that what is first lies under all of them.
 abbrev pub piled : ℕ → List ℕ → ℕ
 piled first parts = length parts + max first (highest parts)
 
@@ -63,20 +63,20 @@ link_step l = l.operand
 abbrev pub formal_step : Formal-F ℕ ℕ ℕ ℕ ℕ ℕ → ℕ
 formal_step f = where_some f.ty
 
-abbrev pub levels : Expr → ℕ
-levels = fold-Expr ℕ ℕ ℕ ℕ ℕ ℕ expr_step postfix_step type_step entry_step link_step formal_step
+abbrev pub height : Expr → ℕ
+height = fold-Expr ℕ ℕ ℕ ℕ ℕ ℕ expr_step postfix_step type_step entry_step link_step formal_step
 
-abbrev pub part_levels : Postfix → ℕ
-part_levels = fold-Postfix ℕ ℕ ℕ ℕ ℕ ℕ expr_step postfix_step type_step entry_step link_step formal_step
+abbrev pub part_height : Postfix → ℕ
+part_height = fold-Postfix ℕ ℕ ℕ ℕ ℕ ℕ expr_step postfix_step type_step entry_step link_step formal_step
 
-abbrev pub type_levels : TypeTree → ℕ
-type_levels = fold-TypeTree ℕ ℕ ℕ ℕ ℕ ℕ expr_step postfix_step type_step entry_step link_step formal_step
+abbrev pub type_height : TypeTree → ℕ
+type_height = fold-TypeTree ℕ ℕ ℕ ℕ ℕ ℕ expr_step postfix_step type_step entry_step link_step formal_step
 
-abbrev pub entry_levels : Entry → ℕ
-entry_levels = fold-Entry ℕ ℕ ℕ ℕ ℕ ℕ expr_step postfix_step type_step entry_step link_step formal_step
+abbrev pub entry_height : Entry → ℕ
+entry_height = fold-Entry ℕ ℕ ℕ ℕ ℕ ℕ expr_step postfix_step type_step entry_step link_step formal_step
 
-abbrev pub link_levels : Link → ℕ
-link_levels = fold-Link ℕ ℕ ℕ ℕ ℕ ℕ expr_step postfix_step type_step entry_step link_step formal_step
+abbrev pub link_height : Link → ℕ
+link_height = fold-Link ℕ ℕ ℕ ℕ ℕ ℕ expr_step postfix_step type_step entry_step link_step formal_step
 
-abbrev pub formal_levels : Formal → ℕ
-formal_levels = fold-Formal ℕ ℕ ℕ ℕ ℕ ℕ expr_step postfix_step type_step entry_step link_step formal_step
+abbrev pub formal_height : Formal → ℕ
+formal_height = fold-Formal ℕ ℕ ℕ ℕ ℕ ℕ expr_step postfix_step type_step entry_step link_step formal_step
