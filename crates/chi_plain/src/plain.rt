@@ -7,7 +7,9 @@ ghost use Rattle.chi_core.specs.Kinds.{kinds_of};
 ghost use Rattle.chi_core.specs.Of.{at_start, AreOf};
 ghost use Rattle.chi_core.specs.Sound.{Sound};
 ghost use Rattle.chi_plain.specs.Stage.{Begun, IsEventAt, actors_at, options_at, enabled_at, verdict_at, clock_at, MayTell, MayStep, Steps, Appends};
+ghost use Rattle.chi_trace.specs.declared.event.Event.{Event as AnEvent};
 ghost use Rattle.chi_trace.specs.Events.{Fits};
+ghost use Rattle.chi_trace.specs.Filters.{where_shown};
 
 use crate::standing::{Standing, standing_of, step};
 use crate::stepped::Stepped;
@@ -15,7 +17,7 @@ use chi_base::NoMemory;
 use chi_core::{Core, Label, Verdict};
 use chi_core_kinds::kinded_law;
 use chi_plain_steps::begin;
-use chi_trace::Event;
+use chi_trace::{Event, Filter};
 use chi_trace_events::event_of;
 use chi_value::Value;
 use std::alloc::Global;
@@ -156,15 +158,21 @@ impl<'a> Plain<'a> {
         }
     }
 
-    /// The event of a label at a turn, before it is taken.
-    pub fn event_of(&self, turn: u64, label: &Label) -> Result<Event, NoMemory>
+    /// The event of a label at a turn, before it is taken, where the filter shows it. No other is made.
+    pub fn event_of(
+        &self,
+        turn: u64,
+        label: &Label,
+        filter: &Filter,
+    ) -> Result<Option<Event>, NoMemory>
         requires { MayStep self.now.stage label.now }
-        ensures event { IfOk result (λ e. IsEventAt self.now.core self.now.stage turn label.now e) }
-        ensures fits { IfOk result (λ e. Fits e.label e.detail) }
+        ensures event { IfOk result (λ shown. (e : AnEvent) × IsEventAt self.now.core self.now.stage turn label.now e × (shown ≡ where_shown filter.now e)) }
+        ensures fits { IfOk result (λ shown. IfSome shown (λ e. Fits e.label e.detail)) }
     {
         match &self.standing {
             Standing::At(watched, _) => {
-                event_of(self.alloc, self.core, watched.configuration(), turn, label)
+                let at = watched.configuration();
+                event_of(self.alloc, self.core, at, turn, label, filter)
             }
             Standing::Ended(_) => unreachable!(),
             Standing::Lost => Err(NoMemory),

@@ -43,9 +43,10 @@ fn line_at<S: Sieve>(
 {
     let mut line = Vec::new(alloc);
     if let Some(sieve) = trace {
-        let event = runner.event_of(turn, label)?;
-        if sieve.shown(&event) {
-            line_of(alloc, &event, &mut line)?;
+        if let Some(event) = runner.event_of(turn, label, &sieve.filter())? {
+            if sieve.shown(&event) {
+                line_of(alloc, &event, &mut line)?;
+            }
         }
     }
     Ok(line)

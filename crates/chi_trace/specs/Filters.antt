@@ -1,5 +1,5 @@
 -- Which events a filter shows.
-use Rattle.std.specs.Prelude.{ℕ, ◌==◌, ◌||◌, Bool, true, false}
+use Rattle.std.specs.Prelude.{ℕ, ◌==◌, ◌||◌, Bool, true, false, Option, Some, None, if◌then◌else◌}
 use Rattle.chi_core.specs.declared.label.Label.{Label}
 use Rattle.chi_core.specs.declared.label.Label.TheVariants.{Local, Pair, Wake, Join, Advance}
 use Rattle.chi_trace.specs.declared.event.Detail.{Detail}
@@ -18,10 +18,15 @@ takes_part n (Wake p a) = p == n
 takes_part n (Join p) = p == n
 takes_part n Advance = false
 
--- a pair that is told to have sent on this channel
-abbrev pub is_sent_on : ℕ → Label → Detail → Bool
-is_sent_on n (Pair p a q b) (Sent channel value) = channel == n
-is_sent_on n label detail = false
+-- the channel on which something was sent, as a detail tells it
+abbrev pub channel_in : Detail → Option ℕ
+channel_in (Sent channel value) = Some channel
+channel_in detail = None
+
+-- a pair that sends on this channel
+abbrev pub is_sent_on : ℕ → Label → Option ℕ → Bool
+is_sent_on n (Pair p a q b) (Some channel) = channel == n
+is_sent_on n label channel = false
 
 abbrev pub is_of_kind : EventKind → Label → Bool
 is_of_kind kind.Local (Local p) = true
@@ -31,9 +36,17 @@ is_of_kind kind.Join (Join p) = true
 is_of_kind kind.Advance Advance = true
 is_of_kind kind label = false
 
--- all events, those that an instance takes part in, what is sent on a channel, or those of a kind
+-- all that happens, what an instance takes part in, what is sent on a channel, or what is of a kind
+abbrev pub admits : Filter → Label → Option ℕ → Bool
+admits All label channel = true
+admits (Instance n) label channel = takes_part n label
+admits (Channel n) label channel = is_sent_on n label channel
+admits (Kind k) label channel = is_of_kind k label
+
+-- an event is shown by its label and the channel that it tells
 abbrev pub shows : Filter → Event → Bool
-shows All e = true
-shows (Instance n) e = takes_part n e.label
-shows (Channel n) e = is_sent_on n e.label e.detail
-shows (Kind k) e = is_of_kind k e.label
+shows filter e = admits filter e.label (channel_in e.detail)
+
+-- the event, where it is shown
+abbrev pub where_shown : Filter → Event → Option Event
+where_shown filter e = if shows filter e then Some e else None

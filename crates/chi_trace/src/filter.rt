@@ -1,7 +1,7 @@
 //! Which events of a trace are shown.
 
 ghost use Rattle.std.specs.Prelude.{◌≡◌};
-ghost use Rattle.chi_trace.specs.Filters.{is_of_kind, is_sent_on, shows, takes_part};
+ghost use Rattle.chi_trace.specs.Filters.{admits, channel_in, is_of_kind, is_sent_on, shows, takes_part};
 
 use crate::{Detail, Event};
 use chi_core::Label;
@@ -33,11 +33,28 @@ pub enum Filter {
 pub fn matches(filter: &Filter, event: &Event) -> bool
     ensures tells { result ≡ shows filter.now event.now }
 {
+    admits(filter, event.label, channel_in(&event.detail))
+}
+
+/// Whether the filter shows the events of this label, where something is sent on this channel, if at all. So what isn't
+/// shown needs no event.
+pub fn admits(filter: &Filter, label: Label, channel: Option<u32>) -> bool
+    ensures tells { result ≡ admits filter.now label channel }
+{
     match filter {
         Filter::All => true,
-        Filter::Instance(number) => takes_part(*number, event.label),
-        Filter::Channel(number) => is_sent_on(*number, event.label, &event.detail),
-        Filter::Kind(kind) => is_of_kind(*kind, event.label),
+        Filter::Instance(number) => takes_part(*number, label),
+        Filter::Channel(number) => is_sent_on(*number, label, channel),
+        Filter::Kind(kind) => is_of_kind(*kind, label),
+    }
+}
+
+fn channel_in(detail: &Detail) -> Option<u32>
+    ensures tells { result ≡ channel_in detail.now }
+{
+    match detail {
+        Detail::Sent(channel, _) => Some(*channel),
+        Detail::Unknown | Detail::Bare | Detail::At(_, _) | Detail::Of(_) => None,
     }
 }
 
@@ -51,11 +68,11 @@ fn takes_part(number: u32, label: Label) -> bool
     }
 }
 
-fn is_sent_on(number: u32, label: Label, detail: &Detail) -> bool
-    ensures tells { result ≡ is_sent_on number label detail.now }
+fn is_sent_on(number: u32, label: Label, channel: Option<u32>) -> bool
+    ensures tells { result ≡ is_sent_on number label channel }
 {
-    match (label, detail) {
-        (Label::Pair(_, _, _, _), Detail::Sent(channel, _)) => *channel == number,
+    match (label, channel) {
+        (Label::Pair(_, _, _, _), Some(channel)) => channel == number,
         _ => false,
     }
 }

@@ -17,7 +17,7 @@ mod time;
 
 pub use event::{Detail, Event};
 pub use fault::{LogFault, TraceFault};
-pub use filter::{EventKind, Filter, matches};
+pub use filter::{EventKind, Filter, admits, matches};
 pub use laws::{first_lines_law, lines_1_law, lines_law, logs_law};
 pub use line::{line_of, line_up};
 pub use log::{MOST_LOG_BYTES, log_up};

@@ -17,6 +17,10 @@ pub trait Sieve {
     /// The filter that it keeps to.
     ghost keeps_to: { Self → Filter };
 
+    /// The filter that it keeps to, by which what isn't shown is told before any event is made of it.
+    fn filter(&self) -> Filter
+        ensures kept { result ≡ keeps_to self.now };
+
     /// Whether the event is shown. It takes no memory.
     fn shown(&self, event: &Event) -> bool
         ensures tells { result ≡ shows (keeps_to self.now) event.now };
@@ -24,6 +28,10 @@ pub trait Sieve {
 
 impl Sieve for Filter {
     ghost keeps_to = { λ filter. filter };
+
+    fn filter(&self) -> Filter {
+        *self
+    }
 
     fn shown(&self, event: &Event) -> bool {
         matches(self, event)
@@ -64,6 +72,10 @@ impl Probe {
 
 impl Sieve for Probe {
     ghost keeps_to = { λ probe. probe.filter };
+
+    fn filter(&self) -> Filter {
+        self.filter
+    }
 
     fn shown(&self, event: &Event) -> bool {
         self.ask(event)

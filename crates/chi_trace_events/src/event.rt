@@ -1,4 +1,4 @@
-ghost use Rattle.std.specs.Prelude.{◌≡◌, ◌≢◌, None, Some, IfOk, Contains, option_and_then, slice_get};
+ghost use Rattle.std.specs.Prelude.{◌≡◌, ◌≢◌, None, Some, IfOk, IfSome, Contains, option_and_then, slice_get};
 ghost use Rattle.chi_core.specs.declared.label.Label.TheVariants as label;
 ghost use Rattle.chi_core.specs.Kinded.{Kinded};
 ghost use Rattle.chi_core.specs.Meeting.{offer_at};
@@ -6,15 +6,18 @@ ghost use Rattle.chi_core.specs.Options.{enabled};
 ghost use Rattle.chi_core.specs.Sound.{Sound};
 ghost use Rattle.chi_trace_events.specs.There.{IsDoing, IsNamed, IsThere, Sends, act_at};
 ghost use Rattle.chi_trace_events.specs.Traces.{detail_of, event_at, name_in, sending_told, time_after};
+ghost use Rattle.chi_trace.specs.declared.event.Event.{Event as AnEvent};
 ghost use Rattle.chi_trace.specs.Events.{Fits};
+ghost use Rattle.chi_trace.specs.Filters.{where_shown};
 
 use crate::laws::events_law;
+use crate::showing::is_shown;
 use crate::value::sent_text;
 use chi_base::NoMemory;
 use chi_core::{Act, Core, Label};
 use chi_plain_steps::Configuration;
 use chi_token::Bytes;
-use chi_trace::{Detail, Event};
+use chi_trace::{Detail, Event, Filter};
 use std::alloc::Global;
 
 /// The name of the definition of instance `pid`.
@@ -133,21 +136,18 @@ fn time_after(core: &Core, configuration: &Configuration<'_>, label: &Label) -> 
     }
 }
 
-/// The event of an enabled label at a turn.
-pub fn event_of(
+/// The event of a label at a turn.
+fn made(
     alloc: Global,
     core: &Core,
     configuration: &Configuration<'_>,
     turn: u64,
     label: &Label,
 ) -> Result<Event, NoMemory>
-    requires sound { Sound core.now }
-    requires kinded { Kinded core.now configuration.now }
-    requires enabled { Contains (enabled configuration.now) label.now }
+    requires there { IsThere core.now configuration.now label.now }
     ensures event { IfOk result (λ e. event_at core.now turn configuration.now label.now ≡ Some e) }
     ensures fits { IfOk result (λ e. Fits e.label e.detail) }
 {
-    events_law();
     let clock = time_after(core, configuration, label);
     let detail = detail_of(alloc, core, configuration, label)?;
     Ok(Event {
@@ -156,4 +156,27 @@ pub fn event_of(
         clock,
         detail,
     })
+}
+
+/// The event of an enabled label at a turn, where the filter shows it. No other is made.
+pub fn event_of(
+    alloc: Global,
+    core: &Core,
+    configuration: &Configuration<'_>,
+    turn: u64,
+    label: &Label,
+    filter: &Filter,
+) -> Result<Option<Event>, NoMemory>
+    requires sound { Sound core.now }
+    requires kinded { Kinded core.now configuration.now }
+    requires enabled { Contains (enabled configuration.now) label.now }
+    ensures event { IfOk result (λ shown. (e : AnEvent) × (event_at core.now turn configuration.now label.now ≡ Some e) × (shown ≡ where_shown filter.now e)) }
+    ensures fits { IfOk result (λ shown. IfSome shown (λ e. Fits e.label e.detail)) }
+{
+    events_law();
+    if is_shown(configuration, label, filter) {
+        Ok(Some(made(alloc, core, configuration, turn, label)?))
+    } else {
+        Ok(None)
+    }
 }

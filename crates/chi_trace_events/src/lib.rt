@@ -4,6 +4,7 @@
 mod event;
 mod laws;
 mod plain;
+mod showing;
 mod value;
 
 pub use event::event_of;
