@@ -21,7 +21,7 @@ fn empty(slots: &mut Vec<Option<Value>>)
 // More slots, which aren't set, until there are so many.
 #[inline(always)]
 #[tactic(auto, using(crate::proofs::Slots::slots))]
-fn widen(slots: &mut Vec<Option<Value>>, count: usize) -> Result<(), NoMemory>
+pub(crate) fn widen(slots: &mut Vec<Option<Value>>, count: usize) -> Result<(), NoMemory>
     ensures { OnOk result (slots.new.items ≡ slots.old.items ++ replicate (count - length slots.old.items) None) }
 {
     while slots.len() < count {

@@ -5,6 +5,7 @@ ghost use Rattle.chi_core_frame.specs.Alike.{AreAlikeBut};
 ghost use Rattle.chi_core_frame.specs.Bindings.{bound_parts};
 ghost use Rattle.chi_core.specs.Variables.{variables_of, value_at, with_slot, bound};
 
+use crate::reusing::widen;
 use chi_base::NoMemory;
 use chi_core_apply::parts_from;
 use chi_value::Value;
@@ -77,9 +78,7 @@ impl Variables {
         for argument in arguments {
             variables.push(Some(argument))?;
         }
-        while variables.len() < slots {
-            variables.push(None)?;
-        }
+        widen(&mut variables, slots)?;
         Ok(Variables { slots: variables })
     }
 
