@@ -10,7 +10,7 @@ use Rattle.chi_core.specs.declared.verdict.Verdict.TheVariants as verdict
 use Rattle.chi_value.specs.declared.value.Value.{Value}
 use Rattle.chi_tool.specs.Arguments.{Means}
 use Rattle.chi_tool.specs.Call.{Call}
-use Rattle.chi_tool.specs.Headline.{IsReportedOrLost, AsksFor, AsksForDone, AsksForLog, ComesUp, HasMisfit, HasLexicalFault, HasSyntaxFault, HasTypeFault, IsAskedSource, held, made, EndsAs, Ends, IsDone, IsExit, IsFault, HasUnfitArguments, IsExactly}
+use Rattle.chi_tool.specs.Headline.{IsReportedOrLost, AsksFor, AsksForDone, AsksForLog, ComesUp, HasMisfit, HasLexicalFault, HasSyntaxFault, HasTypeFault, IsAskedSource, held, made, EndsAs, Ends, IsDone, IsExit, IsFault, HasUnfitArguments, MayHold, Headline, GoesWell, IsExactly, IsExactlyIn, IsExactlyOf}
 use Rattle.chi_tool.specs.Refusals as refusal
 use Rattle.chi_tool.specs.Refusals.{Report}
 use Rattle.chi_tool.specs.Report.{IsReportOfSource, refused, program, IsReportOfProgram, IsReportOfLog, IsReport}
@@ -22,7 +22,7 @@ use Rattle.chi_tool.specs.Statuses.{status_of}
 use Rattle.chi_tool.proofs.Cases.{CaseOf, asks_nothing, is_missing, is_long, of_log, of_source, case_of, asked_report, asked_log_report}
 use Rattle.chi_tool.proofs.Contents.{status_ap, source_program, source_bound, log_bound}
 use Rattle.chi_tool.proofs.LawClauses.{CodeLaw, ReportLaw}
-use Rattle.chi_tool.proofs.Promises.{MetOne}
+use Rattle.chi_tool.proofs.Promises.{MetOne, met_of, met_status}
 use Rattle.chi_tool.proofs.Verdicts.{status_bound, completed_by, exit_by, deadlock_by, fault_by, out_of_steps_by, stopped_by}
 
 no_program : (n : ℕ) → (20 ≤ n) × (n ≤ 22) → (core : Core) (aim : Aim) (r : Report) → IsReportOfProgram core aim r → r.status ≡ n → ⊥
@@ -217,6 +217,40 @@ pub exactly : (r : Report) (call : Call) (n : ℕ) (cause : Type 0) → n ≢ 6 
 exactly r call n cause above (inl wanting) to from = ((λ is. absurd (above (sym is ∙ wanting))), λ h. inr wanting)
 exactly r call n cause above (inr met) to from = ((λ is. to (sym met.status ∙ is)), λ h. inl (met.status ∙ from h))
 
+-- what the words ask for, by the status of their report
+
+module _ (call : Call) (files : Files) (r : Report) where
+  module _ (n : ℕ) (P : Aim → List ℕ → Type 0) (status : StatusOf n P) (no_log : (n ≢ 0) × (n ≢ 24)) where
+    no_log_status : (text : List ℕ) → IsReportOfLog text r → r.status ≡ n → ⊥
+    no_log_status text of is = by (log_bound text r of)
+      where
+        by : (r.status ≡ 0) ⊎ (r.status ≡ 24) → ⊥
+        by (inl z) = no_log.0 (sym is ∙ z)
+        by (inr e) = no_log.1 (sym is ∙ e)
+
+    asks : CaseOf call files r → r.status ≡ n → AsksFor call files P
+    asks (asks_nothing asked e) is = absurd (status.other.0 (sym is ∙ status_ap r _ e))
+    asks (is_missing e) is = absurd (status.other.1 (sym is ∙ status_ap r _ e))
+    asks (is_long e) is = absurd (status.other.1 (sym is ∙ status_ap r _ e))
+    asks (of_log text asked of) is = absurd (no_log_status text of is)
+    asks (of_source aim source asked of) is = (aim, source, asked, status.to aim source r of is)
+
+  -- what is done: with a source, or with a log
+  asks_done : CaseOf call files r → r.status ≡ 0 → AsksForDone call files
+  asks_done (asks_nothing asked e) is = let h = status_ap r _ e in absurd (omega arith)
+  asks_done (is_missing e) is = let h = status_ap r _ e in absurd (omega arith)
+  asks_done (is_long e) is = let h = status_ap r _ e in absurd (omega arith)
+  asks_done (of_log text asked of) is = inr (text, asked, up_of text r of is)
+  asks_done (of_source aim source asked of) is = inl (aim, source, asked, done_of aim source r of is)
+
+  -- a line of a log doesn't fit
+  asks_misfit : CaseOf call files r → r.status ≡ 24 → AsksForLog call files HasMisfit
+  asks_misfit (asks_nothing asked e) is = let h = status_ap r _ e in absurd (omega arith)
+  asks_misfit (is_missing e) is = let h = status_ap r _ e in absurd (omega arith)
+  asks_misfit (is_long e) is = let h = status_ap r _ e in absurd (omega arith)
+  asks_misfit (of_log text asked of) is = (text, asked, misfit_of text r of is)
+  asks_misfit (of_source aim source asked of) is = let b = source_bound source aim r of in absurd (grind arith)
+
 module _ (law : ReportLaw) (coded : CodeLaw) (call : Call) (files : Files) (one : MetOne call files) where
   met : IsReportedOrLost one.0 call
   met = one.2
@@ -224,89 +258,16 @@ module _ (law : ReportLaw) (coded : CodeLaw) (call : Call) (files : Files) (one 
   same_status : (s : Report) → IsReport call.words files s → one.0.status ≡ s.status
   same_status s is = status_ap one.0 s (law.one call.words files one.0 s one.1 is)
 
-  module _ (n : ℕ) (P : Aim → List ℕ → Type 0) (status : StatusOf n P) where
-    pub asked_status : AsksFor call files P → one.0.status ≡ n
-    asked_status h = let p = status.from h.0 h.1 (asked_listable coded call files h.0 h.1 h.2) h.3 in same_status p.0 (asked_report call files h.0 h.1 p.0 h.2 p.1) ∙ p.2
-
-    module _ (no_log : (n ≢ 0) × (n ≢ 24)) where
-      no_log_status : (text : List ℕ) → IsReportOfLog text one.0 → one.0.status ≡ n → ⊥
-      no_log_status text of is = by (log_bound text one.0 of)
-        where
-          by : (one.0.status ≡ 0) ⊎ (one.0.status ≡ 24) → ⊥
-          by (inl z) = no_log.0 (sym is ∙ z)
-          by (inr e) = no_log.1 (sym is ∙ e)
-
-      asks : CaseOf call files one.0 → one.0.status ≡ n → AsksFor call files P
-      asks (asks_nothing asked e) is = absurd (status.other.0 (sym is ∙ status_ap one.0 _ e))
-      asks (is_missing e) is = absurd (status.other.1 (sym is ∙ status_ap one.0 _ e))
-      asks (is_long e) is = absurd (status.other.1 (sym is ∙ status_ap one.0 _ e))
-      asks (of_log text asked of) is = absurd (no_log_status text of is)
-      asks (of_source aim source asked of) is = (aim, source, asked, status.to aim source one.0 of is)
-
-      exactly_of : IsExactly call n (AsksFor call files P)
-      exactly_of =
-          exactly one.0 call n (AsksFor call files P) status.other.2 met
-          (λ is. asks (case_of call files one.0 one.1) is) asked_status
-
-  pub exit_exactly : IsExactly call 10 (AsksFor call files (Ends IsExit))
-  exit_exactly = exactly_of 10 (Ends IsExit) exit_status (λ e. omega arith, λ e. omega arith)
-
-  pub deadlock_exactly : IsExactly call 11 (AsksFor call files (Ends (λ v. v ≡ verdict.Deadlock)))
-  deadlock_exactly = exactly_of 11 (Ends (λ v. v ≡ verdict.Deadlock)) deadlock_status (λ e. omega arith, λ e. omega arith)
-
-  pub fault_exactly : IsExactly call 12 (AsksFor call files (Ends IsFault))
-  fault_exactly = exactly_of 12 (Ends IsFault) fault_status (λ e. omega arith, λ e. omega arith)
-
-  pub out_of_steps_exactly : IsExactly call 13 (AsksFor call files (Ends (λ v. v ≡ verdict.OutOfSteps)))
-  out_of_steps_exactly = exactly_of 13 (Ends (λ v. v ≡ verdict.OutOfSteps)) out_of_steps_status (λ e. omega arith, λ e. omega arith)
-
-  pub stopped_exactly : IsExactly call 14 (AsksFor call files (Ends (λ v. v ≡ verdict.Stopped)))
-  stopped_exactly = exactly_of 14 (Ends (λ v. v ≡ verdict.Stopped)) stopped_status (λ e. omega arith, λ e. omega arith)
-
-  pub lexical_exactly : IsExactly call 20 (AsksFor call files (λ aim. HasLexicalFault))
-  lexical_exactly = exactly_of 20 (λ aim. HasLexicalFault) lexical_status (λ e. omega arith, λ e. omega arith)
-
-  pub syntax_exactly : IsExactly call 21 (AsksFor call files (λ aim. HasSyntaxFault))
-  syntax_exactly = exactly_of 21 (λ aim. HasSyntaxFault) syntax_status (λ e. omega arith, λ e. omega arith)
-
-  pub unfit_exactly : IsExactly call 23 (AsksFor call files HasUnfitArguments)
-  unfit_exactly = exactly_of 23 HasUnfitArguments unfit_status (λ e. omega arith, λ e. omega arith)
-
-  pub typing_exactly : IsExactly call 22 (AsksFor call files (λ aim. HasTypeFault))
-  typing_exactly = exactly_of 22 (λ aim. HasTypeFault) mistyped_status (λ e. omega arith, λ e. omega arith)
-
-  -- what is done: with a source, or with a log
-
-  asks_done : CaseOf call files one.0 → one.0.status ≡ 0 → AsksForDone call files
-  asks_done (asks_nothing asked e) is = let h = status_ap one.0 _ e in absurd (omega arith)
-  asks_done (is_missing e) is = let h = status_ap one.0 _ e in absurd (omega arith)
-  asks_done (is_long e) is = let h = status_ap one.0 _ e in absurd (omega arith)
-  asks_done (of_log text asked of) is = inr (text, asked, up_of text one.0 of is)
-  asks_done (of_source aim source asked of) is = inl (aim, source, asked, done_of aim source one.0 of is)
+  asked_status : (n : ℕ) (P : Aim → List ℕ → Type 0) → StatusOf n P → AsksFor call files P → one.0.status ≡ n
+  asked_status n P status h = let p = status.from h.0 h.1 (asked_listable coded call files h.0 h.1 h.2) h.3 in same_status p.0 (asked_report call files h.0 h.1 p.0 h.2 p.1) ∙ p.2
 
   done_is : AsksForDone call files → one.0.status ≡ 0
   done_is (inl h) = asked_status 0 IsDone done_status h
   done_is (inr h) =
       same_status (refusal.brought_up h.2.0) (asked_log_report call files h.0 (refusal.brought_up h.2.0) h.1 (report.up h.2.0 h.2.1 refl))
 
-  pub done_exactly : IsExactly call 0 (AsksForDone call files)
-  done_exactly = exactly one.0 call 0 (AsksForDone call files) (λ e. omega arith) met (λ is. asks_done (case_of call files one.0 one.1) is) done_is
-
-  -- a line of a log doesn't fit
-
-  asks_misfit : CaseOf call files one.0 → one.0.status ≡ 24 → AsksForLog call files HasMisfit
-  asks_misfit (asks_nothing asked e) is = let h = status_ap one.0 _ e in absurd (omega arith)
-  asks_misfit (is_missing e) is = let h = status_ap one.0 _ e in absurd (omega arith)
-  asks_misfit (is_long e) is = let h = status_ap one.0 _ e in absurd (omega arith)
-  asks_misfit (of_log text asked of) is = (text, asked, misfit_of text one.0 of is)
-  asks_misfit (of_source aim source asked of) is = let b = source_bound source aim one.0 of in absurd (grind arith)
-
   misfit_is : AsksForLog call files HasMisfit → one.0.status ≡ 24
   misfit_is h = same_status (refusal.misfit h.2.0) (asked_log_report call files h.0 (refusal.misfit h.2.0) h.1 (report.misfit h.2.0 h.2.1 refl))
-
-  pub misfit_exactly : IsExactly call 24 (AsksForLog call files HasMisfit)
-  misfit_exactly =
-      exactly one.0 call 24 (AsksForLog call files HasMisfit) (λ e. omega arith) met (λ is. asks_misfit (case_of call files one.0 one.1) is) misfit_is
 
   -- a program that is asked to be run is run to its end
   pub ends_complete : (w : Wanted) (source : List ℕ) → IsAskedSource call files (simulates w) source → (core : Core) → ComesTo source core
@@ -320,3 +281,30 @@ module _ (law : ReportLaw) (coded : CodeLaw) (call : Call) (files : Files) (one 
           → (call.status ≡ status_of course.told.ending.verdict) ⊎ (call.status ≡ 6)
       by_met same (inl wanting) = inr wanting
       by_met same (inr m) = inl (m.status ∙ same)
+
+-- a status comes of its cause in files that the shelf may have, and exactly of it where all goes well
+module _ (law : ReportLaw) (coded : CodeLaw) (call : Call) (head : Headline call) where
+  in_files : (n : ℕ) → ((n ≢ 4) × (n ≢ 5) × (n ≢ 6)) → (P : Files → Type 0)
+      → ((files : Files) (r : Report) → CaseOf call files r → r.status ≡ n → P files)
+      → ((files : Files) (one : MetOne call files) → P files → one.0.status ≡ n) → IsExactlyIn call n P
+  in_files n other P to from = record {
+    only = λ is. let m = head.report in (m.0, m.1, to m.0 m.2 (case_of call m.0 m.2 m.3) (met_status n other m.2 call m.4 is));
+    exactly = λ files well.
+        let one = met_of call head files well in
+        exactly one.0 call n (P files) other.2 one.2 (to files one.0 (case_of call files one.0 one.1)) (from files one);
+  }
+
+  pub of_source_status : (n : ℕ) (P : Aim → List ℕ → Type 0) → StatusOf n P → (n ≢ 5) → (n ≢ 0) × (n ≢ 24) → IsExactlyOf call n P
+  of_source_status n P status written no_log =
+      in_files n (status.other.1, written, status.other.2) (λ files. AsksFor call files P)
+      (λ files r. asks call files r n P status no_log) (λ files one. asked_status law coded call files one n P status)
+
+  pub of_done_status : IsExactlyIn call 0 (AsksForDone call)
+  of_done_status =
+      in_files 0 (λ e. omega arith, λ e. omega arith, λ e. omega arith) (AsksForDone call)
+      (λ files r. asks_done call files r) (λ files one. done_is law coded call files one)
+
+  pub of_misfit_status : IsExactlyIn call 24 (λ files. AsksForLog call files HasMisfit)
+  of_misfit_status =
+      in_files 24 (λ e. omega arith, λ e. omega arith, λ e. omega arith) (λ files. AsksForLog call files HasMisfit)
+      (λ files r. asks_misfit call files r) (λ files one. misfit_is law coded call files one)

@@ -5,15 +5,15 @@ use Rattle.chi_io.specs.Shelf.{Files}
 use Rattle.chi_load.specs.Factory.{factory_source}
 use Rattle.chi_tool.specs.declared.task.Task.TheVariants.{OfFactory}
 use Rattle.chi_tool.specs.Call.{Call, ShelfUse, SinkUse, Took}
-use Rattle.chi_tool.specs.Delivery.{Tells, told, untold, Serves, reported, lost}
-use Rattle.chi_tool.specs.Headline.{Causes, Headline, IsComplete}
+use Rattle.chi_tool.specs.Headline.{delivered, wanting, alone, Causes, Headline, IsComplete}
 use Rattle.chi_tool.specs.Refusals.{Report}
 use Rattle.chi_tool.specs.Report.{IsReportOfSource, IsReportOfWish, IsReport}
+use Rattle.chi_tool.specs.Serving.{Tells, told, untold, Serves, reported, lost}
 use Rattle.chi_tool.specs.Settings.{simulates, wanted_of, plain}
 use Rattle.chi_tool.specs.Words.{Wish, of_task, wish_of}
 use Rattle.chi_tool.proofs.Contents.{source_status}
 use Rattle.chi_tool.proofs.LawClauses.{RunLaw, CodeLaw, ReportLaw, ValuesLaw, RangeLaw}
-use Rattle.chi_tool.proofs.Promises.{MeetsOne, MeetsOneAlone, by_report, by_any, delivered, wanting, alone, any_alone, where_told, delivered_stopped, asks_something}
+use Rattle.chi_tool.proofs.Promises.{MeetsOne, MeetsOneAlone, by_files, by_any, any_alone, delivered_stopped, asks_something}
 use Rattle.chi_tool.proofs.Served.{Breaks, delivered_breaks, delivered_status, unbroken, causes, complete}
 
 -- a file is served where its content is told of
@@ -26,12 +26,12 @@ module _ (call : Call) (size : ℕ) (asked : wish_of call.words ≡ of_task (OfF
   factory_report : (files : Files) (r : Report) → IsReportOfSource (factory_source size) (simulates (wanted_of plain)) r → IsReport call.words files r
   factory_report files r is = let at_wish : Wish → Type 0 = λ w. IsReportOfWish w files r in subst at_wish (sym asked) is
 
-  factory_told : ReportLaw → (files : Files) → Tells (IsReportOfSource (factory_source size) (simulates (wanted_of plain))) call.status call.out call.log → MeetsOne call files
-  factory_told law files (told r is d) = by_report call files r (factory_report files r is) (delivered d)
-  factory_told law files (untold status out log) = by_any law call files (λ r. wanting status out log)
+  factory_told : ReportLaw → Tells (IsReportOfSource (factory_source size) (simulates (wanted_of plain))) call.status call.out call.log → MeetsOne call
+  factory_told law (told r is d) = by_files call r (λ files. factory_report files r is) (alone (delivered d))
+  factory_told law (untold status out log) = by_any law call (λ r. alone (wanting status out log))
 
   factory_alone : ReportLaw → (files : Files) → Tells (IsReportOfSource (factory_source size) (simulates (wanted_of plain))) call.status call.out call.log → MeetsOneAlone call files
-  factory_alone law files (told r is d) = (r, factory_report files r is, alone r call (source_status _ _ r is).is_read d)
+  factory_alone law files (told r is d) = (r, factory_report files r is, delivered d)
   factory_alone law files (untold status out log) = any_alone law call files (record { status = status; out = out; log = log })
 
   factory_stopped : Tells (IsReportOfSource (factory_source size) (simulates (wanted_of plain))) call.status call.out call.log → call.out.stopped ≡ true → Took call.log []
@@ -40,7 +40,7 @@ module _ (call : Call) (size : ℕ) (asked : wish_of call.words ≡ of_task (OfF
 
   pub factory-headline : ReportLaw → Tells (IsReportOfSource (factory_source size) (simulates (wanted_of plain))) call.status call.out call.log → Headline call
   factory-headline law t = record {
-    report = where_told call.shelf.files (λ files is. factory_told law files t);
+    report = factory_told law t;
     by_words = λ same files. factory_alone law files t;
     out_stopped = factory_stopped t;
   }

@@ -1,5 +1,5 @@
 -- What follows of a call from how it was served.
-use Rattle.std.proofs.Common.{◌≡◌, ◌≢◌, ◌∙◌, ℕ, ◌<◌, true, false, List, [], Option, Some, None, length, ◌⊎◌, inl, inr, sym, subst, refl, arith}
+use Rattle.std.proofs.Common.{◌≡◌, ◌≢◌, ℕ, ◌<◌, true, false, List, [], Option, Some, None, length, ◌⊎◌, inl, inr, sym, ◌∙◌, subst, refl, arith}
 use Rattle.std.specs.Prelude.{IfSome, IsSomeAnd}
 use Rattle.chi_io.specs.Counts.{Rose, Stood}
 use Rattle.chi_io.specs.Shelf.{Files}
@@ -9,98 +9,139 @@ use Rattle.chi_tool.specs.Refusals.{Report, usage, no_such_file, file_too_long}
 use Rattle.chi_tool.specs.Report as report
 use Rattle.chi_tool.specs.Report.{IsReportOfFile, IsReportOfWish, IsReport}
 use Rattle.chi_tool.specs.Call.{Call, SinkUse, Took, TookFront, TookSome, SinkStood, ShelfRose}
-use Rattle.chi_tool.specs.Headline.{NothingFailed, IsReported, IsReportedOrLost, IsReportedInFront, IsRefusedByFault, Meets, MeetsAlone, Headline, GoesWell, with_files, by_words}
-use Rattle.chi_tool.specs.Delivery.{TookWhole, Delivers, whole, out_broke, log_broke, DeliversReport, Serves, reported, missing, long, failed, lost}
+use Rattle.chi_tool.specs.Delivery.{TookWhole, Delivers, whole, out_broke, log_broke, DeliversReport}
+use Rattle.chi_tool.specs.Headline.{NothingFailed, IsReported, IsReportedOrLost, IsReportedInFront, IsRefusedByFault, MeetsAlone, delivered, wanting, Meets, alone, not_there, too_long, unread, MayHold, Headline, Follows, GoesWell, with_files, by_words}
+use Rattle.chi_tool.specs.Serving.{Serves, reported, missing, long, failed, lost}
 use Rattle.chi_tool.proofs.Sinks.{whole_front, none_front, broken_front, none_some, none_whole}
 use Rattle.chi_tool.proofs.Contents.{IsOfFile}
 use Rattle.chi_tool.proofs.LawClauses.{ReportLaw}
 
--- how a call may stand to the report of its words and files
-pub data Stands (r : Report) (call : Call) : Type 0 where
-  delivered : DeliversReport r call.status call.out call.log → Stands r call
-  misread : ShelfRose call.shelf → (refusal : Report) → (refusal ≡ no_such_file) ⊎ (refusal ≡ file_too_long)
-      → Delivers 4 [] refusal.log call.status call.out call.log → Stands r call
-  silent : ShelfRose call.shelf → call.status ≡ 4 → TookWhole call.out [] → TookWhole call.log [] → Stands r call
-  wanting : call.status ≡ 6 → TookWhole call.out [] → TookWhole call.log [] → Stands r call
-
 stood_rose : (before after : ℕ) → Rose before after → Stood before after → ⊥
 stood_rose before after rose stood = omega arith
 
--- the delivery of a report, where no sink fails
+-- what follows where a report is met
+
 delivered_whole : (r : Report) (call : Call) → SinkStood call.out → SinkStood call.log → DeliversReport r call.status call.out call.log → IsReported r call
 delivered_whole r call out_stood log_stood (whole status out log) = record { status = status; out = out.took; log = log.took }
 delivered_whole r call out_stood log_stood (out_broke status out log) = absurd (stood_rose _ _ out.rose out_stood)
 delivered_whole r call out_stood log_stood (log_broke status out log) = absurd (stood_rose _ _ log.rose log_stood)
 
-meets-whole : (r : Report) (call : Call) → Stands r call → NothingFailed call → IsReportedOrLost r call
-meets-whole r call (delivered d) none = inr (delivered_whole r call none.out none.log d)
-meets-whole r call (misread rose refusal is d) none = absurd (stood_rose _ _ rose none.shelf)
-meets-whole r call (silent rose status out log) none = absurd (stood_rose _ _ rose none.shelf)
-meets-whole r call (wanting status out log) none = inl status
+pub alone-whole : (r : Report) (call : Call) → MeetsAlone r call → SinkStood call.out → SinkStood call.log → IsReportedOrLost r call
+alone-whole r call (delivered d) out log = inr (delivered_whole r call out log d)
+alone-whole r call (wanting status none_out none_log) out log = inl status
 
-meets-status : (r : Report) (call : Call) → Stands r call
-    → IsReported r call ⊎ ((call.status ≡ 4) ⊎ ((call.status ≡ 5) ⊎ (call.status ≡ 6)))
-meets-status r call (delivered (whole status out log)) = inl (record { status = status; out = out.took; log = log.took })
-meets-status r call (delivered (out_broke status out log)) = inr (inr (inl status))
-meets-status r call (delivered (log_broke status out log)) = inr (inr (inl status))
-meets-status r call (misread rose refusal is (whole status out log)) = inr (inl status)
-meets-status r call (misread rose refusal is (out_broke status out log)) = inr (inr (inl status))
-meets-status r call (misread rose refusal is (log_broke status out log)) = inr (inr (inl status))
-meets-status r call (silent rose status out log) = inr (inl status)
-meets-status r call (wanting status out log) = inr (inr (inr status))
+meets-whole : (r : Report) (call : Call) → Meets r call → NothingFailed call → IsReportedOrLost r call
+meets-whole r call (alone m) none = alone-whole r call m none.out none.log
+meets-whole r call (not_there rose d) none = absurd (stood_rose _ _ rose none.shelf)
+meets-whole r call (too_long rose d) none = absurd (stood_rose _ _ rose none.shelf)
+meets-whole r call (unread rose status out log) none = absurd (stood_rose _ _ rose none.shelf)
 
-refusal_front : (call : Call) (refusal : Report) → (refusal ≡ no_such_file) ⊎ (refusal ≡ file_too_long) → TookFront call.log refusal.log
-    → TookFront call.log no_such_file.log ⊎ TookFront call.log file_too_long.log
-refusal_front call refusal (inl is) front = inl (let P : Report → Type 0 = λ x. TookFront call.log x.log in subst P is front)
-refusal_front call refusal (inr is) front = inr (let P : Report → Type 0 = λ x. TookFront call.log x.log in subst P is front)
+abbrev Statuses : Report → Call → Type 0
+Statuses r call = IsReported r call ⊎ ((call.status ≡ 4) ⊎ ((call.status ≡ 5) ⊎ (call.status ≡ 6)))
 
-misread_fault : (call : Call) → ShelfRose call.shelf → (refusal : Report) → (refusal ≡ no_such_file) ⊎ (refusal ≡ file_too_long)
-    → Delivers 4 [] refusal.log call.status call.out call.log → IsRefusedByFault call
-misread_fault call rose refusal is (whole status out log) =
-    record { rose = rose; out = out.took; log = refusal_front call refusal is (whole_front call.log refusal.log log.took) }
-misread_fault call rose refusal is (out_broke status out log) = absurd (none_whole call.out out)
-misread_fault call rose refusal is (log_broke status out log) =
-    record { rose = rose; out = out.took; log = refusal_front call refusal is (broken_front call.log refusal.log log) }
+refusal-status : (r : Report) (call : Call) (output lines : List ℕ) → Delivers 4 output lines call.status call.out call.log → Statuses r call
+refusal-status r call output lines (whole status out log) = inr (inl status)
+refusal-status r call output lines (out_broke status out log) = inr (inr (inl status))
+refusal-status r call output lines (log_broke status out log) = inr (inr (inl status))
 
-meets-fronts : (r : Report) (call : Call) → Stands r call → IsReportedInFront r call ⊎ IsRefusedByFault call
-meets-fronts r call (delivered (whole status out log)) =
-    inl (record { out = whole_front call.out r.out out.took; log = whole_front call.log r.log log.took })
-meets-fronts r call (delivered (out_broke status out log)) =
-    inl (record { out = broken_front call.out r.out out; log = none_front call.log r.log log.took })
-meets-fronts r call (delivered (log_broke status out log)) =
-    inl (record { out = whole_front call.out r.out out.took; log = broken_front call.log r.log log })
-meets-fronts r call (misread rose refusal is d) = inr (misread_fault call rose refusal is d)
-meets-fronts r call (silent rose status out log) =
+meets-status : (r : Report) (call : Call) → Meets r call → Statuses r call
+meets-status r call (alone (delivered (whole status out log))) = inl (record { status = status; out = out.took; log = log.took })
+meets-status r call (alone (delivered (out_broke status out log))) = inr (inr (inl status))
+meets-status r call (alone (delivered (log_broke status out log))) = inr (inr (inl status))
+meets-status r call (alone (wanting status out log)) = inr (inr (inr status))
+meets-status r call (not_there rose d) = refusal-status r call _ _ d
+meets-status r call (too_long rose d) = refusal-status r call _ _ d
+meets-status r call (unread rose status out log) = inr (inl status)
+
+-- a line that refuses a file, or a front of it, after no output
+record IsLine (call : Call) (line : List ℕ) : Type 0 where
+  out : Took call.out []
+  log : TookFront call.log line
+
+refused_line : (call : Call) (status : ℕ) (line : List ℕ) → Delivers status [] line call.status call.out call.log → IsLine call line
+refused_line call status line (whole s out log) = record { out = out.took; log = whole_front call.log line log.took }
+refused_line call status line (out_broke s out log) = absurd (none_whole call.out out)
+refused_line call status line (log_broke s out log) = record { out = out.took; log = broken_front call.log line log }
+
+not_there-fault : (call : Call) → ShelfRose call.shelf → DeliversReport no_such_file call.status call.out call.log → IsRefusedByFault call
+not_there-fault call rose d = let l = refused_line call _ _ d in record { rose = rose; out = l.out; log = inl l.log }
+
+too_long-fault : (call : Call) → ShelfRose call.shelf → DeliversReport file_too_long call.status call.out call.log → IsRefusedByFault call
+too_long-fault call rose d = let l = refused_line call _ _ d in record { rose = rose; out = l.out; log = inr l.log }
+
+delivered-front : (r : Report) (call : Call) → DeliversReport r call.status call.out call.log → IsReportedInFront r call
+delivered-front r call (whole status out log) = record { out = whole_front call.out r.out out.took; log = whole_front call.log r.log log.took }
+delivered-front r call (out_broke status out log) = record { out = broken_front call.out r.out out; log = none_front call.log r.log log.took }
+delivered-front r call (log_broke status out log) = record { out = whole_front call.out r.out out.took; log = broken_front call.log r.log log }
+
+meets-fronts : (r : Report) (call : Call) → Meets r call → IsReportedInFront r call ⊎ IsRefusedByFault call
+meets-fronts r call (alone (delivered d)) = inl (delivered-front r call d)
+meets-fronts r call (alone (wanting status out log)) =
     inl (record { out = none_front call.out r.out out.took; log = none_front call.log r.log log.took })
-meets-fronts r call (wanting status out log) =
+meets-fronts r call (not_there rose d) = inr (not_there-fault call rose d)
+meets-fronts r call (too_long rose d) = inr (too_long-fault call rose d)
+meets-fronts r call (unread rose status out log) =
     inl (record { out = none_front call.out r.out out.took; log = none_front call.log r.log log.took })
 
-meets-out_first : (r : Report) (call : Call) → Stands r call → TookSome call.log → Took call.out r.out ⊎ IsRefusedByFault call
-meets-out_first r call (delivered (whole status out log)) some = inl out.took
-meets-out_first r call (delivered (out_broke status out log)) some = absurd (none_some call.log log.took some)
-meets-out_first r call (delivered (log_broke status out log)) some = inl out.took
-meets-out_first r call (misread rose refusal is d) some = inr (misread_fault call rose refusal is d)
-meets-out_first r call (silent rose status out log) some = absurd (none_some call.log log.took some)
-meets-out_first r call (wanting status out log) some = absurd (none_some call.log log.took some)
+meets-out_first : (r : Report) (call : Call) → Meets r call → TookSome call.log → Took call.out r.out ⊎ IsRefusedByFault call
+meets-out_first r call (alone (delivered (whole status out log))) some = inl out.took
+meets-out_first r call (alone (delivered (out_broke status out log))) some = absurd (none_some call.log log.took some)
+meets-out_first r call (alone (delivered (log_broke status out log))) some = inl out.took
+meets-out_first r call (alone (wanting status out log)) some = absurd (none_some call.log log.took some)
+meets-out_first r call (not_there rose d) some = inr (not_there-fault call rose d)
+meets-out_first r call (too_long rose d) some = inr (too_long-fault call rose d)
+meets-out_first r call (unread rose status out log) some = absurd (none_some call.log log.took some)
 
-meets : (r : Report) (call : Call) → Stands r call → Meets r call
-meets r call s = record {
-  whole = meets-whole r call s;
-  status = meets-status r call s;
-  fronts = meets-fronts r call s;
-  out_first = meets-out_first r call s;
+pub follows : (r : Report) (call : Call) → Meets r call → Follows r call
+follows r call m = record {
+  whole = meets-whole r call m;
+  status = meets-status r call m;
+  fronts = meets-fronts r call m;
+  out_first = meets-out_first r call m;
 }
 
--- what a call met: a report of the words and files, where the shelf tells them
-abbrev pub MeetsOne : Call → Files → Type 0
-MeetsOne call files = (r : Report) × IsReport call.words files r × Meets r call
+-- a status that no failure has is the report's
+pub met_status : (n : ℕ) → ((n ≢ 4) × (n ≢ 5) × (n ≢ 6)) → (r : Report) (call : Call) → Meets r call → call.status ≡ n → r.status ≡ n
+met_status n other r call m is = by (meets-status r call m)
+  where
+    by : Statuses r call → r.status ≡ n
+    by (inl met) = sym met.status ∙ is
+    by (inr (inl four)) = absurd (other.0 (sym is ∙ four))
+    by (inr (inr (inl five))) = absurd (other.1 (sym is ∙ five))
+    by (inr (inr (inr six))) = absurd (other.2 (sym is ∙ six))
 
-pub by_report : (call : Call) (files : Files) (r : Report) → IsReport call.words files r → Stands r call → MeetsOne call files
-by_report call files r is s = (r, is, meets r call s)
+-- files that the shelf may have
 
--- whatever the report is
-pub by_any : ReportLaw → (call : Call) (files : Files) → ((r : Report) → Stands r call) → MeetsOne call files
-by_any law call files s = let p = law.some call.words files in by_report call files p.0 p.1 (s p.0)
+abbrev Holds : Option Files → (Files → Type 0) → Type 0
+Holds told P = (files : Files) × IfSome told (λ t. t ≡ files) × P files
+
+-- those that it tells, or else some of which P holds
+held_or : (told : Option Files) (P : Files → Type 0) → IfSome told P → (others : Files) → P others → Holds told P
+held_or None P is others p = (others, tt, p)
+held_or (Some files) P is others p = (files, refl, is)
+
+held_told : (told : Option Files) (P : Files → Type 0) → IsSomeAnd told P → Holds told P
+held_told None P is = absurd is
+held_told (Some files) P is = (files, refl, is)
+
+held_any : (told : Option Files) → Holds told (λ files. Unit {0})
+held_any None = ((λ name. None), tt, tt)
+held_any (Some files) = (files, refl, tt)
+
+-- what a call met: a report of the words, and of files that the shelf may have
+abbrev pub MeetsOne : Call → Type 0
+MeetsOne call = (files : Files) × MayHold call.shelf files × (r : Report) × IsReport call.words files r × Meets r call
+
+-- whatever the files are, and whatever the report is
+pub by_any : ReportLaw → (call : Call) → ((r : Report) → Meets r call) → MeetsOne call
+by_any law call m =
+    let h = held_any call.shelf.files in
+    let p = law.some call.words h.0 in
+    (h.0, h.1, p.0, p.1, m p.0)
+
+-- whatever the files are
+pub by_files : (call : Call) (r : Report) → ((files : Files) → IsReport call.words files r) → Meets r call → MeetsOne call
+by_files call r is m = let h = held_any call.shelf.files in (h.0, h.1, r, is h.0, m)
 
 module _ (t : Task) (name : List ℕ) (most : ℕ) (P : List ℕ → Report → Type 0) (of : IsOfFile t name most P) (call : Call)
     (asked : wish_of call.words ≡ of_task t) where
@@ -110,30 +151,25 @@ module _ (t : Task) (name : List ℕ) (most : ℕ) (P : List ℕ → Report → 
       let at_file : Option (List ℕ) → Type 0 = λ x. IsReportOfFile most P x r in
       subst at_wish (sym asked) (of.reports files r (subst at_file (sym there) is))
 
-  pub served_told : ReportLaw → (files : Files) → call.shelf.files ≡ Some files → Serves most P name call.shelf call.status call.out call.log → MeetsOne call files
-  served_told law files told (reported content within is r by d) =
-      let Q : Option Files → Type 0 = λ o. IfSome o (λ f. f name ≡ Some content) in
-      by_report call files r (is_report files (Some content) r (subst Q told is) (report.fetched content refl within by)) (delivered d)
-  served_told law files told (missing (inr rose) d) = by_any law call files (λ r. misread rose no_such_file (inl refl) d)
-  served_told law files told (missing (inl lacks) d) =
-      let Q : Option Files → Type 0 = λ o. IsSomeAnd o (λ f. f name ≡ None) in
-      by_report call files no_such_file (is_report files None no_such_file (subst Q told lacks) (report.missing refl refl)) (delivered d)
-  served_told law files told (long (inr rose) d) = by_any law call files (λ r. misread rose file_too_long (inr refl) d)
-  served_told law files told (long (inl exceeds) d) =
-      let Q : Option Files → Type 0 = λ o. IsSomeAnd o (λ f. IsSomeAnd (f name) (λ content. most < length content)) in
-      by_file (files name) refl (subst Q told exceeds)
+  served_one : ReportLaw → Serves most P name call.shelf call.status call.out call.log → MeetsOne call
+  served_one law (reported content within is r by d) =
+      let h = held_or call.shelf.files (λ f. f name ≡ Some content) is (λ other. Some content) refl in
+      (h.0, h.1, r, is_report h.0 (Some content) r h.2 (report.fetched content refl within by), alone (delivered d))
+  served_one law (missing (inr rose) d) = by_any law call (λ r. not_there rose d)
+  served_one law (missing (inl lacks) d) =
+      let h = held_told call.shelf.files (λ f. f name ≡ None) lacks in
+      (h.0, h.1, no_such_file, is_report h.0 None no_such_file h.2 (report.missing refl refl), alone (delivered d))
+  served_one law (long (inr rose) d) = by_any law call (λ r. too_long rose d)
+  served_one law (long (inl exceeds) d) =
+      let h = held_told call.shelf.files (λ f. IsSomeAnd (f name) (λ content. most < length content)) exceeds in
+      by_file h.0 h.1 (h.0 name) refl h.2
     where
-      by_file : (o : Option (List ℕ)) → files name ≡ o → IsSomeAnd o (λ content. most < length content) → MeetsOne call files
-      by_file None there e = absurd e
-      by_file (Some content) there e =
-          by_report call files file_too_long (is_report files (Some content) file_too_long there (report.long content refl e refl)) (delivered d)
-  served_told law files told (failed rose status out log) = by_any law call files (λ r. silent rose status out log)
-  served_told law files told (lost status out log) = by_any law call files (λ r. wanting status out log)
-
--- what holds where the shelf tells its files
-pub where_told : {P : Files → Type 0} (o : Option Files) → ((files : Files) → o ≡ Some files → P files) → IfSome o P
-where_told None p = tt
-where_told (Some files) p = p files refl
+      by_file : (files : Files) → MayHold call.shelf files → (o : Option (List ℕ)) → files name ≡ o → IsSomeAnd o (λ content. most < length content) → MeetsOne call
+      by_file files may None there e = absurd e
+      by_file files may (Some content) there e =
+          (files, may, file_too_long, is_report files (Some content) file_too_long there (report.long content refl e refl), alone (delivered d))
+  served_one law (failed rose status out log) = by_any law call (λ r. unread rose status out log)
+  served_one law (lost status out log) = by_any law call (λ r. alone (wanting status out log))
 
 pub goes_stopped : (sink : SinkUse) → sink.stopped ≡ false → sink.stopped ≡ true → ⊥
 goes_stopped sink goes stopped = cc
@@ -155,19 +191,19 @@ served_stopped most P name call (lost status out log) stopped = log.took
 pub asks_something : (w : Wish) (t : Task) → w ≡ of_task t → w ≡ nothing → ⊥
 asks_something w t asked none = cc
 
+-- words that ask for the content of a file name it
+pub names_file : (t : Task) (name : List ℕ) (most : ℕ) (P : List ℕ → Report → Type 0) → IsOfFile t name most P
+    → (w : Wish) → w ≡ of_task t → NamesNoFile w → ⊥
+names_file t name most P of w asked none = of.named (subst NamesNoFile asked none)
+
 module _ (t : Task) (name : List ℕ) (most : ℕ) (P : List ℕ → Report → Type 0) (of : IsOfFile t name most P) (call : Call)
     (asked : wish_of call.words ≡ of_task t) where
   pub served-headline : ReportLaw → Serves most P name call.shelf call.status call.out call.log → Headline call
   served-headline law s = record {
-    report = where_told call.shelf.files (λ files told. served_told t name most P of call asked law files told s);
-    by_words = λ none files. absurd (of.named (subst NamesNoFile asked none));
+    report = served_one t name most P of call asked law s;
+    by_words = λ none files. absurd (names_file t name most P of (wish_of call.words) asked none);
     out_stopped = served_stopped most P name call s;
   }
-
-pub usage_told : (call : Call) (files : Files) → wish_of call.words ≡ nothing → DeliversReport usage call.status call.out call.log → MeetsOne call files
-usage_told call files none d =
-    let at_wish : Wish → Type 0 = λ w. IsReportOfWish w files usage in
-    by_report call files usage (subst at_wish (sym none) refl) (delivered d)
 
 -- memory was wanting before the words were read
 pub record IsLost (call : Call) : Type 0 where
@@ -175,69 +211,29 @@ pub record IsLost (call : Call) : Type 0 where
   pub out : TookWhole call.out []
   pub log : TookWhole call.log []
 
-pub lost_told : ReportLaw → (call : Call) (files : Files) → IsLost call → MeetsOne call files
-lost_told law call files l = by_any law call files (λ r. wanting l.status l.out l.log)
-
--- a report is delivered, whatever the shelf does
-alone-status : (r : Report) (call : Call) → DeliversReport r call.status call.out call.log → IsReported r call ⊎ ((call.status ≡ 5) ⊎ (call.status ≡ 6))
-alone-status r call (whole status out log) = inl (record { status = status; out = out.took; log = log.took })
-alone-status r call (out_broke status out log) = inr (inl status)
-alone-status r call (log_broke status out log) = inr (inl status)
-
-alone-front : (r : Report) (call : Call) → DeliversReport r call.status call.out call.log → IsReportedInFront r call
-alone-front r call (whole status out log) = record { out = whole_front call.out r.out out.took; log = whole_front call.log r.log log.took }
-alone-front r call (out_broke status out log) = record { out = broken_front call.out r.out out; log = none_front call.log r.log log.took }
-alone-front r call (log_broke status out log) = record { out = whole_front call.out r.out out.took; log = broken_front call.log r.log log }
-
-alone-out_first : (r : Report) (call : Call) → DeliversReport r call.status call.out call.log → TookSome call.log → Took call.out r.out
-alone-out_first r call (whole status out log) some = out.took
-alone-out_first r call (out_broke status out log) some = absurd (none_some call.log log.took some)
-alone-out_first r call (log_broke status out log) some = out.took
-
-alone-read : (r : Report) (call : Call) → r.status ≢ 4 → DeliversReport r call.status call.out call.log → call.status ≡ 4 → ⊥
-alone-read r call other (whole status out log) is = other (sym status ∙ is)
-alone-read r call other (out_broke status out log) is = omega arith
-alone-read r call other (log_broke status out log) is = omega arith
-
--- the report of words that name no file, delivered
-pub alone : (r : Report) (call : Call) → r.status ≢ 4 → DeliversReport r call.status call.out call.log → MeetsAlone r call
-alone r call other d = record {
-  whole = λ out log. inr (delivered_whole r call out log d);
-  status = alone-status r call d;
-  front = alone-front r call d;
-  out_first = alone-out_first r call d;
-  read = alone-read r call other d;
-}
-
--- or memory is wanting
-pub alone_lost : (r : Report) (call : Call) → IsLost call → MeetsAlone r call
-alone_lost r call l = record {
-  whole = λ out log. inl l.status;
-  status = inr (inr l.status);
-  front = record { out = none_front call.out r.out l.out.took; log = none_front call.log r.log l.log.took };
-  out_first = λ some. absurd (none_some call.log l.log.took some);
-  read = λ is. let lost = l.status in omega arith;
-}
+pub met_lost : (r : Report) (call : Call) → IsLost call → MeetsAlone r call
+met_lost r call l = wanting l.status l.out l.log
 
 -- what a call met by its words
 abbrev pub MeetsOneAlone : Call → Files → Type 0
 MeetsOneAlone call files = (r : Report) × IsReport call.words files r × MeetsAlone r call
 
 pub any_alone : ReportLaw → (call : Call) (files : Files) → IsLost call → MeetsOneAlone call files
-any_alone law call files l = let p = law.some call.words files in (p.0, p.1, alone_lost p.0 call l)
+any_alone law call files l = let p = law.some call.words files in (p.0, p.1, met_lost p.0 call l)
+
+is_usage : (call : Call) → wish_of call.words ≡ nothing → (files : Files) → IsReport call.words files usage
+is_usage call none files = let at_wish : Wish → Type 0 = λ w. IsReportOfWish w files usage in subst at_wish (sym none) refl
 
 pub usage-headline : (call : Call) → wish_of call.words ≡ nothing → DeliversReport usage call.status call.out call.log → Headline call
 usage-headline call none d = record {
-  report = where_told call.shelf.files (λ files told. usage_told call files none d);
-  by_words = λ same files.
-      let at_wish : Wish → Type 0 = λ w. IsReportOfWish w files usage in
-      (usage, subst at_wish (sym none) refl, alone usage call (λ e. omega arith) d);
+  report = by_files call usage (is_usage call none) (alone (delivered d));
+  by_words = λ same files. (usage, is_usage call none files, delivered d);
   out_stopped = delivered_stopped _ _ _ _ call.out call.log d;
 }
 
 pub lost-headline : ReportLaw → (call : Call) → IsLost call → Headline call
 lost-headline law call l = record {
-  report = where_told call.shelf.files (λ files told. lost_told law call files l);
+  report = by_any law call (λ r. alone (met_lost r call l));
   by_words = λ none files. any_alone law call files l;
   out_stopped = λ stopped. absurd (goes_stopped call.out l.out.goes stopped);
 }
@@ -248,7 +244,8 @@ MetOne call files = (r : Report) × IsReport call.words files r × IsReportedOrL
 
 pub met_of : (call : Call) → Headline call → (files : Files) → GoesWell call files → MetOne call files
 met_of call h files (with_files told none) =
-    let P : Option Files → Type 0 = λ o. IfSome o (λ f. MeetsOne call f) in
-    let p : MeetsOne call files = subst P told h.report in
-    (p.0, p.1, p.2.whole none)
-met_of call h files (by_words no_file out log) = let p = h.by_words no_file files in (p.0, p.1, p.2.whole out log)
+    let m = h.report in
+    let P : Option Files → Type 0 = λ o. IfSome o (λ t. t ≡ m.0) in
+    let same : files ≡ m.0 = subst P told m.1 in
+    (m.2, subst (λ (f : Files). IsReport call.words f m.2) (sym same) m.3, meets-whole m.2 call m.4 none)
+met_of call h files (by_words no_file out log) = let p = h.by_words no_file files in (p.0, p.1, alone-whole p.0 call p.2 out log)

@@ -3,15 +3,17 @@ use Rattle.std.proofs.Common.{◌≡◌, ◌≢◌, ℕ, ◌<◌, ◌≤◌, tru
 use Rattle.std.specs.Prelude.{IsSomeAnd}
 use Rattle.chi_io.specs.Shelf.{Files}
 use Rattle.chi_lex.specs.declared.lexer.TheConstants.{MOST_BYTES}
+use Rattle.chi_core.specs.declared.verdict.Verdict.TheVariants as verdict
 use Rattle.chi_tool.specs.Call.{Call, SinkUse}
-use Rattle.chi_tool.specs.Delivery.{Delivers, whole, out_broke, log_broke, DeliversReport, Serves, reported, missing, long, failed, lost}
+use Rattle.chi_tool.specs.Delivery.{Delivers, whole, out_broke, log_broke, DeliversReport}
+use Rattle.chi_tool.specs.Serving.{Serves, reported, missing, long, failed, lost}
 use Rattle.chi_tool.specs.declared.task.Purpose.TheVariants.{Simulate}
 use Rattle.chi_tool.specs.declared.task.Task.{Task}
-use Rattle.chi_tool.specs.Headline.{Headline, IsAskedSource, held, made, IsNoContent, IsUnread, CannotBeRead, IsExactly, StoppedByFailure, Causes, IsComplete}
+use Rattle.chi_tool.specs.Headline.{Headline, IsAskedSource, held, made, HasLexicalFault, HasSyntaxFault, HasTypeFault, Ends, IsExit, IsFault, HasUnfitArguments, IsNoContent, IsUnread, CannotBeRead, IsExactly, IsExactlyOf, StoppedByFailure, Causes, IsComplete}
 use Rattle.chi_tool.specs.Refusals.{Report, usage}
 use Rattle.chi_tool.specs.Settings.{Wanted, Aim, simulates, MayBeAimed, plain, settings_with}
 use Rattle.chi_tool.specs.Words.{Wish, nothing, of_task, wish_of}
-use Rattle.chi_tool.proofs.Causes.{done_exactly, exit_exactly, deadlock_exactly, fault_exactly, out_of_steps_exactly, stopped_exactly, lexical_exactly, syntax_exactly, typing_exactly, unfit_exactly, misfit_exactly, ends_complete}
+use Rattle.chi_tool.proofs.Causes.{StatusOf, exit_status, deadlock_status, fault_status, out_of_steps_status, stopped_status, lexical_status, syntax_status, mistyped_status, unfit_status, of_source_status, of_done_status, of_misfit_status, ends_complete}
 use Rattle.chi_tool.proofs.Contents.{IsOfContent, IsOfFile}
 use Rattle.chi_tool.proofs.LawClauses.{RunLaw, CodeLaw, ReportLaw, ValuesLaw, RangeLaw}
 use Rattle.chi_tool.proofs.Promises.{IsLost, met_of, goes_stopped, asks_something, served-headline, usage-headline, lost-headline}
@@ -116,21 +118,24 @@ asked_within bounds call files aim source (made size asked same plainly) =
 
 -- the parts of the causes that rest on how the call was served
 module _ (law : ReportLaw) (coded : CodeLaw) (call : Call) (head : Headline call) where
+  of_source : (n : ℕ) (P : Aim → List ℕ → Type 0) → StatusOf n P → (n ≢ 5) → (n ≢ 0) × (n ≢ 24) → IsExactlyOf call n P
+  of_source = of_source_status law coded call head
+
   pub causes : Breaks call.status call.out call.log
       → (call.out.stopped ≡ false → call.log.stopped ≡ false → IsExactly call 3 (wish_of call.words ≡ nothing))
       → (call.status ≡ 4 → CannotBeRead call.shelf (wish_of call.words)) → Causes call
   causes breaks request unread = record {
-    done = λ files well. done_exactly law coded call files (met_of call head files well);
-    exit = λ files well. exit_exactly law coded call files (met_of call head files well);
-    deadlock = λ files well. deadlock_exactly law coded call files (met_of call head files well);
-    fault = λ files well. fault_exactly law coded call files (met_of call head files well);
-    out_of_steps = λ files well. out_of_steps_exactly law coded call files (met_of call head files well);
-    stopped = λ files well. stopped_exactly law coded call files (met_of call head files well);
-    lexical = λ files well. lexical_exactly law coded call files (met_of call head files well);
-    syntax = λ files well. syntax_exactly law coded call files (met_of call head files well);
-    typing = λ files well. typing_exactly law coded call files (met_of call head files well);
-    arguments = λ files well. unfit_exactly law coded call files (met_of call head files well);
-    misfit = λ files well. misfit_exactly law coded call files (met_of call head files well);
+    done = of_done_status law coded call head;
+    exit = of_source 10 (Ends IsExit) exit_status (λ e. omega arith) (λ e. omega arith, λ e. omega arith);
+    deadlock = of_source 11 (Ends (λ v. v ≡ verdict.Deadlock)) deadlock_status (λ e. omega arith) (λ e. omega arith, λ e. omega arith);
+    fault = of_source 12 (Ends IsFault) fault_status (λ e. omega arith) (λ e. omega arith, λ e. omega arith);
+    out_of_steps = of_source 13 (Ends (λ v. v ≡ verdict.OutOfSteps)) out_of_steps_status (λ e. omega arith) (λ e. omega arith, λ e. omega arith);
+    stopped = of_source 14 (Ends (λ v. v ≡ verdict.Stopped)) stopped_status (λ e. omega arith) (λ e. omega arith, λ e. omega arith);
+    lexical = of_source 20 (λ aim. HasLexicalFault) lexical_status (λ e. omega arith) (λ e. omega arith, λ e. omega arith);
+    syntax = of_source 21 (λ aim. HasSyntaxFault) syntax_status (λ e. omega arith) (λ e. omega arith, λ e. omega arith);
+    typing = of_source 22 (λ aim. HasTypeFault) mistyped_status (λ e. omega arith) (λ e. omega arith, λ e. omega arith);
+    arguments = of_source 23 HasUnfitArguments unfit_status (λ e. omega arith) (λ e. omega arith, λ e. omega arith);
+    misfit = of_misfit_status law coded call head;
     no_request = request;
     not_read = unread;
     not_written = (breaks.stops, breaks.tells);

@@ -9,12 +9,12 @@ use Rattle.chi_trace.specs.declared.filter.Filter.{Filter}
 use Rattle.chi_value.specs.declared.value.Value.{Value}
 use Rattle.chi_tool.specs.Arguments.{Means}
 use Rattle.chi_tool.specs.Call.{SinkUse, Took, SinkStood}
-use Rattle.chi_tool.specs.Delivery.{Tells, told, untold}
-use Rattle.chi_tool.specs.Headline.{IsReportedOrLost, MeetsAlone, HasLexicalFault, HasSyntaxFault, HasTypeFault, EndsAs, Ends, IsDone, IsExit, IsFault, HasUnfitArguments}
+use Rattle.chi_tool.specs.Headline.{IsReportedOrLost, MeetsAlone, delivered, wanting, HasLexicalFault, HasSyntaxFault, HasTypeFault, EndsAs, Ends, IsDone, IsExit, IsFault, HasUnfitArguments}
 use Rattle.chi_tool.specs.Refusals.{Report}
 use Rattle.chi_tool.specs.Report as report
 use Rattle.chi_tool.specs.Report.{IsReportOfSource, program}
 use Rattle.chi_tool.specs.Running.{Course, IsRunOf, run_report}
+use Rattle.chi_tool.specs.Serving.{Tells, told, untold}
 use Rattle.chi_tool.specs.Settings.{Wanted, Aim, simulates, MayBeAimed, settings_with, trace_by}
 use Rattle.chi_tool.specs.Simulations.{Simulation, as_call, SimulationHeadline, ComesOf, IsExactlyFor, SimulationCauses, IsSimulatedToItsEnd}
 use Rattle.chi_tool.specs.Sources.{ComesTo}
@@ -22,7 +22,7 @@ use Rattle.chi_tool.specs.Statuses.{status_of}
 use Rattle.chi_tool.proofs.Causes.{StatusOf, exactly, done_status, exit_status, deadlock_status, fault_status, out_of_steps_status, stopped_status, lexical_status, syntax_status, mistyped_status, unfit_status}
 use Rattle.chi_tool.proofs.Contents.{status_ap, source_bound, IsOfContent, source_status}
 use Rattle.chi_tool.proofs.LawClauses.{RunLaw, ValuesLaw, SourceLaw}
-use Rattle.chi_tool.proofs.Promises.{alone, alone_lost, delivered_stopped}
+use Rattle.chi_tool.proofs.Promises.{alone-whole, delivered_stopped}
 use Rattle.chi_tool.proofs.Runs.{asked_settings}
 use Rattle.chi_tool.proofs.Served.{Breaks, unbroken, delivered_breaks, delivered_status}
 
@@ -60,10 +60,10 @@ module _ (law : SourceLaw) (s : Simulation) (within : length s.source ≤ MOST_B
   fits r is h = let b = source_bound s.source (simulates s.wanted) r is in grind arith
 
   met_by : Telling → Met
-  met_by (told r is d) = (r, is, alone r (as_call s) (content r is).is_read d)
+  met_by (told r is d) = (r, is, delivered d)
   met_by (untold status out log) =
       let p = law.some s.source (simulates s.wanted) within may in
-      (p.0, p.1, alone_lost p.0 (as_call s) (record { status = status; out = out; log = log }))
+      (p.0, p.1, wanting status out log)
 
   stopped_by : Telling → s.out.stopped ≡ true → Took s.log []
   stopped_by (told r is d) stopped = delivered_stopped _ _ _ _ s.out s.log d stopped
@@ -97,7 +97,7 @@ module _ (law : SourceLaw) (s : Simulation) (within : length s.source ≤ MOST_B
 
     exactly_by : (cause : Type 0) → (P (simulates s.wanted) s.source → cause) → (cause → P (simulates s.wanted) s.source) → Met → IsExactlyFor s n cause
     exactly_by cause to from (r, is, met) out log =
-        exactly r (as_call s) n cause status.other.2 (met.whole out log)
+        exactly r (as_call s) n cause status.other.2 (alone-whole r (as_call s) met out log)
         (λ e. to (status.to (simulates s.wanted) s.source r is e)) (λ h. causing r is (from h))
 
   comes : (n : ℕ) (P : Aim → List ℕ → Type 0) → StatusOf n P → ComesOf s n (P (simulates s.wanted))
@@ -142,7 +142,7 @@ module _ (law : SourceLaw) (s : Simulation) (within : length s.source ≤ MOST_B
           let its : IsReportOfSource s.source (simulates s.wanted) (run_report core course) =
           program core its_core (report.run arguments means (record { course = course; run = run; is = refl })) in
           let one : r ≡ run_report core course = law.one s.source (simulates s.wanted) r (run_report core course) is its in
-          ends (status_ap r (run_report core course) one) (met.whole out log)
+          ends (status_ap r (run_report core course) one) (alone-whole r (as_call s) met out log)
         where
           ends : r.status ≡ status_of course.told.ending.verdict → IsReportedOrLost r (as_call s)
               → (s.status ≡ status_of course.told.ending.verdict) ⊎ (s.status ≡ 6)

@@ -1,9 +1,9 @@
--- Private to proofs: the ways in which the delivery of a report ends, and in which a file is served.
-use Rattle.std.specs.Prelude.{◌≡◌, ℕ, ◌≤◌, ◌<◌, ◌⊎◌, true, false, List, [], length, Some, None, IfSome, IsSomeAnd}
+-- How the delivery of a report ends: its output is put, and then its log, until a sink fails.
+use Rattle.std.specs.Prelude.{◌≡◌, ℕ, true, false, List, []}
 use Rattle.chi_io.specs.Sink.{GrewByProperFront}
-use Rattle.chi_tool.specs.Refusals.{Report, no_such_file, file_too_long}
+use Rattle.chi_tool.specs.Refusals.{Report}
 use Rattle.chi_tool.specs.Statuses as statuses
-use Rattle.chi_tool.specs.Call.{SinkUse, ShelfUse, Took, SinkRose, ShelfRose}
+use Rattle.chi_tool.specs.Call.{SinkUse, Took, SinkRose}
 
 -- the sink took all of the bytes, and goes on
 pub record TookWhole (sink : SinkUse) (bytes : List ℕ) : Type 0 where
@@ -25,20 +25,3 @@ pub data Delivers (status : ℕ) (output lines : List ℕ) (result : ℕ) (out l
 -- the delivery of a report
 abbrev pub DeliversReport : Report → ℕ → SinkUse → SinkUse → Type 0
 DeliversReport r result out log = Delivers r.status r.out r.log result out log
-
--- a report of which P holds is delivered, or memory is wanting
-pub data Tells (P : Report → Type 0) (result : ℕ) (out log : SinkUse) : Type 0 where
-  told : (r : Report) → P r → DeliversReport r result out log → Tells P result out log
-  untold : result ≡ statuses.no_memory → TookWhole out [] → TookWhole log [] → Tells P result out log
-
--- a file within a limit is served: a report of its content by P is delivered, or its refusal is, or the shelf failed, or
--- memory is wanting
-pub data Serves (most : ℕ) (P : List ℕ → Report → Type 0) (name : List ℕ) (shelf : ShelfUse) (result : ℕ) (out log : SinkUse) : Type 0 where
-  reported : (content : List ℕ) → length content ≤ most → IfSome shelf.files (λ files. files name ≡ Some content)
-      → (r : Report) → P content r → DeliversReport r result out log → Serves most P name shelf result out log
-  missing : IsSomeAnd shelf.files (λ files. files name ≡ None) ⊎ ShelfRose shelf
-      → DeliversReport no_such_file result out log → Serves most P name shelf result out log
-  long : IsSomeAnd shelf.files (λ files. IsSomeAnd (files name) (λ content. most < length content)) ⊎ ShelfRose shelf
-      → DeliversReport file_too_long result out log → Serves most P name shelf result out log
-  failed : ShelfRose shelf → result ≡ statuses.not_read → TookWhole out [] → TookWhole log [] → Serves most P name shelf result out log
-  lost : result ≡ statuses.no_memory → TookWhole out [] → TookWhole log [] → Serves most P name shelf result out log

@@ -28,6 +28,7 @@ use Rattle.chi_tool.specs.Sources.{IsNoProgram, BreaksRule, ComesTo}
 use Rattle.chi_tool.specs.Statuses as statuses
 use Rattle.chi_tool.specs.Statuses.{status_of}
 use Rattle.chi_tool.specs.Call.{Call, SinkUse, ShelfUse, Took, TookFront, TookSome, SinkRose, SinkStood, ShelfRose, ShelfStood}
+use Rattle.chi_tool.specs.Delivery.{TookWhole, DeliversReport}
 
 -- no object that was handed in failed
 pub record NothingFailed (call : Call) : Type 0 where
@@ -45,6 +46,33 @@ pub record IsReported (r : Report) (call : Call) : Type 0 where
 abbrev pub IsReportedOrLost : Report → Call → Type 0
 IsReportedOrLost r call = (call.status ≡ statuses.no_memory) ⊎ IsReported r call
 
+-- the report is delivered, as far as no sink fails; or memory was wanting, and nothing is written
+pub data MeetsAlone (r : Report) (call : Call) : Type 0 where
+  delivered : DeliversReport r call.status call.out call.log → MeetsAlone r call
+  wanting : call.status ≡ statuses.no_memory → TookWhole call.out [] → TookWhole call.log [] → MeetsAlone r call
+
+-- Or the shelf failed, and in place of the report it is delivered that the file isn't there, or that it is too long; or
+-- nothing is written, and the status says that the file can't be read.
+pub data Meets (r : Report) (call : Call) : Type 0 where
+  alone : MeetsAlone r call → Meets r call
+  not_there : ShelfRose call.shelf → DeliversReport no_such_file call.status call.out call.log → Meets r call
+  too_long : ShelfRose call.shelf → DeliversReport file_too_long call.status call.out call.log → Meets r call
+  unread : ShelfRose call.shelf → call.status ≡ statuses.not_read → TookWhole call.out [] → TookWhole call.log [] → Meets r call
+
+-- the shelf may have these files: it tells no others
+abbrev pub MayHold : ShelfUse → Files → Type 0
+MayHold shelf files = IfSome shelf.files (λ told. told ≡ files)
+
+pub record Headline (call : Call) : Type 0 where
+  -- there is a report of the words, and of files that the shelf may have, which the call meets
+  pub report : (files : Files) × MayHold call.shelf files × (r : Report) × IsReport call.words files r × Meets r call
+  -- where the words name no file, it is the same with whichever files
+  pub by_words : NamesNoFile (wish_of call.words) → (files : Files) → (r : Report) × IsReport call.words files r × MeetsAlone r call
+  -- once the output is stopped, nothing is logged
+  pub out_stopped : call.out.stopped ≡ true → Took call.log []
+
+-- What follows where a call meets a report, for whoever reads status and bytes.
+
 -- each sink took a front of the report's bytes
 pub record IsReportedInFront (r : Report) (call : Call) : Type 0 where
   pub out : TookFront call.out r.out
@@ -56,8 +84,7 @@ pub record IsRefusedByFault (call : Call) : Type 0 where
   pub out : Took call.out []
   pub log : TookFront call.log no_such_file.log ⊎ TookFront call.log file_too_long.log
 
--- what a call has to do with its report
-pub record Meets (r : Report) (call : Call) : Type 0 where
+pub record Follows (r : Report) (call : Call) : Type 0 where
   -- where nothing fails, the status and every byte are the report's, unless memory is wanting
   pub whole : NothingFailed call → IsReportedOrLost r call
   -- whatever fails, the report is there whole, or the status is one of three
@@ -66,27 +93,6 @@ pub record Meets (r : Report) (call : Call) : Type 0 where
   pub fronts : IsReportedInFront r call ⊎ IsRefusedByFault call
   -- the log follows the output
   pub out_first : TookSome call.log → Took call.out r.out ⊎ IsRefusedByFault call
-
--- what it has to do with the report of words that name no file, whatever the shelf does
-pub record MeetsAlone (r : Report) (call : Call) : Type 0 where
-  -- where no sink fails, the status and every byte are the report's, unless memory is wanting
-  pub whole : SinkStood call.out → SinkStood call.log → IsReportedOrLost r call
-  -- whatever fails, the report is there whole, or the status is one of two
-  pub status : IsReported r call ⊎ ((call.status ≡ statuses.not_written) ⊎ (call.status ≡ statuses.no_memory))
-  -- and nothing else is written
-  pub front : IsReportedInFront r call
-  -- the log follows the output
-  pub out_first : TookSome call.log → Took call.out r.out
-  -- and a file is never to blame
-  pub read : call.status ≡ statuses.not_read → ⊥
-
-pub record Headline (call : Call) : Type 0 where
-  -- where the shelf tells its files, there is a report of the words and files that the call meets
-  pub report : IfSome call.shelf.files (λ files. (r : Report) × IsReport call.words files r × Meets r call)
-  -- where the words name no file, it is the same with whichever files
-  pub by_words : NamesNoFile (wish_of call.words) → (files : Files) → (r : Report) × IsReport call.words files r × MeetsAlone r call
-  -- once the output is stopped, nothing is logged
-  pub out_stopped : call.out.stopped ≡ true → Took call.log []
 
 -- the words ask for this to be done with this source: the content of a file, within the limit, or that of a factory
 pub data IsAskedSource (call : Call) (files : Files) (aim : Aim) (source : List ℕ) : Type 0 where
@@ -201,9 +207,10 @@ pub data GoesWell (call : Call) (files : Files) : Type 0 where
   with_files : call.shelf.files ≡ Some files → NothingFailed call → GoesWell call files
   by_words : NamesNoFile (wish_of call.words) → SinkStood call.out → SinkStood call.log → GoesWell call files
 
--- the same of a cause in the files, where all goes well
-abbrev pub IsExactlyIn : Call → ℕ → (Files → Type 0) → Type 0
-IsExactlyIn call n P = (files : Files) → GoesWell call files → IsExactly call n (P files)
+-- of a cause in files that the shelf may have; and exactly where it holds, where all goes well
+pub record IsExactlyIn (call : Call) (n : ℕ) (P : Files → Type 0) : Type 0 where
+  pub only : call.status ≡ n → (files : Files) × MayHold call.shelf files × P files
+  pub exactly : (files : Files) → GoesWell call files → IsExactly call n (P files)
 
 -- of a cause in the source that is asked for
 abbrev pub IsExactlyOf : Call → ℕ → (Aim → List ℕ → Type 0) → Type 0

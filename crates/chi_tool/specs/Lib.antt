@@ -10,8 +10,9 @@ pub mod Report
 pub mod Reported
 pub mod Readings
 pub mod Call
+pub mod Delivery
 pub mod Headline
 pub mod Simulations
-pub mod Delivery
+pub mod Serving
 pub mod Turns
 pub mod Limits

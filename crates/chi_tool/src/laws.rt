@@ -9,6 +9,8 @@ ghost use Rattle.chi_lex.specs.Reading.{Reads};
 ghost use Rattle.chi_tree_spell.specs.Statements.{spelled};
 ghost use Rattle.chi_token.specs.declared.place.Spanned.{Spanned};
 ghost use Rattle.chi_token.specs.Tokens.{IsToken};
+ghost use Rattle.chi_tool.specs.Call.{Call};
+ghost use Rattle.chi_tool.specs.Headline.{Follows, Meets};
 ghost use Rattle.chi_tool.specs.Limits.{LimitsAre};
 ghost use Rattle.chi_tool.specs.Refusals.{Report};
 ghost use Rattle.chi_tool.specs.Report.{IsReport, IsReportOfSource};
@@ -72,6 +74,11 @@ pub fn report_law()
     values_are_of_parameters();
     logs_law();
 }
+
+/// What follows for a reader of status and bytes, where a call meets a report.
+pub fn meets_law()
+    ensures { (r : Report) (call : Call) → Meets r call → Follows r call }
+{}
 
 /// What a source is as a program has only tokens that some bytes spell: its names have the letters of names, and
 /// its numbers have digits.

@@ -5,7 +5,7 @@ ghost use Rattle.chi_core.specs.Picks as picks;
 ghost use Rattle.chi_sched.specs.Policies.{Answers};
 ghost use Rattle.chi_trace.specs.declared.filter.Filter.TheVariants.{All};
 ghost use Rattle.chi_tool.specs.Call.{sink_use};
-ghost use Rattle.chi_tool.specs.Delivery.{Tells};
+ghost use Rattle.chi_tool.specs.Serving.{Tells};
 ghost use Rattle.chi_tool.specs.Report.{IsReportOfSource};
 ghost use Rattle.chi_tool.specs.Reported.{report_in};
 ghost use Rattle.chi_tool.specs.Settings.{simulates, trace_by};

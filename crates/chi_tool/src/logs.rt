@@ -2,7 +2,7 @@
 
 ghost use Rattle.std.specs.Prelude.{◌≡◌, ◌≤◌, false, IfOk, length};
 ghost use Rattle.chi_tool.specs.Call.{sink_use, shelf_use};
-ghost use Rattle.chi_tool.specs.Delivery.{Serves, Tells};
+ghost use Rattle.chi_tool.specs.Serving.{Serves, Tells};
 ghost use Rattle.chi_tool.specs.Refusals.{misfit};
 ghost use Rattle.chi_tool.specs.Report.{IsReportOfLog};
 ghost use Rattle.chi_tool.specs.Reported.{report_in};

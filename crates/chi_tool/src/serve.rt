@@ -1,7 +1,7 @@
 ghost use Rattle.std.specs.Prelude.{◌≡◌, ◌≤◌, false, IfOk, length};
 ghost use Rattle.chi_tool.specs.Call.{sink_use, shelf_use};
 ghost use Rattle.chi_load.specs.Factory.{factory_source};
-ghost use Rattle.chi_tool.specs.Delivery.{Serves, Tells};
+ghost use Rattle.chi_tool.specs.Serving.{Serves, Tells};
 ghost use Rattle.chi_tool.specs.Report.{IsReportFor, IsReportOfSource};
 ghost use Rattle.chi_tool.specs.Reported.{report_in};
 ghost use Rattle.chi_tool.specs.Settings.{IsBounded, aim_of, plain, simulates, wanted_of};

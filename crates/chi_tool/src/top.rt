@@ -1,4 +1,5 @@
 ghost use Rattle.std.specs.Prelude.{◌≡◌, false, map};
+ghost use Rattle.chi_tool.specs.Words.{NamesNoFile, wish_of};
 ghost use Rattle.chi_tool.specs.Call.{sink_use, shelf_use};
 ghost use Rattle.chi_tool.specs.Headline.{Headline, Causes, IsComplete};
 
@@ -33,6 +34,8 @@ pub fn chi<H: Shelf, O: Sink, L: Sink>(
       out = sink_use O.taken O.faults O.stopped out.old out.new;
       log = sink_use L.taken L.faults L.stopped log.old log.new;
     }) }
+    // Words that name no file leave the shelf as it was.
+    ensures untouched { NamesNoFile (wish_of (map (λ word. word.now) words.now)) → shelf.new ≡ shelf.old }
     // Each status has its cause.
     ensures causes { Causes (record {
       words = map (λ word. word.now) words.now;

@@ -1,5 +1,5 @@
 use Rattle.chi_trace.specs.declared.log.TheConstants.{MOST_LOG_BYTES}
-use Rattle.chi_tool.specs.Delivery.{missing, long}
+use Rattle.chi_tool.specs.Serving.{missing, long}
 use Rattle.chi_tool.specs.Report.{IsReportOfLog}
 use Rattle.chi_tool.proofs.Factories.{serves_told}
 use Rattle.chi_tool.proofs.logs.serve_log.Goals as goal

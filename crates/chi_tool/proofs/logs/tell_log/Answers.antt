@@ -1,4 +1,4 @@
-use Rattle.chi_tool.specs.Delivery.{told}
+use Rattle.chi_tool.specs.Serving.{told}
 use Rattle.chi_tool.specs.Refusals.{Report}
 use Rattle.chi_tool.proofs.logs.tell_log.Goals as goal
 

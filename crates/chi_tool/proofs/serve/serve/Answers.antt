@@ -1,7 +1,7 @@
 use Rattle.chi_lex.specs.declared.lexer.TheConstants.{MOST_BYTES}
 use Rattle.chi_tool.specs.Report.{IsReportFor}
 use Rattle.chi_tool.specs.Settings.{aim_of}
-use Rattle.chi_tool.specs.Delivery.{missing, long}
+use Rattle.chi_tool.specs.Serving.{missing, long}
 use Rattle.chi_tool.proofs.Factories.{serves_told}
 use Rattle.chi_tool.proofs.serve.serve.Goals as goal
 

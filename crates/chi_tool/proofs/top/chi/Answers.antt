@@ -9,7 +9,7 @@ use Rattle.chi_tool.specs.Words.{task_of}
 use Rattle.chi_tool.proofs.Contents.{source_of_file, log_of_file}
 use Rattle.chi_tool.proofs.Factories.{factory-headline, factory-causes, factory-complete}
 use Rattle.chi_tool.proofs.LawClauses.{RunLaw, CodeLaw, ReportLaw}
-use Rattle.chi_tool.proofs.Promises.{served-headline, usage-headline, lost-headline}
+use Rattle.chi_tool.proofs.Promises.{names_file, served-headline, usage-headline, lost-headline}
 use Rattle.chi_tool.proofs.Served.{served-causes, served-complete, usage-causes, usage-complete, lost-causes, lost-complete}
 use Rattle.chi_tool.proofs.Sinks.{still}
 use Rattle.chi_tool.proofs.Wishes.{IsBoundedWish, bounded_wish, wish_task, wish_nothing}
@@ -40,6 +40,11 @@ returns-in-OfFile-clause-complete g c =
     served-complete (OfFile c.in-OfFile.file c.in-OfFile.purpose) c.in-OfFile.file MOST_BYTES (IsReportFor (aim_of c.in-OfFile.purpose)) (source_of_file c.in-OfFile.file c.in-OfFile.purpose) _
     (wish_task (texts c.args.words.now) c.in-Ok.request (OfFile c.in-OfFile.file c.in-OfFile.purpose) c.in-Ok.ensures.request c.in-OfFile.ensures) law coded runs c.values_are_of_parameters.ensures c.numbers_are_in_range.ensures (rw (c.as_slice.ensures.same) at c.serve.ensures)
 
+pub returns-in-OfFile-clause-untouched : goal.returns-in-OfFile-clause-untouched
+returns-in-OfFile-clause-untouched g c =
+    λ none. absurd (names_file (OfFile c.in-OfFile.file c.in-OfFile.purpose) c.in-OfFile.file MOST_BYTES (IsReportFor (aim_of c.in-OfFile.purpose)) (source_of_file c.in-OfFile.file c.in-OfFile.purpose) _
+    (wish_task (texts c.args.words.now) c.in-Ok.request (OfFile c.in-OfFile.file c.in-OfFile.purpose) c.in-Ok.ensures.request c.in-OfFile.ensures) none)
+
 pub returns-in-OfLog-clause-headline : goal.returns-in-OfLog-clause-headline
 returns-in-OfLog-clause-headline g c =
     let law : ReportLaw = record { some = c.report_law.ensures.some; one = c.report_law.ensures.one } in
@@ -60,6 +65,11 @@ returns-in-OfLog-clause-complete g c =
     let runs : RunLaw = record { some = c.one_run_law.ensures.some; one = c.one_run_law.ensures.one } in
     served-complete (OfLog c.in-OfLog.file) c.in-OfLog.file MOST_LOG_BYTES IsReportOfLog (log_of_file c.in-OfLog.file) _
     (wish_task (texts c.args.words.now) c.in-Ok.request (OfLog c.in-OfLog.file) c.in-Ok.ensures.request c.in-OfLog.ensures) law coded runs c.values_are_of_parameters.ensures c.numbers_are_in_range.ensures (rw (c.as_slice-in-OfLog.ensures.same) at c.serve_log.ensures)
+
+pub returns-in-OfLog-clause-untouched : goal.returns-in-OfLog-clause-untouched
+returns-in-OfLog-clause-untouched g c =
+    λ none. absurd (names_file (OfLog c.in-OfLog.file) c.in-OfLog.file MOST_LOG_BYTES IsReportOfLog (log_of_file c.in-OfLog.file) _
+    (wish_task (texts c.args.words.now) c.in-Ok.request (OfLog c.in-OfLog.file) c.in-Ok.ensures.request c.in-OfLog.ensures) none)
 
 pub returns-then-not-is_refusal-clause-headline : goal.returns-then-not-is_refusal-clause-headline
 returns-then-not-is_refusal-clause-headline g c =
