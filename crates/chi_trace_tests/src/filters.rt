@@ -3,7 +3,7 @@
 ghost use Rattle.std.specs.Prelude.{◌≡◌, IfOk};
 ghost use Rattle.chi_trace.specs.Filters.{shows};
 
-use chi_trace::{Event, EventKind, Filter, Probe, Sieve, matches, read_line};
+use chi_trace::{Detail, Event, EventKind, Filter, Probe, Sieve, admits, matches, read_line};
 use std::alloc::{AllocError, Global};
 use std::test::Fail;
 
@@ -41,11 +41,21 @@ fn a_filter_shows_its_events(rt: HostRuntime) -> Result<(), Fail> {
             let event = read_line(rt.alloc(), line.as_bytes())?;
             let wanted = turns.contains(&event.turn);
             assert_eq!(rt; matches(&filter, &event), wanted, "{line}");
+            let channel = channel_of(&event.detail);
+            assert_eq!(rt; admits(&filter, event.label, channel), wanted, "{line}");
             assert_eq!(rt; filter.shown(&event), wanted, "{line}");
             assert_eq!(rt; probed(rt.alloc(), filter, &event)?, wanted, "{line}");
         }
     }
     Ok(())
+}
+
+/// The channel that a detail tells.
+fn channel_of(detail: &Detail) -> Option<u32> {
+    match detail {
+        Detail::Sent(channel, _) => Some(*channel),
+        Detail::Unknown | Detail::Bare | Detail::At(_, _) | Detail::Of(_) => None,
+    }
 }
 
 /// What a probe tells of an event whose stored closure asks the filter.
