@@ -1,5 +1,5 @@
 -- Whether an event is shown is told without it.
-use Rattle.std.proofs.Common.{◌≡◌, ℕ, ℤ, Bool, false, List, [], ◌∷◌, Option, Some, None, refl, ap, sym, ◌∙◌}
+use Rattle.std.proofs.Common.{◌≡◌, ℕ, ℤ, Bool, false, if◌then◌else◌, List, [], ◌∷◌, Option, Some, None, refl, ap, sym, ◌∙◌}
 use Rattle.std.specs.Prelude.{option_map, option_and_then, slice_get}
 use Rattle.chi_core.specs.declared.act.Act.{Act}
 use Rattle.chi_core.specs.declared.act.Act.TheVariants.{Send, Receive, Delay}
@@ -12,7 +12,7 @@ use Rattle.chi_trace.specs.declared.event.Detail.{Detail}
 use Rattle.chi_trace.specs.declared.event.Detail.TheVariants.{Of}
 use Rattle.chi_trace.specs.declared.event.Event.{Event}
 use Rattle.chi_trace.specs.declared.filter.Filter.{Filter}
-use Rattle.chi_trace.specs.Filters.{admits, channel_in, shows}
+use Rattle.chi_trace.specs.Filters.{admits, channel_in, shows, where_shown}
 use Rattle.chi_trace_events.specs.Channels.{channel_of, channel_sent}
 use Rattle.chi_trace_events.specs.Traces.{name_in, line_in, place_told, sending_told, detail_of, time_after, event_with, event_at}
 
@@ -47,7 +47,7 @@ label_channel core config Advance = refl
 
 -- and so whether its event is shown
 
-shown_if : Filter → Option Event → Bool
+abbrev shown_if : Filter → Option Event → Bool
 shown_if filter None = false
 shown_if filter (Some e) = shows filter e
 
@@ -61,3 +61,6 @@ shown_told core turn config label e filter is = by (time_after config label) (de
     by (Some clock) None told is' = absurd (cc)
     by (Some clock) (Some detail) told is' =
         ap (admits filter label) (label_channel core config label ∙ ap (option_and_then channel_in) told) ∙ ap (shown_if filter) is'
+
+pub hidden : (filter : Filter) (e : Event) → shows filter e ≡ false → None ≡ where_shown filter e
+hidden filter e is = ap (λ (b : Bool). if b then Some e else None) (sym is)

@@ -36,7 +36,6 @@ fn channel_of(configuration: &Configuration<'_>, label: &Label) -> Option<u32>
 }
 
 /// Whether the filter shows the event of a label, if that has one.
-#[tactic(auto, using(crate::proofs::Unmade::shown_told))]
 pub fn is_shown(configuration: &Configuration<'_>, label: &Label, filter: &Filter) -> bool
     ensures { (core : ACore) (turn : ℕ) (e : AnEvent) → event_at core turn configuration.now label.now ≡ Some e → result ≡ shows filter.now e }
 {
