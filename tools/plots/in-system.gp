@@ -4,7 +4,9 @@ set terminal svg size 640,320 font "sans-serif,12" background "white"
 set output picture
 set xlabel "time"
 set ylabel "lots in the factory"
-set yrange [0:*]
+stats data using 2 nooutput
+set yrange [0:STATS_max + 0.5]
+set ytics 1
 set grid y
 unset key
 plot data using 1:2 with steps lw 1.5 lc rgb "#1f5fa8"

@@ -6,9 +6,9 @@ set style data histograms
 set style histogram rowstacked
 set style fill solid 0.9 border -1
 set boxwidth 0.6
-set xlabel "instance"
 set ylabel "share of the time"
 set yrange [0:1]
+set xrange [-0.75:*]
 set key outside right
 plot data using 2:xtic(1) title "works" lc rgb "#1f5fa8", '' using 3 title "is blocked" lc rgb "#c44e00", \
      '' using 4 title "waits" lc rgb "#d9d9d9"
