@@ -17,6 +17,7 @@ import tempfile
 import results
 
 HOST_TRIES = 3
+MOST_A_LOGIN = 20
 
 
 class Trouble(Exception):
@@ -71,7 +72,7 @@ def environment_for(home):
 
 
 def parallel_words(is_shown):
-    return ["parallel", "--plain", "--will-cite", "--halt", "now,fail=1", *(["--bar"] if is_shown else [])]
+    return ["parallel", "--plain", "--will-cite", "--line-buffer", "--halt", "now,fail=1", *(["--bar"] if is_shown else [])]
 
 
 def by_parallel(folder, jobs, at_once, is_shown):
@@ -152,7 +153,7 @@ def by_hosts(folder, jobs, hosts, is_shown):
     there = f"/tmp/chi-runs-{os.urandom(16).hex()}"
     with brought_to(hosts, folder, there), tempfile.TemporaryDirectory() as home:
         orders = orders_of(jobs)
-        size = max(1, min(50, len(orders) // (4 * sum(host.jobs for host in hosts))))
+        size = max(1, min(MOST_A_LOGIN, len(orders) // (8 * sum(host.jobs for host in hosts))))
         given = [f"bash {there}/replication {' '.join(orders[at : at + size])}" for at in range(0, len(orders), size)]
         logins = pathlib.Path(home, "hosts")
         logins.write_text("".join(f"{host.jobs}/{host.login}\n" for host in hosts), encoding="utf-8")

@@ -57,29 +57,31 @@ class Log:
         self.file.seek(whole)
 
     def add(self, row):
-        if (row.value, row.number) not in self.rows:
+        if (row.value, row.number) in self.rows:
+            return
+        try:
             self.file.write(json.dumps(row._asdict()).encode() + b"\n")
             self.file.flush()
-            self.rows[row.value, row.number] = row
+        except OSError as error:
+            error.filename = self.file.name
+            raise
+        self.rows[row.value, row.number] = row
 
 
 def records_of(lines):
-    """The rows of the records that a stream has, each when it is whole. Where one isn't, the stream ends."""
-    for first in lines:
-        words = first.decode("utf-8", "surrogateescape").split()
-        if len(words) != 7 or words[0] != "run":
-            return
-        number, value, host, spent, status, count = int(words[1]), int(words[2]), words[3], *map(int, words[4:])
+    """The rows of the records that a stream has, each when it is whole. A line that is no record is passed over."""
+    for line in lines:
+        parts = line.decode("utf-8", "surrogateescape").removesuffix("\n").split("\x1f")
+        if len(parts) < 8 or parts[0] != "run" or parts[-1] != "end" or not line.endswith(b"\n"):
+            continue
+        number, value, host, spent, status, verdict, *outs = parts[1:-1]
         numbers, taken = [], 0
-        for line in itertools.islice(lines, count):
-            cells = line.decode().replace("\t", " ").strip().split(",")
+        for out in outs:
+            cells = [cell.strip() for cell in out.split(",")]
             taken += len(cells)
             if taken <= MOST_NUMBERS:
-                numbers.append([cell.strip() for cell in cells])
-        line = next(lines, b"").decode("utf-8", "surrogateescape").rstrip("\n")
-        if next(lines, b"") != b"end %d %d\n" % (number, value):
-            return
-        yield Row(value, number, host, spent / 1e6, status, line, numbers, taken > MOST_NUMBERS)
+                numbers.append(cells)
+        yield Row(int(value), int(number), host, int(spent) / 1e6, int(status), verdict, numbers, taken > MOST_NUMBERS)
 
 
 def parts_of(value):
