@@ -3,6 +3,8 @@
 Python's own library has no quantile of this distribution, so it is found here from the incomplete beta function. tools/check
 holds some quantiles against the tables of textbooks.
 """
+from __future__ import annotations
+
 import functools
 import math
 import statistics
