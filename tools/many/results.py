@@ -56,8 +56,12 @@ class Log:
         self.file.truncate(whole)
         self.file.seek(whole)
 
+    def has_verdict(self, value, number):
+        row = self.rows.get((value, number))
+        return row is not None and VERDICT.fullmatch(row.line) is not None
+
     def add(self, row):
-        if (row.value, row.number) in self.rows:
+        if self.has_verdict(row.value, row.number):
             return
         try:
             self.file.write(json.dumps(row._asdict()).encode() + b"\n")
