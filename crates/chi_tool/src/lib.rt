@@ -22,6 +22,8 @@ mod top;
 mod tracing;
 mod words;
 
-pub use laws::{limits_law, meets_law, one_code_law, one_run_law, report_law, source_law, tokens_law};
+pub use laws::{
+    limits_law, meets_law, one_code_law, one_run_law, report_law, source_law, tokens_law,
+};
 pub use library::{simulate, simulate_probed};
 pub use top::chi;
