@@ -4,6 +4,7 @@ pub mod Sinks
 pub mod LawClauses
 pub mod Sources
 pub mod Logged
+pub mod Showing
 pub mod Runs
 pub mod Wishes
 pub mod Reports

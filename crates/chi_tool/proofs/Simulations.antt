@@ -146,5 +146,5 @@ module _ (law : SourceLaw) (s : Simulation) (within : length s.source ≤ MOST_B
         where
           ends : r.status ≡ status_of course.told.ending.verdict → IsReportedOrLost r (as_call s)
               → (s.status ≡ status_of course.told.ending.verdict) ⊎ (s.status ≡ 6)
-          ends e (inl wanting) = inr wanting
+          ends e (inl lost) = inr lost
           ends e (inr m) = inl (m.status ∙ e)

@@ -1,13 +1,17 @@
 //! What is written and logged of a run, turn by turn.
 
-ghost use Rattle.std.specs.Prelude.{◌≡◌, IfOk, option_map};
+ghost use Rattle.std.specs.Prelude.{◌≡◌, IfOk, IfSome, option_map};
 ghost use Rattle.chi_plain.specs.Stage.{Appends, MayStep, Steps};
+ghost use Rattle.chi_trace.specs.declared.event.Event.{Event as AnEvent};
+ghost use Rattle.chi_trace.specs.Events.{Fits};
+ghost use Rattle.chi_trace.specs.Filters.{where_shown};
+ghost use Rattle.chi_trace_events.specs.Tracing.{shown_line};
 ghost use Rattle.chi_tool.specs.Turns.{IfTold, LogsBy, Logs, first_log};
 
 use chi_base::NoMemory;
 use chi_core::Label;
 use chi_plain::{Plain, Stepped};
-use chi_trace::{FIRST_LINE, Sieve, first_lines_law, line_of};
+use chi_trace::{Event, FIRST_LINE, Sieve, first_lines_law, line_of};
 use std::alloc::Global;
 
 /// What a run has written, and what is logged of it before its verdict.
@@ -30,6 +34,34 @@ pub fn first_log<S: Sieve>(alloc: Global, trace: &Option<S>) -> Result<Vec<u8>, 
     Ok(log)
 }
 
+/// The line of an event, where that is shown.
+fn line_by<S: Sieve>(alloc: Global, sieve: &S, event: &Event) -> Result<Vec<u8>, NoMemory>
+    requires fits { Fits event.now.label event.now.detail }
+    ensures { IfOk result (λ line. line.items ≡ shown_line (S.keeps_to sieve.now) event.now) }
+{
+    let mut line = Vec::new(alloc);
+    if sieve.shown(event) {
+        line_of(alloc, event, &mut line)?;
+    }
+    Ok(line)
+}
+
+/// The line of an event that was made where it is shown.
+#[tactic(auto, using(crate::proofs::Showing::same_line, crate::proofs::Showing::no_line))]
+fn line_if_made<S: Sieve>(
+    alloc: Global,
+    sieve: &S,
+    made: &Option<Event>,
+) -> Result<Vec<u8>, NoMemory>
+    requires fits { IfSome made.now (λ e. Fits e.label e.detail) }
+    ensures { IfOk result (λ line. (e : AnEvent) → made.now ≡ where_shown (S.keeps_to sieve.now) e → line.items ≡ shown_line (S.keeps_to sieve.now) e) }
+{
+    match made {
+        Some(event) => Ok(line_by(alloc, sieve, event)?),
+        None => Ok(Vec::new(alloc)),
+    }
+}
+
 /// What a turn adds to the log: the line of its label's event, where the trace is wanted and that is shown.
 fn line_at<S: Sieve>(
     alloc: Global,
@@ -41,15 +73,15 @@ fn line_at<S: Sieve>(
     requires may { MayStep runner.now.stage label.now }
     ensures { IfOk result (λ line. Logs (option_map S.keeps_to trace.now) runner.now.core runner.now.stage turn label.now line.items) }
 {
-    let mut line = Vec::new(alloc);
-    if let Some(sieve) = trace {
-        if let Some(event) = runner.event_of(turn, label, &sieve.filter())? {
-            if sieve.shown(&event) {
-                line_of(alloc, &event, &mut line)?;
-            }
+    match trace {
+        Some(sieve) => {
+            let made = runner.event_of(turn, label, &sieve.filter())?;
+            let line = line_if_made(alloc, sieve, &made);
+            drop(made);
+            Ok(line?)
         }
+        None => Ok(Vec::new(alloc)),
     }
-    Ok(line)
 }
 
 /// Takes a label at its turn. What costs too much isn't logged.
