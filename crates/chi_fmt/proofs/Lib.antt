@@ -6,6 +6,7 @@ pub mod Lengths
 pub mod LineRows
 pub mod LineScans
 pub mod LinesIn
+pub mod PageLines
 pub mod PartRows
 pub mod RowScans
 pub mod Scans

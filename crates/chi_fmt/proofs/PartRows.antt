@@ -101,11 +101,11 @@ offer-ending (formed_expr.given h) j = ending-both (start-then (expr-start h) (r
 
 -- what is run or started
 
-element-Make : (t : Option Target) (n : names.Name) (es : List Expr)
+pub element-Make : (t : Option Target) (n : names.Name) (es : List Expr)
     → element_spots (element.Make t n es) ≡ assigned_spots t ++ name_spot n ∷ round (exprs_spots es)
 element-Make t n es = ap element_spots (sym (element.rolls-Make t n es)) ∙ fold-roll-Element Spots element_step (Element-F.Make t n es)
 
-element-Unwind : (p : Place) (w : Walk) (es : List Element)
+pub element-Unwind : (p : Place) (w : Walk) (es : List Element)
     → element_spots (element.Unwind p w es) ≡ word UnwindWord ∷ walk_spots w ++ sign Colon ∷ elements_spots es ++ word EndWord ∷ []
 element-Unwind p w es = ap element_spots (sym (element.rolls-Unwind p w es)) ∙ fold-roll-Element Spots element_step (Element-F.Unwind p w es)
 

@@ -33,13 +33,13 @@ use Rattle.chi_fmt.proofs.Starts.{Row, Start, Ending, row-start, row-after, row-
 
 -- lines that depend on what they are given
 
-at_lines : {f g : OfStatement} → f ≡ g → (margin : ℕ) (semicolon : Semicolon) → f margin semicolon ≡ g margin semicolon
+pub at_lines : {f g : OfStatement} → f ≡ g → (margin : ℕ) (semicolon : Semicolon) → f margin semicolon ≡ g margin semicolon
 at_lines e margin semicolon = ap (λ (h : OfStatement). h margin semicolon) e
 
-at_led : {f g : Led} → f ≡ g → (margin : ℕ) (first : Spots) → f margin first ≡ g margin first
+pub at_led : {f g : Led} → f ≡ g → (margin : ℕ) (first : Spots) → f margin first ≡ g margin first
 at_led e margin first = ap (λ (h : Led). h margin first) e
 
-at_step : {f g : InBlock} → f ≡ g → (margin : ℕ) (follows : Bool) → f margin follows ≡ g margin follows
+pub at_step : {f g : InBlock} → f ≡ g → (margin : ℕ) (follows : Bool) → f margin follows ≡ g margin follows
 at_step e margin follows = ap (λ (h : InBlock). h margin follows) e
 
 -- with what the first line of a part begins
@@ -84,7 +84,7 @@ step-sources s semi follows margin h =
 
 -- a formed block is there
 
-lines_with_some : {b d : ℕ} {block : List Step} (margin : ℕ) (xs : Spots) → FormedInner b d block
+pub lines_with_some : {b d : ℕ} {block : List Step} (margin : ℕ) (xs : Spots) → FormedInner b d block
     → lines_with margin xs (map step_lines block) ≡ header margin xs ∷ block_lines (inside margin) (map step_lines block)
 lines_with_some margin xs (formed.inner (formed.last h)) = refl
 lines_with_some margin xs (formed.inner (formed.next h hs)) = refl
@@ -95,7 +95,7 @@ body_some (formed.inner (formed.last h)) = refl
 body_some (formed.inner (formed.next h hs)) = refl
 body_some (formed.inner (formed.after_end h hs)) = refl
 
-else_some : {b d : ℕ} {block : List Step} (margin : ℕ) → FormedInner b d block
+pub else_some : {b d : ℕ} {block : List Step} (margin : ℕ) → FormedInner b d block
     → else_lines margin (map step_lines block) ≡ header margin (word ElseWord ∷ []) ∷ block_lines (inside margin) (map step_lines block)
 else_some margin (formed.inner (formed.last h)) = refl
 else_some margin (formed.inner (formed.next h hs)) = refl
