@@ -1,5 +1,6 @@
 pub mod Blocks
 pub mod ExprRows
+pub mod FoundLines
 pub mod Gaps
 pub mod Joins
 pub mod Lengths

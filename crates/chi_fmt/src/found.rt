@@ -1,4 +1,5 @@
-ghost use Rattle.std.specs.Prelude.{◌≡◌, ◌++◌, ◌≤◌, IfOk, OnOk, length};
+ghost use Rattle.std.specs.Prelude.{◌≡◌, ◌==◌, ◌++◌, ◌≤◌, IfOk, OnOk, length};
+ghost use Rattle.std.specs.List.{position_or_len};
 ghost use Rattle.chi_lex.specs.Reading.{Reads};
 ghost use Rattle.chi_fmt.specs.Comments.{comments_of, gap_comments, line_comment};
 
@@ -47,9 +48,11 @@ impl Found {
         ensures { OnOk result (self.new.comments.items ≡ self.old.comments.items ++ gap_comments before gap.now) }
     {
         let mut rest = gap;
-        while let Some(stop) = rest.iter().position(|byte| *byte == b'\n') {
+        let mut stop = first_index(rest, b'\n');
+        'lines: while stop < rest.len() {
             self.line(before, &rest[..stop])?;
             rest = &rest[stop + 1..];
+            stop = first_index(rest, b'\n');
         }
         self.line(before, rest)
     }
@@ -58,11 +61,20 @@ impl Found {
     fn line(&mut self, before: u32, line: &[u8]) -> Result<(), NoMemory>
         ensures { OnOk result (self.new.comments.items ≡ self.old.comments.items ++ line_comment before line.now) }
     {
-        let Some(from) = line.iter().position(|byte| *byte == b'#') else {
+        let from = first_index(line, b'#');
+        if from == line.len() {
             return Ok(());
-        };
+        }
         let text = Bytes::copy_of(self.alloc, &line[from..])?;
         self.comments.push(Comment { before, text })?;
         Ok(())
     }
+}
+
+/// The index of the first of these bytes that is the given one, or their number.
+fn first_index(bytes: &[u8], wanted: u8) -> usize
+    ensures first { result ≡ position_or_len (λ byte. byte == wanted) bytes.now }
+    ensures within { result ≤ length bytes.now }
+{
+    bytes.iter().take_while(|byte| **byte != wanted).count()
 }

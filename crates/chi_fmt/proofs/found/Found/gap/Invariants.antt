@@ -1,10 +1,14 @@
-use Rattle.std.proofs.Common.{◌≡◌, ◌++◌, length}
+use Rattle.std.proofs.Common.{◌≡◌, ◌≤◌, ◌++◌, length}
+use Rattle.std.specs.List.{position_or_len}
+use Rattle.chi_lex.specs.Places.{is_line_feed}
 use Rattle.chi_fmt.specs.Comments.{gap_comments}
 use Rattle.chi_fmt.proofs.found.Found.gap.Given as goal
 
-abbrev pub invariant-loop-stop : goal.invariant-loop-stop
-invariant-loop-stop l =
-    l.self.comments.items ++ gap_comments l.before l.rest ≡ l.fn.self.comments.items ++ gap_comments l.fn.before l.fn.gap
+abbrev pub invariant-lines : goal.invariant-lines
+invariant-lines l =
+    (l.self.comments.items ++ gap_comments l.before l.rest ≡ l.fn.self.comments.items ++ gap_comments l.fn.before l.fn.gap)
+    × (l.stop ≡ position_or_len is_line_feed l.rest)
+    × (l.stop ≤ length l.rest)
 
-abbrev pub decreases-loop-stop : goal.decreases-loop-stop
-decreases-loop-stop l = length l.rest
+abbrev pub decreases-lines : goal.decreases-lines
+decreases-lines l = length l.rest
