@@ -20,3 +20,9 @@ pub mod StatementLines
 pub mod DefinitionLines
 pub mod KeptIn
 pub mod SettledLines
+pub mod SettledProgram
+pub mod PlacelessExprs
+pub mod PlacelessParts
+pub mod PlacelessLines
+pub mod PlacelessProgram
+pub mod Canonical

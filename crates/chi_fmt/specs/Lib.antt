@@ -10,3 +10,4 @@ pub mod Pages
 pub mod Layout
 pub mod Sound
 pub mod Reread
+pub mod Laws
