@@ -51,10 +51,10 @@ end-one semicolon = one (end_line 0 semicolon) (Word EndWord ∷ []) (ending-sta
 callable_tokens : (ts rs bs us : Tokens) → (ts ++ (rs ++ (Sign Colon ∷ bs ++ Word EndWord ∷ []))) ++ us ≡ (((ts ++ rs ++ Sign Colon ∷ []) ++ []) ++ bs) ++ Word EndWord ∷ us
 callable_tokens ts rs bs us = simp (append_assoc, append-nil)
 
-callable-sources : {b d : ℕ} {fs : List Formal} {block : List Step} (after_empty : Bool) (xs : Spots) (ts : Tokens) (semicolon : Semicolon)
+callable-sources : {b d : ℕ} {block : List Step} (fs : List Formal) (after_empty : Bool) (xs : Spots) (ts : Tokens) (semicolon : Semicolon)
     → Start xs ts → Within (formals_spots fs) (spelled_formals fs) → FormedInner b d block
     → Sources (callable_lines after_empty xs fs block semicolon) ((ts ++ (spell.round (spelled_formals fs) ++ to_end (map spelled_step block))) ++ semicolon_if semicolon.written)
-callable-sources {fs = fs} {block = block} after_empty xs ts semicolon s w h =
+callable-sources {block = block} fs after_empty xs ts semicolon s w h =
     sources_as refl (callable_tokens ts (spell.round (spelled_formals fs)) (spelled_block block) (semicolon_if semicolon.written))
     (both
     (both
@@ -87,14 +87,14 @@ definition-sources (formed.type_name {name = n} h) after_empty semicolon =
     (start-after (Word TypeWord) refl refl refl (row-after (Name n.text) refl refl (row-after (Sign Assign) refl refl (row-start (type-start h)))))
 definition-sources (formed.function {t = t} {name = n} {fs = fs} {block = block} h j k) after_empty semicolon =
     sources_as refl (apart (Word FuncWord ∷ spelled_type t) (Name n.text ∷ []) (spell.round (spelled_formals fs) ++ to_end (map spelled_step block)) (semicolon_if semicolon.written))
-    (callable-sources after_empty _ _ semicolon
+    (callable-sources fs after_empty _ _ semicolon
     (start-after (Word FuncWord) refl refl refl (row-then (row-start (type-start h)) (row-after (Name n.text) refl refl row-nothing))) (parameters-within j) k)
-definition-sources (formed.process {name = n} h j k) after_empty semicolon =
-    callable-sources after_empty _ _ semicolon (head-start ProcWord n h) (parameters-within j) k
-definition-sources (formed.model {name = n} h j k) after_empty semicolon =
-    callable-sources after_empty _ _ semicolon (head-start ModelWord n h) (parameters-within j) k
+definition-sources (formed.process {name = n} {fs = fs} h j k) after_empty semicolon =
+    callable-sources fs after_empty _ _ semicolon (head-start ProcWord n h) (parameters-within j) k
+definition-sources (formed.model {name = n} {fs = fs} h j k) after_empty semicolon =
+    callable-sources fs after_empty _ _ semicolon (head-start ModelWord n h) (parameters-within j) k
 definition-sources (formed.experiment {name = n} k) after_empty semicolon =
-    callable-sources after_empty _ _ semicolon
+    callable-sources [] after_empty _ _ semicolon
     (start-after (Word XperWord) refl refl refl (row-after (Name n.text) refl refl row-nothing)) within-nothing k
 
 items-sources : {b d : ℕ} {items : List Item} → FormedItems b d items → (after_empty : Bool) → Sources (items_lines after_empty items) (all (map spelled_item items))

@@ -12,6 +12,7 @@ pub mod PartRows
 pub mod RowScans
 pub mod Scans
 pub mod Settled
+pub mod SlicePut
 pub mod SoundRows
 pub mod SpotsIn
 pub mod Standing
@@ -25,4 +26,4 @@ pub mod PlacelessExprs
 pub mod PlacelessParts
 pub mod PlacelessLines
 pub mod PlacelessProgram
-pub mod Canonical
+pub mod Rereads

@@ -46,16 +46,16 @@ steps-row formed.no_steps = row-nothing
 steps-row (formed.index_step h hs) = row-then (postfix-row (formed_expr.index h)) (steps-row hs)
 steps-row (formed.field_step {d = d} {name = n} hs) = row-then (postfix-row (formed_expr.field {d = d} {name = n})) (steps-row hs)
 
-pub target-start : {d : ℕ} {target : Target} → FormedTarget d target → Start (target_spots target) (spelled_target target)
-target-start {d} {target} h = start-after (Name target.name.text) refl refl refl (steps-row h)
+pub target-start : {d : ℕ} (target : Target) → FormedTarget d target → Start (target_spots target) (spelled_target target)
+target-start target h = start-after (Name target.name.text) refl refl refl (steps-row h)
 
 targets-after : {d : ℕ} {ts : List Target} → FormedTargets d ts → Row (each_after (sign Comma) (map target_spots ts)) (each_after (Sign Comma) (map spelled_target ts))
-targets-after (formed.one_target h) = row-then (row-after (Sign Comma) refl refl (row-start (target-start h))) row-nothing
-targets-after (formed.targets h hs) = row-then (row-after (Sign Comma) refl refl (row-start (target-start h))) (targets-after hs)
+targets-after (formed.one_target {target = t} h) = row-then (row-after (Sign Comma) refl refl (row-start (target-start t h))) row-nothing
+targets-after (formed.targets {target = t} h hs) = row-then (row-after (Sign Comma) refl refl (row-start (target-start t h))) (targets-after hs)
 
 pub targets-start : {d : ℕ} {ts : List Target} → FormedTargets d ts → Start (commas (map target_spots ts)) (spell.commas (map spelled_target ts))
-targets-start (formed.one_target h) = start-then (target-start h) row-nothing
-targets-start (formed.targets h hs) = start-then (target-start h) (targets-after hs)
+targets-start (formed.one_target {target = t} h) = start-then (target-start t h) row-nothing
+targets-start (formed.targets {target = t} h hs) = start-then (target-start t h) (targets-after hs)
 
 -- variables
 
@@ -87,10 +87,10 @@ sent-tail formed_expr.left_out = tail-sign (communicates Bang) refl refl
 sent-tail (formed_expr.given h) = tail-row (row-tight (communicates Bang) refl refl (expr-start h))
 
 pub communication-ending : {d : ℕ} {c : Communication} → FormedCommunication d c → Ending (communication_spots c) (spelled_communication c)
-communication-ending (formed.send h j) = ending-then (target-start h) (sent-tail j)
-communication-ending (formed.receive {name = None} h) = ending-then (target-start h) (tail-sign (communicates Question) refl refl)
-communication-ending (formed.receive {name = Some n} h) =
-    ending-then (target-start h) (tail-row (row-tight (communicates Question) refl refl (start-one (Name n.text) refl refl refl)))
+communication-ending (formed.send {target = t} h j) = ending-then (target-start t h) (sent-tail j)
+communication-ending (formed.receive {target = t} {name = None} h) = ending-then (target-start t h) (tail-sign (communicates Question) refl refl)
+communication-ending (formed.receive {target = t} {name = Some n} h) =
+    ending-then (target-start t h) (tail-row (row-tight (communicates Question) refl refl (start-one (Name n.text) refl refl refl)))
 communication-ending (formed.delay h) = ending-start (start-after (Word DelayWord) refl refl refl (row-start (expr-start h)))
 
 -- an offer, after its condition where one is written
@@ -116,7 +116,7 @@ mutual
       (start-after (Name n.text) refl refl refl (row-round (exprs-within hs)))
   element-start (formed.assigned_make {target = t} {name = n} {es = es} h hs) =
       start_as (element-Make (Some t) n es) (spelled_more.element-Make plain (Some t) n es)
-      (start-then (start-then (target-start h) (row-after (Sign Assign) refl refl row-nothing)) (row-after (Name n.text) refl refl (row-round (exprs-within hs))))
+      (start-then (start-then (target-start t h) (row-after (Sign Assign) refl refl row-nothing)) (row-after (Name n.text) refl refl (row-round (exprs-within hs))))
   element-start (formed.unwind_elements {place = p} {walk = w} {es = es} h hs) =
       start_as (element-Unwind p w es) (spelled_more.element-Unwind plain p w es)
       (start-after (Word UnwindWord) refl refl refl

@@ -36,12 +36,12 @@ steps-same formed.no_steps = refl
 steps-same (formed.index_step h hs) = λ i. postfix-same (formed_expr.index h) i ∷ steps-same hs i
 steps-same (formed.field_step {d = d} {name = n} hs) = λ i. postfix-same (formed_expr.field {d = d} {name = n}) i ∷ steps-same hs i
 
-pub target-same : {d : ℕ} {target : Target} → FormedTarget d target → target_spots (unplaced_target target) ≡ target_spots target
-target-same {d} {target} h = ap (λ xs. name_spot target.name ∷ all xs) (steps-same h)
+pub target-same : {d : ℕ} (target : Target) → FormedTarget d target → target_spots (unplaced_target target) ≡ target_spots target
+target-same target h = ap (λ xs. name_spot target.name ∷ all xs) (steps-same h)
 
 pub targets-same : {d : ℕ} {ts : List Target} → FormedTargets d ts → map target_spots (map unplaced_target ts) ≡ map target_spots ts
-targets-same (formed.one_target h) = λ i. target-same h i ∷ []
-targets-same (formed.targets h hs) = λ i. target-same h i ∷ targets-same hs i
+targets-same (formed.one_target {target = t} h) = λ i. target-same t h i ∷ []
+targets-same (formed.targets {target = t} h hs) = λ i. target-same t h i ∷ targets-same hs i
 
 -- variables
 
@@ -63,8 +63,8 @@ name-same None = refl
 name-same (Some n) = refl
 
 pub communication-same : {d : ℕ} {c : Communication} → FormedCommunication d c → communication_spots (unplaced_communication c) ≡ communication_spots c
-communication-same (formed.send h j) = λ i. target-same h i ++ communicates Bang ∷ if-same j i
-communication-same (formed.receive {name = n} h) = λ i. target-same h i ++ communicates Question ∷ if_any (name-same n i)
+communication-same (formed.send {target = t} h j) = λ i. target-same t h i ++ communicates Bang ∷ if-same j i
+communication-same (formed.receive {target = t} {name = n} h) = λ i. target-same t h i ++ communicates Question ∷ if_any (name-same n i)
 communication-same (formed.delay h) = ap (λ xs. word DelayWord ∷ xs) (expr-same h)
 
 pub offer-same : {d : ℕ} {guard : Option Expr} {c : Communication} → FormedIfAny d guard → FormedCommunication d c
@@ -81,7 +81,7 @@ mutual
       ∙ ap (λ xs. name_spot n ∷ round (commas xs)) (exprs-same hs) ∙ sym (spots.element-Make None n es)
   element-same (formed.assigned_make {target = t} {name = n} {es = es} h hs) =
       ap element_spots (without.element-Make (Some t) n es) ∙ spots.element-Make (Some (unplaced_target t)) (unplaced_name n) (map unplaced_expr es)
-      ∙ (λ i. (target-same h i ++ sign Assign ∷ []) ++ name_spot n ∷ round (commas (exprs-same hs i))) ∙ sym (spots.element-Make (Some t) n es)
+      ∙ (λ i. (target-same t h i ++ sign Assign ∷ []) ++ name_spot n ∷ round (commas (exprs-same hs i))) ∙ sym (spots.element-Make (Some t) n es)
   element-same (formed.unwind_elements {place = p} {walk = w} {es = es} h hs) =
       ap element_spots (without.element-Unwind p w es) ∙ spots.element-Unwind nowhere (unplaced_walk w) (map unplaced_element es)
       ∙ (λ i. word UnwindWord ∷ walk-same h i ++ sign Colon ∷ commas (elements-same hs i) ++ word EndWord ∷ []) ∙ sym (spots.element-Unwind p w es)

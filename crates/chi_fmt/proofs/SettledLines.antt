@@ -36,30 +36,30 @@ settle semicolon = record { written = semicolon.kept; kept = semicolon.kept }
 
 -- what is kept of a statement has these lines, and is formed
 pub record KeptStatement (ends : Bool) (b d : ℕ) (s : Statement) : Type 0 where
-  pub lines : (margin : ℕ) (semicolon : Semicolon) → statement_lines (kept_statement s) margin (settle semicolon) ≡ map settled (statement_lines s margin semicolon)
-  pub formed : FormedStatement ends b d (kept_statement s)
+  pub same : (margin : ℕ) (semicolon : Semicolon) → statement_lines (kept_statement s) margin (settle semicolon) ≡ map settled (statement_lines s margin semicolon)
+  pub holds : FormedStatement ends b d (kept_statement s)
 
 pub record KeptBlock (b d : ℕ) (block : List Step) : Type 0 where
-  pub lines : (margin : ℕ) → block_lines margin (map step_lines (kept_block block)) ≡ map settled (block_lines margin (map step_lines block))
-  pub formed : FormedBlock b d (kept_block block)
+  pub same : (margin : ℕ) → block_lines margin (map step_lines (kept_block block)) ≡ map settled (block_lines margin (map step_lines block))
+  pub holds : FormedBlock b d (kept_block block)
 
 pub record KeptInner (b d : ℕ) (block : List Step) : Type 0 where
-  pub lines : (margin : ℕ) → block_lines margin (map step_lines (kept_block block)) ≡ map settled (block_lines margin (map step_lines block))
-  pub formed : FormedInner b d (kept_block block)
+  pub same : (margin : ℕ) → block_lines margin (map step_lines (kept_block block)) ≡ map settled (block_lines margin (map step_lines block))
+  pub holds : FormedInner b d (kept_block block)
 
 pub record KeptBranches (b d : ℕ) (bs : List Branch) : Type 0 where
-  pub lines : (margin : ℕ) (first others : Spots)
+  pub same : (margin : ℕ) (first others : Spots)
       → led_lines margin first others (map branch_lines (map kept_branch bs)) ≡ map settled (led_lines margin first others (map branch_lines bs))
-  pub formed : FormedBranches b d (map kept_branch bs)
+  pub holds : FormedBranches b d (map kept_branch bs)
 
 pub record KeptAlternatives (b d : ℕ) (xs : List Alternative) : Type 0 where
-  pub lines : (margin : ℕ) (first others : Spots)
+  pub same : (margin : ℕ) (first others : Spots)
       → led_lines margin first others (map alternative_lines (map kept_alternative xs)) ≡ map settled (led_lines margin first others (map alternative_lines xs))
-  pub formed : FormedAlternatives b d (map kept_alternative xs)
+  pub holds : FormedAlternatives b d (map kept_alternative xs)
 
 pub record KeptAlternative (b d : ℕ) (x : Alternative) : Type 0 where
-  pub lines : (margin : ℕ) (first : Spots) → alternative_lines (kept_alternative x) margin first ≡ map settled (alternative_lines x margin first)
-  pub formed : FormedAlternative b d (kept_alternative x)
+  pub same : (margin : ℕ) (first : Spots) → alternative_lines (kept_alternative x) margin first ≡ map settled (alternative_lines x margin first)
+  pub holds : FormedAlternative b d (kept_alternative x)
 
 -- lines one after another
 pub both_settled : (as bs cs ds : List Line) → as ≡ map settled bs → cs ≡ map settled ds → as ++ cs ≡ map settled (bs ++ ds)
@@ -68,10 +68,10 @@ both_settled as bs cs ds e f = (λ i. e i ++ f i) ∙ sym (map-append settled bs
 -- a statement that stays as it is, on one line
 stays : {ends : Bool} {b d : ℕ} (s : Statement) (xs : Spots) → FormedStatement ends b d s → statement_lines s ≡ one_line xs → kept_statement s ≡ s → KeptStatement ends b d s
 stays {ends} {b} {d} s xs h one keeps = record {
-  lines = λ margin semicolon.
+  same = λ margin semicolon.
       ap (λ k. statement_lines k margin (settle semicolon)) keeps
       ∙ at_lines one margin (settle semicolon) ∙ ap (map settled) (sym (at_lines one margin semicolon));
-  formed = subst (FormedStatement ends b d) (sym keeps) h;
+  holds = subst (FormedStatement ends b d) (sym keeps) h;
 }
 
 -- a statement that is this one when kept
@@ -79,10 +79,10 @@ becomes : {ends : Bool} {b d : ℕ} (s k : Statement) (f g : OfStatement) → Fo
     → statement_lines k ≡ g → statement_lines s ≡ f
     → ((margin : ℕ) (semicolon : Semicolon) → g margin (settle semicolon) ≡ map settled (f margin semicolon)) → KeptStatement ends b d s
 becomes {ends} {b} {d} s k f g h keeps now was same = record {
-  lines = λ margin semicolon.
+  same = λ margin semicolon.
       ap (λ k. statement_lines k margin (settle semicolon)) keeps
       ∙ at_lines now margin (settle semicolon) ∙ same margin semicolon ∙ ap (map settled) (sym (at_lines was margin semicolon));
-  formed = subst (FormedStatement ends b d) (sym keeps) h;
+  holds = subst (FormedStatement ends b d) (sym keeps) h;
 }
 
 -- blocks
@@ -92,7 +92,7 @@ step-settled : {ends : Bool} {b d : ℕ} (s : Statement) (c follows : Bool) (mar
 step-settled s c follows margin k =
     ap (λ (t : Step). step_lines (step t.statement follows) margin follows) (kept.kept-Step s c)
     ∙ at_step (lines.lines-Step (step (kept_statement s) follows)) margin follows
-    ∙ k.lines margin (record { written = c; kept = follows })
+    ∙ k.same margin (record { written = c; kept = follows })
     ∙ ap (map settled) (sym (at_step (lines.lines-Step (step s c)) margin follows))
 
 more-settled : {ends : Bool} {b d : ℕ} (s : Statement) (c : Bool) (more : List Step) (margin : ℕ) → KeptStatement ends b d s
@@ -120,8 +120,8 @@ next-formed {ends} {b} {d} s c more h e hs =
 next-kept : {ends : Bool} {b d : ℕ} (s : Statement) (c : Bool) (more : List Step) → KeptStatement ends b d s → FormedBlock b d more → KeptBlock b d more
     → KeptBlock b d (step s c ∷ more)
 next-kept s c more k h r = record {
-  lines = λ margin. more-settled s c more margin k (r.lines margin);
-  formed = next-formed s c more k.formed (some-kept h) r.formed;
+  same = λ margin. more-settled s c more margin k (r.same margin);
+  holds = next-formed s c more k.holds (some-kept h) r.holds;
 }
 
 -- the parts of a statement
@@ -130,34 +130,34 @@ to-end-settled : {b d : ℕ} {block : List Step} (margin : ℕ) (xs : Spots) (se
     → lines_to_end margin xs (map step_lines (kept_block block)) (settle semicolon) ≡ map settled (lines_to_end margin xs (map step_lines block) semicolon)
 to-end-settled {block = block} margin xs semicolon k =
     both_settled _ (header margin xs ∷ block_lines (inside margin) (map step_lines block)) _ (end_line margin semicolon ∷ [])
-    (ap (λ ls. header margin xs ∷ ls) (k.lines (inside margin))) refl
+    (ap (λ ls. header margin xs ∷ ls) (k.same (inside margin))) refl
 
 else-settled : {b d : ℕ} {block : List Step} (margin : ℕ) → FormedInner b d block → KeptInner b d block
     → else_lines margin (map step_lines (kept_block block)) ≡ map settled (else_lines margin (map step_lines block))
 else-settled margin h k =
-    else_some margin k.formed ∙ ap (λ ls. header margin (word ElseWord ∷ []) ∷ ls) (k.lines (inside margin)) ∙ ap (map settled) (sym (else_some margin h))
+    else_some margin k.holds ∙ ap (λ ls. header margin (word ElseWord ∷ []) ∷ ls) (k.same (inside margin)) ∙ ap (map settled) (sym (else_some margin h))
 
 with-settled : {b d : ℕ} {block : List Step} (margin : ℕ) (xs : Spots) → FormedInner b d block → KeptInner b d block
     → lines_with margin xs (map step_lines (kept_block block)) ≡ map settled (lines_with margin xs (map step_lines block))
 with-settled margin xs h k =
-    lines_with_some margin xs k.formed ∙ ap (λ ls. header margin xs ∷ ls) (k.lines (inside margin)) ∙ ap (map settled) (sym (lines_with_some margin xs h))
+    lines_with_some margin xs k.holds ∙ ap (λ ls. header margin xs ∷ ls) (k.same (inside margin)) ∙ ap (map settled) (sym (lines_with_some margin xs h))
 
 branch-settled : {b d : ℕ} (e : Expr) (block : List Step) (margin : ℕ) (first : Spots) → KeptInner b d block
     → branch_lines (kept_branch (formed.branch e block)) margin first ≡ map settled (branch_lines (formed.branch e block) margin first)
 branch-settled e block margin first k =
     ap (λ x. branch_lines x margin first) (kept.kept-Branch e block) ∙ at_led (lines.lines-Branch e (kept_block block)) margin first
-    ∙ ap (λ ls. header margin (first ++ expr_spots e) ∷ ls) (k.lines (inside margin)) ∙ ap (map settled) (sym (at_led (lines.lines-Branch e block) margin first))
+    ∙ ap (λ ls. header margin (first ++ expr_spots e) ∷ ls) (k.same (inside margin)) ∙ ap (map settled) (sym (at_led (lines.lines-Branch e block) margin first))
 
 mutual
   pub block-kept : {b d : ℕ} {block : List Step} → FormedBlock b d block → KeptBlock b d block
   block-kept (formed.last {semicolon = c} {s = s} h) =
       let k = statement-kept h in
-      record { lines = λ margin. more-settled s c [] margin k refl; formed = last-formed s c k.formed }
+      record { same = λ margin. more-settled s c [] margin k refl; holds = last-formed s c k.holds }
   block-kept (formed.next {s = s} {more = more} h hs) = next-kept s true more (statement-kept h) hs (block-kept hs)
   block-kept (formed.after_end {s = s} {more = more} h hs) = next-kept s false more (statement-kept h) hs (block-kept hs)
 
   pub inner-kept : {b d : ℕ} {block : List Step} → FormedInner b d block → KeptInner b d block
-  inner-kept (formed.inner h) = let k = block-kept h in record { lines = k.lines; formed = formed.inner k.formed }
+  inner-kept (formed.inner h) = let k = block-kept h in record { same = k.same; holds = formed.inner k.holds }
 
   statement-kept : {ends : Bool} {b d : ℕ} {s : Statement} → FormedStatement ends b d s → KeptStatement ends b d s
   statement-kept (formed.declare {t = t} {vs = vs} h hs) =
@@ -170,37 +170,37 @@ mutual
   statement-kept (formed.continue {place = p}) = stays _ (word ContinueWord ∷ []) formed.continue (lines.lines-Continue p) (kept.kept-Continue p)
   statement-kept (formed.select {place = p} {xs = xs} hs) =
       let k = alternatives-kept hs in
-      becomes _ (statement.Select p (map kept_alternative xs)) _ _ (formed.select k.formed) (kept.kept-Select p xs)
+      becomes _ (statement.Select p (map kept_alternative xs)) _ _ (formed.select k.holds) (kept.kept-Select p xs)
       (lines.lines-Select p (map kept_alternative xs)) (lines.lines-Select p xs)
       (λ margin semicolon.
       both_settled _ (led_lines margin (word SelectWord ∷ []) (word AltWord ∷ []) (map alternative_lines xs)) _ (end_line margin semicolon ∷ [])
-      (k.lines margin (word SelectWord ∷ []) (word AltWord ∷ [])) refl)
+      (k.same margin (word SelectWord ∷ []) (word AltWord ∷ [])) refl)
   statement-kept (formed.if_branches {place = p} {bs = bs} hs) =
       let k = branches-kept hs in
-      becomes _ (statement.If p (map kept_branch bs) []) _ _ (formed.if_branches k.formed) (kept.kept-If p bs [])
+      becomes _ (statement.If p (map kept_branch bs) []) _ _ (formed.if_branches k.holds) (kept.kept-If p bs [])
       (lines.lines-If p (map kept_branch bs) []) (lines.lines-If p bs [])
       (λ margin semicolon.
       both_settled _ (led_lines margin (word IfWord ∷ []) (word ElifWord ∷ []) (map branch_lines bs) ++ []) _ (end_line margin semicolon ∷ [])
-      (both_settled _ (led_lines margin (word IfWord ∷ []) (word ElifWord ∷ []) (map branch_lines bs)) [] [] (k.lines margin (word IfWord ∷ []) (word ElifWord ∷ [])) refl)
+      (both_settled _ (led_lines margin (word IfWord ∷ []) (word ElifWord ∷ []) (map branch_lines bs)) [] [] (k.same margin (word IfWord ∷ []) (word ElifWord ∷ [])) refl)
       refl)
   statement-kept (formed.if_else {place = p} {bs = bs} {block = block} hs j) =
       let k = branches-kept hs in
       let o = inner-kept j in
-      becomes _ (statement.If p (map kept_branch bs) (kept_block block)) _ _ (formed.if_else k.formed o.formed) (kept.kept-If p bs block)
+      becomes _ (statement.If p (map kept_branch bs) (kept_block block)) _ _ (formed.if_else k.holds o.holds) (kept.kept-If p bs block)
       (lines.lines-If p (map kept_branch bs) (kept_block block)) (lines.lines-If p bs block)
       (λ margin semicolon.
       both_settled _ (led_lines margin (word IfWord ∷ []) (word ElifWord ∷ []) (map branch_lines bs) ++ else_lines margin (map step_lines block)) _ (end_line margin semicolon ∷ [])
       (both_settled _ (led_lines margin (word IfWord ∷ []) (word ElifWord ∷ []) (map branch_lines bs)) _ (else_lines margin (map step_lines block))
-      (k.lines margin (word IfWord ∷ []) (word ElifWord ∷ [])) (else-settled margin j o))
+      (k.same margin (word IfWord ∷ []) (word ElifWord ∷ [])) (else-settled margin j o))
       refl)
   statement-kept (formed.while {place = p} {e = e} {block = block} h j) =
       let k = inner-kept j in
-      becomes _ (statement.While p e (kept_block block)) _ _ (formed.while h k.formed) (kept.kept-While p e block)
+      becomes _ (statement.While p e (kept_block block)) _ _ (formed.while h k.holds) (kept.kept-While p e block)
       (lines.lines-While p e (kept_block block)) (lines.lines-While p e block)
       (λ margin semicolon. to-end-settled margin (word WhileWord ∷ expr_spots e) semicolon k)
   statement-kept (formed.for_each {place = p} {walk = w} {block = block} h j) =
       let k = inner-kept j in
-      becomes _ (statement.For p w (kept_block block)) _ _ (formed.for_each h k.formed) (kept.kept-For p w block)
+      becomes _ (statement.For p w (kept_block block)) _ _ (formed.for_each h k.holds) (kept.kept-For p w block)
       (lines.lines-For p w (kept_block block)) (lines.lines-For p w block)
       (λ margin semicolon. to-end-settled margin (word ForWord ∷ walk_spots w) semicolon k)
   statement-kept (formed.return {place = p} {e = e} h) =
@@ -221,60 +221,60 @@ mutual
   branches-kept {b} {d} (formed.one_branch {e = e} {block = block} h j) =
       let k = inner-kept j in
       record {
-        lines = λ margin first others.
+        same = λ margin first others.
             both_settled _ (branch_lines (formed.branch e block) margin first) [] [] (branch-settled e block margin first k) refl;
-        formed = subst (λ x. FormedBranches b d (x ∷ [])) (sym (kept.kept-Branch e block)) (formed.one_branch h k.formed);
+        holds = subst (λ x. FormedBranches b d (x ∷ [])) (sym (kept.kept-Branch e block)) (formed.one_branch h k.holds);
       }
   branches-kept {b} {d} (formed.branches {e = e} {block = block} {more = more} h j hs) =
       let k = inner-kept j in
       let r = branches-kept hs in
       record {
-        lines = λ margin first others.
+        same = λ margin first others.
             both_settled _ (branch_lines (formed.branch e block) margin first) _ (led_lines margin others others (map branch_lines more))
-            (branch-settled e block margin first k) (r.lines margin others others);
-        formed = subst (λ x. FormedBranches b d (x ∷ map kept_branch more)) (sym (kept.kept-Branch e block)) (formed.branches h k.formed r.formed);
+            (branch-settled e block margin first k) (r.same margin others others);
+        holds = subst (λ x. FormedBranches b d (x ∷ map kept_branch more)) (sym (kept.kept-Branch e block)) (formed.branches h k.holds r.holds);
       }
 
   alternatives-kept : {b d : ℕ} {xs : List Alternative} → FormedAlternatives b d xs → KeptAlternatives b d xs
   alternatives-kept (formed.one_alternative {x = x} h) =
       let k = alternative-kept h in
       record {
-        lines = λ margin first others. both_settled _ (alternative_lines x margin first) [] [] (k.lines margin first) refl;
-        formed = formed.one_alternative k.formed;
+        same = λ margin first others. both_settled _ (alternative_lines x margin first) [] [] (k.same margin first) refl;
+        holds = formed.one_alternative k.holds;
       }
   alternatives-kept (formed.alternatives {x = x} {more = more} h hs) =
       let k = alternative-kept h in
       let r = alternatives-kept hs in
       record {
-        lines = λ margin first others.
-            both_settled _ (alternative_lines x margin first) _ (led_lines margin others others (map alternative_lines more)) (k.lines margin first) (r.lines margin others others);
-        formed = formed.alternatives k.formed r.formed;
+        same = λ margin first others.
+            both_settled _ (alternative_lines x margin first) _ (led_lines margin others others (map alternative_lines more)) (k.same margin first) (r.same margin others others);
+        holds = formed.alternatives k.holds r.holds;
       }
 
   alternative-kept : {b d : ℕ} {x : Alternative} → FormedAlternative b d x → KeptAlternative b d x
   alternative-kept {b} {d} (formed.offer {guard = g} {c = c} h j) = record {
-    lines = λ margin first.
+    same = λ margin first.
         ap (λ x. alternative_lines x margin first) (kept.kept-Guarded g c []) ∙ at_led (lines.lines-Guarded g c []) margin first
         ∙ ap (map settled) (sym (at_led (lines.lines-Guarded g c []) margin first));
-    formed = subst (FormedAlternative b d) (sym (kept.kept-Guarded g c [])) (formed.offer h j);
+    holds = subst (FormedAlternative b d) (sym (kept.kept-Guarded g c [])) (formed.offer h j);
   }
   alternative-kept {b} {d} (formed.offer_block {guard = g} {c = c} {block = block} h j i) =
       let k = inner-kept i in
       record {
-        lines = λ margin first.
+        same = λ margin first.
             ap (λ x. alternative_lines x margin first) (kept.kept-Guarded g c block) ∙ at_led (lines.lines-Guarded g c (kept_block block)) margin first
             ∙ with-settled margin (first ++ offer_spots g c) i k
             ∙ ap (map settled) (sym (at_led (lines.lines-Guarded g c block) margin first));
-        formed = subst (FormedAlternative b d) (sym (kept.kept-Guarded g c block)) (formed.offer_block h j k.formed);
+        holds = subst (FormedAlternative b d) (sym (kept.kept-Guarded g c block)) (formed.offer_block h j k.holds);
       }
   alternative-kept {b} {d} (formed.unwind {place = p} {walk = w} {xs = xs} h hs) =
       let k = alternatives-kept hs in
       record {
-        lines = λ margin first.
+        same = λ margin first.
             ap (λ x. alternative_lines x margin first) (kept.kept-Unwind p w xs) ∙ at_led (lines.lines-Unwind p w (map kept_alternative xs)) margin first
             ∙ both_settled _
             (header margin (first ++ word UnwindWord ∷ walk_spots w) ∷ led_lines (inside margin) [] (word AltWord ∷ []) (map alternative_lines xs)) _ (end_line margin no_semicolon ∷ [])
-            (ap (λ ls. header margin (first ++ word UnwindWord ∷ walk_spots w) ∷ ls) (k.lines (inside margin) [] (word AltWord ∷ []))) refl
+            (ap (λ ls. header margin (first ++ word UnwindWord ∷ walk_spots w) ∷ ls) (k.same (inside margin) [] (word AltWord ∷ []))) refl
             ∙ ap (map settled) (sym (at_led (lines.lines-Unwind p w xs) margin first));
-        formed = subst (FormedAlternative b d) (sym (kept.kept-Unwind p w xs)) (formed.unwind h k.formed);
+        holds = subst (FormedAlternative b d) (sym (kept.kept-Unwind p w xs)) (formed.unwind h k.holds);
       }

@@ -20,58 +20,58 @@ use Rattle.chi_fmt.specs.Reread.{settled}
 use Rattle.chi_fmt.proofs.SettledLines.{KeptInner, both_settled, inner-kept, settle}
 
 pub record KeptDefinition (b d : ℕ) (definition : Definition) : Type 0 where
-  pub lines : (after_empty : Bool) (semicolon : Semicolon)
+  pub same : (after_empty : Bool) (semicolon : Semicolon)
       → definition_lines after_empty (kept_definition definition) (settle semicolon) ≡ map settled (definition_lines after_empty definition semicolon)
-  pub formed : FormedDefinition b d (kept_definition definition)
+  pub holds : FormedDefinition b d (kept_definition definition)
 
 pub record KeptItems (b d : ℕ) (items : List Item) : Type 0 where
-  pub lines : (after_empty : Bool) → items_lines after_empty (map kept_item items) ≡ map settled (items_lines after_empty items)
-  pub formed : FormedItems b d (map kept_item items)
+  pub same : (after_empty : Bool) → items_lines after_empty (map kept_item items) ≡ map settled (items_lines after_empty items)
+  pub holds : FormedItems b d (map kept_item items)
 
 callable-settled : {b d : ℕ} {block : List Step} (after_empty : Bool) (xs : Spots) (fs : List Formal) (semicolon : Semicolon) → KeptInner b d block
     → callable_lines after_empty xs fs (kept_block block) (settle semicolon) ≡ map settled (callable_lines after_empty xs fs block semicolon)
 callable-settled {block = block} after_empty xs fs semicolon k =
     let first = first_line after_empty (xs ++ round (formals_spots fs) ++ sign Colon ∷ []) no_semicolon in
     both_settled _ (first ∷ block_lines (inside 0) (map step_lines block)) _ (end_line 0 semicolon ∷ [])
-    (ap (λ ls. first ∷ ls) (k.lines (inside 0))) refl
+    (ap (λ ls. first ∷ ls) (k.same (inside 0))) refl
 
 definition-kept : {b d : ℕ} {definition : Definition} → FormedDefinition b d definition → KeptDefinition b d definition
-definition-kept (formed.enumeration {first = first} {more = more}) = record { lines = λ after_empty semicolon. refl; formed = formed.enumeration }
-definition-kept (formed.constant h j) = record { lines = λ after_empty semicolon. refl; formed = formed.constant h j }
-definition-kept (formed.type_name h) = record { lines = λ after_empty semicolon. refl; formed = formed.type_name h }
+definition-kept (formed.enumeration {first = first} {more = more}) = record { same = λ after_empty semicolon. refl; holds = formed.enumeration }
+definition-kept (formed.constant h j) = record { same = λ after_empty semicolon. refl; holds = formed.constant h j }
+definition-kept (formed.type_name h) = record { same = λ after_empty semicolon. refl; holds = formed.type_name h }
 definition-kept (formed.function {t = t} {name = n} {fs = fs} h j i) =
     let k = inner-kept i in
-    record { lines = λ after_empty semicolon. callable-settled after_empty (word FuncWord ∷ type_spots t ++ name_spot n ∷ []) fs semicolon k; formed = formed.function h j k.formed }
+    record { same = λ after_empty semicolon. callable-settled after_empty (word FuncWord ∷ type_spots t ++ name_spot n ∷ []) fs semicolon k; holds = formed.function h j k.holds }
 definition-kept (formed.process {t = t} {name = n} {fs = fs} h j i) =
     let k = inner-kept i in
-    record { lines = λ after_empty semicolon. callable-settled after_empty (word ProcWord ∷ exit_type_spots t ++ name_spot n ∷ []) fs semicolon k; formed = formed.process h j k.formed }
+    record { same = λ after_empty semicolon. callable-settled after_empty (word ProcWord ∷ exit_type_spots t ++ name_spot n ∷ []) fs semicolon k; holds = formed.process h j k.holds }
 definition-kept (formed.model {t = t} {name = n} {fs = fs} h j i) =
     let k = inner-kept i in
-    record { lines = λ after_empty semicolon. callable-settled after_empty (word ModelWord ∷ exit_type_spots t ++ name_spot n ∷ []) fs semicolon k; formed = formed.model h j k.formed }
+    record { same = λ after_empty semicolon. callable-settled after_empty (word ModelWord ∷ exit_type_spots t ++ name_spot n ∷ []) fs semicolon k; holds = formed.model h j k.holds }
 definition-kept (formed.experiment {name = n} i) =
     let k = inner-kept i in
-    record { lines = λ after_empty semicolon. callable-settled after_empty (word XperWord ∷ name_spot n ∷ []) [] semicolon k; formed = formed.experiment k.formed }
+    record { same = λ after_empty semicolon. callable-settled after_empty (word XperWord ∷ name_spot n ∷ []) [] semicolon k; holds = formed.experiment k.holds }
 
 items-kept : {b d : ℕ} {items : List Item} → FormedItems b d items → KeptItems b d items
 items-kept (formed.one_item {definition = definition} {semicolon = c} h) =
     let k = definition-kept h in
     record {
-      lines = λ after_empty.
-          both_settled _ (definition_lines after_empty definition (record { written = c; kept = false })) [] [] (k.lines after_empty (record { written = c; kept = false })) refl;
-      formed = formed.one_item k.formed;
+      same = λ after_empty.
+          both_settled _ (definition_lines after_empty definition (record { written = c; kept = false })) [] [] (k.same after_empty (record { written = c; kept = false })) refl;
+      holds = formed.one_item k.holds;
     }
 items-kept (formed.items {definition = definition} {semicolon = c} {more = more} h hs) =
     let k = definition-kept h in
     let r = items-kept hs in
     record {
-      lines = λ after_empty.
+      same = λ after_empty.
           both_settled _ (definition_lines after_empty definition (record { written = c; kept = false })) _ (items_lines true more)
-          (k.lines after_empty (record { written = c; kept = false })) (r.lines true);
-      formed = formed.items k.formed r.formed;
+          (k.same after_empty (record { written = c; kept = false })) (r.same true);
+      holds = formed.items k.holds r.holds;
     }
 
 pub kept-lines : {b d : ℕ} (program : Program) → FormedProgram b d program → program_lines (kept program) ≡ map settled (program_lines program)
-kept-lines program h = let k = items-kept h in k.lines false
+kept-lines program h = let k = items-kept h in k.same false
 
 pub kept-formed : {b d : ℕ} (program : Program) → FormedProgram b d program → FormedProgram b d (kept program)
-kept-formed program h = let k = items-kept h in k.formed
+kept-formed program h = let k = items-kept h in k.holds

@@ -60,26 +60,26 @@ field-row bytes ys h = plain-row (token.Name bytes) refl refl ys h
 pub rows-nothing : Rows []
 rows-nothing ys h = h
 
-pub rows-then : {xs zs : Spots} → Rows xs → Rows zs → Rows (xs ++ zs)
-rows-then {xs} {zs} x z ys h = subst (λ l. is_row l ≡ true) (sym (append_assoc xs zs ys)) (x (zs ++ ys) (z ys h))
+pub rows-then : (xs zs : Spots) → Rows xs → Rows zs → Rows (xs ++ zs)
+rows-then xs zs x z ys h = subst (λ l. is_row l ≡ true) (sym (append_assoc xs zs ys)) (x (zs ++ ys) (z ys h))
 
-pub rows-after : {xs : Spots} (t : Token) → opens t ≡ false → is_dot t ≡ false → Rows xs → Rows (spot t Usual ∷ xs)
-rows-after {xs} t o d x ys h = plain-row t o d (xs ++ ys) (x ys h)
+pub rows-after : (xs : Spots) (t : Token) → opens t ≡ false → is_dot t ≡ false → Rows xs → Rows (spot t Usual ∷ xs)
+rows-after xs t o d x ys h = plain-row t o d (xs ++ ys) (x ys h)
 
 pub rows-tight : {xs : Spots} (s : Spot) → role_fits s.role s.token ≡ true → is_dot s.token ≡ false → Fine xs → Rows (s ∷ xs)
 rows-tight {xs} s r d x ys h = tight-row s r d (xs ++ ys) (x.begins ys) (x.row ys h)
 
-pub fine-then : {xs zs : Spots} → Fine xs → Rows zs → Fine (xs ++ zs)
-fine-then {xs} {zs} x z = record {
+pub fine-then : (xs zs : Spots) → Fine xs → Rows zs → Fine (xs ++ zs)
+fine-then xs zs x z = record {
   begins = λ ys. subst (λ l. begins_well l ≡ true) (sym (append_assoc xs zs ys)) (x.begins (zs ++ ys));
-  row = rows-then x.row z;
+  row = rows-then xs zs x.row z;
 }
 
-pub fine-after : {xs : Spots} (t : Token) → opens t ≡ false → is_dot t ≡ false → starts_equal t ≡ false → Rows xs → Fine (spot t Usual ∷ xs)
-fine-after {xs} t o d e x = record { begins = λ ys. ap not e; row = rows-after t o d x }
+pub fine-after : (xs : Spots) (t : Token) → opens t ≡ false → is_dot t ≡ false → starts_equal t ≡ false → Rows xs → Fine (spot t Usual ∷ xs)
+fine-after xs t o d e x = record { begins = λ ys. ap not e; row = rows-after xs t o d x }
 
 pub fine-one : (t : Token) → opens t ≡ false → is_dot t ≡ false → starts_equal t ≡ false → Fine (spot t Usual ∷ [])
-fine-one t o d e = fine-after t o d e rows-nothing
+fine-one t o d e = fine-after [] t o d e rows-nothing
 
 pub inner-fine : {xs : Spots} → Fine xs → Inner xs
 inner-fine x = record { begins = λ ys h. x.begins ys; row = x.row }

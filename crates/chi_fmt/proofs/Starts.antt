@@ -44,13 +44,13 @@ pub row-start : {xs : Spots} {ts : Tokens} → Start xs ts → Row xs ts
 row-start s = record { row = s.fine.row; same = s.same }
 
 pub row-after : {xs : Spots} {ts : Tokens} (t : Token) → opens t ≡ false → is_dot t ≡ false → Row xs ts → Row (spot t Usual ∷ xs) (t ∷ ts)
-row-after t o d r = record { row = rows-after t o d r.row; same = ap (λ l. t ∷ l) r.same }
+row-after {xs} {ts} t o d r = record { row = rows-after xs t o d r.row; same = ap (λ l. t ∷ l) r.same }
 
 pub row-tight : {xs : Spots} {ts : Tokens} (s : Spot) → role_fits s.role s.token ≡ true → is_dot s.token ≡ false → Start xs ts → Row (s ∷ xs) (s.token ∷ ts)
 row-tight s f d r = record { row = rows-tight s f d r.fine; same = ap (λ l. s.token ∷ l) r.same }
 
 pub row-then : {xs ys : Spots} {ts us : Tokens} → Row xs ts → Row ys us → Row (xs ++ ys) (ts ++ us)
-row-then {xs} {ys} {ts} {us} x y = record { row = rows-then x.row y.row; same = tokens-append xs ys ts us x.same y.same }
+row-then {xs} {ys} {ts} {us} x y = record { row = rows-then xs ys x.row y.row; same = tokens-append xs ys ts us x.same y.same }
 
 pub row-field : (bytes : List ℕ) → Row (sign Dot ∷ spot (token.Name bytes) Usual ∷ []) (token.Sign Dot ∷ token.Name bytes ∷ [])
 row-field bytes = record { row = field-row bytes; same = refl }
@@ -62,7 +62,7 @@ start_as {xs} {ys} {ts} {us} e f s = record { fine = subst Fine (sym e) s.fine; 
 
 pub start-after : {xs : Spots} {ts : Tokens} (t : Token) → opens t ≡ false → is_dot t ≡ false → starts_equal t ≡ false → Row xs ts
     → Start (spot t Usual ∷ xs) (t ∷ ts)
-start-after t o d e r = record { fine = fine-after t o d e r.row; same = ap (λ l. t ∷ l) r.same }
+start-after {xs} {ts} t o d e r = record { fine = fine-after xs t o d e r.row; same = ap (λ l. t ∷ l) r.same }
 
 pub start-one : (t : Token) → opens t ≡ false → is_dot t ≡ false → starts_equal t ≡ false → Start (spot t Usual ∷ []) (t ∷ [])
 start-one t o d e = start-after t o d e row-nothing
@@ -75,7 +75,7 @@ start-tight s f d e r = record {
 }
 
 pub start-then : {xs ys : Spots} {ts us : Tokens} → Start xs ts → Row ys us → Start (xs ++ ys) (ts ++ us)
-start-then {xs} {ys} {ts} {us} x y = record { fine = fine-then x.fine y.row; same = tokens-append xs ys ts us x.same y.same }
+start-then {xs} {ys} {ts} {us} x y = record { fine = fine-then xs ys x.fine y.row; same = tokens-append xs ys ts us x.same y.same }
 
 -- what stands in brackets
 

@@ -119,9 +119,13 @@ branches_more : {b d : ℕ} {bs : List Branch} → FormedBranches b d bs
 branches_more (formed.one_branch h j) = refl
 branches_more (formed.branches h j hs) = refl
 
+-- the lines of an inner block
+pub record SourcesOf (block : List Step) (margin : ℕ) : Type 0 where
+  pub are : Sources (block_lines (inside margin) (map step_lines block)) (spelled_block block)
+
 -- brackets of tokens
 
-to_end_tokens : (ts bs us : Tokens) → (ts ++ Sign Colon ∷ bs ++ Word EndWord ∷ []) ++ us ≡ ((ts ++ Sign Colon ∷ []) ++ bs) ++ Word EndWord ∷ us
+to_end_tokens : (ts bs us : Tokens) → (ts ++ (Sign Colon ∷ bs ++ Word EndWord ∷ [])) ++ us ≡ ((ts ++ Sign Colon ∷ []) ++ bs) ++ Word EndWord ∷ us
 to_end_tokens ts bs us = simp append_assoc
 
 colon_tokens : (ts bs : Tokens) → ts ++ Sign Colon ∷ bs ≡ (ts ++ Sign Colon ∷ []) ++ bs
@@ -140,6 +144,28 @@ write-ending : {xs : Spots} {ts : Tokens} (line : Bool) → Row xs ts → Ending
 write-ending true r = ending-start (start-after (Word WritelnWord) refl refl refl r)
 write-ending false r = ending-start (start-after (Word WriteWord) refl refl refl r)
 
+-- parts of statements, by the lines of their blocks
+
+to-end-sources : {block : List Step} (xs : Spots) (ts : Tokens) (margin : ℕ) (semicolon : Semicolon) → Ending xs ts → SourcesOf block margin
+    → Sources (lines_to_end margin xs (map step_lines block) semicolon) ((ts ++ to_end (map spelled_step block)) ++ semicolon_if semicolon.written)
+to-end-sources {block = block} xs ts margin semicolon e r =
+    sources_as refl (to_end_tokens ts (spelled_block block) (semicolon_if semicolon.written))
+    (both (both (header-one margin xs ts e) r.are) (end-one margin semicolon))
+
+-- from `else` on
+else-sources : {b d : ℕ} {block : List Step} (margin : ℕ) → FormedInner b d block → SourcesOf block margin
+    → Sources (else_lines margin (map step_lines block)) (else_tokens (map spelled_step block))
+else-sources margin h r =
+    sources_as (else_some margin h) (else_tokens_some h) (both (header-one margin (word ElseWord ∷ []) (Word ElseWord ∷ []) (lone ElseWord)) r.are)
+
+-- a branch after its word
+branch-sources : {block : List Step} (e : Expr) (margin : ℕ) (k : Keyword) → Start (expr_spots e) (spelled_expr e) → SourcesOf block margin
+    → Sources (branch_lines (formed.branch e block) margin (word k ∷ [])) (Word k ∷ spelled_branch (formed.branch e block))
+branch-sources {block} e margin k s r =
+    sources_as (at_led (lines.lines-Branch e block) margin (word k ∷ []))
+    (ap (λ us. Word k ∷ us) (spelled.branch-tokens plain e block) ∙ colon_tokens (Word k ∷ spelled_expr e) (spelled_block block))
+    (both (header-one margin (word k ∷ expr_spots e) (Word k ∷ spelled_expr e) (led k s)) r.are)
+
 mutual
   pub block-sources : {b d : ℕ} {block : List Step} → FormedBlock b d block → (margin : ℕ)
       → Sources (block_lines margin (map step_lines block)) (spelled_block block)
@@ -150,15 +176,8 @@ mutual
   block-sources (formed.after_end {s = s} {more = more} h hs) margin =
       both (step-sources s false (is_some (map step_lines more)) margin (λ semicolon. statement-sources h margin semicolon)) (block-sources hs margin)
 
-  inner-sources : {b d : ℕ} {block : List Step} → FormedInner b d block → (margin : ℕ)
-      → Sources (block_lines (inside margin) (map step_lines block)) (spelled_block block)
-  inner-sources (formed.inner h) margin = block-sources h (inside margin)
-
-  pub to-end-sources : {b d : ℕ} {block : List Step} (xs : Spots) (ts : Tokens) (margin : ℕ) (semicolon : Semicolon) → Ending xs ts → FormedInner b d block
-      → Sources (lines_to_end margin xs (map step_lines block) semicolon) ((ts ++ to_end (map spelled_step block)) ++ semicolon_if semicolon.written)
-  to-end-sources {block = block} xs ts margin semicolon e h =
-      sources_as refl (to_end_tokens ts (spelled_block block) (semicolon_if semicolon.written))
-      (both (both (header-one margin xs ts e) (inner-sources h margin)) (end-one margin semicolon))
+  inner-sources : {b d : ℕ} {block : List Step} → FormedInner b d block → (margin : ℕ) → SourcesOf block margin
+  inner-sources (formed.inner h) margin = record { are = block-sources h (inside margin) }
 
   pub statement-sources : {ends : Bool} {b d : ℕ} {s : Statement} → FormedStatement ends b d s → (margin : ℕ) (semicolon : Semicolon)
       → Sources (statement_lines s margin semicolon) (spelled_statement s ++ semicolon_if semicolon.written)
@@ -191,15 +210,15 @@ mutual
       sources_as (at_lines (lines.lines-If p bs block) margin semicolon)
       (ap (λ us. us ++ semicolon_if semicolon.written) (spelled.statement-If plain p bs block)
       ∙ closed_tokens ((Word IfWord ∷ separated (Word ElifWord) (map spelled_branch bs)) ++ else_tokens (map spelled_step block)) (semicolon_if semicolon.written))
-      (both (both (branches-sources hs margin IfWord) (else-sources j margin)) (end-one margin semicolon))
+      (both (both (branches-sources hs margin IfWord) (else-sources margin j (inner-sources j margin))) (end-one margin semicolon))
   statement-sources (formed.while {place = p} {e = e} {block = block} h j) margin semicolon =
       sources_as (at_lines (lines.lines-While p e block) margin semicolon)
       (ap (λ us. us ++ semicolon_if semicolon.written) (spelled.statement-While plain p e block))
-      (to-end-sources _ _ margin semicolon (led WhileWord (expr-start h)) j)
+      (to-end-sources _ _ margin semicolon (led WhileWord (expr-start h)) (inner-sources j margin))
   statement-sources (formed.for_each {place = p} {walk = w} {block = block} h j) margin semicolon =
       sources_as (at_lines (lines.lines-For p w block) margin semicolon)
       (ap (λ us. us ++ semicolon_if semicolon.written) (spelled.statement-For plain p w block))
-      (to-end-sources _ _ margin semicolon (led ForWord (walk-start h)) j)
+      (to-end-sources _ _ margin semicolon (led ForWord (walk-start h)) (inner-sources j margin))
   statement-sources (formed.return {place = p} {e = e} h) margin semicolon =
       line-sources _ _ _ margin semicolon (at_lines (lines.lines-Return p e) margin semicolon) (spelled.statement-Return plain p e) (led ReturnWord (expr-start h))
   statement-sources (formed.exit {place = p} {e = e} h) margin semicolon =
@@ -216,26 +235,13 @@ mutual
       line-sources _ _ _ margin semicolon (at_lines (lines.lines-Write p line text at es) margin semicolon) (spelled.statement-Write plain p line text at es)
       (write-ending line (row-round (within-start (start-after (Text text) refl refl refl (exprs-after hs)))))
 
-  -- from `else` on
-  else-sources : {b d : ℕ} {block : List Step} → FormedInner b d block → (margin : ℕ)
-      → Sources (else_lines margin (map step_lines block)) (else_tokens (map spelled_step block))
-  else-sources h margin =
-      sources_as (else_some margin h) (else_tokens_some h) (both (header-one margin (word ElseWord ∷ []) (Word ElseWord ∷ []) (lone ElseWord)) (inner-sources h margin))
-
   -- branches, each after its word
   branches-sources : {b d : ℕ} {bs : List Branch} → FormedBranches b d bs → (margin : ℕ) (k : Keyword)
       → Sources (led_lines margin (word k ∷ []) (word ElifWord ∷ []) (map branch_lines bs)) (Word k ∷ separated (Word ElifWord) (map spelled_branch bs))
-  branches-sources (formed.one_branch {e = e} {block = block} h j) margin k = both (branch-sources h j margin k) nothing
+  branches-sources (formed.one_branch {e = e} {block = block} h j) margin k = both (branch-sources e margin k (expr-start h) (inner-sources j margin)) nothing
   branches-sources (formed.branches {e = e} {block = block} {more = more} h j hs) margin k =
       sources_as refl (ap (λ us. (Word k ∷ spelled_branch (formed.branch e block)) ++ us) (branches_more hs))
-      (both (branch-sources h j margin k) (branches-sources hs margin ElifWord))
-
-  branch-sources : {b d : ℕ} {e : Expr} {block : List Step} → FormedExpr level.Expr d e → FormedInner b d block → (margin : ℕ) (k : Keyword)
-      → Sources (branch_lines (formed.branch e block) margin (word k ∷ [])) (Word k ∷ spelled_branch (formed.branch e block))
-  branch-sources {e = e} {block = block} h j margin k =
-      sources_as (at_led (lines.lines-Branch e block) margin (word k ∷ []))
-      (ap (λ us. Word k ∷ us) (spelled.branch-tokens plain e block) ∙ colon_tokens (Word k ∷ spelled_expr e) (spelled_block block))
-      (both (header-one margin (word k ∷ expr_spots e) (Word k ∷ spelled_expr e) (led k (expr-start h))) (inner-sources j margin))
+      (both (branch-sources e margin k (expr-start h) (inner-sources j margin)) (branches-sources hs margin ElifWord))
 
   -- alternatives, the first after what its line begins with
   alternatives-sources : {b d : ℕ} {xs : List Alternative} → FormedAlternatives b d xs → (margin : ℕ) (first : Spots) (ts : Tokens) → Opens first ts
@@ -258,7 +264,7 @@ mutual
       sources_as (at_led (lines.lines-Guarded g c block) margin first ∙ lines_with_some margin (first ++ offer_spots g c) k)
       (ap (λ us. ts ++ us) (spelled.alternative-Guarded plain g c block ∙ ap (λ us. (guard_tokens g ++ spelled_communication c) ++ us) (body_some k))
       ∙ body_tokens_apart ts (guard_tokens g ++ spelled_communication c) (spelled_block block))
-      (both (header-one margin (first ++ offer_spots g c) (ts ++ (guard_tokens g ++ spelled_communication c)) (o _ _ (offer-ending h j))) (inner-sources k margin))
+      (both (header-one margin (first ++ offer_spots g c) (ts ++ (guard_tokens g ++ spelled_communication c)) (o _ _ (offer-ending h j))) (let r = inner-sources k margin in r.are))
   alternative-sources (formed.unwind {place = p} {walk = w} {xs = xs} h hs) margin first ts o =
       sources_as (at_led (lines.lines-Unwind p w xs) margin first)
       (ap (λ us. ts ++ us) (spelled.alternative-Unwind plain p w xs)

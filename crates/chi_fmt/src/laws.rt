@@ -15,6 +15,8 @@ ghost use Rattle.chi_fmt.specs.declared.line.Line.{Line};
 ghost use Rattle.chi_fmt.specs.Comments.{comments_of};
 ghost use Rattle.chi_fmt.specs.Definitions.{program_lines};
 ghost use Rattle.chi_fmt.specs.Expressions.{expr_spots, type_spots};
+ghost use Rattle.chi_fmt.specs.Laws.{IsOfSource, IsReread};
+ghost use Rattle.chi_fmt.specs.Layout.{layout};
 ghost use Rattle.chi_fmt.specs.Pages.{lines_text};
 ghost use Rattle.chi_fmt.specs.Reread.{AreComments, HaveTokens, kept_spelling, moved, settled, source_of, token_at};
 ghost use Rattle.chi_fmt.specs.Sound.{AreRows, AreSound, is_row};
@@ -37,4 +39,11 @@ pub fn row_law()
         → (map token_at (expr_spots e) ≡ spelled_expr e) × (is_row (expr_spots e) ≡ true) }
     ensures programs { (b d : ℕ) (program : Program) → FormedProgram b d program
         → AreSound (program_lines program) × HaveTokens (program_lines program) × (source_of (program_lines program) ≡ spelled program) }
+{}
+
+/// The layout of a program of some source, with comments, is read as that program with the `;` that are kept, but for its places; and
+/// the layout of what is read, with the comments of the text, is the same text.
+pub fn layout_law()
+    ensures { (program : Program) (comments : List Comment) → IsOfSource program → AreComments comments
+        → IsReread (layout program comments) program comments }
 {}

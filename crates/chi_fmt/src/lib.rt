@@ -24,5 +24,5 @@ mod written;
 pub use comment::Comment;
 pub use fault::FmtFault;
 pub use found::comments;
-pub use laws::{row_law, text_law};
+pub use laws::{layout_law, row_law, text_law};
 pub use written::canonical;
