@@ -21,6 +21,10 @@ gap_step before stop rest here later found more whole added same first low front
     ∙ ap (λ lines. found ++ flat_map (line_comment before) lines) (sym (slice_split_first is_line_feed rest 0 low'))
     ∙ same
 
+-- what is left is no longer
+pub left_within : (stop size : ℕ) (rest later : List ℕ) → length rest ≤ size → later ≡ drop (stop + 1) rest → length later ≤ size
+left_within stop size rest later within back = omega (arith, ap length back, length-drop (stop + 1) rest)
+
 none_cons : (p : ℕ → Bool) (x : ℕ) (xs : List ℕ) (b : Bool) → p x ≡ b → cond (not b) (1 + position_or_len p xs) 0 ≡ suc (length xs)
     → (position_or_len p xs ≡ length xs → slice_split p xs ≡ xs ∷ []) → slice_split p (x ∷ xs) ≡ (x ∷ xs) ∷ []
 none_cons p x xs true e h r = absurd (omega arith)

@@ -33,7 +33,7 @@ names-same (n ∷ ns) = ap (λ xs. name_spots n ∷ xs) (names-same ns)
 
 steps-same : {d : ℕ} {ps : List Postfix} → FormedSteps d ps → map postfix_spots (map unplaced_postfix ps) ≡ map postfix_spots ps
 steps-same formed.no_steps = refl
-steps-same (formed.index_step h hs) = λ i. postfix-same (formed_expr.index h) i ∷ steps-same hs i
+steps-same (formed.index_step {place = p} h hs) = λ i. postfix-same (formed_expr.index {place = p} h) i ∷ steps-same hs i
 steps-same (formed.field_step {d = d} {name = n} hs) = λ i. postfix-same (formed_expr.field {d = d} {name = n}) i ∷ steps-same hs i
 
 pub target-same : {d : ℕ} (target : Target) → FormedTarget d target → target_spots (unplaced_target target) ≡ target_spots target

@@ -62,8 +62,8 @@ pub record KeptAlternative (b d : ℕ) (x : Alternative) : Type 0 where
   pub holds : FormedAlternative b d (kept_alternative x)
 
 -- lines one after another
-pub both_settled : (as bs cs ds : List Line) → as ≡ map settled bs → cs ≡ map settled ds → as ++ cs ≡ map settled (bs ++ ds)
-both_settled as bs cs ds e f = (λ i. e i ++ f i) ∙ sym (map-append settled bs ds)
+pub both_settled : (ks ls ms ns : List Line) → ks ≡ map settled ls → ms ≡ map settled ns → ks ++ ms ≡ map settled (ls ++ ns)
+both_settled ks ls ms ns e f = (λ i. e i ++ f i) ∙ sym (map-append settled ls ns)
 
 -- a statement that stays as it is, on one line
 stays : {ends : Bool} {b d : ℕ} (s : Statement) (xs : Spots) → FormedStatement ends b d s → statement_lines s ≡ one_line xs → kept_statement s ≡ s → KeptStatement ends b d s

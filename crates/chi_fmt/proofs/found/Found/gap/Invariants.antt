@@ -9,6 +9,7 @@ invariant-lines l =
     (l.self.comments.items ++ gap_comments l.before l.rest ≡ l.fn.self.comments.items ++ gap_comments l.fn.before l.fn.gap)
     × (l.stop ≡ position_or_len is_line_feed l.rest)
     × (l.stop ≤ length l.rest)
+    × (length l.rest ≤ length l.fn.gap)
 
 abbrev pub decreases-lines : goal.decreases-lines
 decreases-lines l = length l.rest
