@@ -30,7 +30,7 @@ pub block_turn : (margin i : ℕ) (front : List Step) (step last : Step) (lines 
     → more ++ block_lines margin (map step_lines (drop (i + 1) front) ++ step_lines last ∷ []) ≡ whole
 block_turn margin i front step last lines more whole added same low is =
     let tail : drop i front ≡ step ∷ drop (i + 1) front =
-        drop-cons front i step low ∙ (λ j. sym is j ∷ drop (sym (add-one i) j) front) in
+    drop-cons front i step low ∙ (λ j. sym is j ∷ drop (sym (add-one i) j) front) in
     ap (λ xs. xs ++ block_lines margin (map step_lines (drop (i + 1) front) ++ step_lines last ∷ [])) added
     ∙ append_assoc lines (step_lines step margin true) (block_lines margin (map step_lines (drop (i + 1) front) ++ step_lines last ∷ []))
     ∙ ap (λ xs. lines ++ xs) (sym (block_more margin step (drop (i + 1) front) last))

@@ -16,9 +16,9 @@ pub line_step : (lines : List Line) (i passed stop count next : ℕ) (line : Lin
     → more ++ lines_text next (drop (i + 1) lines) later ≡ whole
 line_step lines i passed stop count next line rest here later bytes more whole low is to counted front back on same added =
     let cut : count ≡ prefix_len (stands_before passed line) rest =
-        counted ∙ ap (λ n. prefix_len (λ (comment : Comment). nat_lt comment.before n) rest) to in
+    counted ∙ ap (λ n. prefix_len (λ (comment : Comment). nat_lt comment.before n) rest) to in
     let tail : drop i lines ≡ line ∷ drop (i + 1) lines =
-        drop-cons lines i line low ∙ (λ j. sym is j ∷ drop (sym (add-one i) j) lines) in
+    drop-cons lines i line low ∙ (λ j. sym is j ∷ drop (sym (add-one i) j) lines) in
     (λ j. added j ++ lines_text (on j) (drop (i + 1) lines) (back j))
     ∙ append_assoc bytes (line_with line here) (lines_text (passed + source_tokens line) (drop (i + 1) lines) (drop count rest))
     ∙ (λ j. bytes ++ (line_with line (front j) ++ lines_text (passed + source_tokens line) (drop (i + 1) lines) (drop count rest)))

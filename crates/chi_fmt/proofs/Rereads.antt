@@ -64,7 +64,7 @@ sound-rows (line ∷ lines) s h = (
   spots-tokens line.spots
       (all-front (map token_at line.spots) (semicolon_tokens line.semicolon.written) (all-front (line_source line) (source_of lines) h)),
   s.0,
-  sound-rows lines s.1 (all-back (line_source line) (source_of lines) h)
+  sound-rows lines s.1 (all-back (line_source line) (source_of lines) h),
 )
 
 source-tokens : (source : List ℕ) (offset : ℕ) (ts : List Spanned) → SpanFrom source offset ts → AllTokens (map token_of ts)
@@ -113,11 +113,11 @@ reread program comments source are =
     let text = lines_text 0 lines comments in
     let s : Sources lines (spelled program) = program-sources program source.formed in
     let all : AllTokens (source_of lines) =
-        subst AllTokens (sym (s.same ∙ source.same)) (source-tokens source.source 0 source.tokens (Reads-SpanFrom source.source source.tokens source.reads)) in
+    subst AllTokens (sym (s.same ∙ source.same)) (source-tokens source.source 0 source.tokens (Reads-SpanFrom source.source source.tokens source.reads)) in
     let scan : Scanned text 0 0 (kept_spelling lines) (moved 0 0 lines comments) =
-        scanned text 0 (kept_spelling lines) (moved 0 0 lines comments) (lines-scan lines comments 0 0 (sound-rows lines s.sound all) are) text 0 refl in
+    scanned text 0 (kept_spelling lines) (moved 0 0 lines comments) (lines-scan lines comments 0 0 (sound-rows lines s.sound all) are) text 0 refl in
     let p : (parsed : Program) × ParsesAll grammar scan.read program_of whole_room (part parts.Program) (Ok parsed) × (unplaced parsed ≡ unplaced (kept program)) =
-        formed_parsed whole_room scan.read (kept program) (kept-formed program source.formed) (sym (kept-spelled program source.formed) ∙ sym scan.same) in
+    formed_parsed whole_room scan.read (kept program) (kept-formed program source.formed) (sym (kept-spelled program source.formed) ∙ sym scan.same) in
     let is : IsProgram scan.read p.0 = (program_is scan.read p.0).0 p.1 in
     record {
       tokens = scan.read;
@@ -128,3 +128,8 @@ reread program comments source are =
       texts = ap (map text_at) scan.found ∙ moved-texts 0 0 lines comments;
       again = (λ i. lines_text 0 (read-lines program p.0 source.formed is.formed p.2 i) (scan.found i)) ∙ again lines comments 0 0 s.have;
     }
+
+-- the same of a text that is the layout
+pub reread_as : (program : Program) (comments : List Comment) (text : List ℕ) → text ≡ layout program comments → IsOfSource program → AreComments comments
+    → IsReread text program comments
+reread_as program comments text same source are = subst (λ t. IsReread t program comments) (sym same) (reread program comments source are)

@@ -12,7 +12,6 @@ use chi_base::{Items, NoMemory};
 use chi_token::{Keyword, Sign};
 use chi_tree::{Definition, Expr, Formal, Item, Name, Step, TypeTree};
 
-
 impl Lines {
     /// Definitions, with an empty line between each two.
     pub fn items(&mut self, items: &[Item]) -> Result<(), NoMemory>
@@ -74,7 +73,13 @@ impl Lines {
                 let mut draft = self.begun_with(Keyword::FuncWord)?;
                 draft.ty(result_type)?;
                 draft.name(name)?;
-                self.callable(after_empty, draft, formals.as_slice(), block.as_slice(), semicolon)
+                self.callable(
+                    after_empty,
+                    draft,
+                    formals.as_slice(),
+                    block.as_slice(),
+                    semicolon,
+                )
             }
             Definition::Proc {
                 exit_type,
@@ -84,7 +89,13 @@ impl Lines {
                 ..
             } => {
                 let draft = self.process(Keyword::ProcWord, exit_type, name)?;
-                self.callable(after_empty, draft, formals.as_slice(), block.as_slice(), semicolon)
+                self.callable(
+                    after_empty,
+                    draft,
+                    formals.as_slice(),
+                    block.as_slice(),
+                    semicolon,
+                )
             }
             Definition::Model {
                 exit_type,
@@ -94,7 +105,13 @@ impl Lines {
                 ..
             } => {
                 let draft = self.process(Keyword::ModelWord, exit_type, name)?;
-                self.callable(after_empty, draft, formals.as_slice(), block.as_slice(), semicolon)
+                self.callable(
+                    after_empty,
+                    draft,
+                    formals.as_slice(),
+                    block.as_slice(),
+                    semicolon,
+                )
             }
             Definition::Xper { name, block, .. } => {
                 let mut draft = self.begun_with(Keyword::XperWord)?;

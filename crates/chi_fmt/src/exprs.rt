@@ -10,7 +10,9 @@ ghost use Rattle.chi_fmt.specs.Parts.{name_spot, sign};
 
 use crate::draft::Draft;
 use crate::spot::Role;
-use crate::words::{cast_token, operator_token, prefix_role, prefix_token, relation_token, truth_token};
+use crate::words::{
+    cast_token, operator_token, prefix_role, prefix_token, relation_token, truth_token,
+};
 use chi_base::{Boxed, NoMemory};
 use chi_token::{Keyword, Sign, Token};
 use chi_tree::{CastWord, Entry, Expr, Link, Name, Postfix, TypeTree};

@@ -10,11 +10,7 @@ use chi_token::{Bytes, Spanned};
 use std::alloc::Global;
 
 /// The comments of a source, in order.
-pub fn comments(
-    alloc: Global,
-    source: &[u8],
-    tokens: &[Spanned],
-) -> Result<Vec<Comment>, NoMemory>
+pub fn comments(alloc: Global, source: &[u8], tokens: &[Spanned]) -> Result<Vec<Comment>, NoMemory>
     requires few { length source.now ≤ MOST_BYTES }
     requires read { Reads source.now tokens.now }
     ensures { IfOk result (λ comments. comments.items ≡ comments_of source.now tokens.now) }

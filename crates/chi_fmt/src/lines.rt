@@ -42,12 +42,7 @@ impl Lines {
         Ok(draft)
     }
 
-    pub fn put(
-        &mut self,
-        margin: u32,
-        draft: Draft,
-        semicolon: Semicolon,
-    ) -> Result<(), NoMemory>
+    pub fn put(&mut self, margin: u32, draft: Draft, semicolon: Semicolon) -> Result<(), NoMemory>
         ensures { OnOk result (self.new.lines.items ≡ self.old.lines.items ++ line margin draft.spots.items semicolon ∷ []) }
     {
         let Draft { alloc, spots } = draft;

@@ -227,7 +227,10 @@ fn after_kept(passed: u64, line: &Line) -> Result<u64, NoMemory>
     ensures { IfOk result (λ total. total ≡ passed + kept_tokens line.now) }
 {
     let semicolon = line.semicolon.written && line.semicolon.kept;
-    sum(sum(passed, line.spots.as_slice().len())?, semicolon as usize)
+    sum(
+        sum(passed, line.spots.as_slice().len())?,
+        semicolon as usize,
+    )
 }
 
 /// The same up to the end of the line.
@@ -235,5 +238,8 @@ fn after(passed: u64, line: &Line) -> Result<u64, NoMemory>
     ensures { IfOk result (λ total. total ≡ passed + source_tokens line.now) }
 {
     let semicolon = line.semicolon.written;
-    sum(sum(passed, line.spots.as_slice().len())?, semicolon as usize)
+    sum(
+        sum(passed, line.spots.as_slice().len())?,
+        semicolon as usize,
+    )
 }

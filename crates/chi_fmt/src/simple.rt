@@ -145,7 +145,7 @@ impl Lines {
     ) -> Result<(), NoMemory>
         ensures { OnOk result (self.new.lines.items ≡ self.old.lines.items
             ++ one_line (word (write_word ends_line)
-                ∷ round (spot (token.Text format.now) Usual ∷ each_after (sign mark.Comma) (map expr_spots values.now))) margin semicolon) }
+            ∷ round (spot (token.Text format.now) Usual ∷ each_after (sign mark.Comma) (map expr_spots values.now))) margin semicolon) }
     {
         let mut draft = self.begun_with(write_word(ends_line))?;
         draft.sign(Sign::LeftParen)?;

@@ -8,5 +8,5 @@ loop-t-init c = (
   ap (λ found. found ++ comments_of c.args.source.now c.args.tokens.now) c.new.ensures.items,
   Reads-SpanFrom c.args.source.now c.args.tokens.now c.requires.read,
   omega arith,
-  omega arith
+  omega arith,
 )

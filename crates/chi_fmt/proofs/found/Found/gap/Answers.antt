@@ -10,7 +10,7 @@ lines-preserved c = (
       (omega arith) refl (grind (arith, common_steps)),
   c.first_index-stop-in-lines.ensures.first,
   c.first_index-stop-in-lines.ensures.within,
-  left_within c.lines.stop _ c.lines.rest.now _ c.lines.invariant.3 (grind (arith, common_steps))
+  left_within c.lines.stop _ c.lines.rest.now _ c.lines.invariant.3 (grind (arith, common_steps)),
 )
 
 pub returns : goal.returns

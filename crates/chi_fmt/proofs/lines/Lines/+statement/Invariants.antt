@@ -12,9 +12,9 @@ invariant-block-loop-step l =
 abbrev pub invariant-alternatives-loop-alternative : goal.invariant-alternatives-loop-alternative
 invariant-alternatives-loop-alternative l =
     l.self.lines.items
-        ++ led_lines l.margin (word AltWord ∷ []) (word AltWord ∷ []) (map alternative_lines (drop l.alternative-index l.more))
+    ++ led_lines l.margin (word AltWord ∷ []) (word AltWord ∷ []) (map alternative_lines (drop l.alternative-index l.more))
     ≡ l.fn.self.lines.items
-        ++ led_lines l.margin l.fn.begun.spots.items (word AltWord ∷ []) (map alternative_lines l.fn.alternatives)
+    ++ led_lines l.margin l.fn.begun.spots.items (word AltWord ∷ []) (map alternative_lines l.fn.alternatives)
 
 abbrev pub invariant-branches-loop-branch : goal.invariant-branches-loop-branch
 invariant-branches-loop-branch l =
