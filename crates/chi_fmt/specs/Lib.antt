@@ -1,0 +1,13 @@
+pub mod Spaces
+pub mod Expressions
+pub mod Parts
+pub mod Lines
+pub mod Definitions
+pub mod Kept
+pub mod Comments
+pub mod Rows
+pub mod Pages
+pub mod Layout
+pub mod Sound
+pub mod Reread
+pub mod Laws
