@@ -136,10 +136,12 @@ fn a_text_has_a_limit(rt: HostRuntime) -> Result<(), Fail> {
     }
     let tree = parse(alloc, tokens.as_slice()).map_err(|_| "refused")?;
     let text = canonical(alloc, &tree, &[])?;
-    let rest = MOST_BYTES - text.len();
-    for (size, fits) in [(rest - 1, true), (rest, false)] {
-        let mut bytes = vec![in alloc; b'x'; size]?;
-        bytes[0] = b'#';
+    // A comment at the end has a line of its own.
+    let Some(rest) = MOST_BYTES.checked_sub(text.len() + 1) else {
+        return Err(Fail::from("no room"));
+    };
+    for (size, fits) in [(rest, true), (rest + 1, false)] {
+        let bytes = vec![in alloc; b'#'; size]?;
         let comment = chi_fmt::Comment {
             before: 7,
             text: chi_token::Bytes::copy_of(alloc, bytes.as_slice())?,
