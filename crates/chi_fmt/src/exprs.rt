@@ -5,17 +5,17 @@ ghost use Rattle.chi_token.specs.declared.token.Token.TheVariants as token;
 ghost use Rattle.chi_tree_spell.specs.Words.{all, each_after, if_any, cast_token};
 ghost use Rattle.chi_tree_spell.specs.Expressions.{put_by};
 ghost use Rattle.chi_fmt.specs.declared.spot.Role.TheVariants.{Usual};
-ghost use Rattle.chi_fmt.specs.Expressions.{closing, commas, curly, entry_spots, expr_spots, link_spots, postfix_spots, round, spot, type_spots, usual};
+ghost use Rattle.chi_fmt.specs.Expressions.{closing, commas, curly, entry_spots, expr_spots, link_spots, postfix_spots, prefix_role, round, spot, type_spots, usual};
 ghost use Rattle.chi_fmt.specs.Parts.{name_spot, sign};
 
 use crate::draft::Draft;
 use crate::spot::Role;
-use crate::words::{
-    cast_token, operator_token, prefix_role, prefix_token, relation_token, truth_token,
-};
 use chi_base::{Boxed, NoMemory};
 use chi_token::{Keyword, Sign, Token};
-use chi_tree::{CastWord, Entry, Expr, Link, Name, Postfix, TypeTree};
+use chi_tree::{CastWord, Entry, Expr, Link, Name, Postfix, PrefixSign, TypeTree};
+use chi_tree_spell::words::{
+    cast_token, operator_token, prefix_token, relation_token, truth_token,
+};
 
 /// The sign that opens and the one that closes.
 type Brackets = (Sign, Sign);
@@ -288,5 +288,15 @@ impl Draft {
         self.expr(&entry.key)?;
         self.sign(Sign::Colon)?;
         self.expr(&entry.value)
+    }
+}
+
+/// A `-` or `+` stands in front of its operand; the other two are words like others.
+fn prefix_role(sign: PrefixSign) -> Role
+    ensures { result ≡ prefix_role sign }
+{
+    match sign {
+        PrefixSign::Minus | PrefixSign::Plus => Role::Prefix,
+        PrefixSign::Not | PrefixSign::Sample => Role::Usual,
     }
 }

@@ -18,7 +18,6 @@ mod space;
 mod spot;
 mod statements;
 mod types;
-mod words;
 mod written;
 
 pub use comment::Comment;

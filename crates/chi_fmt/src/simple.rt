@@ -11,10 +11,10 @@ ghost use Rattle.chi_fmt.specs.Parts.{communication_spots, elements_spots, sign,
 
 use crate::line::Semicolon;
 use crate::lines::Lines;
-use crate::words::write_word;
 use chi_base::{Items, NoMemory};
 use chi_token::{Bytes, Keyword, Sign};
 use chi_tree::{Communication, Element, Expr, Target, TypeTree, Variable};
+use chi_tree_spell::words::write_word;
 
 impl Lines {
     pub fn declare(

@@ -8,10 +8,10 @@ ghost use Rattle.chi_fmt.specs.Expressions.{expr_spots, formal_spots, formals_sp
 ghost use Rattle.chi_fmt.specs.Parts.{sign};
 
 use crate::draft::Draft;
-use crate::words::type_token;
 use chi_base::{Boxed, NoMemory};
 use chi_token::{Keyword, Sign};
 use chi_tree::{Expr, Formal, TypeTree, Way};
+use chi_tree_spell::words::type_token;
 
 impl Draft {
     #[cycle(spell)]

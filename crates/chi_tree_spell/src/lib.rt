@@ -11,7 +11,7 @@ mod speller;
 mod spelling;
 mod statements;
 mod types;
-mod words;
+pub mod words;
 
 pub use laws::{places_law, spelling_law};
 pub use spelling::spell;

@@ -8,6 +8,7 @@ ghost use Rattle.chi_tree_spell.specs.Expressions.{commas, round, spelled_expr, 
 ghost use Rattle.chi_tree_spell.specs.Statements.{body_tokens, else_tokens, guard_tokens, to_end, spelled_alternative, spelled_block, spelled_branch, spelled_elements, spelled_exprs, spelled_statement, spelled_step, spelled_target, spelled_variable, spelled_walk};
 
 use crate::speller::Speller;
+use crate::words::write_word;
 use chi_base::{Items, NoMemory};
 use chi_token::{Bytes, Keyword, Sign, Token};
 use chi_tree::{
@@ -258,15 +259,5 @@ impl Speller {
         }
         self.sign(Sign::Colon)?;
         self.steps(block)
-    }
-}
-
-fn write_word(line: bool) -> Keyword
-    ensures { result ≡ write_word line }
-{
-    if line {
-        Keyword::WritelnWord
-    } else {
-        Keyword::WriteWord
     }
 }

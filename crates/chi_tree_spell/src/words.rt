@@ -1,9 +1,11 @@
+//! The tokens of what a tree keeps as a word of its own.
 ghost use Rattle.std.specs.Prelude.{◌≡◌};
-ghost use Rattle.chi_tree_spell.specs.Words.{operator_token, relation_token, prefix_token, cast_token, type_token, truth_token};
+ghost use Rattle.chi_tree_spell.specs.Words.{operator_token, relation_token, prefix_token, cast_token, type_token, truth_token, write_word};
 
 use chi_token::{Keyword, Sign, Token};
 use chi_tree::{CastWord, Operator, PrefixSign, RelationSign, TypeWord};
 
+/// The sign or the word that an operator of two operands is written as.
 pub fn operator_token(operator: Operator) -> Token
     ensures { result ≡ operator_token operator }
 {
@@ -19,6 +21,7 @@ pub fn operator_token(operator: Operator) -> Token
     }
 }
 
+/// The sign or the word that a relation is written as.
 pub fn relation_token(sign: RelationSign) -> Token
     ensures { result ≡ relation_token sign }
 {
@@ -34,6 +37,7 @@ pub fn relation_token(sign: RelationSign) -> Token
     }
 }
 
+/// The sign or the word in front of an operand.
 pub fn prefix_token(sign: PrefixSign) -> Token
     ensures { result ≡ prefix_token sign }
 {
@@ -45,6 +49,7 @@ pub fn prefix_token(sign: PrefixSign) -> Token
     }
 }
 
+/// The word of a conversion, which is that of the type that it converts to.
 pub fn cast_token(word: CastWord) -> Token
     ensures { result ≡ cast_token word }
 {
@@ -57,6 +62,7 @@ pub fn cast_token(word: CastWord) -> Token
     }
 }
 
+/// The word of a type without parts.
 pub fn type_token(word: TypeWord) -> Token
     ensures { result ≡ type_token word }
 {
@@ -70,6 +76,7 @@ pub fn type_token(word: TypeWord) -> Token
     }
 }
 
+/// The word of a truth value.
 pub fn truth_token(truth: bool) -> Token
     ensures { result ≡ truth_token truth }
 {
@@ -77,5 +84,16 @@ pub fn truth_token(truth: bool) -> Token
         Token::Word(Keyword::TrueWord)
     } else {
         Token::Word(Keyword::FalseWord)
+    }
+}
+
+/// The word of a statement that writes, and that ends the line where it says so.
+pub fn write_word(ends_line: bool) -> Keyword
+    ensures { result ≡ write_word ends_line }
+{
+    if ends_line {
+        Keyword::WritelnWord
+    } else {
+        Keyword::WriteWord
     }
 }
