@@ -1,5 +1,5 @@
 -- The lines of formed programs have sound rows, none without a token, and show the tokens of the source.
-use Rattle.std.proofs.Common.{◌≡◌, ℕ, Bool, true, false, List, [], ◌∷◌, ◌++◌, Option, Some, None, map, refl, sym, ap, ◌∙◌, append_assoc, append-nil}
+use Rattle.std.proofs.Common.{◌≡◌, ℕ, Bool, true, false, List, [], ◌∷◌, ◌++◌, Option, map, refl, append_assoc, append-nil}
 use Rattle.std.specs.Option.{option_map}
 use Rattle.chi_token.specs.declared.keyword.Keyword.{Keyword}
 use Rattle.chi_token.specs.declared.keyword.Keyword.TheVariants.{ConstWord, EndWord, EnumWord, FuncWord, ModelWord, ProcWord, TypeWord, XperWord}
@@ -20,17 +20,16 @@ use Rattle.chi_tree_laws.specs.Definitions.{FormedDefinition, FormedItems, Forme
 use Rattle.chi_tree_laws.specs.Definitions as formed
 use Rattle.chi_tree_laws.specs.Statements.{FormedInner}
 use Rattle.chi_tree_laws.specs.Statements as formed_statement
-use Rattle.chi_fmt.specs.declared.line.Line.{Line}
 use Rattle.chi_fmt.specs.declared.line.Semicolon.{Semicolon}
 use Rattle.chi_fmt.specs.Expressions.{Spots, formals_spots, round}
 use Rattle.chi_fmt.specs.Parts.{sign, word, name_spot}
 use Rattle.chi_fmt.specs.Lines.{inside, no_semicolon, end_line, block_lines, step_lines}
-use Rattle.chi_fmt.specs.Definitions.{first_line, callable_lines, definition_lines, exit_type_spots, item_lines, items_lines, program_lines}
+use Rattle.chi_fmt.specs.Definitions.{first_line, callable_lines, definition_lines, exit_type_spots, items_lines, program_lines}
 use Rattle.chi_fmt.proofs.ExprRows.{expr-start, type-start, formals-start}
 use Rattle.chi_fmt.proofs.PartRows.{names-start}
 use Rattle.chi_fmt.proofs.LineRows.{Sources, one, both, nothing, sources_as}
 use Rattle.chi_fmt.proofs.StatementLines.{block-sources}
-use Rattle.chi_fmt.proofs.Starts.{Row, Start, Within, Ending, row-nothing, row-start, row-after, row-then, row-round, row-curly, start-after, start-one, start-then, within-start, within-nothing, ending-start}
+use Rattle.chi_fmt.proofs.Starts.{Start, Within, row-nothing, row-start, row-after, row-then, row-round, row-curly, start-after, start-one, start-then, within-start, within-nothing, ending-start}
 
 -- a definition on one line
 line-sources : (after_empty : Bool) (xs : Spots) (ts : Tokens) (semicolon : Semicolon) → Start xs ts

@@ -1,6 +1,5 @@
 -- The spots of formed expressions and types are sound rows, and show their tokens.
 use Rattle.std.proofs.Common.{◌≡◌, ℕ, Bool, true, false, List, [], ◌∷◌, ◌++◌, Option, Some, None, map, refl, ap}
-use Rattle.std.specs.Option.{option_map}
 use Rattle.chi_token.specs.declared.keyword.Keyword.TheVariants.{ChanWord, DictWord, DistWord, ListWord, NotWord, SampleWord, SetWord, TimeWord, TupleWord, VoidWord}
 use Rattle.chi_token.specs.declared.sign.Sign.TheVariants.{Bang, Caret, Colon, Comma, Question, Semicolon}
 use Rattle.chi_token.specs.declared.token.Token.{Token}
@@ -28,7 +27,7 @@ use Rattle.chi_tree.specs.View.{chained, parted}
 use Rattle.chi_tree_spell.specs.Expressions.{put_further, put_way, declared_formals, spelled_expr, spelled_link, spelled_postfix, spelled_type, spelled_entry, declared, spelled_formals}
 use Rattle.chi_tree_spell.specs.Expressions as spell
 use Rattle.chi_tree_spell.specs.Marks.{plain}
-use Rattle.chi_tree_spell.specs.Words.{Tokens, operator_token, relation_token, prefix_token, cast_token, type_token, truth_token, if_any, all, each_after}
+use Rattle.chi_tree_spell.specs.Words.{Tokens, operator_token, relation_token, prefix_token, cast_token, type_token, truth_token, all, each_after}
 use Rattle.chi_tree_spell.proofs.ExprTokens as spelled
 use Rattle.chi_tree_laws.specs.Levels.{Level}
 use Rattle.chi_tree_laws.specs.Expressions.{FormedType, FormedFormals, MoreFormals, FormedExpr, FormedLinks, FormedPostfix, FormedPostfixes, FormedIfAny, FormedExprs, FormedEntries}

@@ -1,12 +1,11 @@
 -- The comments of what stands between two tokens, byte by byte.
-use Rattle.std.proofs.Common.{◌≡◌, ℕ, ◌+◌, Bool, true, false, not, ◌||◌, cond, eqb, List, [], ◌∷◌, ◌++◌, length, drop, refl, sym, ap, subst, ◌∙◌, arith}
+use Rattle.std.proofs.Common.{◌≡◌, ℕ, Bool, true, false, not, cond, eqb, List, [], ◌∷◌, ◌++◌, refl, sym, ap, subst, ◌∙◌}
 use Rattle.std.proofs.lemmas.Bool.{eqb-true}
-use Rattle.std.specs.List.{flat_map, list_all, position_or_len, prefix_len, slice_split, onto_first}
+use Rattle.std.specs.List.{flat_map, list_all, slice_split, onto_first}
 use Rattle.chi_token.specs.Characters.{line_feed}
 use Rattle.chi_lex.specs.Gaps.{hash, is_blank, goes_on}
 use Rattle.chi_lex.specs.Places.{is_line_feed}
 use Rattle.chi_lex.proofs.Runs.{and_left, and_right, one_suc}
-use Rattle.chi_fmt.specs.declared.comment.Comment.{Comment}
 use Rattle.chi_fmt.specs.Reread.{IsCommentText}
 use Rattle.chi_fmt.specs.Comments.{comment, is_hash, line_comment, gap_comments}
 

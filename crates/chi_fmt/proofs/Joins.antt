@@ -1,29 +1,27 @@
 -- Two tokens that stand side by side are read as they are, with or without a space between them.
-use Rattle.std.proofs.Common.{◌≡◌, ◌≢◌, ℕ, suc, ◌+◌, Bool, true, false, not, ◌||◌, ◌&&◌, cond, eqb, Option, Some, None, List, [], ◌∷◌, ◌++◌, length, refl, sym, ap, subst, ◌∙◌, arith}
+use Rattle.std.proofs.Common.{◌≡◌, ℕ, ◌+◌, Bool, true, false, not, ◌||◌, ◌&&◌, cond, eqb, Option, Some, None, List, [], ◌∷◌, ◌++◌, length, refl, sym, ap, subst, ◌∙◌, arith}
 use Rattle.std.specs.Option.{option_map}
 use Rattle.std.specs.List.{list_all, prefix_len}
 use Rattle.std.proofs.lemmas.Bool.{eqb-true}
 use Rattle.std.proofs.lemmas.Bool.Decides.{nat_tests}
-use Rattle.chi_token.specs.declared.keyword.Keyword.{Keyword}
 use Rattle.chi_token.specs.declared.sign.Sign.{Sign}
-use Rattle.chi_token.specs.declared.sign.Sign.TheVariants.{LeftParen, RightParen, LeftBracket, RightBracket, LeftBrace, RightBrace, Bang, Question, Comma, Semicolon, Colon, Dot, Assign, Equal, Greater}
+use Rattle.chi_token.specs.declared.sign.Sign.TheVariants.{LeftParen, RightParen, LeftBracket, RightBracket, RightBrace, Bang, Question, Comma, Semicolon, Colon, Dot, Assign, Equal, Greater}
 use Rattle.chi_token.specs.declared.token.Token.{Token}
 use Rattle.chi_token.specs.declared.token.Token.TheVariants as token
 use Rattle.chi_token.specs.Characters.{is_digit, is_name_byte, is_name_start, line_feed, quote}
 use Rattle.chi_token.specs.Keywords.{keyword_of, word_of}
 use Rattle.chi_token.specs.Signs.{sign_of, mark_of}
 use Rattle.chi_token.specs.Spelling.{canonical_spelling}
-use Rattle.chi_token.specs.Tables.{value_at}
 use Rattle.chi_token.specs.Texts.{quoted, text_of}
 use Rattle.chi_token.specs.Tokens.{IsToken, token_spelled_by, word_or_name, is_digits, is_real}
-use Rattle.chi_lex.specs.Fractions.{fraction_by, fraction_length}
+use Rattle.chi_lex.specs.Fractions.{fraction_by}
 use Rattle.chi_lex.specs.Gaps.{space}
 use Rattle.chi_lex.specs.Reading.{longest_token}
-use Rattle.chi_lex.proofs.Runs.{StopsAt, and_left, and_right}
+use Rattle.chi_lex.proofs.Runs.{StopsAt, and_left}
 use Rattle.chi_fmt.specs.declared.spot.Role.{Role}
 use Rattle.chi_fmt.specs.declared.spot.Role.TheVariants.{Usual, Prefix, Communicates, Opens, Closes}
 use Rattle.chi_fmt.specs.declared.spot.Spot.{Spot}
-use Rattle.chi_fmt.specs.Spaces.{closes, ends_close, opens, begins_close, holds_next, holds_last, is_bracket, takes_bracket, is_joined}
+use Rattle.chi_fmt.specs.Spaces.{closes, ends_close, opens, holds_next, holds_last, is_bracket, takes_bracket, is_joined}
 use Rattle.chi_fmt.specs.Sound.{role_fits, is_sign, is_greater, is_usual, is_dot, is_name, starts_equal, is_tight, fits}
 use Rattle.chi_fmt.proofs.Standing.{Breaks, equals, spells, standing, sign-before}
 

@@ -1,6 +1,6 @@
 -- What a page owes in a loop: what was written with what is still to be written is the whole, and what was written is within the
 -- limit.
-use Rattle.std.proofs.Common.{◌≡◌, ℕ, ◌+◌, ◌<◌, ◌≤◌, List, ◌++◌, length, length-append, ap, arith}
+use Rattle.std.proofs.Common.{◌≡◌, ℕ, ◌<◌, ◌≤◌, List, ◌++◌, length, length-append, ap, arith}
 
 pub record Holds (written left whole : List ℕ) (most : ℕ) : Type 0 where
   pub same : written ++ left ≡ whole

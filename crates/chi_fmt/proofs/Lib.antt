@@ -1,4 +1,5 @@
 pub mod Blocks
+pub mod CommentTexts
 pub mod ExprRows
 pub mod FoundLines
 pub mod Gaps

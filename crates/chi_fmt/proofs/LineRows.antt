@@ -1,12 +1,10 @@
 -- The lines of formed statements have sound rows, none without a token, and show the tokens of the source.
-use Rattle.std.proofs.Common.{◌≡◌, ℕ, ◌<◌, Bool, true, false, List, [], ◌∷◌, ◌++◌, Option, Some, None, length, map, refl, sym, ap, subst, ◌∙◌, arith, append_assoc, append-nil}
-use Rattle.chi_token.specs.declared.sign.Sign.TheVariants.{Assign, Colon, Semicolon}
-use Rattle.chi_token.specs.declared.token.Token.{Token}
-use Rattle.chi_token.specs.declared.token.Token.TheVariants.{Word, Sign}
+use Rattle.std.proofs.Common.{◌≡◌, ℕ, ◌<◌, Bool, true, false, List, [], ◌∷◌, ◌++◌, length, refl, sym, ap, subst, ◌∙◌, arith, append_assoc, append-nil}
+use Rattle.chi_token.specs.declared.sign.Sign.TheVariants.{Assign, Colon}
+use Rattle.chi_token.specs.declared.token.Token.TheVariants.{Sign}
 use Rattle.chi_tree_spell.specs.Words.{Tokens}
 use Rattle.chi_tree_spell.specs.Statements.{semicolon_if}
 use Rattle.chi_fmt.specs.declared.line.Line.{Line}
-use Rattle.chi_fmt.specs.declared.spot.Spot.{Spot}
 use Rattle.chi_fmt.specs.Expressions.{Spots}
 use Rattle.chi_fmt.specs.Parts.{sign}
 use Rattle.chi_fmt.specs.Lines.{line, header, no_semicolon}

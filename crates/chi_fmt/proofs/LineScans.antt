@@ -1,19 +1,18 @@
 -- The text of lines and comments is read as the tokens of the lines and the comments, each before the first token of its line.
-use Rattle.std.proofs.Common.{◌≡◌, ℕ, zero, suc, ◌+◌, Bool, true, false, List, [], ◌∷◌, ◌++◌, length, take, drop, map, refl, sym, ap, subst, ◌∙◌, arith, append_assoc, append-nil, length-append}
-use Rattle.std.specs.List.{flat_map, take_while, prefix_len}
+use Rattle.std.proofs.Common.{◌≡◌, ℕ, zero, suc, ◌+◌, Bool, true, false, List, [], ◌∷◌, ◌++◌, length, take, drop, map, refl, sym, subst, ◌∙◌, arith, append_assoc, append-nil}
+use Rattle.std.specs.List.{flat_map, prefix_len}
 use Rattle.chi_token.specs.declared.sign.Sign.TheVariants.{Semicolon}
 use Rattle.chi_token.specs.declared.token.Token.{Token}
 use Rattle.chi_token.specs.declared.token.Token.TheVariants as token
 use Rattle.chi_token.specs.Characters.{line_feed}
-use Rattle.chi_token.specs.Signs.{sign_of, mark_of}
+use Rattle.chi_token.specs.Signs.{sign_of}
 use Rattle.chi_token.specs.Tables.{value_at}
 use Rattle.chi_token.specs.Tokens.{IsToken, token_spelled_by}
 use Rattle.chi_lex.specs.Gaps.{space}
 use Rattle.chi_fmt.specs.declared.comment.Comment.{Comment}
 use Rattle.chi_fmt.specs.declared.line.Line.{Line}
-use Rattle.chi_fmt.specs.declared.spot.Spot.{Spot}
 use Rattle.chi_fmt.specs.Comments.{comment}
-use Rattle.chi_fmt.specs.Reread.{token_at, IsCommentText, AreComments, before, semicolon_tokens, line_tokens, text_tokens, kept_spelling, moved}
+use Rattle.chi_fmt.specs.Reread.{token_at, AreComments, before, semicolon_tokens, line_tokens, text_tokens, kept_spelling, moved}
 use Rattle.chi_fmt.specs.Sound.{AreTokens, is_row, AreRows}
 use Rattle.chi_fmt.specs.Rows.{spaces, text_of, semicolon_text, line_text, empty_line, comment_text}
 use Rattle.chi_fmt.specs.Pages.{one_if, source_tokens, stands_before, line_with, lines_text}

@@ -1,6 +1,6 @@
 -- A line of a page with its comments, and the lines after it.
 use Rattle.std.proofs.Common.{◌≡◌, ℕ, ◌+◌, ◌<◌, nat_lt, List, ◌∷◌, ◌++◌, length, get_or, take, drop, refl, sym, ap, ◌∙◌, append_assoc, add-one}
-use Rattle.std.specs.List.{prefix_len, take_while}
+use Rattle.std.specs.List.{prefix_len}
 use Rattle.std.proofs.Math.Seq.{drop-cons}
 use Rattle.chi_fmt.specs.declared.comment.Comment.{Comment}
 use Rattle.chi_fmt.specs.declared.line.Line.{Line}

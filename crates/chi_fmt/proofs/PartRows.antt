@@ -1,6 +1,5 @@
 -- The spots of what stands within one line are sound rows, and show their tokens.
-use Rattle.std.proofs.Common.{◌≡◌, ℕ, Bool, true, false, List, [], ◌∷◌, ◌++◌, Option, Some, None, map, refl, ap, sym, ◌∙◌}
-use Rattle.std.specs.Option.{option_map}
+use Rattle.std.proofs.Common.{◌≡◌, ℕ, Bool, List, [], ◌∷◌, ◌++◌, Option, Some, None, map, refl, ap, sym, ◌∙◌}
 use Rattle.chi_token.specs.declared.keyword.Keyword.TheVariants.{DelayWord, EndWord, InWord, UnwindWord}
 use Rattle.chi_token.specs.declared.sign.Sign.TheVariants.{Assign, Bang, Colon, Comma, Question}
 use Rattle.chi_token.specs.declared.token.Token.TheVariants.{Word, Sign, Name}
@@ -17,18 +16,18 @@ use Rattle.chi_tree.specs.declared.expr.Postfix.{Postfix}
 use Rattle.chi_tree_spell.specs.Expressions as spell
 use Rattle.chi_tree_spell.specs.Marks.{plain}
 use Rattle.chi_tree_spell.specs.Statements.{spelled_names, spelled_variable, spelled_target, spelled_walk, spelled_communication, spelled_element, spelled_elements, guard_tokens}
-use Rattle.chi_tree_spell.specs.Words.{Tokens, if_any, all, each_after}
+use Rattle.chi_tree_spell.specs.Words.{all, each_after}
 use Rattle.chi_tree_spell.proofs.ExprTokens as spelled
 use Rattle.chi_tree_spell.proofs.StatementTokens as spelled_more
 use Rattle.chi_tree_laws.specs.Expressions.{FormedIfAny}
 use Rattle.chi_tree_laws.specs.Expressions as formed_expr
 use Rattle.chi_tree_laws.specs.Statements.{FormedSteps, FormedTarget, FormedTargets, FormedVariable, FormedVariables, FormedWalk, FormedCommunication, FormedElement, FormedElements}
 use Rattle.chi_tree_laws.specs.Statements as formed
-use Rattle.chi_fmt.specs.Expressions.{Spots, spot, postfix_spots, commas, exprs_spots, round}
+use Rattle.chi_fmt.specs.Expressions.{Spots, postfix_spots, commas, exprs_spots, round}
 use Rattle.chi_fmt.specs.Parts.{sign, word, assigned_spots, name_spot, names_spots, name_spots, variable_spots, target_spots, walk_spots, communicates, communication_spots, element_step, element_spots, elements_spots, offer_spots}
 use Rattle.chi_fmt.proofs.SpotsIn as spots
 use Rattle.chi_fmt.proofs.Starts.{Row, Start, Tail, Ending, start_as, row-nothing, row-start, row-after, row-tight, row-then, row-round, start-after, start-one, start-then, tail-row, tail-sign, ending-start, ending-then, ending-both}
-use Rattle.chi_fmt.proofs.ExprRows.{expr-start, if-row, exprs-within, postfix-row}
+use Rattle.chi_fmt.proofs.ExprRows.{expr-start, exprs-within, postfix-row}
 
 -- names
 

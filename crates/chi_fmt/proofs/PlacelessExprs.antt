@@ -1,10 +1,9 @@
 -- The spots of a formed expression or type are those of the same without its places.
-use Rattle.std.proofs.Common.{◌≡◌, ℕ, Bool, true, false, List, [], ◌∷◌, ◌++◌, Option, Some, None, map, refl, ap, sym, ◌∙◌}
+use Rattle.std.proofs.Common.{◌≡◌, ℕ, true, false, List, [], ◌∷◌, ◌++◌, Option, Some, None, map, refl, ap, sym, ◌∙◌}
 use Rattle.std.specs.Option.{option_map}
 use Rattle.chi_token.specs.declared.keyword.Keyword.TheVariants.{ChanWord, DictWord, DistWord, ListWord, SetWord, TupleWord}
 use Rattle.chi_token.specs.declared.place.Place.{Place}
 use Rattle.chi_token.specs.declared.sign.Sign.TheVariants.{Caret, Colon}
-use Rattle.chi_token.specs.declared.token.Token.TheVariants.{Word, Sign}
 use Rattle.chi_tree.specs.declared.operator.Operator.{Operator}
 use Rattle.chi_tree.specs.declared.operator.Operator.TheVariants as operator
 use Rattle.chi_tree.specs.declared.operator.PrefixSign.{PrefixSign}
@@ -19,13 +18,12 @@ use Rattle.chi_tree.specs.declared.expr.Entry.{Entry}
 use Rattle.chi_tree.specs.declared.expr.Postfix.{Postfix}
 use Rattle.chi_tree.specs.View.{nowhere, chained, parted}
 use Rattle.chi_tree_spell.specs.Words.{operator_token, relation_token, cast_token, all}
-use Rattle.chi_tree_spell.specs.Expressions.{declared_formals, put_name, put_commas, put_round, put_square, put_curly, put_by, put_size, put_way, put_carried}
+use Rattle.chi_tree_spell.specs.Expressions.{declared_formals, put_name, put_commas, put_round, put_square, put_curly, put_size, put_way, put_carried}
 use Rattle.chi_tree_laws.specs.Levels.{Level}
 use Rattle.chi_tree_laws.specs.Expressions.{FormedType, FormedFormals, MoreFormals, FormedExpr, FormedLinks, FormedPostfix, FormedPostfixes, FormedIfAny, FormedExprs, FormedEntries, formal, link, entry}
 use Rattle.chi_tree_laws.specs.Expressions as formed
 use Rattle.chi_tree_laws.specs.Unplaced.{unplaced_name, unplaced_expr, unplaced_postfix, unplaced_type, unplaced_entry, unplaced_link, unplaced_formal}
 use Rattle.chi_tree_laws.proofs.UnplacedTrees as without
-use Rattle.chi_fmt.specs.declared.spot.Spot.{Spot}
 use Rattle.chi_fmt.specs.Expressions.{usual, opening, closing, prefix_spot, expr_spots, link_spots, postfix_spots, entry_spots, type_spots, formal_spots}
 use Rattle.chi_fmt.specs.Parts.{word, sign}
 use Rattle.chi_fmt.proofs.SpotsIn as spots

@@ -1,5 +1,5 @@
 -- The lines of formed statements are those of the same without their places.
-use Rattle.std.proofs.Common.{◌≡◌, ℕ, Bool, true, false, List, [], ◌∷◌, ◌++◌, Option, map, ap, sym, ◌∙◌}
+use Rattle.std.proofs.Common.{◌≡◌, ℕ, Bool, true, false, List, [], ◌∷◌, ◌++◌, map, ap, sym, ◌∙◌}
 use Rattle.std.specs.Option.{option_map}
 use Rattle.chi_token.specs.declared.keyword.Keyword.TheVariants.{AltWord, ElifWord, ExitWord, FinishWord, ForWord, IfWord, ReturnWord, RunWord, SelectWord, StartWord, UnwindWord, WhileWord}
 use Rattle.chi_token.specs.declared.sign.Sign.TheVariants.{Assign, Comma}
@@ -12,8 +12,6 @@ use Rattle.chi_tree.specs.declared.statement.Alternative.{Alternative}
 use Rattle.chi_tree.specs.Statements.{step}
 use Rattle.chi_tree.specs.View.{nowhere}
 use Rattle.chi_tree_spell.specs.Words.{each_after, write_word}
-use Rattle.chi_tree_laws.specs.Expressions.{FormedExpr, FormedExprs}
-use Rattle.chi_tree_laws.specs.Levels as level
 use Rattle.chi_tree_laws.specs.Statements.{FormedBlock, FormedInner, FormedStatement, FormedBranches, FormedAlternatives, FormedAlternative}
 use Rattle.chi_tree_laws.specs.Statements as formed
 use Rattle.chi_tree_laws.specs.Unplaced.{unplaced_expr, unplaced_type}

@@ -20,7 +20,7 @@ use Rattle.chi_tree_laws.specs.Statements as formed
 use Rattle.chi_tree_laws.specs.Unplaced.{unplaced_name, unplaced_expr, unplaced_postfix}
 use Rattle.chi_tree_laws.specs.UnplacedStatements.{unplaced_variable, unplaced_target, unplaced_walk, unplaced_communication, unplaced_element}
 use Rattle.chi_tree_laws.proofs.UnplacedStatementTrees as without
-use Rattle.chi_fmt.specs.Expressions.{commas, expr_spots, exprs_spots, postfix_spots, round}
+use Rattle.chi_fmt.specs.Expressions.{commas, postfix_spots, round}
 use Rattle.chi_fmt.specs.Parts.{sign, word, name_spot, name_spots, variable_spots, target_spots, walk_spots, communicates, communication_spots, element_spots, offer_spots}
 use Rattle.chi_fmt.proofs.PlacelessExprs.{expr-same, exprs-same, if-same, postfix-same}
 use Rattle.chi_fmt.proofs.PartRows as spots

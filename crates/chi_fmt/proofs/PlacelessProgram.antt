@@ -1,5 +1,5 @@
 -- The lines of a formed program are those of the program without its places.
-use Rattle.std.proofs.Common.{◌≡◌, ℕ, Bool, true, false, List, [], ◌∷◌, ◌++◌, Option, map, refl, ap, sym, ◌∙◌}
+use Rattle.std.proofs.Common.{◌≡◌, ℕ, Bool, true, false, List, [], ◌∷◌, ◌++◌, Option, map, refl, ap}
 use Rattle.std.specs.Option.{option_map}
 use Rattle.chi_token.specs.declared.keyword.Keyword.TheVariants.{ConstWord, EnumWord, FuncWord, ModelWord, ProcWord, TypeWord, XperWord}
 use Rattle.chi_token.specs.declared.sign.Sign.TheVariants.{Assign, Colon}

@@ -1,5 +1,5 @@
 -- The text of a program is read as the program with the `;` that are kept, and is the layout of what is read.
-use Rattle.std.proofs.Common.{◌≡◌, ℕ, ◌+◌, List, [], ◌∷◌, ◌++◌, length, map, take, drop, slice_range, Ok, refl, sym, ap, subst, ◌∙◌}
+use Rattle.std.proofs.Common.{◌≡◌, ℕ, ◌+◌, List, [], ◌∷◌, ◌++◌, map, drop, slice_range, Ok, refl, sym, ap, subst, ◌∙◌}
 use Rattle.std.specs.List.{prefix_len, take_while}
 use Rattle.std.proofs.lemmas.List.{map-append, take-append-drop}
 use Rattle.chi_token.specs.declared.place.Spanned.{Spanned}
@@ -24,7 +24,6 @@ use Rattle.chi_tree_laws.proofs.ProgramAnswers.{program_is}
 use Rattle.chi_fmt.specs.declared.comment.Comment.{Comment}
 use Rattle.chi_fmt.specs.declared.line.Line.{Line}
 use Rattle.chi_fmt.specs.declared.spot.Spot.{Spot}
-use Rattle.chi_fmt.specs.Comments.{comments_of}
 use Rattle.chi_fmt.specs.Definitions.{program_lines}
 use Rattle.chi_fmt.specs.Kept.{kept}
 use Rattle.chi_fmt.specs.Laws.{IsOfSource, IsReread, text_at}

@@ -1,13 +1,9 @@
 -- The text of a row of spots is read as its tokens.
-use Rattle.std.proofs.Common.{◌≡◌, ℕ, suc, ◌+◌, Bool, true, false, not, ◌||◌, ◌&&◌, cond, List, [], ◌∷◌, ◌++◌, length, map, refl, sym, ap, subst, ◌∙◌, arith, append_assoc, append-nil}
-use Rattle.chi_token.specs.declared.sign.Sign.TheVariants.{Dot}
+use Rattle.std.proofs.Common.{◌≡◌, ℕ, ◌+◌, Bool, true, false, not, ◌||◌, ◌&&◌, cond, List, [], ◌∷◌, ◌++◌, length, map, refl, sym, ap, subst, ◌∙◌, arith, append_assoc, append-nil}
 use Rattle.chi_token.specs.declared.token.Token.{Token}
-use Rattle.chi_token.specs.declared.token.Token.TheVariants as token
 use Rattle.chi_token.specs.Characters.{is_digit}
 use Rattle.chi_token.specs.Spelling.{canonical_spelling}
-use Rattle.chi_token.specs.Tokens.{IsToken}
 use Rattle.chi_lex.specs.Gaps.{space}
-use Rattle.chi_lex.specs.Reading.{longest_token}
 use Rattle.chi_lex.proofs.Runs.{StopsAt, and_left, and_right}
 use Rattle.chi_fmt.specs.declared.comment.Comment.{Comment}
 use Rattle.chi_fmt.specs.declared.spot.Spot.{Spot}

@@ -1,7 +1,7 @@
 -- The reading of a text as blanks, lines of comments, and tokens by their canonical spelling: which tokens and comments it gives.
-use Rattle.std.proofs.Common.{◌≡◌, ℕ, suc, ◌+◌, ◌-◌, ◌<◌, ◌≤◌, Bool, true, false, cond, eqb, Option, Some, None, List, [], ◌∷◌, ◌++◌, length, take, drop, map, refl, sym, ap, subst, ◌∙◌, arith, length-append, append_assoc, append-nil}
+use Rattle.std.proofs.Common.{◌≡◌, ℕ, suc, ◌+◌, ◌-◌, ◌≤◌, true, cond, eqb, Some, None, List, [], ◌∷◌, ◌++◌, length, take, drop, map, refl, sym, ap, subst, ◌∙◌, arith, length-append, append_assoc}
 use Rattle.std.specs.Prelude.{slice_range}
-use Rattle.std.specs.List.{list_all, prefix_len, take_while}
+use Rattle.std.specs.List.{take_while}
 use Rattle.std.proofs.lemmas.List.{drop-drop, drop_at}
 use Rattle.std.proofs.lemmas.List.Folds.{length-prefix_len}
 use Rattle.chi_token.specs.Characters.{line_feed}
@@ -15,7 +15,7 @@ use Rattle.chi_lex.proofs.Runs.{prefix_len-stop}
 use Rattle.chi_fmt.specs.declared.comment.Comment.{Comment}
 use Rattle.chi_fmt.specs.Comments.{comment, gap_comments, comments_from}
 use Rattle.chi_fmt.specs.Reread.{IsCommentText}
-use Rattle.chi_fmt.proofs.Gaps.{past_blank, past_line_feed, past_comment}
+use Rattle.chi_fmt.proofs.Gaps.{past_blank, past_comment}
 use Rattle.chi_fmt.proofs.Standing.{gap-standing}
 
 -- from the index of the next token on

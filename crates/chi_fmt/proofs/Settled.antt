@@ -1,13 +1,11 @@
 -- Lines whose `;` are those of the text, with the comments as they stand there, have the same text again.
-use Rattle.std.proofs.Common.{◌≡◌, ℕ, zero, suc, ◌+◌, ◌<◌, ◌≤◌, Bool, true, false, ◌&&◌, cond, ltb, List, [], ◌∷◌, ◌++◌, length, take, drop, map, refl, sym, ap, subst, ◌∙◌, arith, append_assoc, append-nil}
+use Rattle.std.proofs.Common.{◌≡◌, ℕ, suc, ◌+◌, ◌<◌, ◌≤◌, Bool, true, false, ◌&&◌, cond, ltb, List, [], ◌∷◌, ◌++◌, length, take, drop, map, refl, ap, subst, ◌∙◌, arith, append-nil}
 use Rattle.std.specs.List.{flat_map, take_while, prefix_len}
 use Rattle.std.proofs.Math.Seq.{take-append_seam}
 use Rattle.std.proofs.lemmas.List.{drop_at}
 use Rattle.std.proofs.lemmas.Bool.Decides.{nat_tests}
 use Rattle.chi_fmt.specs.declared.comment.Comment.{Comment}
 use Rattle.chi_fmt.specs.declared.line.Line.{Line}
-use Rattle.chi_fmt.specs.declared.line.Semicolon.{Semicolon}
-use Rattle.chi_fmt.specs.Comments.{comment}
 use Rattle.chi_fmt.specs.Rows.{comment_text, empty_line, line_text}
 use Rattle.chi_fmt.specs.Pages.{one_if, source_tokens, kept_tokens, stands_before, line_with, lines_text}
 use Rattle.chi_fmt.specs.Reread.{before, moved, text_tokens, settled, HaveTokens}

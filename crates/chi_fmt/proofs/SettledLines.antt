@@ -1,5 +1,5 @@
 -- The lines of a kept statement are those of the statement, with those `;` written that are kept; and what is formed stays formed.
-use Rattle.std.proofs.Common.{◌≡◌, ℕ, Bool, true, false, List, [], ◌∷◌, ◌++◌, Option, map, refl, sym, ap, subst, ◌∙◌}
+use Rattle.std.proofs.Common.{◌≡◌, ℕ, Bool, true, false, List, [], ◌∷◌, ◌++◌, map, refl, sym, ap, subst, ◌∙◌}
 use Rattle.std.proofs.lemmas.List.{map-append}
 use Rattle.chi_token.specs.declared.keyword.Keyword.TheVariants.{AltWord, BreakWord, ContinueWord, ElifWord, ElseWord, ExitWord, FinishWord, ForWord, IfWord, PassWord, ReturnWord, RunWord, SelectWord, StartWord, UnwindWord, WhileWord}
 use Rattle.chi_token.specs.declared.sign.Sign.TheVariants.{Assign, Comma}
@@ -10,11 +10,8 @@ use Rattle.chi_tree.specs.declared.statement.Statement.{Statement}
 use Rattle.chi_tree.specs.declared.statement.Statement.TheVariants as statement
 use Rattle.chi_tree.specs.declared.statement.Branch.{Branch}
 use Rattle.chi_tree.specs.declared.statement.Alternative.{Alternative}
-use Rattle.chi_tree.specs.declared.statement.Alternative.TheVariants as alternative
 use Rattle.chi_tree.specs.Statements.{step}
 use Rattle.chi_tree_spell.specs.Words.{each_after, write_word}
-use Rattle.chi_tree_laws.specs.Expressions.{FormedExpr}
-use Rattle.chi_tree_laws.specs.Levels as level
 use Rattle.chi_tree_laws.specs.Statements.{FormedBlock, FormedInner, FormedStatement, FormedBranches, FormedAlternatives, FormedAlternative}
 use Rattle.chi_tree_laws.specs.Statements as formed
 use Rattle.chi_fmt.specs.declared.line.Line.{Line}
@@ -22,8 +19,8 @@ use Rattle.chi_fmt.specs.declared.line.Semicolon.{Semicolon}
 use Rattle.chi_fmt.specs.declared.spot.Role.TheVariants.{Usual}
 use Rattle.chi_fmt.specs.Expressions.{Spots, commas, expr_spots, exprs_spots, round, spot, type_spots}
 use Rattle.chi_fmt.specs.Parts.{communication_spots, elements_spots, offer_spots, sign, target_spots, variable_spots, walk_spots, word}
-use Rattle.chi_fmt.specs.Lines.{OfStatement, line, header, inside, no_semicolon, end_line, block_lines, led_lines, lines_with, else_lines, lines_to_end, unwound_lines, is_some, one_line, step_lines, statement_lines, branch_lines, alternative_lines}
-use Rattle.chi_fmt.specs.Kept.{separated, kept_step, kept_statement, kept_branch, kept_alternative, kept_block}
+use Rattle.chi_fmt.specs.Lines.{OfStatement, header, inside, no_semicolon, end_line, block_lines, led_lines, lines_with, else_lines, lines_to_end, is_some, one_line, step_lines, statement_lines, branch_lines, alternative_lines}
+use Rattle.chi_fmt.specs.Kept.{kept_step, kept_statement, kept_branch, kept_alternative, kept_block}
 use Rattle.chi_fmt.specs.Reread.{settled}
 use Rattle.chi_fmt.proofs.LinesIn as lines
 use Rattle.chi_fmt.proofs.KeptIn as kept

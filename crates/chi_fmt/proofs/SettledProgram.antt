@@ -9,7 +9,6 @@ use Rattle.chi_token.specs.declared.keyword.Keyword.TheVariants.{FuncWord, Model
 use Rattle.chi_token.specs.declared.sign.Sign.TheVariants.{Colon}
 use Rattle.chi_tree_laws.specs.Definitions.{FormedDefinition, FormedItems, FormedProgram}
 use Rattle.chi_tree_laws.specs.Definitions as formed
-use Rattle.chi_fmt.specs.declared.line.Line.{Line}
 use Rattle.chi_fmt.specs.declared.line.Semicolon.{Semicolon}
 use Rattle.chi_fmt.specs.Expressions.{Spots, formals_spots, round, type_spots}
 use Rattle.chi_fmt.specs.Parts.{name_spot, sign, word}

@@ -1,15 +1,14 @@
 -- How sound rows are put together.
-use Rattle.std.proofs.Common.{◌≡◌, ℕ, Bool, true, false, not, ◌||◌, ◌&&◌, List, [], ◌∷◌, ◌++◌, refl, sym, ap, subst, ◌∙◌, append_assoc}
-use Rattle.chi_token.specs.declared.sign.Sign.TheVariants.{Comma, Dot, LeftBrace, LeftBracket, LeftParen, RightBrace, RightBracket, RightParen}
+use Rattle.std.proofs.Common.{◌≡◌, ℕ, Bool, true, false, not, ◌||◌, ◌&&◌, List, [], ◌∷◌, ◌++◌, refl, sym, ap, subst, append_assoc}
+use Rattle.chi_token.specs.declared.sign.Sign.TheVariants.{Dot, LeftBrace, LeftBracket, LeftParen, RightBrace, RightBracket, RightParen}
 use Rattle.chi_token.specs.declared.token.Token.{Token}
 use Rattle.chi_token.specs.declared.token.Token.TheVariants as token
-use Rattle.chi_tree_spell.specs.Words.{each_after}
 use Rattle.chi_fmt.specs.declared.spot.Role.TheVariants.{Usual}
 use Rattle.chi_fmt.specs.declared.spot.Spot.{Spot}
 use Rattle.chi_fmt.specs.Expressions.{Spots, spot}
 use Rattle.chi_fmt.specs.Parts.{sign}
 use Rattle.chi_fmt.specs.Spaces.{opens}
-use Rattle.chi_fmt.specs.Sound.{role_fits, is_dot, is_name, starts_equal, is_tight, fits, is_row}
+use Rattle.chi_fmt.specs.Sound.{role_fits, is_dot, is_name, starts_equal, is_tight, is_row}
 
 -- the first spot, if there is one, begins with no equals sign
 abbrev pub begins_well : List Spot → Bool

@@ -1,31 +1,29 @@
 -- Which bytes may follow a token so that it is read as it is.
-use Rattle.std.proofs.Common.{◌≡◌, ◌≢◌, ℕ, zero, suc, ◌+◌, ◌<◌, ◌≤◌, Bool, true, false, not, ◌||◌, ◌&&◌, cond, eqb, ltb, Option, Some, None, List, [], ◌∷◌, ◌++◌, length, take, drop, get_or, length-append, append_assoc, refl, sym, ap, subst, ◌∙◌, arith}
+use Rattle.std.proofs.Common.{◌≡◌, ◌≢◌, ℕ, ◌+◌, ◌<◌, Bool, true, false, ◌||◌, ◌&&◌, cond, eqb, ltb, Option, Some, None, List, [], ◌∷◌, ◌++◌, length, take, drop, get_or, length-append, append_assoc, refl, sym, ap, subst, ◌∙◌, arith}
 use Rattle.std.specs.Option.{option_map}
 use Rattle.std.specs.List.{list_all, prefix_len, take_while, flat_map}
 use Rattle.std.proofs.Math.Seq.{take-append_seam}
 use Rattle.std.proofs.lemmas.Bool.{eqb-true, eqb-false, ltb-true}
 use Rattle.std.proofs.lemmas.List.{drop_at, take-append-drop}
 use Rattle.std.proofs.lemmas.List.Folds.{length-prefix_len}
-use Rattle.chi_token.specs.declared.keyword.Keyword.{Keyword}
 use Rattle.chi_token.specs.declared.sign.Sign.{Sign}
 use Rattle.chi_token.specs.declared.sign.Sign.TheVariants.{LessEqual, Equal, NotEqual, GreaterEqual, Less, Greater, Assign, Bang}
 use Rattle.chi_token.specs.declared.token.Token.{Token}
 use Rattle.chi_token.specs.declared.token.Token.TheVariants as token
 use Rattle.chi_token.specs.Characters.{is_name_start, is_name_byte, is_digit, is_point, point, quote}
-use Rattle.chi_token.specs.Keywords.{keyword_of, word_of}
-use Rattle.chi_token.specs.Prefixes.{longest_prefix}
+use Rattle.chi_token.specs.Keywords.{keyword_of}
 use Rattle.chi_token.specs.Signs.{sign_of, mark_of}
 use Rattle.chi_token.specs.Spelling.{canonical_spelling}
 use Rattle.chi_token.specs.Tables.{value_at}
 use Rattle.chi_token.specs.Texts.{text_of, meaning, quoted, quoted_byte}
-use Rattle.chi_token.specs.Tokens.{IsToken, token_spelled_by, word_or_name, number_of, is_digits, is_real, is_fraction}
+use Rattle.chi_token.specs.Tokens.{IsToken, token_spelled_by, word_or_name, is_digits, is_real, is_fraction}
 use Rattle.chi_lex.specs.Fractions.{fraction_length, fraction_by}
 use Rattle.chi_lex.specs.Gaps.{gap_of, goes_on}
 use Rattle.chi_lex.specs.Reading.{longest_token}
 use Rattle.chi_lex.proofs.Runs.{StopsAt, prefix_len-stop, list_all-take-prefix_len, and_left, and_right}
 use Rattle.chi_lex.proofs.WordLemmas.{longest-word}
-use Rattle.chi_lex.proofs.NumberLemmas.{longest-int, longest-real, Parts}
-use Rattle.chi_lex.proofs.SignLemmas.{BeginsSign, IsSignOf, longest-sign_of_one, longest-sign_of_two}
+use Rattle.chi_lex.proofs.NumberLemmas.{longest-int, longest-real}
+use Rattle.chi_lex.proofs.SignLemmas.{BeginsSign, longest-sign_of_one, longest-sign_of_two}
 use Rattle.chi_lex.proofs.TextLemmas.{text_of-snoc}
 use Rattle.chi_lex.proofs.TextScan.{longest-text}
 use Rattle.chi_lex.proofs.SpellingLemmas.{token_spelled_by-spelled}

@@ -1,10 +1,10 @@
 -- Sound rows with the tokens that they show, and how both are put together.
-use Rattle.std.proofs.Common.{◌≡◌, ℕ, Bool, true, false, not, List, [], ◌∷◌, ◌++◌, map, refl, sym, ap, subst, ◌∙◌, append_assoc}
+use Rattle.std.proofs.Common.{◌≡◌, ℕ, true, false, not, List, [], ◌∷◌, ◌++◌, map, refl, sym, ap, subst, ◌∙◌, append_assoc}
 use Rattle.std.proofs.lemmas.List.{map-append}
-use Rattle.chi_token.specs.declared.sign.Sign.TheVariants.{Comma, Dot, LeftBrace, LeftBracket, LeftParen, RightBrace, RightBracket, RightParen}
+use Rattle.chi_token.specs.declared.sign.Sign.TheVariants.{Dot, LeftBrace, LeftBracket, LeftParen, RightBrace, RightBracket, RightParen}
 use Rattle.chi_token.specs.declared.token.Token.{Token}
 use Rattle.chi_token.specs.declared.token.Token.TheVariants as token
-use Rattle.chi_tree_spell.specs.Words.{Tokens, all, each_after, separated}
+use Rattle.chi_tree_spell.specs.Words.{Tokens}
 use Rattle.chi_fmt.specs.declared.spot.Role.TheVariants.{Usual}
 use Rattle.chi_fmt.specs.declared.spot.Spot.{Spot}
 use Rattle.chi_fmt.specs.Expressions.{Spots, spot}

@@ -1,5 +1,5 @@
 -- The lines of formed statements have sound rows, none without a token, and show the tokens of the source.
-use Rattle.std.proofs.Common.{◌≡◌, ℕ, Bool, true, false, List, [], ◌∷◌, ◌++◌, Option, Some, None, map, refl, sym, ap, ◌∙◌, append_assoc, append-nil}
+use Rattle.std.proofs.Common.{◌≡◌, ℕ, Bool, true, false, List, [], ◌∷◌, ◌++◌, map, refl, sym, ap, ◌∙◌, append_assoc, append-nil}
 use Rattle.chi_token.specs.declared.keyword.Keyword.{Keyword}
 use Rattle.chi_token.specs.declared.keyword.Keyword.TheVariants.{AltWord, BreakWord, ContinueWord, ElifWord, ElseWord, EndWord, ExitWord, FinishWord, ForWord, IfWord, PassWord, ReturnWord, RunWord, SelectWord, StartWord, UnwindWord, WhileWord, WriteWord, WritelnWord}
 use Rattle.chi_token.specs.declared.sign.Sign.TheVariants.{Assign, Colon}
@@ -19,12 +19,10 @@ use Rattle.chi_tree_laws.specs.Statements.{FormedBlock, FormedInner, FormedState
 use Rattle.chi_tree_laws.specs.Statements as formed
 use Rattle.chi_tree_laws.specs.Expressions.{FormedExpr, FormedExprs}
 use Rattle.chi_tree_laws.specs.Expressions as formed_expr
-use Rattle.chi_tree_laws.specs.Levels as level
-use Rattle.chi_fmt.specs.declared.line.Line.{Line}
 use Rattle.chi_fmt.specs.declared.line.Semicolon.{Semicolon}
 use Rattle.chi_fmt.specs.Expressions.{Spots, expr_spots, exprs_spots}
 use Rattle.chi_fmt.specs.Parts.{word, offer_spots, walk_spots}
-use Rattle.chi_fmt.specs.Lines.{Led, OfStatement, InBlock, line, header, inside, no_semicolon, end_line, block_lines, led_lines, lines_with, else_lines, lines_to_end, unwound_lines, is_some, step_lines, statement_lines, branch_lines, alternative_lines}
+use Rattle.chi_fmt.specs.Lines.{Led, OfStatement, InBlock, line, header, inside, no_semicolon, end_line, block_lines, led_lines, lines_with, else_lines, lines_to_end, is_some, step_lines, statement_lines, branch_lines, alternative_lines}
 use Rattle.chi_fmt.proofs.ExprRows.{expr-start, type-start, if-row, exprs-after}
 use Rattle.chi_fmt.proofs.PartRows.{targets-start, variables-start, walk-start, communication-ending, offer-ending, elements-start}
 use Rattle.chi_fmt.proofs.LineRows.{Sources, one, both, nothing, sources_as, one-plain, header-one}

@@ -1,5 +1,5 @@
 -- The comments of a source: each with the index of the token after it, which for those after the last token is their number.
-use Rattle.std.specs.Prelude.{ℕ, ◌+◌, ◌==◌, not, Bool, List, [], ◌∷◌, ◌++◌, drop, slice_range}
+use Rattle.std.specs.Prelude.{ℕ, ◌+◌, ◌==◌, Bool, List, [], ◌∷◌, ◌++◌, drop, slice_range}
 use Rattle.std.specs.List.{flat_map, position_or_len, slice_split}
 use Rattle.chi_token.specs.declared.place.Spanned.{Spanned}
 use Rattle.chi_lex.specs.Gaps.{hash}

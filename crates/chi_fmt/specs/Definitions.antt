@@ -3,7 +3,6 @@ use Rattle.std.specs.Prelude.{Bool, true, false, List, [], ◌∷◌, ◌++◌, 
 use Rattle.std.specs.Option.{option_map}
 use Rattle.chi_token.specs.declared.keyword.Keyword.TheVariants.{ConstWord, EnumWord, FuncWord, ModelWord, ProcWord, TypeWord, XperWord}
 use Rattle.chi_token.specs.declared.sign.Sign.TheVariants.{Assign, Colon}
-use Rattle.chi_tree.specs.declared.type_tree.Name.{Name}
 use Rattle.chi_tree.specs.declared.type_tree.TypeTree.{TypeTree}
 use Rattle.chi_tree.specs.declared.type_tree.Formal.{Formal}
 use Rattle.chi_tree.specs.declared.statement.Step.{Step}

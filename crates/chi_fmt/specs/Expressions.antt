@@ -1,7 +1,6 @@
 -- The spots of an expression and of a type, from left to right: the tokens that spell it, each in its role. All are usual but
 -- the sign before an operand and the two signs round an empty container's type.
 use Rattle.std.specs.Prelude.{List, [], ◌∷◌, ◌++◌, map}
-use Rattle.chi_token.specs.declared.place.Place.{Place}
 use Rattle.chi_token.specs.declared.sign.Sign.TheVariants.{Less, Greater, Colon}
 use Rattle.chi_token.specs.declared.token.Token.{Token}
 use Rattle.chi_token.specs.declared.token.Token.TheVariants as token
@@ -15,7 +14,7 @@ use Rattle.chi_tree.specs.declared.expr.Entry.{Entry, fold-Entry}
 use Rattle.chi_tree.specs.declared.expr.Link.{Link, fold-Link}
 use Rattle.chi_tree_spell.specs.Marks.{Put}
 use Rattle.chi_tree_spell.specs.Words.{prefix_token}
-use Rattle.chi_tree_spell.specs.Expressions.{Declared, bare, put_name, put_commas, put_round, put_square, put_curly, declared_formals, expr_step, postfix_step, type_step, entry_step, link_step, formal_step}
+use Rattle.chi_tree_spell.specs.Expressions.{Declared, bare, put_commas, put_round, put_square, put_curly, declared_formals, expr_step, postfix_step, type_step, entry_step, link_step, formal_step}
 use Rattle.chi_fmt.specs.declared.spot.Role.{Role}
 use Rattle.chi_fmt.specs.declared.spot.Role.TheVariants.{Usual, Prefix, Opens, Closes}
 use Rattle.chi_fmt.specs.declared.spot.Spot.{Spot}

@@ -1,5 +1,5 @@
 -- The tree with the `;` that the layout keeps: one after each statement that another follows, and no other.
-use Rattle.std.specs.Prelude.{Bool, false, List, [], ◌∷◌, map}
+use Rattle.std.specs.Prelude.{false, List, [], ◌∷◌, map}
 use Rattle.chi_tree.specs.declared.statement.Step.{Step, Step-F, fold-Step}
 use Rattle.chi_tree.specs.declared.statement.Statement.{Statement, Statement-F, fold-Statement, roll-Statement}
 use Rattle.chi_tree.specs.declared.statement.Branch.{Branch, Branch-F, fold-Branch, roll-Branch}

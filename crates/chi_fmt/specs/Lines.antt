@@ -1,8 +1,7 @@
 -- How statements are lines. `margin` is the number of spaces before the first token of a line; what stands in a block is two
 -- spaces further in. A statement is given its margin and the `;` after it, which ends its last line.
-use Rattle.std.specs.Prelude.{ℕ, ◌+◌, Bool, true, false, List, [], ◌∷◌, ◌++◌, Option, Some, None, map}
+use Rattle.std.specs.Prelude.{ℕ, ◌+◌, Bool, true, false, List, [], ◌∷◌, ◌++◌, map}
 use Rattle.std.specs.Option.{option_map}
-use Rattle.chi_token.specs.declared.keyword.Keyword.{Keyword}
 use Rattle.chi_token.specs.declared.keyword.Keyword.TheVariants.{AltWord, BreakWord, ContinueWord, ElifWord, ElseWord, EndWord, ExitWord, FinishWord, ForWord, IfWord, PassWord, ReturnWord, RunWord, SelectWord, StartWord, UnwindWord, WhileWord}
 use Rattle.chi_token.specs.declared.sign.Sign.TheVariants.{Assign, Colon, Comma}
 use Rattle.chi_token.specs.declared.token.Token.TheVariants.{Text}

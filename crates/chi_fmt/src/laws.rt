@@ -47,3 +47,8 @@ pub fn layout_law()
     ensures { (program : Program) (comments : List Comment) → IsOfSource program → AreComments comments
         → IsReread (layout program comments) program comments }
 {}
+
+/// Each comment of a source begins with a hash sign, and has no line feed.
+pub fn comments_law()
+    ensures { (source : List ℕ) (tokens : List Spanned) → AreComments (comments_of source tokens) }
+{}

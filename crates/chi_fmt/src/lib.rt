@@ -23,5 +23,5 @@ mod written;
 pub use comment::Comment;
 pub use fault::FmtFault;
 pub use found::comments;
-pub use laws::{layout_law, row_law, text_law};
+pub use laws::{comments_law, layout_law, row_law, text_law};
 pub use written::canonical;

@@ -1,12 +1,10 @@
-use Rattle.std.proofs.Common.{◌≡◌, List, [], ◌++◌, true, refl, subst, append-nil}
+use Rattle.std.proofs.Common.{◌≡◌, [], true, refl, subst, append-nil}
 use Rattle.chi_tree_spell.specs.Words.{Tokens}
 use Rattle.chi_fmt.specs.Expressions.{Spots}
-use Rattle.chi_fmt.specs.Reread.{token_at}
 use Rattle.chi_fmt.specs.Sound.{is_row}
 use Rattle.chi_fmt.proofs.ExprRows.{expr-start, type-start}
 use Rattle.chi_fmt.proofs.Starts.{Start}
 use Rattle.chi_fmt.proofs.DefinitionLines.{program-sources}
-use Rattle.chi_fmt.proofs.KeptIn as kept
 use Rattle.chi_fmt.proofs.laws.row_law.Goals as goal
 
 alone : (xs : Spots) (ts : Tokens) → Start xs ts → is_row xs ≡ true

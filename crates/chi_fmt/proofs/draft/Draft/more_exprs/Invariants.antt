@@ -1,8 +1,8 @@
 use Rattle.std.proofs.Common.{◌≡◌, ◌++◌, map, drop}
 use Rattle.chi_token.specs.declared.sign.Sign.TheVariants.{Comma}
 use Rattle.chi_tree_spell.specs.Words.{each_after}
-use Rattle.chi_fmt.specs.Expressions.{commas, expr_spots}
-use Rattle.chi_fmt.specs.Parts.{sign, name_spots, names_spots, variable_spots, target_spots}
+use Rattle.chi_fmt.specs.Expressions.{expr_spots}
+use Rattle.chi_fmt.specs.Parts.{sign}
 use Rattle.chi_fmt.proofs.draft.Draft.more_exprs.Given as goal
 
 abbrev pub invariant-loop-expr : goal.invariant-loop-expr

@@ -1,8 +1,8 @@
 use Rattle.std.proofs.Common.{◌≡◌, ◌++◌, map, drop}
 use Rattle.chi_token.specs.declared.sign.Sign.TheVariants.{Comma}
 use Rattle.chi_tree_spell.specs.Words.{each_after}
-use Rattle.chi_fmt.specs.Expressions.{commas, expr_spots}
-use Rattle.chi_fmt.specs.Parts.{sign, name_spots, names_spots, variable_spots, target_spots}
+use Rattle.chi_fmt.specs.Expressions.{commas}
+use Rattle.chi_fmt.specs.Parts.{sign, target_spots}
 use Rattle.chi_fmt.proofs.draft.Draft.targets.Given as goal
 
 abbrev pub invariant-loop-target : goal.invariant-loop-target
