@@ -9,7 +9,7 @@ use Rattle.clap.specs.Kinds.{Kinds}
 use Rattle.clap.specs.Faults.{bundle_fault, flags_fault, step_fault, word_fault}
 use Rattle.chi_cli.specs.declared.command.Command.{Command}
 use Rattle.chi_cli.specs.Commands.{Text}
-use Rattle.chi_cli.specs.Splitting.{Said, Next, any, plain_alone, Word, plain, waiting, end, any_word, word_of}
+use Rattle.chi_cli.specs.Splitting.{Said, Next, any, plain_alone, Word, plain, end, any_word, word_of}
 use Rattle.chi_cli.proofs.Forms.{hyphens}
 use Rattle.chi_cli.proofs.Holding.{none, none_both, plain_more}
 use Rattle.chi_cli.proofs.Rules.{rules, shape, short_none}

@@ -59,6 +59,7 @@ file_alone = one_more built_file [] (without_default built_file refl) no_more
 no_default_fault : (c : Command) (rows : List Row) → defaults_fault rows (rules c) ≡ []
 no_default_fault command.Check rows = file_alone rows
 no_default_fault command.Code rows = file_alone rows
+no_default_fault command.Fmt rows = file_alone rows
 no_default_fault command.Load rows = file_alone rows
 no_default_fault command.TraceUp rows = file_alone rows
 no_default_fault command.Sim rows =
@@ -83,6 +84,7 @@ skip o is more rows = ap (λ (rs : List Row). fold with_default rs more) (unchan
 finished_is : (c : Command) (rows : List Row) → fold with_default rows (rules c) ≡ at_end c rows
 finished_is command.Check rows = unchanged built_file refl rows
 finished_is command.Code rows = unchanged built_file refl rows
+finished_is command.Fmt rows = unchanged built_file refl rows
 finished_is command.Load rows = unchanged built_file refl rows
 finished_is command.TraceUp rows = unchanged built_file refl rows
 finished_is command.Sim rows =
@@ -102,6 +104,7 @@ end_kept : (c : Command) (id : Text) (rows : List Row) → bytes_eq (codes "trac
 end_kept command.Sim id rows apart = trace_kept id rows apart
 end_kept command.Check id rows apart = refl
 end_kept command.Code id rows apart = refl
+end_kept command.Fmt id rows apart = refl
 end_kept command.Load id rows apart = refl
 end_kept command.TraceUp id rows apart = refl
 
@@ -142,6 +145,7 @@ flag_end : (c : Command) (rows : List Row) → flag_of (row_at (codes "trace") (
 flag_end command.Sim rows = trace_end rows
 flag_end command.Check rows = refl
 flag_end command.Code rows = refl
+flag_end command.Fmt rows = refl
 flag_end command.Load rows = refl
 flag_end command.TraceUp rows = refl
 
@@ -176,6 +180,7 @@ check_is : (c : Command) (rows : List Row) → none (check_fault (shape c) rows 
 check_is command.Sim rows = wants (row_is_given (codes "file") rows)
 check_is command.Check rows = wants (row_is_given (codes "file") rows)
 check_is command.Code rows = wants (row_is_given (codes "file") rows)
+check_is command.Fmt rows = wants (row_is_given (codes "file") rows)
 check_is command.Load rows = wants (row_is_given (codes "file") rows)
 check_is command.TraceUp rows = wants (row_is_given (codes "file") rows)
 

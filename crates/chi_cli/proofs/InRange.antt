@@ -7,7 +7,7 @@ use Rattle.std.specs.Str.Parse.{digits_value}
 use Rattle.chi_num.specs.Decimal.{number_of, signed}
 use Rattle.chi_num.specs.Nearest.{nearest}
 use Rattle.chi_num.specs.Results.{fits, rounded}
-use Rattle.chi_num.specs.TextNumbers.{Meant, means, out_of_range, answer_of, decimals_of, after_digits, front_digits, has_minus, in_range, real_meant, units_meant, unsigned}
+use Rattle.chi_num.specs.TextNumbers.{means, out_of_range, answer_of, decimals_of, after_digits, front_digits, has_minus, real_meant, units_meant, unsigned}
 use Rattle.chi_cli.specs.declared.command.Command.{Command}
 use Rattle.chi_cli.specs.declared.command.Command.TheVariants as command
 use Rattle.chi_cli.specs.declared.command.OptionName.{OptionName}
@@ -17,15 +17,16 @@ use Rattle.chi_cli.specs.declared.fault.CliFault.TheVariants as fault
 use Rattle.chi_cli.specs.declared.policy.PolicyName.{PolicyName}
 use Rattle.chi_cli.specs.declared.policy.PolicyName.TheVariants as policy
 use Rattle.chi_cli.specs.declared.request.Request.{Request}
+use Rattle.chi_cli.specs.declared.request.Request.TheVariants as request
 use Rattle.chi_cli.specs.declared.words.TheConstants.{STEPS, MOST_STEPS}
 use Rattle.chi_cli.specs.Commands.{Text, command_named}
 use Rattle.chi_trace.specs.declared.filter.EventKind.{EventKind}
 use Rattle.chi_trace.specs.declared.filter.Filter.{Filter}
 use Rattle.chi_trace.specs.declared.filter.Filter.TheVariants as filter
 use Rattle.chi_cli.specs.Numbers.{is_numeral, number_in, number_or, number_sought, time_in, time_or_none, within}
-use Rattle.chi_cli.specs.Probes.{kind_named, probe_in, probe_or_all, sought}
+use Rattle.chi_cli.specs.Probes.{kind_named, probe_or_all, sought}
 use Rattle.chi_cli.specs.Ranges.{IsFilter, IsInRange, IsPick, IsTime}
-use Rattle.chi_cli.specs.Requests.{asked, check, code, command_request, each_once, load, load_of, one_word, pick_of, policy_or_first, request_of, run_asked, said_request, sim, sim_of_file, trace_up, value_given}
+use Rattle.chi_cli.specs.Requests.{asked, command_request, each_once, load, load_of, of_file, one_word, pick_of, policy_or_first, request_of, run_asked, said_request, sim, sim_of_file, value_given}
 use Rattle.chi_cli.specs.Splitting.{Said, name_in, split, value_in}
 use Rattle.chi_load.specs.declared.source.TheConstants.{MOST_MACHINES}
 
@@ -178,16 +179,20 @@ load_in_range (Some size) = each (number_in 1 MOST_MACHINES size) refl where
 asked_in_range : (c : Command) (said : Said) → IfOk (asked c said) IsInRange
 asked_in_range command.Sim said = sim_in_range said.plain said.options
 asked_in_range command.Check said = each (one_word said.plain) where
-  each : (o : Option Text) → IfOk (check o) IsInRange
+  each : (o : Option Text) → IfOk (of_file request.Check o) IsInRange
   each None = tt
   each (Some file) = tt
 asked_in_range command.Code said = each (one_word said.plain) where
-  each : (o : Option Text) → IfOk (code o) IsInRange
+  each : (o : Option Text) → IfOk (of_file request.Code o) IsInRange
+  each None = tt
+  each (Some file) = tt
+asked_in_range command.Fmt said = each (one_word said.plain) where
+  each : (o : Option Text) → IfOk (of_file request.Fmt o) IsInRange
   each None = tt
   each (Some file) = tt
 asked_in_range command.Load said = load_in_range (one_word said.plain)
 asked_in_range command.TraceUp said = each (one_word said.plain) where
-  each : (o : Option Text) → IfOk (trace_up o) IsInRange
+  each : (o : Option Text) → IfOk (of_file request.TraceUp o) IsInRange
   each None = tt
   each (Some file) = tt
 

@@ -4,7 +4,7 @@ use Rattle.chi_cli.specs.declared.fault.CliFault.{CliFault}
 use Rattle.chi_cli.specs.declared.fault.CliFault.TheVariants as fault
 use Rattle.chi_cli.specs.declared.request.Request.{Request}
 use Rattle.chi_cli.specs.Commands.{Text}
-use Rattle.chi_cli.specs.Requests.{IsRefused, request_of}
+use Rattle.chi_cli.specs.Requests.{request_of}
 use Rattle.chi_cli.specs.Answers.{IsAnswer}
 
 answer_is : (words : List Text) (answer : Result Request CliFault) → IsAnswer words answer → answer ≢ Err fault.NoMemory → request_of words ≡ answer

@@ -13,7 +13,7 @@ use Rattle.chi_cli.specs.declared.command.OptionName.{OptionName}
 use Rattle.chi_cli.specs.declared.command.OptionName.TheVariants as name
 use Rattle.chi_cli.specs.Commands.{Text, option_named, option_text, takes_value}
 use Rattle.chi_cli.specs.Requests.{each_once}
-use Rattle.chi_cli.specs.Splitting.{Said, any, value_of, plain, given, waiting, unfit, any_word, is_plain, option_or_unfit, option_word as word_of_option}
+use Rattle.chi_cli.specs.Splitting.{Said, any, value_of, given, waiting, unfit, any_word, is_plain, option_or_unfit, option_word as word_of_option}
 use Rattle.chi_cli.proofs.Forms.{hyphens}
 use Rattle.chi_cli.proofs.Holding.{Holds, given_values, holds_option, none, none_both, option_more, use_once}
 use Rattle.chi_cli.proofs.Once.{is_among, once_more}
@@ -148,6 +148,7 @@ plain_lacks c [] h unsettled =
 plain_lacks command.Sim (file ∷ args) h unsettled = ap none (never (is_pending built_args h.pending) (settle_fault (rules command.Sim) false h)) ∙ unsettled
 plain_lacks command.Check (file ∷ args) h unsettled = refl
 plain_lacks command.Code (file ∷ args) h unsettled = refl
+plain_lacks command.Fmt (file ∷ args) h unsettled = refl
 plain_lacks command.Load (file ∷ args) h unsettled = refl
 plain_lacks command.TraceUp (file ∷ args) h unsettled = refl
 

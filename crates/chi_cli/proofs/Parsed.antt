@@ -25,6 +25,7 @@ simple : (c : Command) → (is_simple_and_free (app_for c) ≡ true) × (is_simp
 simple command.Sim = (refl, refl)
 simple command.Check = (refl, refl)
 simple command.Code = (refl, refl)
+simple command.Fmt = (refl, refl)
 simple command.Load = (refl, refl)
 simple command.TraceUp = (refl, refl)
 

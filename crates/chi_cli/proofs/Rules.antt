@@ -31,6 +31,7 @@ built_for named o other = if named then Some (built_option o) else other
 pub long_found : (c : Command) (name : Text) → arg_by_long (rules c) name ≡ option_map built_option (option_named c name)
 long_found command.Check name = refl
 long_found command.Code name = refl
+long_found command.Fmt name = refl
 long_found command.Load name = refl
 long_found command.TraceUp name = refl
 long_found command.Sim name = each
@@ -57,12 +58,14 @@ pub short_none : (c : Command) (x : ℕ) → arg_by_short (rules c) x ≡ None
 short_none command.Sim x = refl
 short_none command.Check x = refl
 short_none command.Code x = refl
+short_none command.Fmt x = refl
 short_none command.Load x = refl
 short_none command.TraceUp x = refl
 
 pub id_found : (c : Command) (name : Text) (o : OptionName) → option_named c name ≡ Some o → arg_by_id (rules c) (option_text o) ≡ Some (built_option o)
 id_found command.Check name o e = absurd (cc)
 id_found command.Code name o e = absurd (cc)
+id_found command.Fmt name o e = absurd (cc)
 id_found command.Load name o e = absurd (cc)
 id_found command.TraceUp name o e = absurd (cc)
 id_found command.Sim name option.Seed e = refl
@@ -77,6 +80,7 @@ pub file_first : (c : Command) → arg_by_index (rules c) 1 ≡ Some built_file
 file_first command.Sim = refl
 file_first command.Check = refl
 file_first command.Code = refl
+file_first command.Fmt = refl
 file_first command.Load = refl
 file_first command.TraceUp = refl
 
@@ -84,6 +88,7 @@ pub file_found : (c : Command) → arg_by_id (rules c) (codes "file") ≡ Some b
 file_found command.Sim = refl
 file_found command.Check = refl
 file_found command.Code = refl
+file_found command.Fmt = refl
 file_found command.Load = refl
 file_found command.TraceUp = refl
 

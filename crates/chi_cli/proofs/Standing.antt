@@ -107,6 +107,7 @@ one_place : (c : Command) (word : Text) → has_place c (word ∷ []) ≡ true
 one_place command.Sim word = refl
 one_place command.Check word = refl
 one_place command.Code word = refl
+one_place command.Fmt word = refl
 one_place command.Load word = refl
 one_place command.TraceUp word = refl
 
@@ -213,6 +214,8 @@ no_place command.Check file word [] = refl
 no_place command.Check file word (arg ∷ args) = refl
 no_place command.Code file word [] = refl
 no_place command.Code file word (arg ∷ args) = refl
+no_place command.Fmt file word [] = refl
+no_place command.Fmt file word (arg ∷ args) = refl
 no_place command.Load file word [] = refl
 no_place command.Load file word (arg ∷ args) = refl
 no_place command.TraceUp file word [] = refl
@@ -227,5 +230,6 @@ takes_plain c rows pending waiting alone options [] word before_is = plain_first
 takes_plain command.Sim rows pending waiting alone options (file ∷ args) word before_is = plain_next rows pending waiting alone options file args word before_is
 takes_plain command.Check rows pending waiting alone options (file ∷ args) word before_is = inr (refl, and_right (each_once options) _ (no_place command.Check file word args))
 takes_plain command.Code rows pending waiting alone options (file ∷ args) word before_is = inr (refl, and_right (each_once options) _ (no_place command.Code file word args))
+takes_plain command.Fmt rows pending waiting alone options (file ∷ args) word before_is = inr (refl, and_right (each_once options) _ (no_place command.Fmt file word args))
 takes_plain command.Load rows pending waiting alone options (file ∷ args) word before_is = inr (refl, and_right (each_once options) _ (no_place command.Load file word args))
 takes_plain command.TraceUp rows pending waiting alone options (file ∷ args) word before_is = inr (refl, and_right (each_once options) _ (no_place command.TraceUp file word args))

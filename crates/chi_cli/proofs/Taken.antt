@@ -176,6 +176,7 @@ starts c = (refl, record { once = refl; holds = λ _. holds_nothing; room = has_
   has_room command.Sim = refl
   has_room command.Check = refl
   has_room command.Code = refl
+  has_room command.Fmt = refl
   has_room command.Load = refl
   has_room command.TraceUp = refl
 

@@ -12,7 +12,7 @@ use Rattle.chi_cli.specs.declared.command.OptionName.{OptionName}
 use Rattle.chi_cli.specs.declared.command.OptionName.TheVariants as name
 use Rattle.chi_cli.specs.Commands.{Text, option_text, takes_value}
 use Rattle.chi_cli.specs.Requests.{each_once}
-use Rattle.chi_cli.specs.Splitting.{Said, Next, any, value_of, Word, plain, given, waiting, unfit, next_after}
+use Rattle.chi_cli.specs.Splitting.{Said, Next, any, value_of, Word, plain, given, unfit, next_after}
 use Rattle.chi_cli.specs.Saying.{said_and}
 use Rattle.chi_cli.proofs.Forms.{hyphens}
 use Rattle.chi_cli.proofs.Holding.{given_values, holds_option, none, none_both, option_more, plain_more, use_once}

@@ -14,6 +14,7 @@ command_named word =
     if bytes_eq word (codes "sim") then Some command.Sim
     else if bytes_eq word (codes "check") then Some command.Check
     else if bytes_eq word (codes "code") then Some command.Code
+    else if bytes_eq word (codes "fmt") then Some command.Fmt
     else if bytes_eq word (codes "load") then Some command.Load
     else if bytes_eq word (codes "trace-up") then Some command.TraceUp
     else None
@@ -24,6 +25,7 @@ options_of command.Sim =
     option.Seed ∷ option.Steps ∷ option.Policy ∷ option.Salt ∷ option.Until ∷ option.Probe ∷ option.Trace ∷ []
 options_of command.Check = []
 options_of command.Code = []
+options_of command.Fmt = []
 options_of command.Load = []
 options_of command.TraceUp = []
 

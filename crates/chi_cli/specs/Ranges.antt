@@ -1,5 +1,5 @@
 -- The ranges of a request's numbers.
-use Rattle.std.specs.Prelude.{◌≡◌, ℕ, ◌^◌, ◌≤◌, ◌<◌, ℤ, pos, List, Option, IfSome}
+use Rattle.std.specs.Prelude.{◌≡◌, ℕ, ◌^◌, ◌≤◌, ◌<◌, ℤ, pos, IfSome}
 use Rattle.chi_cli.specs.declared.request.Pick.{Pick}
 use Rattle.chi_cli.specs.declared.request.Pick.TheVariants as pick
 use Rattle.chi_cli.specs.declared.request.Request.{Request}

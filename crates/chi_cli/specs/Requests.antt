@@ -72,13 +72,10 @@ abbrev pub one_word : List Text → Option Text
 one_word (word ∷ []) = Some word
 one_word _ = None
 
-abbrev pub check : Option Text → Result Request CliFault
-check None = Err fault.Usage
-check (Some file) = Ok (request.Check file)
-
-abbrev pub code : Option Text → Result Request CliFault
-code None = Err fault.Usage
-code (Some file) = Ok (request.Code file)
+-- what is done with a file, where there is one
+abbrev pub of_file : (Text → Request) → Option Text → Result Request CliFault
+of_file done None = Err fault.Usage
+of_file done (Some file) = Ok (done file)
 
 abbrev pub load_of : Option ℕ → Result Request CliFault
 load_of None = Err fault.BadNumber
@@ -89,17 +86,14 @@ abbrev pub load : Option Text → Result Request CliFault
 load None = Err fault.Usage
 load (Some size) = load_of (number_in 1 MOST_MACHINES size)
 
-abbrev pub trace_up : Option Text → Result Request CliFault
-trace_up None = Err fault.Usage
-trace_up (Some file) = Ok (request.TraceUp file)
-
 -- the request of a command's options and plain words
 abbrev pub asked : Command → Said → Result Request CliFault
 asked command.Sim said = sim said.plain said.options
-asked command.Check said = check (one_word said.plain)
-asked command.Code said = code (one_word said.plain)
+asked command.Check said = of_file request.Check (one_word said.plain)
+asked command.Code said = of_file request.Code (one_word said.plain)
+asked command.Fmt said = of_file request.Fmt (one_word said.plain)
 asked command.Load said = load (one_word said.plain)
-asked command.TraceUp said = trace_up (one_word said.plain)
+asked command.TraceUp said = of_file request.TraceUp (one_word said.plain)
 
 abbrev pub said_request : Command → Option Said → Result Request CliFault
 said_request command None = Err fault.Usage

@@ -1,5 +1,5 @@
 -- How the words after a command are split into options with their values, and plain words.
-use Rattle.std.specs.Prelude.{ℕ, ◌==◌, Bool, true, false, not, List, [], ◌∷◌, Option, Some, None, option_map, if◌then◌else◌}
+use Rattle.std.specs.Prelude.{◌==◌, Bool, true, false, not, List, [], ◌∷◌, Option, Some, None, option_map, if◌then◌else◌}
 use Rattle.chi_cli.specs.declared.command.Command.{Command}
 use Rattle.chi_cli.specs.declared.command.OptionName.{OptionName}
 use Rattle.chi_cli.specs.Commands.{Text, option_named, takes_value}

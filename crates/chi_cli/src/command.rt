@@ -7,6 +7,7 @@ pub enum Command {
     Sim,
     Check,
     Code,
+    Fmt,
     Load,
     TraceUp,
 }
@@ -44,6 +45,8 @@ impl Command {
             Some(Command::Check)
         } else if word == b"code".as_slice() {
             Some(Command::Code)
+        } else if word == b"fmt".as_slice() {
+            Some(Command::Fmt)
         } else if word == b"load".as_slice() {
             Some(Command::Load)
         } else if word == b"trace-up".as_slice() {
@@ -59,7 +62,7 @@ impl Command {
     {
         match self {
             Command::Sim => &SIM_OPTIONS,
-            Command::Check | Command::Code | Command::Load | Command::TraceUp => &[],
+            Command::Check | Command::Code | Command::Fmt | Command::Load | Command::TraceUp => &[],
         }
     }
 }

@@ -37,6 +37,10 @@ pub enum Request {
     Code {
         file: Bytes,
     },
+    /// To write a source in the canonical layout.
+    Fmt {
+        file: Bytes,
+    },
     Load {
         /// The size of the factory.
         n: u32,

@@ -1,9 +1,10 @@
 ghost use Rattle.std.specs.Prelude.{◌≡◌, Bool, [], Some, Ok, IfOk, IfErr, codes, option_map, unwrap_or};
 ghost use Rattle.clap.specs.Words.{all_of, first_of, found_of, one_of, rows_of};
 ghost use Rattle.chi_cli.specs.declared.command.Command.TheVariants as command;
+ghost use Rattle.chi_cli.specs.declared.request.Request.TheVariants as asked_for;
 ghost use Rattle.chi_cli.specs.Commands.{option_text};
 ghost use Rattle.chi_cli.specs.Parsing.{EachGiven, rest, truth_text};
-ghost use Rattle.chi_cli.specs.Requests.{IsRefused, asked, check, code, load, request_of, sim, sim_of_file, trace_up};
+ghost use Rattle.chi_cli.specs.Requests.{IsRefused, asked, load, of_file, request_of, sim, sim_of_file};
 ghost use Rattle.chi_cli.specs.Saying.{texts};
 
 use crate::command::{Command, OptionName};
@@ -50,6 +51,7 @@ fn asked(alloc: Global, command: Command, matches: &ArgMatches<'_>) -> Result<Re
         Command::Sim => sim(alloc, matches),
         Command::Check => check(alloc, text_of(matches, "file")),
         Command::Code => code(alloc, text_of(matches, "file")),
+        Command::Fmt => fmt(alloc, text_of(matches, "file")),
         Command::Load => load(text_of(matches, "file")),
         Command::TraceUp => trace_up(alloc, text_of(matches, "file")),
     }
@@ -82,8 +84,8 @@ fn has_trace(matches: &ArgMatches<'_>) -> bool
 }
 
 fn check(alloc: Global, file: Option<&[u8]>) -> Result<Request, CliFault>
-    ensures request { IfOk result (λ request. check (option_map (λ file. file.now) file.entry) ≡ Ok request) }
-    ensures fault { IfErr result (λ fault. IsRefused (check (option_map (λ file. file.now) file.entry)) fault) }
+    ensures request { IfOk result (λ request. of_file asked_for.Check (option_map (λ file. file.now) file.entry) ≡ Ok request) }
+    ensures fault { IfErr result (λ fault. IsRefused (of_file asked_for.Check (option_map (λ file. file.now) file.entry)) fault) }
 {
     match file {
         Some(file) => Ok(Request::Check {
@@ -94,11 +96,23 @@ fn check(alloc: Global, file: Option<&[u8]>) -> Result<Request, CliFault>
 }
 
 fn code(alloc: Global, file: Option<&[u8]>) -> Result<Request, CliFault>
-    ensures request { IfOk result (λ request. code (option_map (λ file. file.now) file.entry) ≡ Ok request) }
-    ensures fault { IfErr result (λ fault. IsRefused (code (option_map (λ file. file.now) file.entry)) fault) }
+    ensures request { IfOk result (λ request. of_file asked_for.Code (option_map (λ file. file.now) file.entry) ≡ Ok request) }
+    ensures fault { IfErr result (λ fault. IsRefused (of_file asked_for.Code (option_map (λ file. file.now) file.entry)) fault) }
 {
     match file {
         Some(file) => Ok(Request::Code {
+            file: Bytes::copy_of(alloc, file)?,
+        }),
+        None => Err(CliFault::Usage),
+    }
+}
+
+fn fmt(alloc: Global, file: Option<&[u8]>) -> Result<Request, CliFault>
+    ensures request { IfOk result (λ request. of_file asked_for.Fmt (option_map (λ file. file.now) file.entry) ≡ Ok request) }
+    ensures fault { IfErr result (λ fault. IsRefused (of_file asked_for.Fmt (option_map (λ file. file.now) file.entry)) fault) }
+{
+    match file {
+        Some(file) => Ok(Request::Fmt {
             file: Bytes::copy_of(alloc, file)?,
         }),
         None => Err(CliFault::Usage),
@@ -119,8 +133,8 @@ fn load(size: Option<&[u8]>) -> Result<Request, CliFault>
 }
 
 fn trace_up(alloc: Global, file: Option<&[u8]>) -> Result<Request, CliFault>
-    ensures request { IfOk result (λ request. trace_up (option_map (λ file. file.now) file.entry) ≡ Ok request) }
-    ensures fault { IfErr result (λ fault. IsRefused (trace_up (option_map (λ file. file.now) file.entry)) fault) }
+    ensures request { IfOk result (λ request. of_file asked_for.TraceUp (option_map (λ file. file.now) file.entry) ≡ Ok request) }
+    ensures fault { IfErr result (λ fault. IsRefused (of_file asked_for.TraceUp (option_map (λ file. file.now) file.entry)) fault) }
 {
     match file {
         Some(file) => Ok(Request::TraceUp {

@@ -9,8 +9,8 @@ use Rattle.chi_tool.specs.declared.task.Task.TheVariants.{OfFile, OfLog, OfFacto
 use Rattle.chi_tool.specs.Call.{Call}
 use Rattle.chi_tool.specs.Headline.{IsAskedSource, held, made, IsAskedLog}
 use Rattle.chi_tool.specs.Refusals.{Report, usage, no_such_file, file_too_long}
-use Rattle.chi_tool.specs.Report.{IsReportOfSource, IsReportOfLog, IsReportFor, IsReportOfFile, missing, long, fetched, IsReportOfTask, IsReportOfWish, IsReport}
-use Rattle.chi_tool.specs.Settings.{Aim, simulates, wanted_of, aim_of, plain}
+use Rattle.chi_tool.specs.Report.{IsReportOfLog, IsReportFor, IsReportOfFile, missing, long, fetched, IsReportOfTask, IsReportOfWish, IsReport}
+use Rattle.chi_tool.specs.Settings.{simulates, Aim, of_program, wanted_of, aim_of, plain}
 use Rattle.chi_tool.specs.Words.{Wish, nothing, of_task, wish_of}
 use Rattle.chi_tool.proofs.Contents.{source_of_file, log_of_file}
 use Rattle.chi_tool.proofs.Promises.{is_report}
@@ -21,7 +21,7 @@ pub data CaseOf (call : Call) (files : Files) (r : Report) : Type 0 where
   is_missing : r ≡ no_such_file → CaseOf call files r
   is_long : r ≡ file_too_long → CaseOf call files r
   of_log : (text : List ℕ) → IsAskedLog call files text → IsReportOfLog text r → CaseOf call files r
-  of_source : (aim : Aim) (source : List ℕ) → IsAskedSource call files aim source → IsReportOfSource source aim r → CaseOf call files r
+  of_source : (aim : Aim) (source : List ℕ) → IsAskedSource call files aim source → IsReportFor aim source r → CaseOf call files r
 
 module _ (call : Call) (files : Files) (r : Report) where
   file_case : (most : ℕ) (P : List ℕ → Report → Type 0) (o : Option (List ℕ))
@@ -37,7 +37,7 @@ module _ (call : Call) (files : Files) (r : Report) where
   task_case (OfLog name) asked is =
       file_case MOST_LOG_BYTES IsReportOfLog (files name)
       (λ text there within of. of_log text (record { name = name; asked = asked; there = there; within = within }) of) is
-  task_case (OfFactory size) asked is = of_source (simulates (wanted_of plain)) (factory_source size) (made size asked refl refl) is
+  task_case (OfFactory size) asked is = of_source (of_program (simulates (wanted_of plain))) (factory_source size) (made size asked refl refl) is
 
   wish_case : (w : Wish) → wish_of call.words ≡ w → IsReportOfWish w files r → CaseOf call files r
   wish_case nothing asked is = asks_nothing asked is
@@ -48,14 +48,14 @@ case_of call files r is = wish_case call files r (wish_of call.words) refl is
 
 -- the other way round
 pub asked_report : (call : Call) (files : Files) (aim : Aim) (source : List ℕ) (r : Report) → IsAskedSource call files aim source
-    → IsReportOfSource source aim r → IsReport call.words files r
+    → IsReportFor aim source r → IsReport call.words files r
 asked_report call files aim source r (held name purpose asked there within same) is =
     is_report (OfFile name purpose) name MOST_BYTES (IsReportFor (aim_of purpose)) (source_of_file name purpose) call asked files (Some source) r there
-    (fetched source refl within (subst (λ (a : Aim). IsReportOfSource source a r) same is))
+    (fetched source refl within (subst (λ (a : Aim). IsReportFor a source r) same is))
 asked_report call files aim source r (made size asked same plainly) is =
-    let of_size : IsReportOfSource (factory_source size) aim r = subst (λ (s : List ℕ). IsReportOfSource s aim r) same is in
+    let of_size : IsReportFor aim (factory_source size) r = subst (λ (s : List ℕ). IsReportFor aim s r) same is in
     let at_wish : Wish → Type 0 = λ w. IsReportOfWish w files r in
-    subst at_wish (sym asked) (subst (λ (p : Aim). IsReportOfSource (factory_source size) p r) plainly of_size)
+    subst at_wish (sym asked) (subst (λ (a : Aim). IsReportFor a (factory_source size) r) plainly of_size)
 
 pub asked_log_report : (call : Call) (files : Files) (text : List ℕ) (r : Report) → IsAskedLog call files text → IsReportOfLog text r → IsReport call.words files r
 asked_log_report call files text r a is =

@@ -10,34 +10,36 @@ use Rattle.chi_core.specs.declared.verdict.Verdict.TheVariants as verdict
 use Rattle.chi_value.specs.declared.value.Value.{Value}
 use Rattle.chi_tool.specs.Arguments.{Means}
 use Rattle.chi_tool.specs.Call.{Call}
-use Rattle.chi_tool.specs.Headline.{IsReportedOrLost, AsksFor, AsksForDone, AsksForLog, ComesUp, HasMisfit, HasLexicalFault, HasSyntaxFault, HasTypeFault, IsAskedSource, held, made, EndsAs, Ends, IsDone, IsExit, IsFault, HasUnfitArguments, MayHold, Headline, GoesWell, IsExactly, IsExactlyIn, IsExactlyOf}
+use Rattle.chi_tool.specs.Headline.{IsReportedOrLost, AsksFor, AsksForDone, AsksForLog, ComesUp, HasMisfit, HasLexicalFault, HasSyntaxFault, IsMistyped, IsTooLong, IsAskedSource, held, made, EndsAs, Ends, IsDone, IsExit, IsFault, HasUnfitArguments, MayHold, Headline, GoesWell, IsExactly, IsExactlyIn, IsExactlyOf}
 use Rattle.chi_tool.specs.Refusals as refusal
 use Rattle.chi_tool.specs.Refusals.{Report}
-use Rattle.chi_tool.specs.Report.{IsReportOfSource, refused, program, IsReportOfProgram, IsReportOfLog, IsReport}
+use Rattle.chi_tool.specs.Report.{IsReportOfSource, refused, program, IsReportOfProgram, IsReportOfLayout, faulty, laid_out, too_long, IsReportFor, IsReportOfLog, IsReport}
 use Rattle.chi_tool.specs.Report as report
 use Rattle.chi_tool.specs.Running.{Course, IsRunOf, run_report}
-use Rattle.chi_tool.specs.Settings.{Wanted, Aim, simulates, checks, lists, settings_with}
-use Rattle.chi_tool.specs.Sources.{by_lexer, by_parser, by_checker, ComesTo}
+use Rattle.chi_tool.specs.Settings.{Wanted, ProgramAim, simulates, checks, lists, Aim, of_program, lays_out, settings_with}
+use Rattle.chi_tool.specs.Sources.{IsUnparsed, by_lexer, by_parser, unparsed, by_checker, ComesTo}
 use Rattle.chi_tool.specs.Statuses.{status_of}
 use Rattle.chi_tool.proofs.Cases.{CaseOf, asks_nothing, is_missing, is_long, of_log, of_source, case_of, asked_report, asked_log_report}
-use Rattle.chi_tool.proofs.Contents.{status_ap, source_program, source_bound, log_bound}
+use Rattle.chi_tool.proofs.Contents.{status_ap, source_program, source_bound, layout_bound, aim_bound, log_bound}
 use Rattle.chi_tool.proofs.LawClauses.{CodeLaw, ReportLaw}
 use Rattle.chi_tool.proofs.Promises.{MetOne, met_of, met_status}
 use Rattle.chi_tool.proofs.Verdicts.{status_bound, completed_by, exit_by, deadlock_by, fault_by, out_of_steps_by, stopped_by}
 
-no_program : (n : ℕ) → (20 ≤ n) × (n ≤ 22) → (core : Core) (aim : Aim) (r : Report) → IsReportOfProgram core aim r → r.status ≡ n → ⊥
+no_program : (n : ℕ) → (20 ≤ n) × (n ≤ 22) → (core : Core) (aim : ProgramAim) (r : Report) → IsReportOfProgram core aim r → r.status ≡ n → ⊥
 no_program n between core aim r is e = let b = source_program core aim r is in let low = between.0 in let high = between.1 in grind arith
 
 -- what is to be listed is there: the code of the program that a source comes to
 abbrev pub IsListable : Aim → List ℕ → Type 0
-IsListable (simulates w) source = Unit {0}
-IsListable checks source = Unit {0}
-IsListable lists source = (core : Core) → ComesTo source core → (code : Code) × Codes core code
+IsListable (of_program (simulates w)) source = Unit {0}
+IsListable (of_program checks) source = Unit {0}
+IsListable lays_out source = Unit {0}
+IsListable (of_program lists) source = (core : Core) → ComesTo source core → (code : Code) × Codes core code
 
 listable : CodeLaw → (source : List ℕ) → length source ≤ MOST_BYTES → (aim : Aim) → IsListable aim source
-listable coded source within (simulates w) = tt
-listable coded source within checks = tt
-listable coded source within lists = λ core comes. coded.some source core within comes
+listable coded source within (of_program (simulates w)) = tt
+listable coded source within (of_program checks) = tt
+listable coded source within lays_out = tt
+listable coded source within (of_program lists) = λ core comes. coded.some source core within comes
 
 asked_listable : CodeLaw → (call : Call) (files : Files) (aim : Aim) (source : List ℕ) → IsAskedSource call files aim source → IsListable aim source
 asked_listable coded call files aim source (held name purpose asked there within same) = listable coded source within aim
@@ -46,8 +48,8 @@ asked_listable coded call files aim source (made size asked same plainly) = subs
 -- a status that a source's report has exactly for one cause, and that no other refusal has
 pub record StatusOf (n : ℕ) (P : Aim → List ℕ → Type 0) : Type 0 where
   pub other : (n ≢ 3) × (n ≢ 4) × (n ≢ 6)
-  pub to : (aim : Aim) (source : List ℕ) (r : Report) → IsReportOfSource source aim r → r.status ≡ n → P aim source
-  pub from : (aim : Aim) (source : List ℕ) → IsListable aim source → P aim source → (r : Report) × IsReportOfSource source aim r × (r.status ≡ n)
+  pub to : (aim : Aim) (source : List ℕ) (r : Report) → IsReportFor aim source r → r.status ≡ n → P aim source
+  pub from : (aim : Aim) (source : List ℕ) → IsListable aim source → P aim source → (r : Report) × IsReportFor aim source r × (r.status ≡ n)
 
 -- the statuses of runs
 
@@ -80,18 +82,20 @@ module _ (n : ℕ) (Q : Verdict → Type 0) (low : (n ≡ 0) ⊎ ((10 ≤ n) × 
   no_source_refusal m r high is e = no_refusal m (inr (inr (inr high))) (sym e ∙ is)
 
   module _ (positive : 10 ≤ n) where
-    ends : (aim : Aim) (source : List ℕ) (r : Report) → IsReportOfSource source aim r → r.status ≡ n → Ends Q aim source
-    ends aim source r (refused (by_lexer fault has e)) is = absurd (no_source_refusal 20 r (omega arith) (status_ap r _ e) is)
-    ends aim source r (refused (by_parser tokens fault has e)) is = absurd (no_source_refusal 21 r (omega arith) (status_ap r _ e) is)
-    ends aim source r (refused (by_checker fault has e)) is = absurd (no_source_refusal 22 r (omega arith) (status_ap r _ e) is)
-    ends (simulates w) source r (program core comes of) is = run_ends w source core r comes of is
-    ends checks source r (program core comes of) is = let none = status_ap r _ of in let some = positive in absurd (omega arith)
-    ends lists source r (program core comes of) is = let none = status_ap r _ of.listed in let some = positive in absurd (omega arith)
+    ends : (aim : Aim) (source : List ℕ) (r : Report) → IsReportFor aim source r → r.status ≡ n → Ends Q aim source
+    ends (of_program aim) source r (refused (unparsed (by_lexer fault has e))) is = absurd (no_source_refusal 20 r (omega arith) (status_ap r _ e) is)
+    ends (of_program aim) source r (refused (unparsed (by_parser tokens fault has e))) is = absurd (no_source_refusal 21 r (omega arith) (status_ap r _ e) is)
+    ends (of_program aim) source r (refused (by_checker fault has e)) is = absurd (no_source_refusal 22 r (omega arith) (status_ap r _ e) is)
+    ends (of_program (simulates w)) source r (program core comes of) is = run_ends w source core r comes of is
+    ends (of_program checks) source r (program core comes of) is = let none = status_ap r _ of in let some = positive in absurd (omega arith)
+    ends (of_program lists) source r (program core comes of) is = let none = status_ap r _ of.listed in let some = positive in absurd (omega arith)
+    ends lays_out source r of is = let b = layout_bound source r of in let l = low in let some = positive in absurd (grind arith)
 
-    ended : (aim : Aim) (source : List ℕ) → IsListable aim source → Ends Q aim source → (r : Report) × IsReportOfSource source aim r × (r.status ≡ n)
-    ended (simulates w) source may p = ends_run w source p
-    ended checks source may p = absurd p
-    ended lists source may p = absurd p
+    ended : (aim : Aim) (source : List ℕ) → IsListable aim source → Ends Q aim source → (r : Report) × IsReportFor aim source r × (r.status ≡ n)
+    ended (of_program (simulates w)) source may p = ends_run w source p
+    ended (of_program checks) source may p = absurd p
+    ended (of_program lists) source may p = absurd p
+    ended lays_out source may p = absurd p
 
     run_status : StatusOf n (Ends Q)
     run_status = record {
@@ -100,23 +104,29 @@ module _ (n : ℕ) (Q : Verdict → Type 0) (low : (n ≡ 0) ⊎ ((10 ≤ n) × 
       from = ended;
     }
 
-done_of : (aim : Aim) (source : List ℕ) (r : Report) → IsReportOfSource source aim r → r.status ≡ 0 → IsDone aim source
-done_of aim source r (refused (by_lexer fault has e)) is = let h = status_ap r _ e in absurd (omega arith)
-done_of aim source r (refused (by_parser tokens fault has e)) is = let h = status_ap r _ e in absurd (omega arith)
-done_of aim source r (refused (by_checker fault has e)) is = let h = status_ap r _ e in absurd (omega arith)
-done_of (simulates w) source r (program core comes of) is =
+done_of : (aim : Aim) (source : List ℕ) (r : Report) → IsReportFor aim source r → r.status ≡ 0 → IsDone aim source
+done_of (of_program aim) source r (refused (unparsed (by_lexer fault has e))) is = let h = status_ap r _ e in absurd (omega arith)
+done_of (of_program aim) source r (refused (unparsed (by_parser tokens fault has e))) is = let h = status_ap r _ e in absurd (omega arith)
+done_of (of_program aim) source r (refused (by_checker fault has e)) is = let h = status_ap r _ e in absurd (omega arith)
+done_of (of_program (simulates w)) source r (program core comes of) is =
     inl (run_ends 0 (λ v. v ≡ verdict.Completed) (inl refl) completed_by (λ v e. ap status_of e) w source core r comes of is)
-done_of checks source r (program core comes of) is = inr (core, comes)
-done_of lists source r (program core comes of) is = inr (core, comes)
+done_of (of_program checks) source r (program core comes of) is = inr (core, comes)
+done_of (of_program lists) source r (program core comes of) is = inr (core, comes)
+done_of lays_out source r (faulty (by_lexer fault has e)) is = let h = status_ap r _ e in absurd (omega arith)
+done_of lays_out source r (faulty (by_parser tokens fault has e)) is = let h = status_ap r _ e in absurd (omega arith)
+done_of lays_out source r (laid_out text has within e) is = inr (text, has, within)
+done_of lays_out source r (too_long text has above e) is = let h = status_ap r _ e in absurd (omega arith)
 
-of_done : (aim : Aim) (source : List ℕ) → IsListable aim source → IsDone aim source → (r : Report) × IsReportOfSource source aim r × (r.status ≡ 0)
-of_done (simulates w) source may (inl p) = ends_run 0 (λ v. v ≡ verdict.Completed) (inl refl) completed_by (λ v e. ap status_of e) w source p
-of_done (simulates w) source may (inr p) = absurd p
-of_done checks source may (inl p) = absurd p
-of_done checks source may (inr p) = (refusal.accepted, program p.0 p.1 refl, refl)
-of_done lists source may (inl p) = absurd p
-of_done lists source may (inr p) =
+of_done : (aim : Aim) (source : List ℕ) → IsListable aim source → IsDone aim source → (r : Report) × IsReportFor aim source r × (r.status ≡ 0)
+of_done (of_program (simulates w)) source may (inl p) = ends_run 0 (λ v. v ≡ verdict.Completed) (inl refl) completed_by (λ v e. ap status_of e) w source p
+of_done (of_program (simulates w)) source may (inr p) = absurd p
+of_done (of_program checks) source may (inl p) = absurd p
+of_done (of_program checks) source may (inr p) = (refusal.accepted, program p.0 p.1 refl, refl)
+of_done (of_program lists) source may (inl p) = absurd p
+of_done (of_program lists) source may (inr p) =
     let there = may p.0 p.1 in (refusal.listed there.0, program p.0 p.1 (record { code = there.0; is = there.1; listed = refl }), refl)
+of_done lays_out source may (inl p) = absurd p
+of_done lays_out source may (inr p) = (refusal.laid_out p.0, laid_out p.0 p.1 p.2 refl, refl)
 
 pub done_status : StatusOf 0 IsDone
 done_status = record { other = (λ e. omega arith, λ e. omega arith, λ e. omega arith); to = done_of; from = of_done }
@@ -138,67 +148,100 @@ stopped_status = run_status 14 (λ v. v ≡ verdict.Stopped) (inr (omega arith, 
 
 -- the statuses of refusals
 
-lexical_of : (aim : Aim) (source : List ℕ) (r : Report) → IsReportOfSource source aim r → r.status ≡ 20 → HasLexicalFault source
-lexical_of aim source r (refused (by_lexer fault has e)) is = (fault, has)
-lexical_of aim source r (refused (by_parser tokens fault has e)) is = let h = status_ap r _ e in absurd (omega arith)
-lexical_of aim source r (refused (by_checker fault has e)) is = let h = status_ap r _ e in absurd (omega arith)
-lexical_of aim source r (program core comes of) is = absurd (no_program 20 (omega arith, omega arith) core aim r of is)
+of_unparsed : (aim : Aim) (source : List ℕ) (r : Report) → IsUnparsed source r → IsReportFor aim source r
+of_unparsed (of_program aim) source r is = refused (unparsed is)
+of_unparsed lays_out source r is = faulty is
+
+lexical_of : (aim : Aim) (source : List ℕ) (r : Report) → IsReportFor aim source r → r.status ≡ 20 → HasLexicalFault source
+lexical_of (of_program aim) source r (refused (unparsed (by_lexer fault has e))) is = (fault, has)
+lexical_of (of_program aim) source r (refused (unparsed (by_parser tokens fault has e))) is = let h = status_ap r _ e in absurd (omega arith)
+lexical_of (of_program aim) source r (refused (by_checker fault has e)) is = let h = status_ap r _ e in absurd (omega arith)
+lexical_of (of_program aim) source r (program core comes of) is = absurd (no_program 20 (omega arith, omega arith) core aim r of is)
+lexical_of lays_out source r (faulty (by_lexer fault has e)) is = (fault, has)
+lexical_of lays_out source r (faulty (by_parser tokens fault has e)) is = let h = status_ap r _ e in absurd (omega arith)
+lexical_of lays_out source r (laid_out text has within e) is = let h = status_ap r _ e in absurd (omega arith)
+lexical_of lays_out source r (too_long text has above e) is = let h = status_ap r _ e in absurd (omega arith)
 
 pub lexical_status : StatusOf 20 (λ aim. HasLexicalFault)
 lexical_status = record {
   other = (λ e. omega arith, λ e. omega arith, λ e. omega arith);
   to = lexical_of;
-  from = λ aim source may p. (refusal.lexical p.0, refused (by_lexer p.0 p.1 refl), refl);
+  from = λ aim source may p. (refusal.lexical p.0, of_unparsed aim source (refusal.lexical p.0) (by_lexer p.0 p.1 refl), refl);
 }
 
-syntax_of : (aim : Aim) (source : List ℕ) (r : Report) → IsReportOfSource source aim r → r.status ≡ 21 → HasSyntaxFault source
-syntax_of aim source r (refused (by_lexer fault has e)) is = let h = status_ap r _ e in absurd (omega arith)
-syntax_of aim source r (refused (by_parser tokens fault has e)) is = (tokens, fault, has)
-syntax_of aim source r (refused (by_checker fault has e)) is = let h = status_ap r _ e in absurd (omega arith)
-syntax_of aim source r (program core comes of) is = absurd (no_program 21 (omega arith, omega arith) core aim r of is)
+syntax_of : (aim : Aim) (source : List ℕ) (r : Report) → IsReportFor aim source r → r.status ≡ 21 → HasSyntaxFault source
+syntax_of (of_program aim) source r (refused (unparsed (by_lexer fault has e))) is = let h = status_ap r _ e in absurd (omega arith)
+syntax_of (of_program aim) source r (refused (unparsed (by_parser tokens fault has e))) is = (tokens, fault, has)
+syntax_of (of_program aim) source r (refused (by_checker fault has e)) is = let h = status_ap r _ e in absurd (omega arith)
+syntax_of (of_program aim) source r (program core comes of) is = absurd (no_program 21 (omega arith, omega arith) core aim r of is)
+syntax_of lays_out source r (faulty (by_lexer fault has e)) is = let h = status_ap r _ e in absurd (omega arith)
+syntax_of lays_out source r (faulty (by_parser tokens fault has e)) is = (tokens, fault, has)
+syntax_of lays_out source r (laid_out text has within e) is = let h = status_ap r _ e in absurd (omega arith)
+syntax_of lays_out source r (too_long text has above e) is = let h = status_ap r _ e in absurd (omega arith)
 
 pub syntax_status : StatusOf 21 (λ aim. HasSyntaxFault)
 syntax_status = record {
   other = (λ e. omega arith, λ e. omega arith, λ e. omega arith);
   to = syntax_of;
-  from = λ aim source may p. (refusal.syntax source p.0 p.1, refused (by_parser p.0 p.1 p.2 refl), refl);
+  from = λ aim source may p. (refusal.syntax source p.0 p.1, of_unparsed aim source (refusal.syntax source p.0 p.1) (by_parser p.0 p.1 p.2 refl), refl);
 }
 
-mistyped_of : (aim : Aim) (source : List ℕ) (r : Report) → IsReportOfSource source aim r → r.status ≡ 22 → HasTypeFault source
-mistyped_of aim source r (refused (by_lexer fault has e)) is = let h = status_ap r _ e in absurd (omega arith)
-mistyped_of aim source r (refused (by_parser tokens fault has e)) is = let h = status_ap r _ e in absurd (omega arith)
-mistyped_of aim source r (refused (by_checker fault has e)) is = (fault, has)
-mistyped_of aim source r (program core comes of) is = absurd (no_program 22 (omega arith, omega arith) core aim r of is)
+mistyped_of : (aim : Aim) (source : List ℕ) (r : Report) → IsReportFor aim source r → r.status ≡ 22 → IsMistyped aim source
+mistyped_of (of_program aim) source r (refused (unparsed (by_lexer fault has e))) is = let h = status_ap r _ e in absurd (omega arith)
+mistyped_of (of_program aim) source r (refused (unparsed (by_parser tokens fault has e))) is = let h = status_ap r _ e in absurd (omega arith)
+mistyped_of (of_program aim) source r (refused (by_checker fault has e)) is = (fault, has)
+mistyped_of (of_program aim) source r (program core comes of) is = absurd (no_program 22 (omega arith, omega arith) core aim r of is)
+mistyped_of lays_out source r of is = let b = layout_bound source r of in absurd (grind arith)
 
-pub mistyped_status : StatusOf 22 (λ aim. HasTypeFault)
+of_mistyped : (aim : Aim) (source : List ℕ) → IsListable aim source → IsMistyped aim source → (r : Report) × IsReportFor aim source r × (r.status ≡ 22)
+of_mistyped (of_program aim) source may p = (refusal.typing p.0, refused (by_checker p.0 p.1 refl), refl)
+of_mistyped lays_out source may p = absurd p
+
+pub mistyped_status : StatusOf 22 IsMistyped
 mistyped_status = record {
   other = (λ e. omega arith, λ e. omega arith, λ e. omega arith);
   to = mistyped_of;
-  from = λ aim source may p. (refusal.typing p.0, refused (by_checker p.0 p.1 refl), refl);
+  from = of_mistyped;
 }
 
-unfit_run : (w : Wanted) (source : List ℕ) (core : Core) (r : Report) → ComesTo source core → IsReportOfProgram core (simulates w) r → r.status ≡ 23 → HasUnfitArguments (simulates w) source
+unfit_run : (w : Wanted) (source : List ℕ) (core : Core) (r : Report) → ComesTo source core → IsReportOfProgram core (simulates w) r → r.status ≡ 23 → HasUnfitArguments (of_program (simulates w)) source
 unfit_run w source core r comes (report.unfit wanted fault misfits e) is =
     record { core = core; program = comes; wanted = wanted; fault = fault; misfits = misfits }
 unfit_run w source core r comes (report.run values means of) is =
     let h : r.status ≡ status_of of.course.told.ending.verdict = status_ap r _ of.is in let b = status_bound of.course.told.ending.verdict in absurd (grind arith)
 
-unfit_of : (aim : Aim) (source : List ℕ) (r : Report) → IsReportOfSource source aim r → r.status ≡ 23 → HasUnfitArguments aim source
-unfit_of aim source r (refused (by_lexer fault has e)) is = let h = status_ap r _ e in absurd (omega arith)
-unfit_of aim source r (refused (by_parser tokens fault has e)) is = let h = status_ap r _ e in absurd (omega arith)
-unfit_of aim source r (refused (by_checker fault has e)) is = let h = status_ap r _ e in absurd (omega arith)
-unfit_of (simulates w) source r (program core comes of) is = unfit_run w source core r comes of is
-unfit_of checks source r (program core comes of) is = let h = status_ap r _ of in absurd (omega arith)
-unfit_of lists source r (program core comes of) is = let h = status_ap r _ of.listed in absurd (omega arith)
+unfit_of : (aim : Aim) (source : List ℕ) (r : Report) → IsReportFor aim source r → r.status ≡ 23 → HasUnfitArguments aim source
+unfit_of (of_program aim) source r (refused (unparsed (by_lexer fault has e))) is = let h = status_ap r _ e in absurd (omega arith)
+unfit_of (of_program aim) source r (refused (unparsed (by_parser tokens fault has e))) is = let h = status_ap r _ e in absurd (omega arith)
+unfit_of (of_program aim) source r (refused (by_checker fault has e)) is = let h = status_ap r _ e in absurd (omega arith)
+unfit_of (of_program (simulates w)) source r (program core comes of) is = unfit_run w source core r comes of is
+unfit_of (of_program checks) source r (program core comes of) is = let h = status_ap r _ of in absurd (omega arith)
+unfit_of (of_program lists) source r (program core comes of) is = let h = status_ap r _ of.listed in absurd (omega arith)
+unfit_of lays_out source r of is = let b = layout_bound source r of in absurd (grind arith)
 
-of_unfit : (aim : Aim) (source : List ℕ) → IsListable aim source → HasUnfitArguments aim source → (r : Report) × IsReportOfSource source aim r × (r.status ≡ 23)
-of_unfit (simulates w) source may p =
+of_unfit : (aim : Aim) (source : List ℕ) → IsListable aim source → HasUnfitArguments aim source → (r : Report) × IsReportFor aim source r × (r.status ≡ 23)
+of_unfit (of_program (simulates w)) source may p =
     (refusal.unfit_arguments p.wanted _ p.fault, program p.core p.program (report.unfit p.wanted p.fault p.misfits refl), refl)
-of_unfit checks source may p = absurd p
-of_unfit lists source may p = absurd p
+of_unfit (of_program checks) source may p = absurd p
+of_unfit (of_program lists) source may p = absurd p
+of_unfit lays_out source may p = absurd p
 
 pub unfit_status : StatusOf 23 HasUnfitArguments
 unfit_status = record { other = (λ e. omega arith, λ e. omega arith, λ e. omega arith); to = unfit_of; from = of_unfit }
+
+too_long_of : (aim : Aim) (source : List ℕ) (r : Report) → IsReportFor aim source r → r.status ≡ 27 → IsTooLong aim source
+too_long_of (of_program aim) source r of is = let b = source_bound source aim r of in absurd (grind arith)
+too_long_of lays_out source r (faulty (by_lexer fault has e)) is = let h = status_ap r _ e in absurd (omega arith)
+too_long_of lays_out source r (faulty (by_parser tokens fault has e)) is = let h = status_ap r _ e in absurd (omega arith)
+too_long_of lays_out source r (laid_out text has within e) is = let h = status_ap r _ e in absurd (omega arith)
+too_long_of lays_out source r (too_long text has above e) is = (text, has, above)
+
+of_too_long : (aim : Aim) (source : List ℕ) → IsListable aim source → IsTooLong aim source → (r : Report) × IsReportFor aim source r × (r.status ≡ 27)
+of_too_long (of_program aim) source may p = absurd p
+of_too_long lays_out source may p = (refusal.layout_too_long, too_long p.0 p.1 p.2 refl, refl)
+
+pub too_long_status : StatusOf 27 IsTooLong
+too_long_status = record { other = (λ e. omega arith, λ e. omega arith, λ e. omega arith); to = too_long_of; from = of_too_long }
 
 -- the statuses of logs
 
@@ -249,7 +292,7 @@ module _ (call : Call) (files : Files) (r : Report) where
   asks_misfit (is_missing e) is = let h = status_ap r _ e in absurd (omega arith)
   asks_misfit (is_long e) is = let h = status_ap r _ e in absurd (omega arith)
   asks_misfit (of_log text asked of) is = (text, asked, misfit_of text r of is)
-  asks_misfit (of_source aim source asked of) is = let b = source_bound source aim r of in absurd (grind arith)
+  asks_misfit (of_source aim source asked of) is = let b = aim_bound aim source r of in absurd (grind arith)
 
 module _ (law : ReportLaw) (coded : CodeLaw) (call : Call) (files : Files) (one : MetOne call files) where
   met : IsReportedOrLost one.0 call
@@ -270,12 +313,12 @@ module _ (law : ReportLaw) (coded : CodeLaw) (call : Call) (files : Files) (one 
   misfit_is h = same_status (refusal.misfit h.2.0) (asked_log_report call files h.0 (refusal.misfit h.2.0) h.1 (report.misfit h.2.0 h.2.1 refl))
 
   -- a program that is asked to be run is run to its end
-  pub ends_complete : (w : Wanted) (source : List ℕ) → IsAskedSource call files (simulates w) source → (core : Core) → ComesTo source core
+  pub ends_complete : (w : Wanted) (source : List ℕ) → IsAskedSource call files (of_program (simulates w)) source → (core : Core) → ComesTo source core
       → (arguments : List Value) → Means core w.texts arguments → (course : Course) → IsRunOf core (settings_with w arguments) course
       → (call.status ≡ status_of course.told.ending.verdict) ⊎ (call.status ≡ 6)
   ends_complete w source asked core comes arguments means course run =
       let is : IsReportOfSource source (simulates w) (run_report core course) = program core comes (report.run arguments means (record { course = course; run = run; is = refl })) in
-      by_met (same_status (run_report core course) (asked_report call files (simulates w) source (run_report core course) asked is)) met
+      by_met (same_status (run_report core course) (asked_report call files (of_program (simulates w)) source (run_report core course) asked is)) met
     where
       by_met : one.0.status ≡ status_of course.told.ending.verdict → IsReportedOrLost one.0 call
           → (call.status ≡ status_of course.told.ending.verdict) ⊎ (call.status ≡ 6)

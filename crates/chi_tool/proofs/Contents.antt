@@ -14,10 +14,10 @@ use Rattle.chi_tool.specs.Headline.{IsUnread, CannotBeRead}
 use Rattle.chi_tool.specs.Refusals as refusal
 use Rattle.chi_tool.specs.Refusals.{Report}
 use Rattle.chi_tool.specs.Report as report
-use Rattle.chi_tool.specs.Report.{IsReportOfProgram, IsReportOfSource, refused, program, IsReportOfLog, up, misfit, IsReportOfFile, IsReportFor, IsReportOfTask}
+use Rattle.chi_tool.specs.Report.{IsReportOfProgram, IsReportOfSource, refused, program, IsReportOfLayout, faulty, laid_out, too_long, IsReportOfLog, up, misfit, IsReportOfFile, IsReportFor, IsReportOfTask}
 use Rattle.chi_tool.specs.Running.{Course, run_report}
-use Rattle.chi_tool.specs.Settings.{Wanted, Aim, simulates, checks, lists, aim_of}
-use Rattle.chi_tool.specs.Sources.{by_lexer, by_parser, by_checker}
+use Rattle.chi_tool.specs.Settings.{Wanted, ProgramAim, simulates, checks, lists, Aim, of_program, lays_out, aim_of}
+use Rattle.chi_tool.specs.Sources.{by_lexer, by_parser, unparsed, by_checker}
 use Rattle.chi_tool.specs.Words.{of_task, NamesNoFile}
 use Rattle.chi_tool.proofs.Verdicts.{status_bound}
 
@@ -25,20 +25,20 @@ pub status_ap : (r s : Report) → r ≡ s → r.status ≡ s.status
 status_ap r s e = ap (λ x. x.status) e
 
 -- what a program's report is of
-data ProgramCase (core : Core) (aim : Aim) (r : Report) : Type 0 where
+data ProgramCase (core : Core) (aim : ProgramAim) (r : Report) : Type 0 where
   is_accepted : aim ≡ checks → r ≡ refusal.accepted → ProgramCase core aim r
   is_listed : aim ≡ lists → (code : Code) → r ≡ refusal.listed code → ProgramCase core aim r
   is_unfit : (w : Wanted) → aim ≡ simulates w → (wanted given : ℕ) (fault : ArgFault) → r ≡ refusal.unfit_arguments wanted given fault → ProgramCase core aim r
   is_run : (w : Wanted) → aim ≡ simulates w → (course : Course) → r ≡ run_report core course → ProgramCase core aim r
 
-program_case : (core : Core) (aim : Aim) (r : Report) → IsReportOfProgram core aim r → ProgramCase core aim r
+program_case : (core : Core) (aim : ProgramAim) (r : Report) → IsReportOfProgram core aim r → ProgramCase core aim r
 program_case core checks r is = is_accepted refl is
 program_case core lists r is = is_listed refl is.code is.listed
 program_case core (simulates w) r (report.unfit wanted fault misfits is) = is_unfit w refl wanted _ fault is
 program_case core (simulates w) r (report.run values means of) = is_run w refl of.course of.is
 
 -- which statuses a program's report has
-program_status : (core : Core) (aim : Aim) (r : Report) → ProgramCase core aim r → (r.status ≡ 0) ⊎ (((10 ≤ r.status) × (r.status ≤ 14)) ⊎ (r.status ≡ 23))
+program_status : (core : Core) (aim : ProgramAim) (r : Report) → ProgramCase core aim r → (r.status ≡ 0) ⊎ (((10 ≤ r.status) × (r.status ≤ 14)) ⊎ (r.status ≡ 23))
 program_status core aim r (is_accepted p e) = inl (status_ap r _ e)
 program_status core aim r (is_listed p code e) = inl (status_ap r _ e)
 program_status core aim r (is_unfit w p wanted given fault e) = inr (inr (status_ap r _ e))
@@ -48,13 +48,13 @@ program_status core aim r (is_run w p course e) = of_run (status_bound course.to
     of_run (inl z) is = inl (is ∙ z)
     of_run (inr b) is = inr (inl (let low = b.0 in let high = b.1 in (omega arith, omega arith)))
 
-pub source_program : (core : Core) (aim : Aim) (r : Report) → IsReportOfProgram core aim r → (r.status ≡ 0) ⊎ (((10 ≤ r.status) × (r.status ≤ 14)) ⊎ (r.status ≡ 23))
+pub source_program : (core : Core) (aim : ProgramAim) (r : Report) → IsReportOfProgram core aim r → (r.status ≡ 0) ⊎ (((10 ≤ r.status) × (r.status ≤ 14)) ⊎ (r.status ≡ 23))
 source_program core aim r is = program_status core aim r (program_case core aim r is)
 
 -- which a source's report has
-pub source_bound : (source : List ℕ) (aim : Aim) (r : Report) → IsReportOfSource source aim r → (r.status ≡ 0) ⊎ ((10 ≤ r.status) × (r.status ≤ 23))
-source_bound source aim r (refused (by_lexer fault has e)) = let is = status_ap r _ e in inr (omega arith, omega arith)
-source_bound source aim r (refused (by_parser tokens fault has e)) = let is = status_ap r _ e in inr (omega arith, omega arith)
+pub source_bound : (source : List ℕ) (aim : ProgramAim) (r : Report) → IsReportOfSource source aim r → (r.status ≡ 0) ⊎ ((10 ≤ r.status) × (r.status ≤ 23))
+source_bound source aim r (refused (unparsed (by_lexer fault has e))) = let is = status_ap r _ e in inr (omega arith, omega arith)
+source_bound source aim r (refused (unparsed (by_parser tokens fault has e))) = let is = status_ap r _ e in inr (omega arith, omega arith)
 source_bound source aim r (refused (by_checker fault has e)) = let is = status_ap r _ e in inr (omega arith, omega arith)
 source_bound source aim r (program core comes of) = widened (source_program core aim r of)
   where
@@ -62,6 +62,28 @@ source_bound source aim r (program core comes of) = widened (source_program core
     widened (inl z) = inl z
     widened (inr (inl b)) = let high = b.1 in inr (b.0, omega arith)
     widened (inr (inr e)) = inr (omega arith, omega arith)
+
+-- which the report of its layout has
+pub layout_bound : (source : List ℕ) (r : Report) → IsReportOfLayout source r → (r.status ≡ 0) ⊎ ((r.status ≡ 20) ⊎ ((r.status ≡ 21) ⊎ (r.status ≡ 27)))
+layout_bound source r (faulty (by_lexer fault has e)) = inr (inl (status_ap r _ e))
+layout_bound source r (faulty (by_parser tokens fault has e)) = inr (inr (inl (status_ap r _ e)))
+layout_bound source r (laid_out text has within e) = inl (status_ap r _ e)
+layout_bound source r (too_long text has above e) = inr (inr (inr (status_ap r _ e)))
+
+-- which it has, whatever is done with it
+pub aim_bound : (aim : Aim) (source : List ℕ) (r : Report) → IsReportFor aim source r → (r.status ≡ 0) ⊎ (((10 ≤ r.status) × (r.status ≤ 23)) ⊎ (r.status ≡ 27))
+aim_bound (of_program aim) source r of = widened (source_bound source aim r of)
+  where
+    widened : (r.status ≡ 0) ⊎ ((10 ≤ r.status) × (r.status ≤ 23)) → (r.status ≡ 0) ⊎ (((10 ≤ r.status) × (r.status ≤ 23)) ⊎ (r.status ≡ 27))
+    widened (inl z) = inl z
+    widened (inr b) = inr (inl b)
+aim_bound lays_out source r of = widened (layout_bound source r of)
+  where
+    widened : (r.status ≡ 0) ⊎ ((r.status ≡ 20) ⊎ ((r.status ≡ 21) ⊎ (r.status ≡ 27))) → (r.status ≡ 0) ⊎ (((10 ≤ r.status) × (r.status ≤ 23)) ⊎ (r.status ≡ 27))
+    widened (inl z) = inl z
+    widened (inr (inl e)) = inr (inl (omega arith, omega arith))
+    widened (inr (inr (inl e))) = inr (inl (omega arith, omega arith))
+    widened (inr (inr (inr e))) = inr (inr e)
 
 -- and which a log's has
 pub log_bound : (text : List ℕ) (r : Report) → IsReportOfLog text r → (r.status ≡ 0) ⊎ (r.status ≡ 24)
@@ -78,12 +100,20 @@ of_content : (n : ℕ) → (n ≡ 0) ⊎ (10 ≤ n) → IsOfContent n
 of_content n (inl z) = record { is_request = λ h. omega arith; is_read = λ h. omega arith; is_written = λ h. omega arith }
 of_content n (inr low) = record { is_request = λ h. omega arith; is_read = λ h. omega arith; is_written = λ h. omega arith }
 
-pub source_status : (source : List ℕ) (aim : Aim) (r : Report) → IsReportOfSource source aim r → IsOfContent r.status
+pub source_status : (source : List ℕ) (aim : ProgramAim) (r : Report) → IsReportOfSource source aim r → IsOfContent r.status
 source_status source aim r of = of_content r.status (low (source_bound source aim r of))
   where
     low : (r.status ≡ 0) ⊎ ((10 ≤ r.status) × (r.status ≤ 23)) → (r.status ≡ 0) ⊎ (10 ≤ r.status)
     low (inl z) = inl z
     low (inr b) = inr b.0
+
+aim_status : (aim : Aim) (source : List ℕ) (r : Report) → IsReportFor aim source r → IsOfContent r.status
+aim_status aim source r of = of_content r.status (low (aim_bound aim source r of))
+  where
+    low : (r.status ≡ 0) ⊎ (((10 ≤ r.status) × (r.status ≤ 23)) ⊎ (r.status ≡ 27)) → (r.status ≡ 0) ⊎ (10 ≤ r.status)
+    low (inl z) = inl z
+    low (inr (inl b)) = inr b.0
+    low (inr (inr e)) = inr (omega arith)
 
 log_status : (text : List ℕ) (r : Report) → IsReportOfLog text r → IsOfContent r.status
 log_status text r of = of_content r.status (low (log_bound text r of))
@@ -104,7 +134,7 @@ source_of_file name purpose = record {
   reports = λ files r is. is;
   unread = λ shelf is. is;
   named = λ none. none;
-  own = λ source r is. source_status source (aim_of purpose) r is;
+  own = λ source r is. aim_status (aim_of purpose) source r is;
 }
 
 pub log_of_file : (name : List ℕ) → IsOfFile (OfLog name) name MOST_LOG_BYTES IsReportOfLog

@@ -25,7 +25,7 @@ use Rattle.chi_trace.specs.Logs.{IsUp}
 use Rattle.chi_types.specs.declared.ty.Ty.{Ty}
 use Rattle.chi_value.specs.declared.value.Value.{Value}
 use Rattle.chi_tool.specs.Refusals.{Report}
-use Rattle.chi_tool.specs.Report.{IsReportOfSource, IsReport}
+use Rattle.chi_tool.specs.Report.{IsReportFor, IsReport}
 use Rattle.chi_tool.specs.Running.{Course, IsRunOf, MayHave}
 use Rattle.chi_tool.specs.Settings.{Aim, MayBeAimed, Settings}
 use Rattle.chi_tool.specs.Sources.{ComesTo}
@@ -76,8 +76,8 @@ pub record LogLaw : Type 0 where
 
 -- a source within the limit has one report
 pub record SourceLaw : Type 0 where
-  pub some : (source : List ℕ) (aim : Aim) → length source ≤ MOST_BYTES → MayBeAimed aim → (r : Report) × IsReportOfSource source aim r
-  pub one : (source : List ℕ) (aim : Aim) (r other : Report) → IsReportOfSource source aim r → IsReportOfSource source aim other → r ≡ other
+  pub some : (source : List ℕ) (aim : Aim) → length source ≤ MOST_BYTES → MayBeAimed aim → (r : Report) × IsReportFor aim source r
+  pub one : (source : List ℕ) (aim : Aim) (r other : Report) → IsReportFor aim source r → IsReportFor aim source other → r ≡ other
 
 -- words and files have one report
 pub record ReportLaw : Type 0 where

@@ -3,6 +3,7 @@ pub mod TokenLaw
 pub mod Sinks
 pub mod LawClauses
 pub mod Sources
+pub mod Layouts
 pub mod Logged
 pub mod Showing
 pub mod Runs

@@ -24,9 +24,9 @@ use Rattle.chi_check_types.specs.Faults.{fault as broken}
 use Rattle.chi_check.specs.Programs.{checked, Answers}
 use Rattle.chi_core.specs.declared.program.Core.{Core}
 use Rattle.chi_tool.specs.declared.report.Reported.{Reported}
-use Rattle.chi_tool.specs.declared.source.Source.{Source}
-use Rattle.chi_tool.specs.declared.source.Source.TheVariants.{Refused, Program}
-use Rattle.chi_tool.specs.Readings.{IsReadAs, IsRefusal, SoundlyComes}
+use Rattle.chi_tool.specs.declared.source.Parsed.{Parsed}
+use Rattle.chi_tool.specs.declared.source.Parsed.TheVariants.{Refused, Written}
+use Rattle.chi_tool.specs.Readings.{IsParsedAs, IsUnread, SoundlyComes}
 use Rattle.chi_trace.specs.declared.fault.LogFault.{LogFault}
 use Rattle.chi_trace.specs.declared.fault.LogFault.TheVariants.{Form}
 use Rattle.chi_trace.specs.Logs as logs
@@ -34,43 +34,43 @@ use Rattle.chi_tool.specs.Refusals as refusal
 use Rattle.chi_tool.specs.Refusals.{refused}
 use Rattle.chi_tool.specs.Report.{IsReportOfLog, misfit}
 use Rattle.chi_tool.specs.Reported.{report_in}
-use Rattle.chi_tool.specs.Sources.{IsWritten, IsRefused, by_lexer, by_parser, by_checker, ComesTo}
+use Rattle.chi_tool.specs.Sources.{IsWritten, IsUnparsed, by_lexer, by_parser, IsRefused, by_checker, ComesTo}
 use Rattle.chi_tool.specs.Syntax.{placed, syntax_text}
 use Rattle.chi_tool.proofs.LawClauses.{CheckLaw, comes_sound}
 
 module _ (source : List ℕ) where
-  pub bad_byte : (fault : LexFault) (place : Place) (result : Result Source NoMemory) → fault ≡ BadByte place → IsFaultOf source fault
-      → IfOk result (λ it. IsRefusal it (refused 20 (placed place (codes "bad byte")))) → IfOk result (IsReadAs source)
+  pub bad_byte : (fault : LexFault) (place : Place) (result : Result Parsed NoMemory) → fault ≡ BadByte place → IsFaultOf source fault
+      → IfOk result (λ it. IsUnread it (refused 20 (placed place (codes "bad byte")))) → IfOk result (IsParsedAs source)
   bad_byte fault place (Ok (Refused r)) e has is = by_lexer (BadByte place) (subst (λ f. IsFaultOf source f) e has) is
-  bad_byte fault place (Ok (Program core)) e has is = absurd is
+  bad_byte fault place (Ok (Written tokens tree)) e has is = absurd is
   bad_byte fault place (Err lost) e has is = tt
 
-  pub open_string : (fault : LexFault) (place : Place) (result : Result Source NoMemory) → fault ≡ OpenString place → IsFaultOf source fault
-      → IfOk result (λ it. IsRefusal it (refused 20 (placed place (codes "open string")))) → IfOk result (IsReadAs source)
+  pub open_string : (fault : LexFault) (place : Place) (result : Result Parsed NoMemory) → fault ≡ OpenString place → IsFaultOf source fault
+      → IfOk result (λ it. IsUnread it (refused 20 (placed place (codes "open string")))) → IfOk result (IsParsedAs source)
   open_string fault place (Ok (Refused r)) e has is = by_lexer (OpenString place) (subst (λ f. IsFaultOf source f) e has) is
-  open_string fault place (Ok (Program core)) e has is = absurd is
+  open_string fault place (Ok (Written tokens tree)) e has is = absurd is
   open_string fault place (Err lost) e has is = tt
 
-  pub bad_escape : (fault : LexFault) (place : Place) (result : Result Source NoMemory) → fault ≡ BadEscape place → IsFaultOf source fault
-      → IfOk result (λ it. IsRefusal it (refused 20 (placed place (codes "bad escape")))) → IfOk result (IsReadAs source)
+  pub bad_escape : (fault : LexFault) (place : Place) (result : Result Parsed NoMemory) → fault ≡ BadEscape place → IsFaultOf source fault
+      → IfOk result (λ it. IsUnread it (refused 20 (placed place (codes "bad escape")))) → IfOk result (IsParsedAs source)
   bad_escape fault place (Ok (Refused r)) e has is = by_lexer (BadEscape place) (subst (λ f. IsFaultOf source f) e has) is
-  bad_escape fault place (Ok (Program core)) e has is = absurd is
+  bad_escape fault place (Ok (Written tokens tree)) e has is = absurd is
   bad_escape fault place (Err lost) e has is = tt
 
 -- what the parser answers, but for want of memory
-abbrev Parsed : List Spanned → Result tree.Program ParseFault → Type 0
-Parsed tokens result = ParsesAll grammar tokens program_of whole_room (part s.Program) result
+abbrev Answered : List Spanned → Result tree.Program ParseFault → Type 0
+Answered tokens result = ParsesAll grammar tokens program_of whole_room (part s.Program) result
 
 module _ (source : List ℕ) (tokens : List Spanned) where
-  pub syntax_refused : (fault : ParseFault) (k : ℕ) (r : Reported) → (Parsed tokens (Err (Syntax k)) → IsFault tokens k) → Reads source tokens
-      → fault ≡ Syntax k → Parsed tokens (Err fault) → report_in r ≡ refused 21 (syntax_text source tokens (Syntax k)) → IsRefused source (report_in r)
-  syntax_refused fault k r named reads e has is =
-      by_parser tokens (Syntax k) (record { read = reads; has = named (subst (λ f. Parsed tokens (Err f)) e has) }) is
+  pub syntax_refused : (fault : ParseFault) (k : ℕ) (r : Reported) → (Answered tokens (Err (Syntax k)) → IsFault tokens k) → Reads source tokens
+      → fault ≡ Syntax k → (seen : List Spanned) → seen ≡ tokens → Answered seen (Err fault) → report_in r ≡ refused 21 (syntax_text source tokens (Syntax k)) → IsUnparsed source (report_in r)
+  syntax_refused fault k r named reads e seen same has is =
+      by_parser tokens (Syntax k) (record { read = reads; has = named (subst (λ f. Answered tokens (Err f)) e (subst (λ ts. Answered ts (Err fault)) same has)) }) is
 
-  pub too_deep_refused : (fault : ParseFault) (k : ℕ) (r : Reported) → (Parsed tokens (Err (TooDeep k)) → IsDepth tokens k) → Reads source tokens
-      → fault ≡ TooDeep k → Parsed tokens (Err fault) → report_in r ≡ refused 21 (syntax_text source tokens (TooDeep k)) → IsRefused source (report_in r)
-  too_deep_refused fault k r named reads e has is =
-      by_parser tokens (TooDeep k) (record { read = reads; has = named (subst (λ f. Parsed tokens (Err f)) e has) }) is
+  pub too_deep_refused : (fault : ParseFault) (k : ℕ) (r : Reported) → (Answered tokens (Err (TooDeep k)) → IsDepth tokens k) → Reads source tokens
+      → fault ≡ TooDeep k → (seen : List Spanned) → seen ≡ tokens → Answered seen (Err fault) → report_in r ≡ refused 21 (syntax_text source tokens (TooDeep k)) → IsUnparsed source (report_in r)
+  too_deep_refused fault k r named reads e seen same has is =
+      by_parser tokens (TooDeep k) (record { read = reads; has = named (subst (λ f. Answered tokens (Err f)) e (subst (λ ts. Answered ts (Err fault)) same has)) }) is
 
 pub misfit_refused : (text : List ℕ) (fault : LogFault) (number : ℕ) (result : Result Reported NoMemory) → fault ≡ Form number → logs.IsRefused text fault
     → IfOk result (λ r. report_in r ≡ refusal.misfit number) → IfOk result (λ r. IsReportOfLog text (report_in r))

@@ -13,16 +13,18 @@ use Rattle.chi_trace.specs.declared.log.TheConstants.{MOST_LOG_BYTES}
 use Rattle.chi_trace.specs.Logs as logs
 use Rattle.chi_trace.specs.Logs.{IsUp}
 use Rattle.chi_value.specs.declared.value.Value.{Value}
-use Rattle.chi_tool.specs.declared.task.Purpose.TheVariants.{Simulate}
+use Rattle.chi_tool.specs.declared.task.Purpose.TheVariants.{OfProgram}
+use Rattle.chi_tool.specs.declared.task.ProgramPurpose.TheVariants.{Simulate}
 use Rattle.chi_tool.specs.declared.task.Task.TheVariants.{OfFile, OfLog, OfFactory}
 use Rattle.chi_tool.specs.Arguments.{Means, Misfits}
 use Rattle.chi_tool.specs.Refusals as refusal
 use Rattle.chi_tool.specs.Refusals.{Report, usage, no_such_file, file_too_long, unfit_arguments, brought_up, accepted}
 use Rattle.chi_tool.specs.Report.{IsReportOfRun, unfit, run, IsReportOfProgram, IsReportOfSource, refused, program, IsReportOfLog, up, misfit, IsReportFor, IsReportOfFile, missing, long, fetched, IsReportOfWish, IsReport}
 use Rattle.chi_tool.specs.Running.{IsRunOf, run_report}
-use Rattle.chi_tool.specs.Settings.{Wanted, Aim, simulates, checks, lists, wanted_of, aim_of, MayBeAimed, plain, settings_with}
+use Rattle.chi_tool.specs.Settings.{Wanted, ProgramAim, simulates, checks, lists, Aim, of_program, lays_out, wanted_of, aim_of, MayBeAimedAt, MayBeAimed, plain, settings_with}
 use Rattle.chi_tool.specs.Sources.{ComesTo}
 use Rattle.chi_tool.specs.Words.{Wish, nothing, of_task, wish_of}
+use Rattle.chi_tool.proofs.Layouts.{layout_some, layout_one}
 use Rattle.chi_tool.proofs.LawClauses.{AnswerLaw, RunLaw, CodeLaw, CheckLaw, comes_sound, ValuesLaw, RangeLaw, LogLaw}
 use Rattle.chi_tool.proofs.Runs.{may_be_aimed, asked_settings}
 use Rattle.chi_tool.proofs.Sources.{Comes, source_comes, one_refusal, refused_or_comes, one_core}
@@ -70,7 +72,7 @@ module _ (law : LogLaw) where
 module _ (answers : AnswerLaw) (runs : RunLaw) (coded : CodeLaw) (check : CheckLaw) (fit : ValuesLaw) where
   -- there is one
 
-  arguments_some : (w : Wanted) → MayBeAimed (simulates w) → (source : List ℕ) (core : Core) → length source ≤ MOST_BYTES → ComesTo source core → (d : ProcDef) → slice_get core.procs core.model ≡ Some d
+  arguments_some : (w : Wanted) → MayBeAimedAt (simulates w) → (source : List ℕ) (core : Core) → length source ≤ MOST_BYTES → ComesTo source core → (d : ProcDef) → slice_get core.procs core.model ≡ Some d
       → (o : Result (List Value) ArgFault) → values_of d.params w.texts ≡ o → (r : Report) × IsReportOfRun core w r
   arguments_some w bounded source core within comes d is (Ok values) read =
       let ran = runs.some source core within comes (settings_with w values) (asked_settings fit core w values d is read bounded) in
@@ -78,7 +80,7 @@ module _ (answers : AnswerLaw) (runs : RunLaw) (coded : CodeLaw) (check : CheckL
   arguments_some w bounded source core within comes d is (Err fault) read =
       (unfit_arguments (length d.params) (length w.texts) fault, unfit (length d.params) fault (record { model = d; is = is; read = read; count = refl }) refl)
 
-  program_some : (aim : Aim) → MayBeAimed aim → (source : List ℕ) (core : Core) → length source ≤ MOST_BYTES → ComesTo source core → (r : Report) × IsReportOfProgram core aim r
+  program_some : (aim : ProgramAim) → MayBeAimedAt aim → (source : List ℕ) (core : Core) → length source ≤ MOST_BYTES → ComesTo source core → (r : Report) × IsReportOfProgram core aim r
   program_some (simulates w) bounded source core within comes =
       let s : Sound core = comes_sound check source core within comes in
       let m = s.model in
@@ -87,19 +89,20 @@ module _ (answers : AnswerLaw) (runs : RunLaw) (coded : CodeLaw) (check : CheckL
   program_some lists bounded source core within comes =
       let there = coded.some source core within comes in (refusal.listed there.0, record { code = there.0; is = there.1; listed = refl })
 
-  come_to_some : (aim : Aim) → MayBeAimed aim → (source : List ℕ) → length source ≤ MOST_BYTES → Comes source → (r : Report) × IsReportOfSource source aim r
+  come_to_some : (aim : ProgramAim) → MayBeAimedAt aim → (source : List ℕ) → length source ≤ MOST_BYTES → Comes source → (r : Report) × IsReportOfSource source aim r
   come_to_some aim bounded source within (inl (r, is)) = (r, refused is)
   come_to_some aim bounded source within (inr (core, is)) = let p = program_some aim bounded source core within is in (p.0, program core is p.1)
 
-  pub source_some : (aim : Aim) → MayBeAimed aim → (source : List ℕ) → length source ≤ MOST_BYTES → (r : Report) × IsReportOfSource source aim r
-  source_some aim bounded source within = come_to_some aim bounded source within (source_comes answers check source)
+  pub source_some : (aim : Aim) → MayBeAimed aim → (source : List ℕ) → length source ≤ MOST_BYTES → (r : Report) × IsReportFor aim source r
+  source_some (of_program aim) bounded source within = come_to_some aim bounded source within (source_comes answers check source)
+  source_some lays_out bounded source within = layout_some answers source
 
   wish_some : LogLaw → (w : Wish) → IsBoundedWish w → (files : Files) → (r : Report) × IsReportOfWish w files r
   wish_some log_law nothing bounded files = (usage, refl)
   wish_some log_law (of_task (OfFile name purpose)) bounded files =
       file_some MOST_BYTES (IsReportFor (aim_of purpose)) (source_some (aim_of purpose) (may_be_aimed purpose bounded)) (files name)
   wish_some log_law (of_task (OfLog name)) bounded files = file_some MOST_LOG_BYTES IsReportOfLog (λ text within. log_some log_law text) (files name)
-  wish_some log_law (of_task (OfFactory size)) bounded files = source_some (simulates (wanted_of plain)) (may_be_aimed (Simulate plain) (omega arith)) (factory_source size) (factory_within size bounded)
+  wish_some log_law (of_task (OfFactory size)) bounded files = source_some (of_program (simulates (wanted_of plain))) (may_be_aimed (OfProgram (Simulate plain)) (omega arith)) (factory_source size) (factory_within size bounded)
 
   pub report_some : LogLaw → RangeLaw → (words : List (List ℕ)) (files : Files) → (r : Report) × IsReport words files r
   report_some log_law bounds words files = wish_some log_law (wish_of words) (bounded_wish bounds words) files
@@ -131,23 +134,27 @@ module _ (answers : AnswerLaw) (runs : RunLaw) (coded : CodeLaw) (check : CheckL
       let ran : IsRunOf core (settings_with w values) also.course = subst (λ (xs : List Value). IsRunOf core (settings_with w xs) also.course) lists also.run in
       of.is ∙ ap (run_report core) (runs.one core (settings_with w values) of.course also.course of.run ran) ∙ sym also.is
 
-  program_one : (core : Core) (aim : Aim) (r s : Report) → IsReportOfProgram core aim r → IsReportOfProgram core aim s → r ≡ s
+  program_one : (core : Core) (aim : ProgramAim) (r s : Report) → IsReportOfProgram core aim r → IsReportOfProgram core aim s → r ≡ s
   program_one core (simulates w) r s p q = run_one core w r s p q
   program_one core checks r s p q = p ∙ sym q
   program_one core lists r s p q = p.listed ∙ ap refusal.listed (coded.one core p.code q.code p.is q.is) ∙ sym q.listed
 
-  pub source_one : (source : List ℕ) (aim : Aim) (r s : Report) → IsReportOfSource source aim r → IsReportOfSource source aim s → r ≡ s
-  source_one source aim r s (refused p) (refused q) = one_refusal answers source r s p q
-  source_one source aim r s (refused p) (program core q b) = absurd (refused_or_comes answers source r core p q)
-  source_one source aim r s (program core p a) (refused q) = absurd (refused_or_comes answers source s core q p)
-  source_one source aim r s (program core p a) (program other q b) =
+  checked_one : (source : List ℕ) (aim : ProgramAim) (r s : Report) → IsReportOfSource source aim r → IsReportOfSource source aim s → r ≡ s
+  checked_one source aim r s (refused p) (refused q) = one_refusal answers source r s p q
+  checked_one source aim r s (refused p) (program core q b) = absurd (refused_or_comes answers source r core p q)
+  checked_one source aim r s (program core p a) (refused q) = absurd (refused_or_comes answers source s core q p)
+  checked_one source aim r s (program core p a) (program other q b) =
       program_one core aim r s a (subst (λ c. IsReportOfProgram c aim s) (one_core answers source other core q p) b)
+
+  pub source_one : (source : List ℕ) (aim : Aim) (r s : Report) → IsReportFor aim source r → IsReportFor aim source s → r ≡ s
+  source_one source (of_program aim) r s p q = checked_one source aim r s p q
+  source_one source lays_out r s p q = layout_one answers source r s p q
 
   wish_one : LogLaw → (w : Wish) (files : Files) (r s : Report) → IsReportOfWish w files r → IsReportOfWish w files s → r ≡ s
   wish_one log_law nothing files r s p q = p ∙ sym q
   wish_one log_law (of_task (OfFile name purpose)) files r s p q = file_one MOST_BYTES (IsReportFor (aim_of purpose)) (λ source. source_one source (aim_of purpose)) (files name) r s p q
   wish_one log_law (of_task (OfLog name)) files r s p q = file_one MOST_LOG_BYTES IsReportOfLog (log_one log_law) (files name) r s p q
-  wish_one log_law (of_task (OfFactory size)) files r s p q = source_one (factory_source size) (simulates (wanted_of plain)) r s p q
+  wish_one log_law (of_task (OfFactory size)) files r s p q = source_one (factory_source size) (of_program (simulates (wanted_of plain))) r s p q
 
   pub report_one : LogLaw → (words : List (List ℕ)) (files : Files) (r s : Report) → IsReport words files r → IsReport words files s → r ≡ s
   report_one log_law words files r s p q = wish_one log_law (wish_of words) files r s p q

@@ -24,13 +24,15 @@ use Rattle.chi_sched.specs.Policies.{Answers}
 use Rattle.chi_tool.specs.declared.report.Reported.{Reported}
 use Rattle.chi_tool.specs.declared.task.Asked.{Asked}
 use Rattle.chi_tool.specs.declared.task.Purpose.{Purpose}
-use Rattle.chi_tool.specs.declared.task.Purpose.TheVariants.{Simulate, Check, ListCode}
+use Rattle.chi_tool.specs.declared.task.Purpose.TheVariants.{OfProgram, LayOut}
+use Rattle.chi_tool.specs.declared.task.ProgramPurpose.{ProgramPurpose}
+use Rattle.chi_tool.specs.declared.task.ProgramPurpose.TheVariants.{Simulate, Check, ListCode}
 use Rattle.chi_tool.specs.Arguments.{is_misfit}
 use Rattle.chi_tool.specs.Refusals.{unfit_arguments}
 use Rattle.chi_tool.specs.Report.{IsReportOfRun, unfit, run, IsReportOfProgram, IsReportOfSource, program}
 use Rattle.chi_tool.specs.Reported.{report_in}
 use Rattle.chi_tool.specs.Running.{Course, IsLogged, IsRunOf, IsRunReport, MayHave}
-use Rattle.chi_tool.specs.Settings.{Settings, Wanted, Aim, simulates, wanted_of, aim_of, IsBounded, MayBeAimed, policy_of, settings_with}
+use Rattle.chi_tool.specs.Settings.{Settings, Wanted, ProgramAim, simulates, wanted_of, program_aim, aim_of, IsBoundedFor, IsBounded, MayBeAimedAt, MayBeAimed, policy_of, settings_with}
 use Rattle.chi_tool.specs.Sources.{ComesTo}
 use Rattle.chi_tool.specs.Turns.{RunsTo}
 use Rattle.chi_tool.proofs.LawClauses.{CheckLaw, ValuesLaw, comes_sound}
@@ -46,14 +48,18 @@ named_lawful pick.Last question count early some few = last_below count some
 named_lawful (pick.Spread salt) question count early some few = mod-lt _ some
 
 -- what words ask for is within what is counted, and by a lawful policy
+may_be_aimed_at : (purpose : ProgramPurpose) → IsBoundedFor purpose → MayBeAimedAt (program_aim purpose)
+may_be_aimed_at (Simulate a) bounded = (bounded, named_lawful a.terms.policy)
+may_be_aimed_at Check bounded = tt
+may_be_aimed_at ListCode bounded = tt
+
 pub may_be_aimed : (purpose : Purpose) → IsBounded purpose → MayBeAimed (aim_of purpose)
-may_be_aimed (Simulate a) bounded = (bounded, named_lawful a.terms.policy)
-may_be_aimed Check bounded = tt
-may_be_aimed ListCode bounded = tt
+may_be_aimed (OfProgram purpose) bounded = may_be_aimed_at purpose bounded
+may_be_aimed LayOut bounded = tt
 
 -- settings that are wanted may be had
 pub asked_settings : ValuesLaw → (core : Core) (w : Wanted) (values : List Value) (d : ProcDef) → slice_get core.procs core.model ≡ Some d
-    → values_of d.params w.texts ≡ Ok values → MayBeAimed (simulates w) → MayHave core (settings_with w values)
+    → values_of d.params w.texts ≡ Ok values → MayBeAimedAt (simulates w) → MayHave core (settings_with w values)
 asked_settings fit core w values d is read bounded = record {
   model = d;
   is = is;
@@ -139,7 +145,7 @@ formula_ran p core a (Ok r) same is =
 formula_ran p core a (Err lost) same is = tt
 
 -- the report of a source that comes to a program
-pub program_reported : (source : List ℕ) (core : Core) (aim : Aim) (result : Result Reported NoMemory) → ComesTo source core
+pub program_reported : (source : List ℕ) (core : Core) (aim : ProgramAim) (result : Result Reported NoMemory) → ComesTo source core
     → IfOk result (λ r. IsReportOfProgram core aim (report_in r)) → IfOk result (λ r. IsReportOfSource source aim (report_in r))
 program_reported source core aim result comes is = if_ok result (λ r of. program core comes of) is
 

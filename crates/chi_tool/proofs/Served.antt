@@ -7,13 +7,14 @@ use Rattle.chi_core.specs.declared.verdict.Verdict.TheVariants as verdict
 use Rattle.chi_tool.specs.Call.{Call, SinkUse}
 use Rattle.chi_tool.specs.Delivery.{Delivers, whole, out_broke, log_broke, DeliversReport}
 use Rattle.chi_tool.specs.Serving.{Serves, reported, missing, long, failed, lost}
-use Rattle.chi_tool.specs.declared.task.Purpose.TheVariants.{Simulate}
+use Rattle.chi_tool.specs.declared.task.Purpose.TheVariants.{OfProgram}
+use Rattle.chi_tool.specs.declared.task.ProgramPurpose.TheVariants.{Simulate}
 use Rattle.chi_tool.specs.declared.task.Task.{Task}
-use Rattle.chi_tool.specs.Headline.{Headline, IsAskedSource, held, made, HasLexicalFault, HasSyntaxFault, HasTypeFault, Ends, IsExit, IsFault, HasUnfitArguments, IsNoContent, IsUnread, CannotBeRead, IsExactly, IsExactlyOf, StoppedByFailure, Causes, IsComplete}
+use Rattle.chi_tool.specs.Headline.{Headline, IsAskedSource, held, made, HasLexicalFault, HasSyntaxFault, IsMistyped, Ends, IsExit, IsFault, HasUnfitArguments, IsTooLong, IsNoContent, IsUnread, CannotBeRead, IsExactly, IsExactlyOf, StoppedByFailure, Causes, IsComplete}
 use Rattle.chi_tool.specs.Refusals.{Report, usage}
-use Rattle.chi_tool.specs.Settings.{Wanted, Aim, simulates, MayBeAimed, plain, settings_with}
+use Rattle.chi_tool.specs.Settings.{Wanted, simulates, Aim, of_program, MayBeAimed, plain, settings_with}
 use Rattle.chi_tool.specs.Words.{Wish, nothing, of_task, wish_of}
-use Rattle.chi_tool.proofs.Causes.{StatusOf, exit_status, deadlock_status, fault_status, out_of_steps_status, stopped_status, lexical_status, syntax_status, mistyped_status, unfit_status, of_source_status, of_done_status, of_misfit_status, ends_complete}
+use Rattle.chi_tool.proofs.Causes.{StatusOf, exit_status, deadlock_status, fault_status, out_of_steps_status, stopped_status, lexical_status, syntax_status, mistyped_status, unfit_status, too_long_status, of_source_status, of_done_status, of_misfit_status, ends_complete}
 use Rattle.chi_tool.proofs.Contents.{IsOfContent, IsOfFile}
 use Rattle.chi_tool.proofs.LawClauses.{RunLaw, CodeLaw, ReportLaw, ValuesLaw, RangeLaw}
 use Rattle.chi_tool.proofs.Promises.{IsLost, met_of, goes_stopped, asks_something, served-headline, usage-headline, lost-headline}
@@ -105,10 +106,10 @@ module _ (most : ℕ) (P : List ℕ → Report → Type 0) (own : (content : Lis
   served_unread (lost status out log) e = absurd (omega arith)
 
 -- what is asked for is within what is counted
-asked_bound : RangeLaw → (call : Call) (files : Files) (w : Wanted) (source : List ℕ) → IsAskedSource call files (simulates w) source → MayBeAimed (simulates w)
+asked_bound : RangeLaw → (call : Call) (files : Files) (w : Wanted) (source : List ℕ) → IsAskedSource call files (of_program (simulates w)) source → MayBeAimed (of_program (simulates w))
 asked_bound bounds call files w source (held name purpose asked there within same) =
     subst MayBeAimed (sym same) (may_be_aimed purpose (subst IsBoundedWish asked (bounded_wish bounds call.words)))
-asked_bound bounds call files w source (made size asked same plainly) = subst MayBeAimed (sym plainly) (may_be_aimed (Simulate plain) (omega arith))
+asked_bound bounds call files w source (made size asked same plainly) = subst MayBeAimed (sym plainly) (may_be_aimed (OfProgram (Simulate plain)) (omega arith))
 
 -- and its source within the limit
 asked_within : RangeLaw → (call : Call) (files : Files) (aim : Aim) (source : List ℕ) → IsAskedSource call files aim source → length source ≤ MOST_BYTES
@@ -133,8 +134,9 @@ module _ (law : ReportLaw) (coded : CodeLaw) (call : Call) (head : Headline call
     stopped = of_source 14 (Ends (λ v. v ≡ verdict.Stopped)) stopped_status (λ e. omega arith) (λ e. omega arith, λ e. omega arith);
     lexical = of_source 20 (λ aim. HasLexicalFault) lexical_status (λ e. omega arith) (λ e. omega arith, λ e. omega arith);
     syntax = of_source 21 (λ aim. HasSyntaxFault) syntax_status (λ e. omega arith) (λ e. omega arith, λ e. omega arith);
-    typing = of_source 22 (λ aim. HasTypeFault) mistyped_status (λ e. omega arith) (λ e. omega arith, λ e. omega arith);
+    typing = of_source 22 IsMistyped mistyped_status (λ e. omega arith) (λ e. omega arith, λ e. omega arith);
     arguments = of_source 23 HasUnfitArguments unfit_status (λ e. omega arith) (λ e. omega arith, λ e. omega arith);
+    layout_too_long = of_source 27 IsTooLong too_long_status (λ e. omega arith) (λ e. omega arith, λ e. omega arith);
     misfit = of_misfit_status law coded call head;
     no_request = request;
     not_read = unread;
@@ -147,7 +149,7 @@ module _ (law : ReportLaw) (coded : CodeLaw) (call : Call) (head : Headline call
   complete runs fit bounds =
       λ files well w source asked core comes arguments means.
       let bounded = asked_bound bounds call files w source asked in
-      let ran = runs.some source core (asked_within bounds call files (simulates w) source asked) comes (settings_with w arguments) (asked_settings fit core w arguments means.model means.is means.read bounded) in
+      let ran = runs.some source core (asked_within bounds call files (of_program (simulates w)) source asked) comes (settings_with w arguments) (asked_settings fit core w arguments means.model means.is means.read bounded) in
       (ran.0, ran.1, ends_complete law coded call files (met_of call head files well) w source asked core comes arguments means ran.0 ran.1)
 
 module _ (t : Task) (name : List ℕ) (most : ℕ) (P : List ℕ → Report → Type 0) (of : IsOfFile t name most P) (call : Call)

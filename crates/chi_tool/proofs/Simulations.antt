@@ -9,13 +9,13 @@ use Rattle.chi_trace.specs.declared.filter.Filter.{Filter}
 use Rattle.chi_value.specs.declared.value.Value.{Value}
 use Rattle.chi_tool.specs.Arguments.{Means}
 use Rattle.chi_tool.specs.Call.{SinkUse, Took, SinkStood}
-use Rattle.chi_tool.specs.Headline.{IsReportedOrLost, MeetsAlone, delivered, wanting, HasLexicalFault, HasSyntaxFault, HasTypeFault, EndsAs, Ends, IsDone, IsExit, IsFault, HasUnfitArguments}
+use Rattle.chi_tool.specs.Headline.{IsReportedOrLost, MeetsAlone, delivered, wanting, HasLexicalFault, HasSyntaxFault, IsMistyped, EndsAs, Ends, IsDone, IsExit, IsFault, HasUnfitArguments}
 use Rattle.chi_tool.specs.Refusals.{Report}
 use Rattle.chi_tool.specs.Report as report
 use Rattle.chi_tool.specs.Report.{IsReportOfSource, program}
 use Rattle.chi_tool.specs.Running.{Course, IsRunOf, run_report}
 use Rattle.chi_tool.specs.Serving.{Tells, told, untold}
-use Rattle.chi_tool.specs.Settings.{Wanted, Aim, simulates, MayBeAimed, settings_with, trace_by}
+use Rattle.chi_tool.specs.Settings.{Wanted, simulates, Aim, of_program, MayBeAimed, settings_with, trace_by}
 use Rattle.chi_tool.specs.Simulations.{Simulation, as_call, SimulationHeadline, ComesOf, IsExactlyFor, SimulationCauses, IsSimulatedToItsEnd}
 use Rattle.chi_tool.specs.Sources.{ComesTo}
 use Rattle.chi_tool.specs.Statuses.{status_of}
@@ -27,7 +27,7 @@ use Rattle.chi_tool.proofs.Runs.{asked_settings}
 use Rattle.chi_tool.proofs.Served.{Breaks, unbroken, delivered_breaks, delivered_status}
 
 -- a policy that picks among the choices, within the bound
-pub may_be_simulated : (gives : ℕ → ℕ → ℕ → Type 0) (w : Wanted) → w.bound ≤ MOST_STEPS → Answers gives w.pick → MayBeAimed (simulates w)
+pub may_be_simulated : (gives : ℕ → ℕ → ℕ → Type 0) (w : Wanted) → w.bound ≤ MOST_STEPS → Answers gives w.pick → MayBeAimed (of_program (simulates w))
 may_be_simulated gives w within answers =
     (omega arith, λ question count early some few. (answers question count (record { numbered = early; some = some; counted = few })).0)
 
@@ -45,7 +45,7 @@ tells_kept keeps_to trace probe shown is source wanted status out log tells =
     subst (λ (t : Option Filter). Tells (IsReportOfSource source (simulates (wanted t))) status out log) same tells
 
 -- a simulation that was told of
-module _ (law : SourceLaw) (s : Simulation) (within : length s.source ≤ MOST_BYTES) (may : MayBeAimed (simulates s.wanted))
+module _ (law : SourceLaw) (s : Simulation) (within : length s.source ≤ MOST_BYTES) (may : MayBeAimed (of_program (simulates s.wanted)))
     (tells : Tells (IsReportOfSource s.source (simulates s.wanted)) s.status s.out s.log) where
   abbrev Telling : Type 0
   Telling = Tells (IsReportOfSource s.source (simulates s.wanted)) s.status s.out s.log
@@ -56,13 +56,14 @@ module _ (law : SourceLaw) (s : Simulation) (within : length s.source ≤ MOST_B
   content : (r : Report) → IsReportOfSource s.source (simulates s.wanted) r → IsOfContent r.status
   content r is = source_status s.source (simulates s.wanted) r is
 
-  fits : (r : Report) → IsReportOfSource s.source (simulates s.wanted) r → r.status ≢ 24
-  fits r is h = let b = source_bound s.source (simulates s.wanted) r is in grind arith
+  -- no log is brought up, and nothing is laid out
+  above : (n : ℕ) → 24 ≤ n → (r : Report) → IsReportOfSource s.source (simulates s.wanted) r → r.status ≢ n
+  above n high r is h = let b = source_bound s.source (simulates s.wanted) r is in let far = high in grind arith
 
   met_by : Telling → Met
   met_by (told r is d) = (r, is, delivered d)
   met_by (untold status out log) =
-      let p = law.some s.source (simulates s.wanted) within may in
+      let p = law.some s.source (of_program (simulates s.wanted)) within may in
       (p.0, p.1, wanting status out log)
 
   stopped_by : Telling → s.out.stopped ≡ true → Took s.log []
@@ -84,26 +85,26 @@ module _ (law : SourceLaw) (s : Simulation) (within : length s.source ≤ MOST_B
   not_read_by (told r is d) e = delivered_status _ 4 _ _ _ s.out s.log (content r is).is_read (λ h. omega arith) d e
   not_read_by (untold status out log) e = omega arith
 
-  fits_by : Telling → s.status ≢ 24
-  fits_by (told r is d) e = delivered_status _ 24 _ _ _ s.out s.log (fits r is) (λ h. omega arith) d e
-  fits_by (untold status out log) e = omega arith
+  above_by : (n : ℕ) → 24 ≤ n → Telling → s.status ≢ n
+  above_by n high (told r is d) e = delivered_status _ n _ _ _ s.out s.log (above n high r is) (λ h. omega arith) d e
+  above_by n high (untold status out log) e = omega arith
 
   -- a status comes exactly of its cause
   module _ (n : ℕ) (P : Aim → List ℕ → Type 0) (status : StatusOf n P) where
-    causing : (r : Report) → IsReportOfSource s.source (simulates s.wanted) r → P (simulates s.wanted) s.source → r.status ≡ n
+    causing : (r : Report) → IsReportOfSource s.source (simulates s.wanted) r → P (of_program (simulates s.wanted)) s.source → r.status ≡ n
     causing r is h =
-        let p = status.from (simulates s.wanted) s.source tt h in
-        status_ap r p.0 (law.one s.source (simulates s.wanted) r p.0 is p.1) ∙ p.2
+        let p = status.from (of_program (simulates s.wanted)) s.source tt h in
+        status_ap r p.0 (law.one s.source (of_program (simulates s.wanted)) r p.0 is p.1) ∙ p.2
 
-    exactly_by : (cause : Type 0) → (P (simulates s.wanted) s.source → cause) → (cause → P (simulates s.wanted) s.source) → Met → IsExactlyFor s n cause
+    exactly_by : (cause : Type 0) → (P (of_program (simulates s.wanted)) s.source → cause) → (cause → P (of_program (simulates s.wanted)) s.source) → Met → IsExactlyFor s n cause
     exactly_by cause to from (r, is, met) out log =
         exactly r (as_call s) n cause status.other.2 (alone-whole r (as_call s) met out log)
-        (λ e. to (status.to (simulates s.wanted) s.source r is e)) (λ h. causing r is (from h))
+        (λ e. to (status.to (of_program (simulates s.wanted)) s.source r is e)) (λ h. causing r is (from h))
 
-  comes : (n : ℕ) (P : Aim → List ℕ → Type 0) → StatusOf n P → ComesOf s n (P (simulates s.wanted))
-  comes n P status = exactly_by n P status (P (simulates s.wanted) s.source) (λ h. h) (λ h. h) (met_by tells)
+  comes : (n : ℕ) (P : Aim → List ℕ → Type 0) → StatusOf n P → ComesOf s n (P (of_program (simulates s.wanted)))
+  comes n P status = exactly_by n P status (P (of_program (simulates s.wanted)) s.source) (λ h. h) (λ h. h) (met_by tells)
 
-  completed : IsDone (simulates s.wanted) s.source → EndsAs (λ v. v ≡ verdict.Completed) s.wanted s.source
+  completed : IsDone (of_program (simulates s.wanted)) s.source → EndsAs (λ v. v ≡ verdict.Completed) s.wanted s.source
   completed (inl ends) = ends
   completed (inr none) = absurd none
 
@@ -119,11 +120,12 @@ module _ (law : SourceLaw) (s : Simulation) (within : length s.source ≤ MOST_B
         stopped = comes 14 (Ends (λ v. v ≡ verdict.Stopped)) stopped_status;
         lexical = comes 20 (λ aim. HasLexicalFault) lexical_status;
         syntax = comes 21 (λ aim. HasSyntaxFault) syntax_status;
-        typing = comes 22 (λ aim. HasTypeFault) mistyped_status;
+        typing = comes 22 IsMistyped mistyped_status;
         arguments = comes 23 HasUnfitArguments unfit_status;
         no_request = no_request_by tells;
         not_read = not_read_by tells;
-        misfit = fits_by tells;
+        misfit = above_by 24 (omega arith) tells;
+        layout_too_long = above_by 27 (omega arith) tells;
         not_written = (breaks.stops, breaks.tells);
         out_failed = breaks.out_failed;
         log_failed = breaks.log_failed;
@@ -141,7 +143,7 @@ module _ (law : SourceLaw) (s : Simulation) (within : length s.source ≤ MOST_B
       by_met core its_core arguments means course run (r, is, met) out log =
           let its : IsReportOfSource s.source (simulates s.wanted) (run_report core course) =
           program core its_core (report.run arguments means (record { course = course; run = run; is = refl })) in
-          let one : r ≡ run_report core course = law.one s.source (simulates s.wanted) r (run_report core course) is its in
+          let one : r ≡ run_report core course = law.one s.source (of_program (simulates s.wanted)) r (run_report core course) is its in
           ends (status_ap r (run_report core course) one) (alone-whole r (as_call s) met out log)
         where
           ends : r.status ≡ status_of course.told.ending.verdict → IsReportedOrLost r (as_call s)

@@ -17,11 +17,15 @@ use Rattle.chi_check_streams.specs.Streams.{with_streams}
 use Rattle.chi_core.specs.declared.program.Core.{Core}
 use Rattle.chi_tool.specs.Refusals as refusal
 use Rattle.chi_tool.specs.Refusals.{Report}
-use Rattle.chi_tool.specs.Sources.{IsWritten, IsNoProgram, IsRefused, BreaksRule, by_lexer, by_parser, by_checker, ComesTo}
+use Rattle.chi_tool.specs.Sources.{IsWritten, IsNoProgram, IsUnparsed, by_lexer, by_parser, IsRefused, unparsed, by_checker, BreaksRule, ComesTo}
 use Rattle.chi_tool.specs.Syntax.{HasTree, HasFault}
 use Rattle.chi_tool.proofs.LawClauses.{AnswerLaw, CheckLaw}
 
--- what a source comes to
+-- what a source is, as it is written
+abbrev pub Parses : List ℕ → Type 0
+Parses source = ((r : Report) × IsUnparsed source r) ⊎ ((tree : Program) × IsWritten source tree)
+
+-- what it comes to
 abbrev pub Comes : List ℕ → Type 0
 Comes source = ((r : Report) × IsRefused source r) ⊎ ((core : Core) × ComesTo source core)
 
@@ -49,22 +53,28 @@ tree_comes check source tree written (f ∷ fs) e =
     let g = first_some f fs in
     inl (refusal.typing g.0, by_checker g.0 (record { tree = tree; written = written; first = ap first e ∙ g.1 }) refl)
 
-faulty : (source : List ℕ) (tokens : List Spanned) (fault : ParseFault) → Reads source tokens → HasFault tokens fault → Comes source
+faulty : (source : List ℕ) (tokens : List Spanned) (fault : ParseFault) → Reads source tokens → HasFault tokens fault → Parses source
 faulty source tokens fault reads has = inl (refusal.syntax source tokens fault, by_parser tokens fault (record { read = reads; has = has }) refl)
 
-tokens_come : CheckLaw → (source : List ℕ) (tokens : List Spanned) → Reads source tokens → (result : Result Program ParseFault) → IsAnswer tokens result → Comes source
-tokens_come check source tokens reads (Ok tree) is =
-    tree_comes check source tree (record { tokens = tokens; read = reads; parsed = is }) (checked tree).faults refl
-tokens_come check source tokens reads (Err (Syntax k)) is = faulty source tokens (Syntax k) reads is
-tokens_come check source tokens reads (Err (TooDeep k)) is = faulty source tokens (TooDeep k) reads is
-tokens_come check source tokens reads (Err NoMemory) is = absurd is
+tokens_parse : (source : List ℕ) (tokens : List Spanned) → Reads source tokens → (result : Result Program ParseFault) → IsAnswer tokens result → Parses source
+tokens_parse source tokens reads (Ok tree) is = inr (tree, record { tokens = tokens; read = reads; parsed = is })
+tokens_parse source tokens reads (Err (Syntax k)) is = faulty source tokens (Syntax k) reads is
+tokens_parse source tokens reads (Err (TooDeep k)) is = faulty source tokens (TooDeep k) reads is
+tokens_parse source tokens reads (Err NoMemory) is = absurd is
+
+pub source_parses : AnswerLaw → (source : List ℕ) → Parses source
+source_parses law source = by (some_reading source)
+  where
+    by : ((tokens : List Spanned) × Reads source tokens) ⊎ ((fault : LexFault) × lexical.HasFault source fault) → Parses source
+    by (inl (tokens, reads)) = let a = law.some tokens in tokens_parse source tokens reads a.0 a.1
+    by (inr (fault, has)) = inl (refusal.lexical fault, by_lexer fault has refl)
 
 pub source_comes : AnswerLaw → CheckLaw → (source : List ℕ) → Comes source
-source_comes law check source = by (some_reading source)
+source_comes law check source = by (source_parses law source)
   where
-    by : ((tokens : List Spanned) × Reads source tokens) ⊎ ((fault : LexFault) × lexical.HasFault source fault) → Comes source
-    by (inl (tokens, reads)) = let a = law.some tokens in tokens_come check source tokens reads a.0 a.1
-    by (inr (fault, has)) = inl (refusal.lexical fault, by_lexer fault has refl)
+    by : Parses source → Comes source
+    by (inl (r, is)) = inl (r, unparsed is)
+    by (inr (tree, written)) = tree_comes check source tree written (checked tree).faults refl
 
 -- and nothing else
 
@@ -74,7 +84,7 @@ fault_answer tokens (TooDeep k) h = h
 fault_answer tokens NoMemory h = h
 
 module _ (law : AnswerLaw) (source : List ℕ) where
-  one_written : (t u : Program) → IsWritten source t → IsWritten source u → t ≡ u
+  pub one_written : (t u : Program) → IsWritten source t → IsWritten source u → t ≡ u
   one_written t u p q =
       let there : HasTree p.tokens u = subst (λ ts. HasTree ts u) (one_list source q.tokens p.tokens q.read p.read) q.parsed in
       let same : ◌≡◌ {A = Result Program ParseFault} (Ok t) (Ok u) = law.one p.tokens (Ok t) (Ok u) p.parsed there in cc
@@ -99,20 +109,24 @@ module _ (law : AnswerLaw) (source : List ℕ) where
       let both : Some e ≡ Some f = sym there ∙ q.first in
       cc
 
+  pub one_unparsed : (r s : Report) → IsUnparsed source r → IsUnparsed source s → r ≡ s
+  one_unparsed r s (by_lexer e p a) (by_lexer f q b) = a ∙ ap refusal.lexical (one_fault source e f p q) ∙ sym b
+  one_unparsed r s (by_lexer e p a) (by_parser us f q b) = absurd (never_both source us e q.read p)
+  one_unparsed r s (by_parser ts e p a) (by_lexer f q b) = absurd (never_both source ts f p.read q)
+  one_unparsed r s (by_parser ts e p a) (by_parser us f q b) = a ∙ one_syntax_fault ts us e f p q ∙ sym b
+
+  pub unparsed_or_written : (r : Report) (tree : Program) → IsUnparsed source r → IsWritten source tree → ⊥
+  unparsed_or_written r tree (by_lexer e p a) q = never_both source q.tokens e q.read p
+  unparsed_or_written r tree (by_parser ts e p a) q = written_or_fault tree ts e q p
+
   pub one_refusal : (r s : Report) → IsRefused source r → IsRefused source s → r ≡ s
-  one_refusal r s (by_lexer e p a) (by_lexer f q b) = a ∙ ap refusal.lexical (one_fault source e f p q) ∙ sym b
-  one_refusal r s (by_lexer e p a) (by_parser us f q b) = absurd (never_both source us e q.read p)
-  one_refusal r s (by_lexer e p a) (by_checker f q b) = absurd (never_both source q.written.tokens e q.written.read p)
-  one_refusal r s (by_parser ts e p a) (by_lexer f q b) = absurd (never_both source ts f p.read q)
-  one_refusal r s (by_parser ts e p a) (by_parser us f q b) = a ∙ one_syntax_fault ts us e f p q ∙ sym b
-  one_refusal r s (by_parser ts e p a) (by_checker f q b) = absurd (written_or_fault q.tree ts e q.written p)
-  one_refusal r s (by_checker e p a) (by_lexer f q b) = absurd (never_both source p.written.tokens f p.written.read q)
-  one_refusal r s (by_checker e p a) (by_parser us f q b) = absurd (written_or_fault p.tree us f p.written q)
+  one_refusal r s (unparsed p) (unparsed q) = one_unparsed r s p q
+  one_refusal r s (unparsed p) (by_checker f q b) = absurd (unparsed_or_written r q.tree p q.written)
+  one_refusal r s (by_checker e p a) (unparsed q) = absurd (unparsed_or_written s p.tree q p.written)
   one_refusal r s (by_checker e p a) (by_checker f q b) = a ∙ ap refusal.typing (one_rule e f p q) ∙ sym b
 
   pub refused_or_comes : (r : Report) (core : Core) → IsRefused source r → ComesTo source core → ⊥
-  refused_or_comes r core (by_lexer e p a) q = never_both source q.written.tokens e q.written.read p
-  refused_or_comes r core (by_parser ts e p a) q = written_or_fault q.tree ts e q.written p
+  refused_or_comes r core (unparsed p) q = unparsed_or_written r q.tree p q.written
   refused_or_comes r core (by_checker e p a) q =
       let same : p.tree ≡ q.tree = one_written p.tree q.tree p.written q.written in
       first_none (checked q.tree).faults e q.unbroken (subst (λ t. first (checked t).faults ≡ Some e) same p.first)

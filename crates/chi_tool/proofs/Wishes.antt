@@ -32,6 +32,7 @@ by_reading law words (Err fault) is = tt
 by_reading law words (Ok (request.Sim file texts seed bound until pick trace probe)) is = counted bound (law words _ is).1
 by_reading law words (Ok (request.Check file)) is = tt
 by_reading law words (Ok (request.Code file)) is = tt
+by_reading law words (Ok (request.Fmt file)) is = tt
 by_reading law words (Ok (request.Load n)) is = law words _ is
 by_reading law words (Ok (request.TraceUp file)) is = tt
 

@@ -20,10 +20,11 @@ use Rattle.chi_tool.specs.declared.task.Purpose.{Purpose}
 use Rattle.chi_tool.specs.declared.task.Task.TheVariants.{OfFile, OfLog, OfFactory}
 use Rattle.chi_tool.specs.Words.{Wish, nothing, of_task, wish_of, NamesNoFile}
 use Rattle.chi_tool.specs.Arguments.{Means, Misfits}
+use Rattle.chi_tool.specs.Layouts.{HasLayout}
 use Rattle.chi_tool.specs.Refusals.{Report, no_such_file, file_too_long}
 use Rattle.chi_tool.specs.Report.{IsReport}
 use Rattle.chi_tool.specs.Running.{Course, IsRunOf}
-use Rattle.chi_tool.specs.Settings.{Wanted, Aim, simulates, checks, lists, wanted_of, aim_of, settings_with, plain}
+use Rattle.chi_tool.specs.Settings.{Wanted, simulates, checks, lists, Aim, of_program, lays_out, wanted_of, aim_of, settings_with, plain}
 use Rattle.chi_tool.specs.Sources.{IsNoProgram, BreaksRule, ComesTo}
 use Rattle.chi_tool.specs.Statuses as statuses
 use Rattle.chi_tool.specs.Statuses.{status_of}
@@ -98,7 +99,7 @@ pub record Follows (r : Report) (call : Call) : Type 0 where
 pub data IsAskedSource (call : Call) (files : Files) (aim : Aim) (source : List ℕ) : Type 0 where
   held : (name : List ℕ) (purpose : Purpose) → wish_of call.words ≡ of_task (OfFile name purpose) → files name ≡ Some source → length source ≤ MOST_BYTES
       → aim ≡ aim_of purpose → IsAskedSource call files aim source
-  made : (size : ℕ) → wish_of call.words ≡ of_task (OfFactory size) → source ≡ factory_source size → aim ≡ simulates (wanted_of plain)
+  made : (size : ℕ) → wish_of call.words ≡ of_task (OfFactory size) → source ≡ factory_source size → aim ≡ of_program (simulates (wanted_of plain))
       → IsAskedSource call files aim source
 
 -- the words ask for something with a source of which P holds
@@ -136,6 +137,11 @@ HasSyntaxFault source = (tokens : List Spanned) × (fault : ParseFault) × IsNoP
 abbrev pub HasTypeFault : List ℕ → Type 0
 HasTypeFault source = (fault : Fault) × BreaksRule source fault
 
+-- something is to be done with the program, which breaks a rule
+abbrev pub IsMistyped : Aim → List ℕ → Type 0
+IsMistyped (of_program aim) source = HasTypeFault source
+IsMistyped lays_out source = ⊥
+
 -- it comes to a program whose run, as it is asked for, ends with a verdict of which P holds
 pub record EndsAs (P : Verdict → Type 0) (w : Wanted) (source : List ℕ) : Type 0 where
   pub core : Core
@@ -148,17 +154,19 @@ pub record EndsAs (P : Verdict → Type 0) (w : Wanted) (source : List ℕ) : Ty
 
 -- a run is asked for, and ends so
 abbrev pub Ends : (Verdict → Type 0) → Aim → List ℕ → Type 0
-Ends P (simulates w) source = EndsAs P w source
-Ends P checks source = ⊥
-Ends P lists source = ⊥
+Ends P (of_program (simulates w)) source = EndsAs P w source
+Ends P (of_program checks) source = ⊥
+Ends P (of_program lists) source = ⊥
+Ends P lays_out source = ⊥
 
--- a check or a listing is asked for, and the source comes to a program
+-- a check or a listing is asked for, and the source comes to a program; or its layout is, which is within the limit
 abbrev pub IsAccepted : Aim → List ℕ → Type 0
-IsAccepted (simulates w) source = ⊥
-IsAccepted checks source = (core : Core) × ComesTo source core
-IsAccepted lists source = (core : Core) × ComesTo source core
+IsAccepted (of_program (simulates w)) source = ⊥
+IsAccepted (of_program checks) source = (core : Core) × ComesTo source core
+IsAccepted (of_program lists) source = (core : Core) × ComesTo source core
+IsAccepted lays_out source = (text : List ℕ) × HasLayout source text × (length text ≤ MOST_BYTES)
 
--- a run has completed, or a program is accepted, to be checked or to be listed
+-- a run has completed, or a source is accepted, to be checked, listed or laid out
 abbrev pub IsDone : Aim → List ℕ → Type 0
 IsDone aim source = Ends (λ v. v ≡ verdict.Completed) aim source ⊎ IsAccepted aim source
 
@@ -172,9 +180,15 @@ pub record IsUnfit (w : Wanted) (source : List ℕ) : Type 0 where
 
 -- a run is asked for, with such arguments
 abbrev pub HasUnfitArguments : Aim → List ℕ → Type 0
-HasUnfitArguments (simulates w) source = IsUnfit w source
-HasUnfitArguments checks source = ⊥
-HasUnfitArguments lists source = ⊥
+HasUnfitArguments (of_program (simulates w)) source = IsUnfit w source
+HasUnfitArguments (of_program checks) source = ⊥
+HasUnfitArguments (of_program lists) source = ⊥
+HasUnfitArguments lays_out source = ⊥
+
+-- a layout is asked for, which has more bytes than a source may have
+abbrev pub IsTooLong : Aim → List ℕ → Type 0
+IsTooLong (of_program aim) source = ⊥
+IsTooLong lays_out source = (text : List ℕ) × HasLayout source text × (MOST_BYTES < length text)
 
 abbrev pub IsExit : Verdict → Type 0
 IsExit v = (x : Option Value) × (v ≡ verdict.Exit x)
@@ -216,7 +230,7 @@ pub record IsExactlyIn (call : Call) (n : ℕ) (P : Files → Type 0) : Type 0 w
 abbrev pub IsExactlyOf : Call → ℕ → (Aim → List ℕ → Type 0) → Type 0
 IsExactlyOf call n P = IsExactlyIn call n (λ files. AsksFor call files P)
 
--- a run has completed, a program is accepted or listed, or a log is brought up
+-- a run has completed, a program is accepted, listed or laid out, or a log is brought up
 abbrev pub AsksForDone : Call → Files → Type 0
 AsksForDone call files = AsksFor call files IsDone ⊎ AsksForLog call files ComesUp
 
@@ -234,8 +248,9 @@ pub record Causes (call : Call) : Type 0 where
   pub stopped : IsExactlyOf call statuses.stopped (Ends (λ v. v ≡ verdict.Stopped))
   pub lexical : IsExactlyOf call statuses.lexical (λ aim. HasLexicalFault)
   pub syntax : IsExactlyOf call statuses.syntax (λ aim. HasSyntaxFault)
-  pub typing : IsExactlyOf call statuses.typing (λ aim. HasTypeFault)
+  pub typing : IsExactlyOf call statuses.typing IsMistyped
   pub arguments : IsExactlyOf call statuses.arguments HasUnfitArguments
+  pub layout_too_long : IsExactlyOf call statuses.layout_too_long IsTooLong
   pub misfit : IsExactlyIn call statuses.misfit (λ files. AsksForLog call files HasMisfit)
   pub no_request : call.out.stopped ≡ false → call.log.stopped ≡ false → IsExactly call statuses.no_request (wish_of call.words ≡ nothing)
   pub not_read : call.status ≡ statuses.not_read → CannotBeRead call.shelf (wish_of call.words)
@@ -248,7 +263,7 @@ pub record Causes (call : Call) : Type 0 where
 -- memory is wanting
 abbrev pub IsComplete : Call → Type 0
 IsComplete call =
-    (files : Files) → GoesWell call files → (w : Wanted) (source : List ℕ) → IsAskedSource call files (simulates w) source
+    (files : Files) → GoesWell call files → (w : Wanted) (source : List ℕ) → IsAskedSource call files (of_program (simulates w)) source
     → (core : Core) → ComesTo source core → (arguments : List Value) → Means core w.texts arguments
     → (course : Course) × IsRunOf core (settings_with w arguments) course
     × ((call.status ≡ status_of course.told.ending.verdict) ⊎ (call.status ≡ statuses.no_memory))

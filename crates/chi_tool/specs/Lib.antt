@@ -5,6 +5,7 @@ pub mod Arguments
 pub mod Syntax
 pub mod Refusals
 pub mod Sources
+pub mod Layouts
 pub mod Running
 pub mod Report
 pub mod Reported

@@ -77,3 +77,10 @@ accepted = refused statuses.accepted (codes "accepted")
 -- no refusal: the code of a program is listed in the output
 abbrev pub listed : Code → Report
 listed code = record { status = statuses.listed; out = listing_text code; log = [] }
+
+-- no refusal: the layout of a source is written to the output
+abbrev pub laid_out : List ℕ → Report
+laid_out text = record { status = statuses.laid_out; out = text; log = [] }
+
+abbrev pub layout_too_long : Report
+layout_too_long = refused statuses.layout_too_long (codes "formatted text too long")

@@ -14,10 +14,11 @@ use Rattle.chi_tool.specs.declared.task.Task.{Task}
 use Rattle.chi_tool.specs.declared.task.Task.TheVariants.{OfFile, OfLog, OfFactory}
 use Rattle.chi_tool.specs.Arguments.{Means, Misfits}
 use Rattle.chi_tool.specs.Refusals as refusal
+use Rattle.chi_tool.specs.Layouts.{HasLayout}
 use Rattle.chi_tool.specs.Refusals.{Report, usage, no_such_file, file_too_long, unfit_arguments, brought_up, accepted}
 use Rattle.chi_tool.specs.Running.{IsRunReport}
-use Rattle.chi_tool.specs.Settings.{Wanted, Aim, simulates, checks, lists, wanted_of, aim_of, settings_with, plain}
-use Rattle.chi_tool.specs.Sources.{IsRefused, ComesTo}
+use Rattle.chi_tool.specs.Settings.{Wanted, ProgramAim, simulates, checks, lists, Aim, of_program, lays_out, wanted_of, aim_of, settings_with, plain}
+use Rattle.chi_tool.specs.Sources.{IsUnparsed, IsRefused, ComesTo}
 use Rattle.chi_tool.specs.Words.{Wish, nothing, of_task, wish_of}
 
 -- a program that is to be run: its arguments are refused, or it is run with them
@@ -32,15 +33,21 @@ pub record IsReportOfCode (core : Core) (r : Report) : Type 0 where
   pub listed : r ≡ refusal.listed code
 
 -- what is done with a program
-abbrev pub IsReportOfProgram : Core → Aim → Report → Type 0
+abbrev pub IsReportOfProgram : Core → ProgramAim → Report → Type 0
 IsReportOfProgram core (simulates w) r = IsReportOfRun core w r
 IsReportOfProgram core checks r = r ≡ accepted
 IsReportOfProgram core lists r = IsReportOfCode core r
 
--- a source's report: its refusal, or that of the program that it comes to
-pub data IsReportOfSource (source : List ℕ) (aim : Aim) (r : Report) : Type 0 where
+-- a source's report where something is done with its program: its refusal, or that of the program that it comes to
+pub data IsReportOfSource (source : List ℕ) (aim : ProgramAim) (r : Report) : Type 0 where
   refused : IsRefused source r → IsReportOfSource source aim r
   program : (core : Core) → ComesTo source core → IsReportOfProgram core aim r → IsReportOfSource source aim r
+
+-- its report where it is laid out, as it is written: its refusal, its layout, or that this has more bytes than a source may have
+pub data IsReportOfLayout (source : List ℕ) (r : Report) : Type 0 where
+  faulty : IsUnparsed source r → IsReportOfLayout source r
+  laid_out : (text : List ℕ) → HasLayout source text → length text ≤ MOST_BYTES → r ≡ refusal.laid_out text → IsReportOfLayout source r
+  too_long : (text : List ℕ) → HasLayout source text → MOST_BYTES < length text → r ≡ refusal.layout_too_long → IsReportOfLayout source r
 
 -- a log's report: what it is brought up to, or its first line that doesn't fit
 pub data IsReportOfLog (text : List ℕ) (r : Report) : Type 0 where
@@ -55,7 +62,8 @@ pub data IsReportOfFile (most : ℕ) (P : List ℕ → Report → Type 0) (file 
 
 -- what is said of a file that holds a source
 abbrev pub IsReportFor : Aim → List ℕ → Report → Type 0
-IsReportFor aim source = IsReportOfSource source aim
+IsReportFor (of_program aim) source = IsReportOfSource source aim
+IsReportFor lays_out source = IsReportOfLayout source
 
 -- a factory is run like its source, with nothing asked for
 abbrev pub IsReportOfTask : Task → Files → Report → Type 0
@@ -69,6 +77,6 @@ IsReportOfWish (of_task t) files r = IsReportOfTask t files r
 
 -- r is the report of these words and files: the first refusal among words, file, bytes, tokens, program and arguments,
 -- or what was asked for: the output, trace and verdict of the run, that the program is accepted, the listing of its code,
--- or what the log is brought up to
+-- the layout of the source, or what the log is brought up to
 abbrev pub IsReport : List (List ℕ) → Files → Report → Type 0
 IsReport words files r = IsReportOfWish (wish_of words) files r

@@ -9,7 +9,9 @@ use Rattle.chi_core.specs.Picks.{Pick, IsLawful}
 use Rattle.chi_sched.specs.Policies.{first, last, spread}
 use Rattle.chi_tool.specs.declared.task.Asked.{Asked}
 use Rattle.chi_tool.specs.declared.task.Purpose.{Purpose}
-use Rattle.chi_tool.specs.declared.task.Purpose.TheVariants.{Simulate, Check, ListCode}
+use Rattle.chi_tool.specs.declared.task.Purpose.TheVariants.{OfProgram, LayOut}
+use Rattle.chi_tool.specs.declared.task.ProgramPurpose.{ProgramPurpose}
+use Rattle.chi_tool.specs.declared.task.ProgramPurpose.TheVariants.{Simulate, Check, ListCode}
 
 -- The seed of its draws; the bound on the costs of all its steps together; the policy that picks among what may
 -- happen; the arguments of its model; the stopping time, if there is one; and, where its trace is
@@ -31,11 +33,16 @@ pub record Wanted : Type 0 where
   pub until : Option ℤ
   pub trace : Option Filter
 
--- what is done with a source: its program is run, is only checked, or has its code listed
+-- what is done with a program: it is run, is only checked, or has its code listed
+pub data ProgramAim : Type 0 where
+  simulates : Wanted → ProgramAim
+  checks : ProgramAim
+  lists : ProgramAim
+
+-- what is done with a source: something with its program, or it is laid out as it is written
 pub data Aim : Type 0 where
-  simulates : Wanted → Aim
-  checks : Aim
-  lists : Aim
+  of_program : ProgramAim → Aim
+  lays_out : Aim
 
 -- what tells which events of a trace are logged, where it is wanted
 abbrev pub trace_by : {S : Type 0} → Bool → S → Option S
@@ -52,10 +59,14 @@ policy_of (pick.Spread salt) = spread salt
 abbrev pub wanted_of : Asked → Wanted
 wanted_of a = record { seed = a.terms.seed; bound = a.terms.bound; pick = policy_of a.terms.policy; texts = a.texts; until = a.terms.until; trace = a.terms.trace }
 
+abbrev pub program_aim : ProgramPurpose → ProgramAim
+program_aim (Simulate a) = simulates (wanted_of a)
+program_aim Check = checks
+program_aim ListCode = lists
+
 abbrev pub aim_of : Purpose → Aim
-aim_of (Simulate a) = simulates (wanted_of a)
-aim_of Check = checks
-aim_of ListCode = lists
+aim_of (OfProgram p) = of_program (program_aim p)
+aim_of LayOut = lays_out
 
 -- with the arguments that the texts mean
 abbrev pub settings_with : Wanted → List Value → Settings
@@ -66,13 +77,21 @@ abbrev pub plain : Asked
 plain = record { terms = record { seed = 0; bound = STEPS; policy = pick.First; until = None; trace = None }; texts = [] }
 
 -- within what is counted
+abbrev pub IsBoundedFor : ProgramPurpose → Type 0
+IsBoundedFor (Simulate a) = a.terms.bound < 2 ^ 63
+IsBoundedFor Check = Unit {0}
+IsBoundedFor ListCode = Unit {0}
+
 abbrev pub IsBounded : Purpose → Type 0
-IsBounded (Simulate a) = a.terms.bound < 2 ^ 63
-IsBounded Check = Unit {0}
-IsBounded ListCode = Unit {0}
+IsBounded (OfProgram p) = IsBoundedFor p
+IsBounded LayOut = Unit {0}
 
 -- the same, by a policy that picks one of the choices
+abbrev pub MayBeAimedAt : ProgramAim → Type 0
+MayBeAimedAt (simulates w) = (w.bound < 2 ^ 63) × IsLawful w.pick
+MayBeAimedAt checks = Unit {0}
+MayBeAimedAt lists = Unit {0}
+
 abbrev pub MayBeAimed : Aim → Type 0
-MayBeAimed (simulates w) = (w.bound < 2 ^ 63) × IsLawful w.pick
-MayBeAimed checks = Unit {0}
-MayBeAimed lists = Unit {0}
+MayBeAimed (of_program a) = MayBeAimedAt a
+MayBeAimed lays_out = Unit {0}

@@ -62,6 +62,7 @@ pub record SimulationCauses (s : Simulation) : Type 0 where
   pub no_request : s.status ≢ statuses.no_request
   pub not_read : s.status ≢ statuses.not_read
   pub misfit : s.status ≢ statuses.misfit
+  pub layout_too_long : s.status ≢ statuses.layout_too_long
   pub not_written : (s.status ≡ statuses.not_written) ↔ ((s.out.stopped ≡ true) ⊎ (s.log.stopped ≡ true))
   -- each sink by its own count
   pub out_failed : StoppedByFailure s.out

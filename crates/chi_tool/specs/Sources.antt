@@ -32,10 +32,14 @@ pub record BreaksRule (source : List ℕ) (fault : Fault) : Type 0 where
   pub written : IsWritten source tree
   pub first : first (checked tree).faults ≡ Some fault
 
--- a source is refused with its first fault
+-- a source is refused with its first fault as it is written
+pub data IsUnparsed (source : List ℕ) (r : Report) : Type 0 where
+  by_lexer : (fault : LexFault) → lexical.HasFault source fault → r ≡ refusal.lexical fault → IsUnparsed source r
+  by_parser : (tokens : List Spanned) (fault : ParseFault) → IsNoProgram source tokens fault → r ≡ refusal.syntax source tokens fault → IsUnparsed source r
+
+-- or with the rule that it breaks first
 pub data IsRefused (source : List ℕ) (r : Report) : Type 0 where
-  by_lexer : (fault : LexFault) → lexical.HasFault source fault → r ≡ refusal.lexical fault → IsRefused source r
-  by_parser : (tokens : List Spanned) (fault : ParseFault) → IsNoProgram source tokens fault → r ≡ refusal.syntax source tokens fault → IsRefused source r
+  unparsed : IsUnparsed source r → IsRefused source r
   by_checker : (fault : Fault) → BreaksRule source fault → r ≡ refusal.typing fault → IsRefused source r
 
 -- or it comes to a program that can be run: the core of what breaks no rule, each distribution with its stream

@@ -44,6 +44,14 @@ accepted = 0
 abbrev pub listed : ℕ
 listed = 0
 
+-- or a source is laid out, or its layout has more bytes than a source may have
+
+abbrev pub laid_out : ℕ
+laid_out = 0
+
+abbrev pub layout_too_long : ℕ
+layout_too_long = 27
+
 -- the words are no request
 
 abbrev pub no_request : ℕ

@@ -8,14 +8,16 @@ use Rattle.chi_cli.specs.Requests.{request_of}
 use Rattle.chi_tool.specs.Settings.{trace_by}
 use Rattle.chi_tool.specs.declared.task.Task.{Task}
 use Rattle.chi_tool.specs.declared.task.Task.TheVariants as task
-use Rattle.chi_tool.specs.declared.task.Purpose.TheVariants.{Simulate, Check, ListCode}
+use Rattle.chi_tool.specs.declared.task.Purpose.TheVariants.{OfProgram, LayOut}
+use Rattle.chi_tool.specs.declared.task.ProgramPurpose.TheVariants.{Simulate, Check, ListCode}
 
--- a run, a check, a listing of code, a run of a factory, or a log of old that is to be brought up
+-- a run, a check, a listing of code, a layout, a run of a factory, or a log of old that is to be brought up
 abbrev pub task_of : Request → Task
 task_of (request.Sim file texts seed bound until pick trace probe) =
-    task.OfFile file (Simulate (record { terms = record { seed = seed; bound = bound; policy = pick; until = until; trace = trace_by trace probe }; texts = texts }))
-task_of (request.Check file) = task.OfFile file Check
-task_of (request.Code file) = task.OfFile file ListCode
+    task.OfFile file (OfProgram (Simulate (record { terms = record { seed = seed; bound = bound; policy = pick; until = until; trace = trace_by trace probe }; texts = texts })))
+task_of (request.Check file) = task.OfFile file (OfProgram Check)
+task_of (request.Code file) = task.OfFile file (OfProgram ListCode)
+task_of (request.Fmt file) = task.OfFile file LayOut
 task_of (request.Load n) = task.OfFactory n
 task_of (request.TraceUp file) = task.OfLog file
 

@@ -11,13 +11,16 @@ ghost use Rattle.chi_token.specs.declared.place.Spanned.{Spanned};
 ghost use Rattle.chi_token.specs.Tokens.{IsToken};
 ghost use Rattle.chi_tool.specs.Call.{Call};
 ghost use Rattle.chi_tool.specs.Headline.{Follows, Meets};
+ghost use Rattle.chi_tool.specs.Layouts.{HasLayout};
 ghost use Rattle.chi_tool.specs.Limits.{LimitsAre};
 ghost use Rattle.chi_tool.specs.Refusals.{Report};
-ghost use Rattle.chi_tool.specs.Report.{IsReport, IsReportOfSource};
+ghost use Rattle.chi_tool.specs.Report.{IsReport, IsReportFor};
 ghost use Rattle.chi_tool.specs.Running.{Course, IsRunOf, MayHave};
 ghost use Rattle.chi_tool.specs.Settings.{Aim, MayBeAimed, Settings};
-ghost use Rattle.chi_tool.specs.Sources.{ComesTo};
+ghost use Rattle.chi_tool.specs.Sources.{ComesTo, IsWritten};
 ghost use Rattle.chi_tree.specs.declared.definition.Program.{Program};
+ghost use Rattle.chi_tree_laws.specs.UnplacedStatements.{unplaced};
+ghost use Rattle.chi_fmt.specs.Kept.{kept};
 
 use chi_check_parsed::parsed_programs_are_sound;
 use chi_cli::{numbers_are_in_range, values_are_of_parameters};
@@ -50,8 +53,8 @@ pub fn one_code_law()
 
 /// A source within the limit has exactly one report, for each aim that may be had with it.
 pub fn source_law()
-    ensures some { (source : List ℕ) (aim : Aim) → length source ≤ MOST_BYTES → MayBeAimed aim → (r : Report) × IsReportOfSource source aim r }
-    ensures one { (source : List ℕ) (aim : Aim) (r other : Report) → IsReportOfSource source aim r → IsReportOfSource source aim other → r ≡ other }
+    ensures some { (source : List ℕ) (aim : Aim) → length source ≤ MOST_BYTES → MayBeAimed aim → (r : Report) × IsReportFor aim source r }
+    ensures one { (source : List ℕ) (aim : Aim) (r other : Report) → IsReportFor aim source r → IsReportFor aim source other → r ≡ other }
 {
     answer_law();
     parsed_programs_are_sound();
@@ -73,6 +76,17 @@ pub fn report_law()
     numbers_are_in_range();
     values_are_of_parameters();
     logs_law();
+}
+
+/// The layout of a source is its own layout, and what it is read as is the program of the source, but for places, and with those
+/// `;` alone that the layout keeps.
+pub fn layout_law()
+    ensures again { (source text : List ℕ) → HasLayout source text → HasLayout text text }
+    ensures same { (source text : List ℕ) (has : HasLayout source text) (tree : Program) → IsWritten text tree → unplaced tree ≡ unplaced (kept has.tree) }
+{
+    answer_law();
+    chi_fmt::comments_law();
+    chi_fmt::layout_law();
 }
 
 /// What follows for a reader of status and bytes, where a call meets a report.

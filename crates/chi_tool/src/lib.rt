@@ -5,6 +5,7 @@ mod arguments;
 mod code;
 mod deliver;
 mod laws;
+mod layout;
 mod library;
 mod logs;
 mod program;
@@ -23,7 +24,8 @@ mod tracing;
 mod words;
 
 pub use laws::{
-    limits_law, meets_law, one_code_law, one_run_law, report_law, source_law, tokens_law,
+    layout_law, limits_law, meets_law, one_code_law, one_run_law, report_law, source_law,
+    tokens_law,
 };
 pub use library::{simulate, simulate_probed};
 pub use top::chi;

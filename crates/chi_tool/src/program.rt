@@ -6,7 +6,7 @@ ghost use Rattle.chi_core.specs.Sound.{Sound};
 ghost use Rattle.chi_sched.specs.Policies.{Answers};
 ghost use Rattle.chi_tool.specs.Report.{IsReportOfRun, IsReportOfProgram};
 ghost use Rattle.chi_tool.specs.Reported.{report_in};
-ghost use Rattle.chi_tool.specs.Settings.{IsBounded, aim_of, wanted_of};
+ghost use Rattle.chi_tool.specs.Settings.{IsBoundedFor, program_aim, wanted_of};
 
 use crate::arguments::{is_misfit, unfit};
 use crate::code::report_of_code;
@@ -15,7 +15,7 @@ use crate::report::Reported;
 use crate::run::run;
 use crate::settings::Terms;
 use crate::status::ACCEPTED;
-use crate::task::{Asked, Purpose};
+use crate::task::{Asked, ProgramPurpose};
 use chi_base::NoMemory;
 use chi_cli::{Pick, read_args, values_are_of_parameters};
 use chi_core::{Core, ProcDef};
@@ -91,15 +91,15 @@ fn run_asked(alloc: Global, core: &Core, asked: &Asked) -> Result<Reported, NoMe
 pub fn report_of_program(
     alloc: Global,
     core: &Core,
-    purpose: &Purpose,
+    purpose: &ProgramPurpose,
 ) -> Result<Reported, NoMemory>
     requires sound { Sound core.now }
-    requires bounded { IsBounded purpose.now }
-    ensures { IfOk result (λ r. IsReportOfProgram core.now (aim_of purpose.now) (report_in r)) }
+    requires bounded { IsBoundedFor purpose.now }
+    ensures { IfOk result (λ r. IsReportOfProgram core.now (program_aim purpose.now) (report_in r)) }
 {
     match purpose {
-        Purpose::Check => one_line(alloc, ACCEPTED, b"accepted"),
-        Purpose::Simulate(asked) => run_asked(alloc, core, asked),
-        Purpose::ListCode => report_of_code(alloc, core),
+        ProgramPurpose::Check => one_line(alloc, ACCEPTED, b"accepted"),
+        ProgramPurpose::Simulate(asked) => run_asked(alloc, core, asked),
+        ProgramPurpose::ListCode => report_of_code(alloc, core),
     }
 }

@@ -4,29 +4,46 @@ ghost use Rattle.chi_load.specs.Factory.{factory_source};
 ghost use Rattle.chi_tool.specs.Serving.{Serves, Tells};
 ghost use Rattle.chi_tool.specs.Report.{IsReportFor, IsReportOfSource};
 ghost use Rattle.chi_tool.specs.Reported.{report_in};
-ghost use Rattle.chi_tool.specs.Settings.{IsBounded, aim_of, plain, simulates, wanted_of};
+ghost use Rattle.chi_tool.specs.Settings.{IsBounded, IsBoundedFor, aim_of, plain, program_aim, simulates, wanted_of};
 
 use crate::deliver::deliver;
+use crate::layout::report_of_layout;
 use crate::program::report_of_program;
 use crate::report::Reported;
 use crate::source::{Source, read};
 use crate::status::{NO_MEMORY, NOT_READ};
-use crate::task::{Purpose, unasked};
+use crate::task::{ProgramPurpose, Purpose, unasked};
 use chi_base::NoMemory;
 use chi_io::{Fetch, Shelf, Sink};
 use chi_lex::MOST_BYTES;
 use chi_load::{MOST_MACHINES, factory};
 use std::alloc::Global;
 
-/// The report of a source: its refusal, or that of its program.
-fn report_of(alloc: Global, source: &[u8], purpose: &Purpose) -> Result<Reported, NoMemory>
+/// The report of a source with whose program something is done: its refusal, or that of its program.
+fn report_of_source(
+    alloc: Global,
+    source: &[u8],
+    purpose: &ProgramPurpose,
+) -> Result<Reported, NoMemory>
     requires within { length source.now ≤ MOST_BYTES }
-    requires bounded { IsBounded purpose.now }
-    ensures { IfOk result (λ r. IsReportOfSource source.now (aim_of purpose.now) (report_in r)) }
+    requires bounded { IsBoundedFor purpose.now }
+    ensures { IfOk result (λ r. IsReportOfSource source.now (program_aim purpose.now) (report_in r)) }
 {
     match read(alloc, source)? {
         Source::Refused(refusal) => Ok(refusal),
         Source::Program(core) => report_of_program(alloc, &core, purpose),
+    }
+}
+
+/// The report of a source.
+fn report_of(alloc: Global, source: &[u8], purpose: &Purpose) -> Result<Reported, NoMemory>
+    requires within { length source.now ≤ MOST_BYTES }
+    requires bounded { IsBounded purpose.now }
+    ensures { IfOk result (λ r. IsReportFor (aim_of purpose.now) source.now (report_in r)) }
+{
+    match purpose {
+        Purpose::OfProgram(purpose) => report_of_source(alloc, source, purpose),
+        Purpose::LayOut => report_of_layout(alloc, source),
     }
 }
 
@@ -42,7 +59,7 @@ fn tell<O: Sink, L: Sink>(
     requires log_goes { L.stopped log.old ≡ false }
     requires within { length source.now ≤ MOST_BYTES }
     requires bounded { IsBounded purpose.now }
-    ensures { Tells (IsReportOfSource source.now (aim_of purpose.now)) result
+    ensures { Tells (IsReportFor (aim_of purpose.now) source.now) result
         (sink_use O.taken O.faults O.stopped out.old out.new) (sink_use L.taken L.faults L.stopped log.old log.new) }
 {
     match report_of(alloc, source, purpose) {
@@ -66,7 +83,7 @@ pub fn serve_factory<O: Sink, L: Sink>(alloc: Global, size: u32, out: &mut O, lo
     let Ok(asked) = unasked(alloc) else {
         return NO_MEMORY;
     };
-    let purpose = Purpose::Simulate(asked);
+    let purpose = Purpose::OfProgram(ProgramPurpose::Simulate(asked));
     tell(alloc, &source, &purpose, out, log)
 }
 

@@ -1,7 +1,7 @@
 ghost use Rattle.std.specs.Prelude.{◌≤◌, ◌<◌, ◌^◌, IfOk, length};
 ghost use Rattle.chi_tool.specs.Refusals.{refused};
 ghost use Rattle.chi_lex.specs.Reading.{Reads};
-ghost use Rattle.chi_tool.specs.Readings.{IsReadAs, IsRefusal};
+ghost use Rattle.chi_tool.specs.Readings.{IsParsedAs, IsReadAs, IsUnread};
 ghost use Rattle.chi_tool.specs.Sources.{IsWritten};
 ghost use Rattle.chi_tool.specs.Syntax.{placed};
 
@@ -22,6 +22,14 @@ use chi_tree::Program;
 use chi_tree_laws::parsed_law;
 use std::alloc::Global;
 
+/// What a source is, as it is written.
+#[derive(Drop)]
+pub enum Parsed {
+    Refused(Reported),
+    /// It has these tokens, which are this program.
+    Written { tokens: Vec<Spanned>, tree: Program },
+}
+
 /// What a source comes to.
 #[derive(Debug, Drop)]
 pub enum Source {
@@ -29,13 +37,13 @@ pub enum Source {
     Program(Core),
 }
 
-/// Reads a source to its end, or to the first rule that it breaks.
-pub fn read(alloc: Global, source: &[u8]) -> Result<Source, NoMemory>
+/// Reads a source to its end, or to the first fault as it is written.
+pub fn as_written(alloc: Global, source: &[u8]) -> Result<Parsed, NoMemory>
     requires { length source.now ≤ MOST_BYTES }
-    ensures { IfOk result (IsReadAs source.now) }
+    ensures { IfOk result (IsParsedAs source.now) }
 {
     match lex(alloc, source) {
-        Ok(tokens) => read_tokens(alloc, source, &tokens),
+        Ok(tokens) => parsed_tokens(alloc, source, tokens),
         Err(LexFault::BadByte(place)) => unreadable(alloc, place, b"bad byte"),
         Err(LexFault::OpenString(place)) => unreadable(alloc, place, b"open string"),
         Err(LexFault::BadEscape(place)) => unreadable(alloc, place, b"bad escape"),
@@ -44,28 +52,39 @@ pub fn read(alloc: Global, source: &[u8]) -> Result<Source, NoMemory>
 }
 
 /// The refusal of a source at the place where it can't be read on.
-fn unreadable(alloc: Global, place: Place, what: &[u8]) -> Result<Source, NoMemory>
-    ensures { IfOk result (λ it. IsRefusal it (refused 20 (placed place what.now))) }
+fn unreadable(alloc: Global, place: Place, what: &[u8]) -> Result<Parsed, NoMemory>
+    ensures { IfOk result (λ it. IsUnread it (refused 20 (placed place what.now))) }
 {
-    Ok(Source::Refused(refused_at(alloc, LEXICAL, place, what)?))
+    Ok(Parsed::Refused(refused_at(alloc, LEXICAL, place, what)?))
 }
 
-fn read_tokens(alloc: Global, source: &[u8], tokens: &[Spanned]) -> Result<Source, NoMemory>
+fn parsed_tokens(alloc: Global, source: &[u8], tokens: Vec<Spanned>) -> Result<Parsed, NoMemory>
     requires within { length source.now ≤ MOST_BYTES }
-    requires short { length tokens.now < 2 ^ 32 }
-    requires read { Reads source.now tokens.now }
-    ensures { IfOk result (IsReadAs source.now) }
+    requires short { length tokens.items < 2 ^ 32 }
+    requires read { Reads source.now tokens.items }
+    ensures { IfOk result (IsParsedAs source.now) }
 {
     parsed_law();
-    match parse(alloc, tokens) {
-        Ok(tree) => read_tree(alloc, source, &tree),
-        Err(ParseFault::Syntax(index)) => Ok(Source::Refused(refused_token(
-            alloc, source, tokens, "syntax", index,
+    match parse(alloc, &tokens) {
+        Ok(tree) => Ok(Parsed::Written { tokens, tree }),
+        Err(ParseFault::Syntax(index)) => Ok(Parsed::Refused(refused_token(
+            alloc, source, &tokens, "syntax", index,
         )?)),
-        Err(ParseFault::TooDeep(index)) => Ok(Source::Refused(refused_token(
-            alloc, source, tokens, "too deep", index,
+        Err(ParseFault::TooDeep(index)) => Ok(Parsed::Refused(refused_token(
+            alloc, source, &tokens, "too deep", index,
         )?)),
         Err(ParseFault::NoMemory) => Err(NoMemory),
+    }
+}
+
+/// Reads a source to its end, or to the first rule that it breaks.
+pub fn read(alloc: Global, source: &[u8]) -> Result<Source, NoMemory>
+    requires { length source.now ≤ MOST_BYTES }
+    ensures { IfOk result (IsReadAs source.now) }
+{
+    match as_written(alloc, source)? {
+        Parsed::Refused(refusal) => Ok(Source::Refused(refusal)),
+        Parsed::Written { tree, .. } => read_tree(alloc, source, &tree),
     }
 }
 

@@ -12,6 +12,12 @@ pub const ACCEPTED: u8 = 0;
 /// The code of a program is listed.
 pub const LISTED: u8 = 0;
 
+/// A source is laid out.
+pub const LAID_OUT: u8 = 0;
+
+/// The layout of a source has more bytes than a source may have.
+pub const LAYOUT_TOO_LONG: u8 = 27;
+
 /// The words are no request.
 pub const NO_REQUEST: u8 = 3;
 

@@ -33,13 +33,22 @@ pub fn unasked(alloc: Global) -> Result<Asked, NoMemory>
     })
 }
 
+/// What is done with a program.
+#[derive(Debug, Drop)]
+pub enum ProgramPurpose {
+    Simulate(Asked),
+    Check,
+    /// Its code is listed.
+    ListCode,
+}
+
 /// What is done with a source.
 #[derive(Debug, Drop)]
 pub enum Purpose {
-    Simulate(Asked),
-    Check,
-    /// The code of its program is listed.
-    ListCode,
+    /// Something is done with its program.
+    OfProgram(ProgramPurpose),
+    /// It is laid out, as it is written.
+    LayOut,
 }
 
 /// What is done, and with what.

@@ -2,7 +2,7 @@ ghost use Rattle.std.specs.Prelude.{◌≡◌};
 ghost use Rattle.chi_tool.specs.Words.{is_refusal, task_of};
 
 use crate::settings::{Terms, trace_by};
-use crate::task::{Asked, Purpose, Task};
+use crate::task::{Asked, ProgramPurpose, Purpose, Task};
 use chi_cli::{CliFault, Request};
 
 /// What a request wants to be done.
@@ -30,16 +30,20 @@ pub fn task_of(request: Request) -> Task
             let asked = Asked { terms, texts: args };
             Task::OfFile {
                 file,
-                purpose: Purpose::Simulate(asked),
+                purpose: Purpose::OfProgram(ProgramPurpose::Simulate(asked)),
             }
         }
         Request::Check { file } => Task::OfFile {
             file,
-            purpose: Purpose::Check,
+            purpose: Purpose::OfProgram(ProgramPurpose::Check),
         },
         Request::Code { file } => Task::OfFile {
             file,
-            purpose: Purpose::ListCode,
+            purpose: Purpose::OfProgram(ProgramPurpose::ListCode),
+        },
+        Request::Fmt { file } => Task::OfFile {
+            file,
+            purpose: Purpose::LayOut,
         },
         Request::Load { n } => Task::OfFactory { size: n },
         Request::TraceUp { file } => Task::OfLog { file },

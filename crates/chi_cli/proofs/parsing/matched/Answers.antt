@@ -1,5 +1,5 @@
 -- What clap answers, as the definitions say it.
-use Rattle.std.proofs.Common.{◌≡◌, sym, subst}
+use Rattle.std.proofs.Common.{sym, subst}
 use Rattle.clap.specs.Words.{app_of, kind_of}
 use Rattle.chi_cli.specs.declared.fault.CliFault.{CliFault}
 use Rattle.chi_cli.specs.Parsing.{taken}

@@ -1,18 +1,14 @@
-use Rattle.std.proofs.Common.{subst}
-use Rattle.chi_tool.specs.Readings.{IsReadAs, SoundlyComes}
-use Rattle.chi_tool.specs.Report.{refused}
+use Rattle.std.proofs.Common.{sym, subst}
+use Rattle.std.specs.Prelude.{IfOk}
+use Rattle.chi_tool.specs.Report.{IsReportFor}
+use Rattle.chi_tool.specs.Reported.{report_in}
 use Rattle.chi_tool.specs.Settings.{aim_of}
-use Rattle.chi_tool.proofs.Runs.{program_reported}
 use Rattle.chi_tool.proofs.serve.report_of.Goals as goal
 
-pub report_of_program-requires-clause-sound : goal.report_of_program-requires-clause-sound
-report_of_program-requires-clause-sound c =
-    let comes : SoundlyComes c.args.source.now c.in-Program.core = subst (IsReadAs c.args.source.now) c.in-Program.is c.in_ok-refusal.ensures in comes.sound
+pub returns-in-OfProgram : goal.returns-in-OfProgram
+returns-in-OfProgram c =
+    subst (λ p. IfOk c.report_of_source.result (λ r. IsReportFor (aim_of p) c.args.source.now (report_in r))) (sym c.in-OfProgram.is) c.report_of_source.ensures
 
-pub returns-in-Refused : goal.returns-in-Refused
-returns-in-Refused c = refused (subst (IsReadAs c.args.source.now) c.in-Refused.is c.in_ok-refusal.ensures)
-
-pub returns-in-Program : goal.returns-in-Program
-returns-in-Program c =
-    let comes : SoundlyComes c.args.source.now c.in-Program.core = subst (IsReadAs c.args.source.now) c.in-Program.is c.in_ok-refusal.ensures in
-    program_reported c.args.source.now c.in-Program.core (aim_of c.args.purpose.now) c.report_of_program.result comes.comes c.report_of_program.ensures
+pub returns-in-LayOut : goal.returns-in-LayOut
+returns-in-LayOut c =
+    subst (λ p. IfOk c.report_of_layout.result (λ r. IsReportFor (aim_of p) c.args.source.now (report_in r))) (sym c.in-LayOut.is) c.report_of_layout.ensures

@@ -1,20 +1,12 @@
-use Rattle.std.proofs.Common.{ap, length, arith}
-use Rattle.chi_tool.proofs.Readings.{bad_byte, open_string, bad_escape}
-use Rattle.chi_tool.proofs.Sizes.{Reads-size}
+use Rattle.std.proofs.Common.{subst}
+use Rattle.chi_tool.specs.Readings.{IsParsedAs}
+use Rattle.chi_tool.specs.Sources.{unparsed}
 use Rattle.chi_tool.proofs.source.read.Goals as goal
 
-pub read_tokens-requires-clause-short : goal.read_tokens-requires-clause-short
-read_tokens-requires-clause-short c =
-    let few = Reads-size c.args.source.now c.in-Ok.tokens.items c.in-Ok.ensures.tokens in
-    let same = ap length c.deref.ensures.value in
-    let within = c.requires in
-    omega arith
+pub read_tree-requires-clause-written : goal.read_tree-requires-clause-written
+read_tree-requires-clause-written c =
+    let is = subst (IsParsedAs c.args.source.now) c.in-Written.is c.in_ok-refusal.ensures in
+    record { tokens = c.in-Written.tokens.items; read = is.0; parsed = is.1 }
 
-pub returns-in-Err-BadByte : goal.returns-in-Err-BadByte
-returns-in-Err-BadByte c = bad_byte _ _ _ _ c.in-Err-BadByte.field-0-is c.in-Err-BadByte.ensures.fault c.unreadable.ensures
-
-pub returns-in-Err-OpenString : goal.returns-in-Err-OpenString
-returns-in-Err-OpenString c = open_string _ _ _ _ c.in-Err-OpenString.field-0-is c.in-Err-OpenString.ensures.fault c.unreadable-in-Err-OpenString.ensures
-
-pub returns-in-Err-BadEscape : goal.returns-in-Err-BadEscape
-returns-in-Err-BadEscape c = bad_escape _ _ _ _ c.in-Err-BadEscape.field-0-is c.in-Err-BadEscape.ensures.fault c.unreadable-in-Err-BadEscape.ensures
+pub returns-in-Refused : goal.returns-in-Refused
+returns-in-Refused c = unparsed (subst (IsParsedAs c.args.source.now) c.in-Refused.is c.in_ok-refusal.ensures)

@@ -1,0 +1,26 @@
+"""The rows of rows/, as rows/check reads them, and what the program answers."""
+import importlib.machinery
+import importlib.util
+import os
+import pathlib
+import subprocess
+import tempfile
+
+TOP = pathlib.Path(__file__).resolve().parent.parent
+LOADER = importlib.machinery.SourceFileLoader("rows_check", str(TOP / "rows/check"))
+CHECK = importlib.util.module_from_spec(importlib.util.spec_from_loader("rows_check", LOADER))
+LOADER.exec_module(CHECK)
+
+
+def rows_of(path):
+    return CHECK.Reader(path).read()
+
+
+def answer(program, words, name, source):
+    """What a run writes and logs, and its status, where a file of this name has this source."""
+    with tempfile.TemporaryDirectory() as folder:
+        with open(os.path.join(os.fsencode(folder), name), "wb") as file:
+            file.write(source)
+        words = [os.fsencode(program), *words]
+        done = subprocess.run(words, cwd=folder, env=CHECK.ENVIRONMENT, stdin=subprocess.DEVNULL, capture_output=True, check=False)
+        return done.stdout, done.stderr, done.returncode
