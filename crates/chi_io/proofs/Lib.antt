@@ -1,2 +1,3 @@
 pub mod Consumed
 pub mod Passed
+pub mod Mute

@@ -4,6 +4,8 @@
 mod disk_shelf;
 mod mem_shelf;
 mod mem_sink;
+mod mute_shelf;
+mod mute_sink;
 mod shelf;
 mod sink;
 mod std_sink;
@@ -11,6 +13,8 @@ mod std_sink;
 pub use disk_shelf::DiskShelf;
 pub use mem_shelf::MemShelf;
 pub use mem_sink::MemSink;
+pub use mute_shelf::MuteShelf;
+pub use mute_sink::MuteSink;
 pub use shelf::{Fetch, Shelf};
 pub use sink::{Put, Sink, SinkFailed, put_all};
 pub use std_sink::StdSink;

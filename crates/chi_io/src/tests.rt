@@ -1,6 +1,9 @@
 ghost use Rattle.std.specs.Prelude.{◌≡◌, ◌<◌, ◌≤◌, false, length, None};
 
-use crate::{DiskShelf, Fetch, MemShelf, MemSink, Put, Shelf, Sink, SinkFailed, StdSink, put_all};
+use crate::{
+    DiskShelf, Fetch, MemShelf, MemSink, MuteShelf, MuteSink, Put, Shelf, Sink, SinkFailed,
+    StdSink, put_all,
+};
 use std::io;
 use std::io::{ErrorKind, Write};
 use std::test::Fail;
@@ -47,6 +50,27 @@ fn puts_to_memory(rt: HostRuntime) -> Result<(), Fail> {
             "room {room}, most {most}, failing {failing}"
         );
     }
+    Ok(())
+}
+
+#[test]
+fn passes_calls_on(rt: HostRuntime) -> Result<(), Fail> {
+    let alloc = rt.alloc();
+    let files = vec![in alloc; (b"name".to_vec(alloc)?, b"text".to_vec(alloc)?)]?;
+    let mut shelf = MuteShelf::new(MemShelf::new(files, vec![in alloc; 1]?));
+    let wanted = [
+        Fetch::Bytes(b"text".to_vec(alloc)?),
+        Fetch::Failed,
+        Fetch::Bytes(b"text".to_vec(alloc)?),
+    ];
+    for want in wanted {
+        let answer = shelf.fetch(alloc, b"name", 4);
+        assert_eq!(rt; answer, want);
+    }
+    assert_eq!(rt; shelf.fetch(alloc, b"none", 4), Fetch::NoSuch);
+    let mut sink = MuteSink::new(MemSink::new(alloc, 6, 4, Vec::new(alloc))?);
+    assert_eq!(rt; put_all(&mut sink, b"abcdef"), Ok(()));
+    assert_eq!(rt; put_all(&mut sink, b"g"), Err(SinkFailed));
     Ok(())
 }
 
