@@ -1,19 +1,18 @@
 -- What a scan of all offers gives.
-use Rattle.std.proofs.Common.{◌≡◌, ◌≢◌, ℕ, zero, suc, ◌+◌, ◌-◌, ◌*◌, ◌<◌, ◌≤◌, ℤ, List, [], ◌∷◌, ◌++◌, Option, None, Some, Bool, true, false, cond, length, get_or, ◌⊎◌, inl, inr, sym, ◌∙◌, ap, subst, refl, arith, append_assoc, drop, length-append}
+use Rattle.std.proofs.Common.{◌≡◌, ℕ, zero, suc, ◌+◌, ◌-◌, ◌*◌, ◌<◌, ◌≤◌, ℤ, List, [], ◌∷◌, ◌++◌, Option, None, Some, Bool, true, false, cond, length, get_or, ◌⊎◌, inl, inr, sym, ◌∙◌, ap, subst, refl, arith, drop, length-append}
 use Rattle.std.proofs.Math.Seq.{drop-cons}
-use Rattle.std.specs.Prelude.{nat_eq, int_lt, map}
+use Rattle.std.specs.Prelude.{nat_eq, map}
 use Rattle.std.specs.Prelude.{map as mapped}
 use Rattle.std.specs.List.{slice_get}
-use Rattle.std.proofs.lemmas.List.{append-nil}
 use Rattle.chi_chan.specs.declared.offers.Offer.{Offer}
 use Rattle.chi_chan.specs.declared.offers.Offer.TheVariants.{Send, Receive, Delay}
 use Rattle.chi_chan.specs.declared.offers.Party.{Party}
 use Rattle.chi_chan.specs.declared.offers.Choice.{Choice}
-use Rattle.chi_chan.specs.declared.offers.Choice.TheVariants.{Pair, Wake}
+use Rattle.chi_chan.specs.declared.offers.Choice.TheVariants.{Pair}
 use Rattle.chi_chan.specs.Held.{held, sends_on, receives_on, party, parties_in, parties_of, parties_from, senders_on, receivers_on, pairs_from, options_by, options_from, options_of, options}
-use Rattle.chi_chan.specs.Lined.{code, IsParty, Ascends, Has, AllAscend, without, line}
+use Rattle.chi_chan.specs.Lined.{code, Ascends, Has, AllAscend, without, line}
 use Rattle.chi_chan.specs.Kept.{Fits, offer_in, offers_or, Lists, choices_by, choices_from}
-use Rattle.chi_chan.proofs.Lining.{eq-true, eq-false, eq-same, eq-differ, ascends-from, has-code, has-party, same-line}
+use Rattle.chi_chan.proofs.Lining.{eq-true, eq-same, ascends-from, has-party, same-line}
 
 module _ (test : Offer → Bool) where
   -- one more offer

@@ -1,5 +1,5 @@
 -- What is kept beside a configuration, from the one before a step to the one after it.
-use Rattle.std.proofs.Common.{◌≡◌, ◌≢◌, ℕ, ◌<◌, ◌≤◌, List, Option, Bool, true, false, length, ◌⊎◌, inl, inr, sym, ◌∙◌, ap, subst, refl, arith}
+use Rattle.std.proofs.Common.{◌≡◌, ◌≢◌, ℕ, ◌<◌, ◌≤◌, List, Option, Bool, true, false, length, ◌⊎◌, inl, inr, sym, ◌∙◌, ap, subst, refl}
 use Rattle.std.specs.Prelude.{IsTrue}
 use Rattle.std.specs.Bool.{OnFalse}
 use Rattle.std.specs.List.{slice_get, Contains}
@@ -16,7 +16,7 @@ use Rattle.chi_plain_steps.specs.declared.stepping.Went.TheVariants as wents
 use Rattle.chi_plain_steps.specs.Takings.{Appends, Takes}
 use Rattle.chi_plain.specs.declared.watching.Before.{Before}
 use Rattle.chi_plain_options.specs.declared.parties.Parties.{Parties}
-use Rattle.chi_plain_options.specs.Marked.{is_marked}
+use Rattle.chi_order.specs.Marked.{is_marked}
 use Rattle.chi_plain.specs.Watching.{is_advance, IsAffected, IsWatched, first_named, second_named}
 use Rattle.chi_plain_options.specs.Listing.{AllJoiners, AllParties, IsJoiner, IsParty, Keeps, KeepsParties}
 use Rattle.chi_plain_options.specs.Reaching.{Covers, CoversFrom}
@@ -132,9 +132,6 @@ module _ (label : Label) (new : Config) (marks : List Bool) (parties : Parties) 
 
   pub led_settled : (some : List ℕ) → AllSettled label new parties joiners b some → Settles led.old new some
   led_settled some settled = settled led.old led.leads old_listed led.before
-
-  pub led_longer : length marks ≤ length new.instances
-  led_longer = let g = led.leads.others.grown in let e = led.watched.marked.all in omega (arith, g, e)
 
   pub led_right : (longer : List Bool) (some : List ℕ) → ((p : ℕ) → is_marked longer p ≡ is_marked marks p) → AllSettled label new parties joiners b some
       → RightBut new longer some

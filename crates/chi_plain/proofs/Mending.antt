@@ -1,15 +1,16 @@
 -- What is kept beside a configuration, mended after a step.
-use Rattle.std.proofs.Common.{◌≡◌, ◌≢◌, ℕ, zero, suc, ◌+◌, ◌<◌, ◌≤◌, List, [], ◌∷◌, ◌++◌, Option, Bool, false, length, get_or, drop, length-drop, ◌⊎◌, inl, inr, sym, ◌∙◌, ap, subst, refl, arith}
+use Rattle.std.proofs.Common.{◌≡◌, ◌≢◌, ℕ, zero, suc, ◌+◌, ◌<◌, ◌≤◌, List, [], ◌∷◌, ◌++◌, Option, Bool, true, false, length, get_or, drop, length-drop, ◌⊎◌, inl, inr, sym, ◌∙◌, ap, subst, refl, arith}
 use Rattle.std.specs.Prelude.{slice_set}
 use Rattle.std.specs.List.{slice_get, Contains}
 use Rattle.std.proofs.Math.ListN.{length-set}
 use Rattle.std.proofs.lemmas.List.{get_or-set_same, get_or-set_other}
+use Rattle.std.proofs.lemmas.Bool.{false≢true}
 use Rattle.std.proofs.lemmas.Option.{slice_get_past}
 use Rattle.chi_core.specs.declared.label.Label.{Label}
 use Rattle.chi_core.specs.declared.label.Label.TheVariants.{Advance}
 use Rattle.chi_core.specs.Config.{Config, Instance}
 use Rattle.chi_plain_options.specs.declared.parties.Parties.{Parties}
-use Rattle.chi_plain_options.specs.Marked.{is_marked}
+use Rattle.chi_order.specs.Marked.{is_marked}
 use Rattle.chi_plain.specs.Watching.{IsAffected, IsMarked, first_named, second_named}
 use Rattle.chi_plain_options.specs.Acting.{acts}
 use Rattle.chi_plain.specs.Led.{IsListed, Leads, Settles}
@@ -28,13 +29,29 @@ marked-past (m ∷ ms) (suc p) h = marked-past ms p (omega (arith, h))
 pub set-length : (marks new : List Bool) (k : ℕ) (mark : Bool) → new ≡ slice_set marks k mark → length new ≡ length marks
 set-length marks new k mark e = ap length e ∙ length-set marks k mark
 
-pub set-marked : (config : Config) (marks new : List Bool) (p : ℕ) (mark : Bool) → new ≡ slice_set marks p mark → p < length marks → mark ≡ acts config p
-    → is_marked new p ≡ acts config p
-set-marked config marks new p mark e h is = ap (λ l. is_marked l p) e ∙ get_or-set_same marks p mark false h ∙ is
+pub set-marked : (config : Config) (marks new : List Bool) (p : ℕ) (mark has : Bool) → new ≡ slice_set marks p mark → p < length marks → has ≡ acts config p
+    → has ≡ mark → is_marked new p ≡ acts config p
+set-marked config marks new p mark has e h is same = ap (λ l. is_marked l p) e ∙ get_or-set_same marks p mark false h ∙ sym same ∙ is
 
-pub unset-marked : (config : Config) (marks : List Bool) (p : ℕ) → length marks ≤ p → length marks ≡ length config.instances → is_marked marks p ≡ acts config p
-unset-marked config marks p h all =
-    marked-past marks p h ∙ sym (acts-none config p (slice_get_past config.instances p (omega (arith, h, all))))
+pub none-marked : (config : Config) (marks : List Bool) (p : ℕ) (has mark : Bool) → has ≡ acts config p → has ≡ false → mark ≡ is_marked marks p → mark ≡ false
+    → is_marked marks p ≡ acts config p
+none-marked config marks p has mark is none marked unmarked = sym marked ∙ unmarked ∙ sym none ∙ is
+
+-- who is marked, or has an option, is within the room
+pub marked-within : (marks : List Bool) (p : ℕ) (mark : Bool) → mark ≡ is_marked marks p → mark ≡ true → p < length marks
+marked-within marks p mark is marked = by_place (let c : (p < length marks) ⊎ (length marks ≤ p) = grind arith in c)
+  where
+    by_place : (p < length marks) ⊎ (length marks ≤ p) → p < length marks
+    by_place (inl l) = l
+    by_place (inr g) = absurd (false≢true (sym (marked-past marks p g) ∙ sym is ∙ marked))
+
+pub acts-within : (config : Config) (marks : List Bool) (p : ℕ) (has : Bool) → length config.instances ≤ length marks → has ≡ acts config p → has ≡ true
+    → p < length marks
+acts-within config marks p has room is some = by_place (let c : (p < length config.instances) ⊎ (length config.instances ≤ p) = grind arith in c)
+  where
+    by_place : (p < length config.instances) ⊎ (length config.instances ≤ p) → p < length marks
+    by_place (inl l) = omega (arith, l, room)
+    by_place (inr g) = absurd (false≢true (sym (acts-none config p (slice_get_past config.instances p g)) ∙ sym is ∙ some))
 
 pub set-others : (marks new : List Bool) (k p : ℕ) (mark : Bool) → new ≡ slice_set marks k mark → p ≢ k → is_marked new p ≡ is_marked marks p
 set-others marks new k p mark e other = ap (λ l. is_marked l p) e ∙ get_or-set_other marks k p mark false other
@@ -76,8 +93,8 @@ right-step config before after k q some right h is renewed others =
     right-more config before after q (drop k some) (drop (k + 1) some) right (drop_step some k q h (is ∙ get_or-within some k 0 q h)) renewed others
 
 pub right-none : (config : Config) (marks : List Bool) (n : ℕ) (some : List ℕ) → RightBut config marks (drop n some) → length some ≤ n
-    → length marks ≡ length config.instances → IsMarked config marks
-right-none config marks n some right past all = record { all = all; each = λ p. by_cases p (right p) }
+    → length config.instances ≤ length marks → IsMarked config marks
+right-none config marks n some right past room = record { room = room; each = λ p. by_cases p (right p) }
   where
     none : length (drop n some) ≡ 0
     none = let e = length-drop n some in omega (arith, e, past)
@@ -85,19 +102,6 @@ right-none config marks n some right past all = record { all = all; each = λ p.
     by_cases : (p : ℕ) → (is_marked marks p ≡ acts config p) ⊎ Contains (drop n some) p → is_marked marks p ≡ acts config p
     by_cases p (inl e) = e
     by_cases p (inr c) = absurd (let h : c.0 < length (drop n some) = c.1 in omega (arith, h, none))
-
-pub marks-pushed : (marks new : List Bool) → new ≡ marks ++ false ∷ [] → (p : ℕ) → is_marked new p ≡ is_marked marks p
-marks-pushed marks new e p = ap (λ l. is_marked l p) e ∙ same marks p
-  where
-    same : (ms : List Bool) (k : ℕ) → is_marked (ms ++ false ∷ []) k ≡ is_marked ms k
-    same [] zero = refl
-    same [] (suc k) = refl
-    same (m ∷ ms) zero = refl
-    same (m ∷ ms) (suc k) = same ms k
-
-pub marks-more : (initial before new : List Bool) → new ≡ before ++ false ∷ [] → ((p : ℕ) → is_marked before p ≡ is_marked initial p)
-    → (p : ℕ) → is_marked new p ≡ is_marked initial p
-marks-more initial before new e same p = marks-pushed before new e p ∙ same p
 
 -- all numbers
 
@@ -162,4 +166,4 @@ module _ (label : Label) (old new : Config) (leads : Leads label old new) where
   pub settles_later : (some : List ℕ) → ((p : ℕ) → p < length new.instances → Contains some p) → Settles old new some
   settles_later some all = settles-all old new some leads.others.grown all
 
-pub ruleset renewing = (set-length, set-marked, unset-marked, set-others, right-step, right-none, right-new, marks-more, all-more)
+pub ruleset renewing = (set-length, set-marked, none-marked, marked-within, acts-within, set-others, right-step, right-none, right-new, all-more)

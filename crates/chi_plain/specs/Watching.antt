@@ -7,12 +7,12 @@ use Rattle.chi_core.specs.Options.{is_under_way}
 use Rattle.chi_plain_options.specs.declared.parties.Parties.{Parties}
 use Rattle.chi_plain_options.specs.Acting.{acts}
 use Rattle.chi_plain_options.specs.Listing.{AllJoiners, AllParties, Keeps}
-use Rattle.chi_plain_options.specs.Marked.{is_marked}
+use Rattle.chi_order.specs.Marked.{is_marked}
 use Rattle.chi_plain_options.specs.Reaching.{Covers, CoversFrom}
 
--- for each instance is marked whether it has an option
+-- marked are the instances that have an option, and there is room for all
 pub record IsMarked (config : Config) (marks : List Bool) : Type 0 where
-  pub all : length marks ≡ length config.instances
+  pub room : length config.instances ≤ length marks
   pub each : (p : ℕ) → is_marked marks p ≡ acts config p
 
 pub record IsWatched (config : Config) (marks : List Bool) (parties : Parties) (joiners : List ℕ) : Type 0 where

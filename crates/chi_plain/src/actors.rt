@@ -2,10 +2,26 @@
 
 ghost use Rattle.std.specs.Prelude.{◌≡◌, ◌<◌, length, slice_get, Some};
 ghost use Rattle.chi_core.specs.Options.{actors, options};
+ghost use Rattle.chi_order.specs.Marked.{members};
 
 use crate::watching::Watched;
 use chi_core::Label;
+use chi_order::{Ranks, Steps};
 use chi_plain_options::{option_at, option_count};
+use std::marker::Brand;
+use std::sync::ledger::{Blank, Ledger};
+
+/// The marked number of a rank. Nobody counts its steps.
+fn marked_at<L: Ledger>(marks: &Ranks, rank: u32, blank: Blank) -> u32
+    requires name { blank.name ≡ L.name }
+    requires parts { blank.parts ≡ L.parts }
+    requires some { 0 < L.parts }
+    requires rank { rank < length (members marks.now) }
+    ensures { slice_get (members marks.now) rank ≡ Some result }
+{
+    let mut steps = Steps::<L>::new(blank);
+    marks.nth(rank, &mut steps)
+}
 
 impl<'a> Watched<'a> {
     pub fn clock(&self) -> i64
@@ -28,7 +44,7 @@ impl<'a> Watched<'a> {
         requires { i < length (actors self.now) }
         ensures { slice_get (actors self.now) i ≡ Some result }
     {
-        self.marks.nth(i)
+        marked_at::<Brand>(&self.marks, i, Blank::new(1))
     }
 
     /// How many options instance `pid` has.

@@ -1,13 +1,13 @@
 //! A configuration with what is kept beside it: which instances have an option, and which may get or lose one by
 //! what another does. After a step only those are looked at.
 
-ghost use Rattle.std.specs.Prelude.{◌≡◌, ◌≢◌, ℕ, ◌≤◌, ◌<◌, ◌⊎◌, List, length, slice_get, Contains, IfOk, OnOk};
+ghost use Rattle.std.specs.Prelude.{◌≡◌, ◌≢◌, ℕ, ◌≤◌, ◌<◌, ◌⊎◌, List, length, slice_get, Contains, IfOk};
 ghost use Rattle.std.specs.Bool.{OnFalse};
 ghost use Rattle.chi_core.specs.declared.label.Label.{Label};
 ghost use Rattle.chi_core.specs.declared.limits.TheConstants.{MOST_INSTANCES};
 ghost use Rattle.chi_core.specs.Config.{Config, Instance};
 ghost use Rattle.chi_core.specs.Options.{is_under_way};
-ghost use Rattle.chi_plain_options.specs.Marked.{is_marked};
+ghost use Rattle.chi_order.specs.Marked.{is_marked};
 ghost use Rattle.chi_plain.specs.Watching.{is_advance, IsAffected, IsMarked, IsWatched, first_named, second_named};
 ghost use Rattle.chi_plain_options.specs.Listing.{AllParties};
 ghost use Rattle.chi_plain_options.specs.Acting.{acts};
@@ -15,8 +15,9 @@ ghost use Rattle.chi_plain.specs.Led.{IsBefore, IsListed, Leads, Led, Settles};
 
 use chi_base::NoMemory;
 use chi_core::Label;
+use chi_order::Ranks;
 use chi_plain_options::{
-    Listed, Marks, Parties, cover, cover_from, cover_joiners, has_option, relist, relist_from,
+    Listed, Parties, cover, cover_from, cover_joiners, has_option, relist, relist_from,
 };
 use chi_plain_steps::Configuration;
 use std::alloc::Global;
@@ -27,7 +28,7 @@ use std::marker::Model;
 #[derive(Debug, Drop)]
 pub struct Watched<'a> {
     pub(crate) configuration: Configuration<'a>,
-    pub(crate) marks: Marks,
+    pub(crate) marks: Ranks,
     pub(crate) parties: Parties,
     pub(crate) joiners: Listed,
 }
@@ -86,44 +87,31 @@ fn named(label: &Label) -> (u32, u32)
 
 /// Marks an instance where it has an option.
 #[tactic(auto, using(crate::proofs::Mending::renewing))]
-fn renew(config: &Configuration<'_>, parties: &Parties, marks: &mut Marks, pid: u32)
+fn renew(config: &Configuration<'_>, parties: &Parties, marks: &mut Ranks, pid: u32)
     requires parties { AllParties parties.now config.now.instances }
-    requires all { length marks.old ≡ length config.now.instances }
-    ensures all { length marks.new ≡ length marks.old }
+    requires room { length config.now.instances ≤ length marks.old }
+    ensures room { length marks.new ≡ length marks.old }
     ensures renewed { is_marked marks.new pid ≡ acts config.now pid }
     ensures others { (p : ℕ) → p ≢ pid → is_marked marks.new p ≡ is_marked marks.old p }
 {
-    if (pid as usize) < marks.len() {
-        let mark = has_option(config, parties, pid);
-        marks.set(pid as usize, mark);
+    if has_option(config, parties, pid) {
+        marks.insert(pid);
+    } else if marks.contains(pid) {
+        marks.remove(pid);
     }
 }
 
 /// Marks each instance where it has an option, where the marks are right but for some.
 #[tactic(auto, using(crate::proofs::Mending::renewing))]
-fn renew_all(config: &Configuration<'_>, parties: &Parties, marks: &mut Marks, some: &[u32])
+fn renew_all(config: &Configuration<'_>, parties: &Parties, marks: &mut Ranks, some: &[u32])
     requires parties { AllParties parties.now config.now.instances }
-    requires all { length marks.old ≡ length config.now.instances }
+    requires room { length config.now.instances ≤ length marks.old }
     requires right { (p : ℕ) → (is_marked marks.old p ≡ acts config.now p) ⊎ Contains some.now p }
     ensures { IsMarked config.now marks.new }
 {
     for pid in some {
         renew(config, parties, marks, *pid);
     }
-}
-
-/// As many marks, of which the new ones are none.
-#[tactic(auto, using(crate::proofs::Mending::renewing))]
-fn lengthen(marks: &mut Marks, count: usize) -> Result<(), NoMemory>
-    requires longer { length marks.old ≤ count }
-    requires few { count ≤ MOST_INSTANCES }
-    ensures all { OnOk result (length marks.new ≡ count) }
-    ensures kept { OnOk result ((p : ℕ) → is_marked marks.new p ≡ is_marked marks.old p) }
-{
-    for _more in marks.len()..count {
-        marks.lengthen()?;
-    }
-    Ok(())
 }
 
 /// What is known before a step.
@@ -238,7 +226,7 @@ fn unsettled(
 pub fn mended<'a>(
     alloc: Global,
     configuration: Configuration<'a>,
-    mut marks: Marks,
+    mut marks: Ranks,
     mut parties: Parties,
     mut joiners: Listed,
     label: &Label,
@@ -253,7 +241,7 @@ pub fn mended<'a>(
     relist(&configuration, &mut parties, &mut joiners, first)?;
     relist(&configuration, &mut parties, &mut joiners, second)?;
     relist_from(&configuration, &mut parties, &mut joiners, count)?;
-    lengthen(&mut marks, configuration.instances().len())?;
+    marks.reserve(configuration.instances().len() as u32)?;
     renew_all(&configuration, &parties, &mut marks, some.as_slice());
     Ok(Watched {
         configuration,
@@ -268,12 +256,12 @@ pub fn mended<'a>(
 pub fn watch<'a>(alloc: Global, configuration: Configuration<'a>) -> Result<Watched<'a>, NoMemory>
     ensures { IfOk result (λ w. w ≡ configuration.entry) }
 {
-    let mut marks = Marks::new(alloc)?;
+    let mut marks = Ranks::new(alloc);
     let mut parties = Parties::new(alloc)?;
     let mut joiners = Listed::new(alloc);
     let count = configuration.instances().len();
     relist_from(&configuration, &mut parties, &mut joiners, 0)?;
-    lengthen(&mut marks, count)?;
+    marks.reserve(count as u32)?;
     let all = everyone(alloc, count)?;
     renew_all(&configuration, &parties, &mut marks, all.as_slice());
     Ok(Watched {

@@ -1,7 +1,6 @@
 pub mod Lists
 pub mod Ascending
 pub mod Keeping
-pub mod Marking
 pub mod Havings
 pub mod Pairs
 pub mod Options

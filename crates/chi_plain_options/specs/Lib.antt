@@ -1,6 +1,5 @@
 pub mod Scanning
 pub mod Acting
-pub mod Marked
 pub mod Ascending
 pub mod Listing
 pub mod Reaching

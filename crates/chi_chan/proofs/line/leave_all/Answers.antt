@@ -1,4 +1,4 @@
-use Rattle.std.proofs.Common.{ℕ, ◌+◌, ◌*◌, ◌∙◌, arith}
+use Rattle.std.proofs.Common.{◌+◌, ◌*◌, ◌∙◌, arith}
 use Rattle.chi_chan.proofs.Lining.{places, without-range}
 use Rattle.chi_chan.proofs.line.leave_all.Goals as goal
 

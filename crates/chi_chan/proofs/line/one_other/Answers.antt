@@ -1,5 +1,4 @@
-use Rattle.std.proofs.Common.{◌≡◌, ◌≢◌, ℕ, ◌+◌, ◌<◌, ◌≤◌, List, [], Some, length, get_or, ap, subst, sym, ◌∙◌, rules, arith}
-use Rattle.std.specs.List.{slice_get}
+use Rattle.std.proofs.Common.{length, ap, sym, ◌∙◌, arith}
 use Rattle.chi_chan.specs.declared.offers.Party.{Party}
 use Rattle.chi_chan.proofs.Lining.{one-others, one-own}
 use Rattle.chi_chan.proofs.line.one_other.Goals as goal

@@ -1,4 +1,4 @@
-use Rattle.std.proofs.Common.{◌≡◌, ℕ, ◌+◌, ◌-◌, ◌/◌, ◌<◌, ◌≤◌, length, get_or, ap, subst, sym, ◌∙◌, arith}
+use Rattle.std.proofs.Common.{◌+◌, ◌-◌, ◌/◌, ap, ◌∙◌, arith}
 use Rattle.chi_chan.specs.Lined.{code}
 use Rattle.chi_chan.proofs.Lining.{ascends-order, placed}
 use Rattle.chi_chan.proofs.line.place_of.Goals as goal

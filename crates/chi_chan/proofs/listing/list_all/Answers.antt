@@ -1,14 +1,5 @@
-use Rattle.std.proofs.Common.{◌≡◌, ◌≢◌, ℕ, zero, suc, ◌+◌, ◌-◌, ◌*◌, ◌<◌, ◌≤◌, ℤ, List, [], ◌∷◌, ◌++◌, Option, None, Some, Bool, true, false, cond, length, get_or, drop, sym, ◌∙◌, ap, subst, refl, rules, arith, length-append}
-use Rattle.std.specs.Prelude.{slice_set, IsSome}
-use Rattle.std.proofs.lemmas.Int.{to_z-of_z}
-use mir.Val.{to_z, of_z}
-use mir.Syntax.{w64}
-use Rattle.std.specs.List.{slice_get}
-use Rattle.chi_chan.specs.declared.offers.Offer.{Offer}
-use Rattle.chi_chan.specs.declared.offers.Offer.TheVariants.{Send, Receive, Delay}
-use Rattle.chi_chan.specs.declared.offers.Party.{Party}
-use Rattle.chi_chan.specs.declared.offers.Choice.{Choice}
-use Rattle.chi_chan.specs.declared.seats.Seat.{Seat}
+use Rattle.std.proofs.Common.{get_or}
+use Rattle.chi_chan.specs.declared.offers.Offer.TheVariants.{Send}
 use Rattle.chi_chan.proofs.Scanning.{got-offer}
 use Rattle.chi_chan.proofs.Standing.{stood-on}
 use Rattle.chi_chan.proofs.listing.list_all.Goals as goal

@@ -1,4 +1,4 @@
-use Rattle.std.proofs.Common.{◌≡◌, ◌+◌, ◌-◌, ◌*◌, ◌≤◌, length, drop}
+use Rattle.std.proofs.Common.{◌≡◌, ◌+◌, ◌-◌, ◌≤◌, length, drop}
 use Rattle.std.specs.List.{slice_get}
 use Rattle.chi_chan.specs.Kept.{choices_from}
 use Rattle.chi_chan.proofs.options.choice_among.Given as goal

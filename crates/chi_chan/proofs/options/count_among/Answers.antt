@@ -1,14 +1,7 @@
-use Rattle.std.proofs.Common.{◌≡◌, ◌≢◌, ℕ, zero, suc, ◌+◌, ◌-◌, ◌*◌, ◌<◌, ◌≤◌, ℤ, List, [], ◌∷◌, ◌++◌, Option, None, Some, Bool, true, false, cond, length, get_or, drop, sym, ◌∙◌, ap, subst, refl, rules, arith, length-append}
-use Rattle.std.specs.Prelude.{slice_set, IsSome}
-use Rattle.std.proofs.lemmas.Int.{to_z-of_z}
+use Rattle.std.proofs.Common.{arith}
 use mir.Val.{to_z, of_z}
 use mir.Syntax.{w64}
-use Rattle.std.specs.List.{slice_get}
-use Rattle.chi_chan.specs.declared.offers.Offer.{Offer}
-use Rattle.chi_chan.specs.declared.offers.Offer.TheVariants.{Send, Receive, Delay}
-use Rattle.chi_chan.specs.declared.offers.Party.{Party}
-use Rattle.chi_chan.specs.declared.offers.Choice.{Choice}
-use Rattle.chi_chan.specs.declared.seats.Seat.{Seat}
+use Rattle.chi_chan.specs.declared.offers.Offer.TheVariants.{Send}
 use Rattle.chi_chan.proofs.Scanning.{next-length}
 use Rattle.chi_chan.proofs.options.count_among.Goals as goal
 

@@ -1,4 +1,4 @@
-use Rattle.std.proofs.Common.{◌≡◌, ap}
+use Rattle.std.proofs.Common.{ap}
 use Rattle.chi_chan.specs.declared.seats.Seat.{Seat}
 use Rattle.chi_chan.proofs.Seating.{same-seats, takes}
 use Rattle.chi_chan.proofs.Standing.{on-err}

@@ -12,9 +12,9 @@ renew_all-requires-clause-parties c =
 
 pub renew_all-requires-clause-right : goal.renew_all-requires-clause-right
 renew_all-requires-clause-right c =
-    subst (λ (l : List ℕ). RightBut c.args.configuration c.lengthen.new.marks l) (sym c.as_slice.ensures.value)
-    (led_right c.args.label.now c.args.configuration c.args.marks c.args.parties c.args.joiners c.args.before c.requires c.lengthen.new.marks
-    c.in_ok-some.some.items c.in_ok-lengthen.ensures.kept c.in_ok-some.ensures)
+    subst (λ (l : List ℕ). RightBut c.args.configuration c.reserve.new.self l) (sym c.as_slice.ensures.value)
+    (led_right c.args.label.now c.args.configuration c.args.marks c.args.parties c.args.joiners c.args.before c.requires c.reserve.new.self
+    c.in_ok-some.some.items c.reserve.ensures.kept c.in_ok-some.ensures)
 
 pub invariant_of-result : goal.invariant_of-result
 invariant_of-result c = record {

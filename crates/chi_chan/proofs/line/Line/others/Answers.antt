@@ -1,4 +1,4 @@
-use Rattle.std.proofs.Common.{◌≡◌, ℕ, ◌+◌, ◌-◌, ◌*◌, ◌≤◌, List, length, ap, subst, sym, ◌∙◌, arith}
+use Rattle.std.proofs.Common.{◌+◌, ◌*◌, List, length, ap, arith}
 use Rattle.chi_chan.specs.declared.offers.Party.{Party}
 use Rattle.chi_chan.specs.Lined.{without}
 use Rattle.chi_chan.proofs.Lining.{ascends-few, places, without-length}
