@@ -1,0 +1,11 @@
+pub mod Turns
+pub mod Keyed
+pub mod Stepped
+pub mod Compared
+pub mod Counts
+pub mod Aims
+pub mod Hints
+pub mod Fusing
+pub mod Loops
+pub mod Walks
+pub mod Answers

@@ -1,0 +1,11 @@
+pub mod Advancing
+pub mod Assigned
+pub mod Constants
+pub mod Entering
+pub mod Evaluations
+pub mod Extents
+pub mod Fused
+pub mod Hints
+pub mod Keyed
+pub mod Views
+pub mod Walks
