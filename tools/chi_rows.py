@@ -1,9 +1,7 @@
 """The rows of rows/, as rows/check reads them, and what the program answers."""
 import importlib.machinery
 import importlib.util
-import os
 import pathlib
-import subprocess
 import tempfile
 
 TOP = pathlib.Path(__file__).resolve().parent.parent
@@ -19,8 +17,4 @@ def rows_of(path):
 def answer(program, words, name, source):
     """What a run writes and logs, and its status, where a file of this name has this source."""
     with tempfile.TemporaryDirectory() as folder:
-        with open(os.path.join(os.fsencode(folder), name), "wb") as file:
-            file.write(source)
-        words = [os.fsencode(program), *words]
-        done = subprocess.run(words, cwd=folder, env=CHECK.ENVIRONMENT, stdin=subprocess.DEVNULL, capture_output=True, check=False)
-        return done.stdout, done.stderr, done.returncode
+        return CHECK.answer(program, folder, words, name, source)
