@@ -1,16 +1,14 @@
 -- A closure that was just boxed, as a policy: what its own clauses ask and tell makes it lawful.
 --     lawful_box, gives_box      a box of the closure is lawful;  and may give what the closure may. They take the table and the entry of the function that boxes it (`own-1` and `at-1-1` of its `OwnLists`) and what `into_dyn_box` ensures
 --     read_alike, told_alike     what is read of equal values is equal;  what is told of a value holds of an equal one
---     listed_below               what a list has for a question is one of the choices
-use Rattle.std.proofs.Common.{◌≡◌, ◌<◌, ℕ, List, Option, Some, None, slice_get, arith, ap, refl, subst, sym}
-use Rattle.std.proofs.lemmas.Bool.Decides.{nat_tests}
+use Rattle.std.proofs.Common.{◌≡◌, ◌<◌, ℕ, ap, refl, subst, sym}
 use mir.Syntax.{Dict}
 use denote.Param.Members.{Mut}
 use denote.Param.Table.{Table}
 use denote.Param.Object.{Made, read_made}
 use borrow.Pointer.Called.{made_asks, made_tells}
 use borrow.Pointer.Entry.{sure}
-use Rattle.chi_sched.specs.Policies.{IsAsked, Lawful, listed, listed_at}
+use Rattle.chi_sched.specs.Policies.{IsAsked, Lawful}
 
 -- a question and the count of its choices, as a call passes them
 abbrev Passed : Type 0
@@ -42,10 +40,3 @@ read_alike same read = ap read same
 
 pub told_alike : {A : Type 0} {x y : A} → x ≡ y → (Told : A → Type 0) → Told x → Told y
 told_alike same Told = subst Told same
-
-listed_at_below : (o : Option ℕ) (count : ℕ) → 0 < count → listed_at o count < count
-listed_at_below None count some = some
-listed_at_below (Some pick) count some = grind (arith, nat_tests)
-
-pub listed_below : (picks : List ℕ) (question count : ℕ) → IsAsked question count → listed picks question count < count
-listed_below picks question count asked = listed_at_below (slice_get picks question) count asked.some

@@ -1,2 +1,3 @@
+pub mod Formulas
 pub mod Policies
 pub mod Stored

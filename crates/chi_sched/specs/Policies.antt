@@ -12,10 +12,14 @@ abbrev pub GivesOne : (ℕ → ℕ → ℕ → Type 0) → Type 0
 GivesOne gives = (question count answer other : ℕ) → IsAsked question count
     → gives question count answer → gives question count other → answer ≡ other
 
+-- each question that may be asked has an answer, which is one of the choices
+abbrev pub GivesSome : (ℕ → ℕ → ℕ → Type 0) → Type 0
+GivesSome gives = (question count : ℕ) → IsAsked question count → ∥ ((answer : ℕ) × (answer < count) × gives question count answer) ∥₁
+
 -- the function tells what is given to each question that may be asked, and that is one of the choices
 abbrev pub Answers : (ℕ → ℕ → ℕ → Type 0) → (ℕ → ℕ → ℕ) → Type 0
 Answers gives pick = (question count : ℕ) → IsAsked question count
-    → (pick question count < count) × gives question count (pick question count)
+    → (pick question count < count) × ∥ gives question count (pick question count) ∥₁
 
 -- What is kept of a closure: it may be called for each question that may be asked, and has there one possible
 -- answer, which is one of the choices.

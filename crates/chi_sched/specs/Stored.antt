@@ -1,9 +1,9 @@
--- The one answer of a stored policy, from what it keeps of its closure.
+-- The one answer of a stored policy, from what it keeps of its closure, and that there is one.
 use Rattle.std.specs.Prelude.{◌≡◌, ℕ, ◌<◌, ◌^◌}
 use Rattle.std.proofs.Common.{◌∙◌, sym, arith}
-use Rattle.std.proofs.Math.Logic.{∥∥₁_elim}
+use Rattle.std.proofs.Math.Logic.{∥∥₁_elim, ∥∥₁_map}
 use Rattle.std.specs.Coded.{Coded-set, coded_ℕ}
-use Rattle.chi_sched.specs.Policies.{IsAsked, Lawful, AnswersBelow}
+use Rattle.chi_sched.specs.Policies.{IsAsked, Lawful, AnswersBelow, GivesSome}
 
 -- what may be answered to a question is the one pick
 only_pick : (may_call : ℕ → ℕ → Type 0) (may_answer : ℕ → ℕ → ℕ → Type 0) (question count answer : ℕ)
@@ -20,3 +20,7 @@ pub one_answer : (may_call : ℕ → ℕ → Type 0) (may_answer : ℕ → ℕ �
 one_answer may_call may_answer lawful question count answer other asked a b =
     ∥∥₁_elim lawful (Coded-set coded_ℕ answer other) (λ l. only_pick may_call may_answer question count answer l asked a
     ∙ sym (only_pick may_call may_answer question count other l asked b))
+
+pub some_answer : (may_call : ℕ → ℕ → Type 0) (may_answer : ℕ → ℕ → ℕ → Type 0) → ∥ Lawful may_call may_answer ∥₁ → GivesSome (AnswersBelow may_answer)
+some_answer may_call may_answer lawful question count asked =
+    ∥∥₁_map lawful (λ l. (l.pick question count, l.below question count asked, (l.below question count asked, l.answers question count asked)))

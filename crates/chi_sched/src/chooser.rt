@@ -1,5 +1,5 @@
 ghost use Rattle.std.specs.Prelude.{ℕ, ◌<◌};
-ghost use Rattle.chi_sched.specs.Policies.{GivesOne};
+ghost use Rattle.chi_sched.specs.Policies.{GivesOne, GivesSome};
 
 /// What picks one of some choices at each question of a run. Questions are numbered from 0.
 pub trait Chooser {
@@ -14,4 +14,7 @@ pub trait Chooser {
 
     /// There is one answer to each question.
     ghost one: { (chooser : Self) → GivesOne (gives chooser) };
+
+    /// There is an answer to each question, among the choices.
+    ghost some: { (chooser : Self) → GivesSome (gives chooser) };
 }

@@ -1,6 +1,7 @@
 ghost use Rattle.std.specs.Prelude.{◌≡◌, ◌<◌};
 ghost use Rattle.std.proofs.Common.{◌∙◌, sym};
 ghost use Rattle.chi_sched.specs.Policies.{first, last, listed, spread};
+ghost use Rattle.chi_sched.specs.Formulas.{by_formula, first_below, last_below, spread_below, listed_below};
 
 use crate::Chooser;
 
@@ -75,6 +76,8 @@ impl Chooser for First {
     }
 
     ghost one = { λ _ question count answer other asked a b. a ∙ sym b };
+
+    ghost some = { λ _. by_formula (λ question count. first question count) first_below };
 }
 
 impl Chooser for Last {
@@ -85,6 +88,8 @@ impl Chooser for Last {
     }
 
     ghost one = { λ _ question count answer other asked a b. a ∙ sym b };
+
+    ghost some = { λ _. by_formula (λ question count. last question count) last_below };
 }
 
 impl Chooser for Spread {
@@ -95,6 +100,8 @@ impl Chooser for Spread {
     }
 
     ghost one = { λ _ question count answer other asked a b. a ∙ sym b };
+
+    ghost some = { λ spread_by. by_formula (λ question count. spread spread_by.salt question count) (spread_below spread_by.salt) };
 }
 
 impl Chooser for Listed {
@@ -105,4 +112,6 @@ impl Chooser for Listed {
     }
 
     ghost one = { λ _ question count answer other asked a b. a ∙ sym b };
+
+    ghost some = { λ listing. by_formula (λ question count. listed listing.picks.items question count) (listed_below listing.picks.items) };
 }

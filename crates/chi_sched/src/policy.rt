@@ -1,6 +1,6 @@
 ghost use Rattle.std.specs.Prelude.{◌≡◌, ◌<◌, ◌^◌, ℕ};
 ghost use Rattle.chi_sched.specs.Policies.{IsAsked, Lawful, AnswersBelow};
-ghost use Rattle.chi_sched.specs.Stored.{one_answer};
+ghost use Rattle.chi_sched.specs.Stored.{one_answer, some_answer};
 
 use crate::Chooser;
 
@@ -41,4 +41,6 @@ impl Chooser for Policy {
     }
 
     ghost one = { λ policy. one_answer _ _ policy.lawful };
+
+    ghost some = { λ policy. some_answer _ _ policy.lawful };
 }

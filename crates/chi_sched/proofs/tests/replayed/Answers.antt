@@ -2,7 +2,8 @@
 use Rattle.std.proofs.Common.{◌∙◌, ℕ, refl, sym}
 use borrow.Pointer.Called.{made_tells}
 use Rattle.chi_sched.specs.Policies.{listed}
-use Rattle.chi_sched.proofs.Boxed.{lawful_box, read_alike, told_alike, listed_below}
+use Rattle.chi_sched.proofs.Boxed.{lawful_box, read_alike, told_alike}
+use Rattle.chi_sched.specs.Formulas.{listed_below}
 use Rattle.chi_sched.proofs.tests.replayed.OwnLists.{own-1, at-1-1}
 use Rattle.chi_sched.proofs.tests.replayed.Goals as goal
 
