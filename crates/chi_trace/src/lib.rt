@@ -20,7 +20,7 @@ pub use fault::{LogFault, TraceFault};
 pub use filter::{EventKind, Filter, admits, matches};
 pub use laws::{first_lines_law, lines_1_law, lines_law, logs_law};
 pub use line::{line_of, line_up};
-pub use log::{MOST_LOG_BYTES, log_up};
+pub use log::{MOST_LOG_BYTES, log_up, next_line};
 pub use probe::{Probe, Sieve, Test};
 pub use read::{read_line, read_line_1};
 

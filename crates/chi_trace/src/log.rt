@@ -84,7 +84,7 @@ fn begins_small(line: &[u8]) -> bool
 }
 
 /// The first line that a line feed ends, and what stands after it.
-fn next_line(text: &[u8]) -> Option<(&[u8], &[u8])>
+pub fn next_line(text: &[u8]) -> Option<(&[u8], &[u8])>
     ensures { MatchOption result (OneLine text.now) (λ cut. IsCut text.now cut.0.now cut.1.now) }
 {
     let (line, rest) = text.split_at(line_length(text));
