@@ -36,19 +36,20 @@ module _ (m : Setting) where
   halting z variables s Amiss h v = absurd (h refl)
 
   -- the machine rests: these are the values, and this is left
-  record Told (o : Answer (List Value)) (variables : Variables) (t : State) : Type 0 where
+  record Told (o : Answer (List Value)) (z : ℕ) (variables : Variables) (t : State) : Type 0 where
     gives : o ≡ Gives (reverse t.stack) t.view
+    there : t.at ≡ z
     same : t.frame.variables ≡ variables
 
-  told_by : (z : ℕ) (variables : Variables) (xs : List Value) (view : View) (t : State) → Rests t ≡ Rests (state z (reverse xs) (frame_of variables []) [] view) → Told (Gives xs view) variables t
+  told_by : (z : ℕ) (variables : Variables) (xs : List Value) (view : View) (t : State) → Rests t ≡ Rests (state z (reverse xs) (frame_of variables []) [] view) → Told (Gives xs view) z variables t
   told_by z variables xs view t e =
       let same : t ≡ state z (reverse xs) (frame_of variables []) [] view = cc in
       let stacks : t.stack ≡ reverse xs = ap (λ (s : State). s.stack) same in
       let views : t.view ≡ view = ap (λ (s : State). s.view) same in
       let values : reverse t.stack ≡ xs = ap reverse stacks ∙ reverse-reverse xs in
-      record { gives = λ j. Gives (sym values j) (sym views j); same = ap (λ (s : State). s.frame.variables) same }
+      record { gives = λ j. Gives (sym values j) (sym views j); there = ap (λ (s : State). s.at) same; same = ap (λ (s : State). s.frame.variables) same }
 
-  told : (z : ℕ) (variables : Variables) (s : State) (o : Answer (List Value)) → o ≢ Amiss → Values m z variables s o → (t : State) → Reaches (step m) s (Rests t) → Told o variables t
+  told : (z : ℕ) (variables : Variables) (s : State) (o : Answer (List Value)) → o ≢ Amiss → Values m z variables s o → (t : State) → Reaches (step m) s (Rests t) → Told o z variables t
   told z variables s (Gives xs view) h v t r = told_by z variables xs view t (ends_alike (step m) s _ _ r v)
   told z variables s (Fails kind) h v t r = let e = ends_alike (step m) s _ _ r v in absurd cc
   told z variables s Spent h v t r = let e = ends_alike (step m) s _ _ r v in absurd cc
@@ -78,6 +79,9 @@ module _ (code : Code) (scene : Scene) (at : ℕ) (variables : Variables) (view 
     pub values_are : (t : State) → Reaches (step (in_expressions code scene)) s (Rests t) → evaluated core scene variables es view ≡ Gives (reverse t.stack) t.view
     values_are t h = (told (in_expressions code scene) r.upto variables s _ r.right (comes_to core es r) t h).gives
 
+    pub rests_there : (t : State) → Reaches (step (in_expressions code scene)) s (Rests t) → t.at ≡ r.upto
+    rests_there t h = (told (in_expressions code scene) r.upto variables s _ r.right (comes_to core es r) t h).there
+
     pub variables_stay : (t : State) → Reaches (step (in_expressions code scene)) s (Rests t) → t.frame.variables ≡ variables
     variables_stay t h = (told (in_expressions code scene) r.upto variables s _ r.right (comes_to core es r) t h).same
 
@@ -103,6 +107,11 @@ pub list_values : (code : Code) (found : Scene) (at : ℕ) (variables : Variable
 list_values code found at variables view s scene core es m values left r is same h v l =
     values_are code found at variables view s is core es r (state_of m) (subst (λ (sc : Scene). Reaches (step (in_expressions code sc)) s (Rests (state_of m))) same h)
     ∙ (λ j. Gives ((reverse-reverse m.stack.items ∙ sym v) j) (sym l j))
+
+pub list_rests : (code : Code) (found : Scene) (at : ℕ) (variables : Variables) (view : View) (s : State) (scene : Scene) (core : Core) (es : List CExpr) (m : Machine)
+    → (r : Stretch code found at variables view core es) → s ≡ begun at variables view → scene ≡ found → Reaches (step (in_expressions code scene)) s (Rests (state_of m)) → m.at ≡ r.upto
+list_rests code found at variables view s scene core es m r is same h =
+    rests_there code found at variables view s is core es r (state_of m) (subst (λ (sc : Scene). Reaches (step (in_expressions code sc)) s (Rests (state_of m))) same h)
 
 pub list_variables : (code : Code) (found : Scene) (at : ℕ) (variables : Variables) (view : View) (s : State) (scene : Scene) (m : Machine)
     → Ready code found at variables view → s ≡ begun at variables view → scene ≡ found → Reaches (step (in_expressions code scene)) s (Rests (state_of m)) → m.frame.value.variables ≡ variables
@@ -161,6 +170,9 @@ module _ (code : Code) (at seed : ℕ) (before : List Value) (s : State) (is : s
     constant_told : (t : State) → Reaches (step (in_expressions code scene)) s (Rests t) → giving (λ v. v ∷ []) (constant_value core seed before c) ≡ Gives (reverse t.stack) t.view
     constant_told t h = (told (in_expressions code scene) r.upto [] s _ (giving_there _ r.right) constant_comes t h).gives
 
+    pub constant_rests : (t : State) → Reaches (step (in_expressions code scene)) s (Rests t) → t.at ≡ r.upto
+    constant_rests t h = (told (in_expressions code scene) r.upto [] s _ (giving_there _ r.right) constant_comes t h).there
+
     pub constant_there : (t : State) → Reaches (step (in_expressions code scene)) s (Rests t) → 0 < length t.stack
     constant_there t h = let n : 0 < length (reverse t.stack) = one_there _ _ _ (constant_told t h) in omega (arith, n, length-reverse t.stack)
 
@@ -196,6 +208,11 @@ pub const_there : (code : Code) (at seed : ℕ) (before : List Value) (s : State
 const_there code at seed before s scene m r is same h =
     let n : 0 < length (reverse m.stack.items) = constant_there code at seed before s is scene r.core r.constant r.stands (as_meant code at seed before scene r.core r.constant r.stands same) (state_of m) h in
     omega (arith, n, length-reverse m.stack.items)
+
+pub const_rests : (code : Code) (at seed : ℕ) (before : List Value) (s : State) (scene : Scene) (core : Core) (c : ConstDef) (m : Machine) → (r : ConstantAt code at seed before core c)
+    → s ≡ begun at [] constant_view → scene ≡ scene_before code seed before → Reaches (step (in_expressions code scene)) s (Rests (state_of m)) → m.at ≡ r.upto
+const_rests code at seed before s scene core c m r is same h =
+    constant_rests code at seed before s is scene core c r (as_meant code at seed before scene core c r same) (state_of m) h
 
 pub const_sets : (code : Code) (at seed : ℕ) (before : List Value) (s : State) (scene : Scene) (core : Core) (c : ConstDef) (m : Machine) (v : Value) (rest now : List Value)
     → ConstantAt code at seed before core c → s ≡ begun at [] constant_view → scene ≡ scene_before code seed before → Reaches (step (in_expressions code scene)) s (Rests (state_of m))

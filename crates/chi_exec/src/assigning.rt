@@ -20,9 +20,9 @@ use chi_ops::Path;
 use chi_value::Value;
 use std::alloc::Global;
 
-// How many indexes a target takes.
+/// How many indexes a target takes.
 #[tactic(auto, using(crate::proofs::Aims::counting_steps))]
-fn step_count(steps: &[AimStep]) -> usize
+pub fn step_count(steps: &[AimStep]) -> usize
     requires { step_count steps.now < 2 ^ 64 }
     ensures { result ≡ step_count steps.now }
 {
@@ -49,9 +49,9 @@ fn index_count(aims: &[Aim]) -> usize
     count
 }
 
-// The way into a variable, with its indexes, which are taken from the end.
+/// The way into a variable, with its indexes, which are taken from the end.
 #[tactic(auto, using(crate::proofs::Aims::pathing))]
-fn path_of(alloc: Global, steps: &[AimStep], left: &mut Vec<Value>) -> Result<Vec<Path>, Stop>
+pub fn path_of(alloc: Global, steps: &[AimStep], left: &mut Vec<Value>) -> Result<Vec<Path>, Stop>
     requires { path_from steps.now (reverse left.old.items) ≢ None }
     ensures path { IfOk result (λ path. path_from steps.now (reverse left.old.items) ≡ Some (steps_of path.items, reverse left.new.items)) }
     ensures stops { IfErr result (λ stop. stop ≡ NoMemory) }

@@ -1,6 +1,6 @@
 //! Lists of expressions, and constants, by their code.
 
-ghost use Rattle.std.specs.Prelude.{◌≡◌, [], IfOk, IfErr, OnOk, List};
+ghost use Rattle.std.specs.Prelude.{◌≡◌, [], IfOk, IfErr, OnOk, OnErr, List};
 ghost use Rattle.chi_core.specs.declared.program.ConstDef.{ConstDef};
 ghost use Rattle.chi_core.specs.declared.view.View.{View};
 ghost use Rattle.chi_value.specs.declared.value.Value.{Value};
@@ -131,13 +131,14 @@ impl Exec {
         })
     }
 
-    /// The values of a list of expressions, whose code begins at a place. What the outlook has after any other answer is
-    /// worth nothing further.
+    /// The values of a list of expressions, whose code begins at a place. With them the machine rests where that code ends.
+    /// What the outlook has after any other answer is worth nothing further.
     pub fn run_expr(&mut self, alloc: Global, code: &Code, at: u64, outlook: &mut Outlook) -> Ran
         requires right { AreRight self.old.hints.items code.now.instrs }
         requires ready { Ready code.now (scene_in code.now.names self.old.constants.items outlook.old) at outlook.old.variables outlook.old.view }
         ensures says { (core : Core) (es : List CExpr) → Stretch code.now (scene_in code.now.names self.old.constants.items outlook.old) at outlook.old.variables outlook.old.view core es → Says result outlook.new.view (evaluated core (scene_in code.now.names self.old.constants.items outlook.old) outlook.old.variables es outlook.old.view) }
         ensures kept { IsVal result → outlook.new.variables ≡ outlook.old.variables }
+        ensures rests { IsVal result → (core : Core) (es : List CExpr) (stands : Stretch code.now (scene_in code.now.names self.old.constants.items outlook.old) at outlook.old.variables outlook.old.view core es) → self.new.machine.at ≡ stands.upto }
         ensures constants { self.new.constants.items ≡ self.old.constants.items }
         ensures still { AreRight self.new.hints.items code.now.instrs }
     {
@@ -160,7 +161,8 @@ impl Exec {
         }
     }
 
-    /// Sets the next constant, whose code begins at a place: its value joins those that are set.
+    /// Sets the next constant, whose code begins at a place: its value joins those that are set, and the machine rests
+    /// before the instruction that sets it. After an error the constants are as they were.
     pub fn set_constant(
         &mut self,
         alloc: Global,
@@ -171,6 +173,8 @@ impl Exec {
         requires right { AreRight self.old.hints.items code.now.instrs }
         requires ready { ConstantReady code.now at seed self.old.constants.items }
         ensures sets { OnOk result ((core : Core) (c : ConstDef) → ConstantAt code.now at seed self.old.constants.items core c → Sets self.old.constants.items self.new.constants.items (constant_value core seed self.old.constants.items c)) }
+        ensures rests { OnOk result ((core : Core) (c : ConstDef) (stands : ConstantAt code.now at seed self.old.constants.items core c) → self.new.machine.at ≡ stands.upto) }
+        ensures kept { OnErr result (self.new.constants.items ≡ self.old.constants.items) }
         ensures stops { IfErr result (λ stop. (core : Core) (c : ConstDef) → ConstantAt code.now at seed self.old.constants.items core c → Stops stop (constant_value core seed self.old.constants.items c)) }
         ensures still { AreRight self.new.hints.items code.now.instrs }
     {

@@ -22,6 +22,7 @@ mod soon;
 mod stacking;
 mod walking;
 
+pub use assigning::{path_of, step_count};
 pub use evaluating::{Exec, Outlook, Ran};
 pub use extent::Extent;
 pub use hinting::{hints_of, stops};
