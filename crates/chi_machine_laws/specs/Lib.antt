@@ -1,0 +1,9 @@
+pub mod Beginning
+pub mod Choosing
+pub mod Deeds
+pub mod Instances
+pub mod Labels
+pub mod Laws
+pub mod Parts
+pub mod Stands
+pub mod Turns
