@@ -1,0 +1,6 @@
+mod Offers
+mod Offered
+mod Bound
+mod Shown
+mod Joined
+mod Many

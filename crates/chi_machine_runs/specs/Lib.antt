@@ -1,0 +1,4 @@
+pub mod Kept
+pub mod Keeping
+pub mod Making
+pub mod Views
