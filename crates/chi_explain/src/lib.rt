@@ -1,0 +1,13 @@
+//! Explanations: makes of a refusal of a source the text that says what is wrong at its place and what could stand there.
+#![tactic(auto)]
+
+mod excerpts;
+mod explanations;
+mod lexical;
+
+pub use excerpts::{MOST_BEFORE, MOST_SHOWN, excerpt, place_law};
+pub use explanations::explained;
+pub use lexical::explain_lexical;
+
+#[cfg(test)]
+mod tests;
