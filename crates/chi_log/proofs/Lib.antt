@@ -1,0 +1,10 @@
+pub mod Lines
+pub mod EndingLines
+pub mod EventLines
+pub mod Numbered
+pub mod Places
+pub mod Going
+pub mod Rests
+pub mod Begun
+pub mod Texts
+pub mod Refused
