@@ -62,6 +62,9 @@ no_default_fault command.Code rows = file_alone rows
 no_default_fault command.Fmt rows = file_alone rows
 no_default_fault command.Load rows = file_alone rows
 no_default_fault command.TraceUp rows = file_alone rows
+no_default_fault command.Replay rows =
+    plain_option name.Seed refl _ (plain_option name.Steps refl _ (plain_option name.Until refl _ (one_more (built_option name.Trace) _ trace_default
+    (one_more built_file _ (without_default built_file refl) (one_more built_args _ (without_default built_args refl) no_more))))) rows
 no_default_fault command.Sim rows =
     plain_option name.Seed refl _ (plain_option name.Steps refl _ (plain_option name.Policy refl _ (plain_option name.Salt refl _ (plain_option name.Until refl _
     (plain_option name.Probe refl _ (one_more (built_option name.Trace) _ trace_default (one_more built_file _ (without_default built_file refl)
@@ -73,9 +76,10 @@ unchanged a is rows = rw is (each (has_row a.id rows)) where
   each true = refl
   each false = refl
 
--- at the end, `sim` has a row for the trace
+-- at the end, `sim` and `replay` have a row for the trace
 abbrev at_end : Command → List Row → List Row
 at_end command.Sim rows = with_default rows (built_option name.Trace)
+at_end command.Replay rows = with_default rows (built_option name.Trace)
 at_end _ rows = rows
 
 skip : (o : OptionName) → (built_option o).defaults ≡ [] → (more : List Rule) (rows : List Row) → fold with_default rows (built_option o ∷ more) ≡ fold with_default rows more
@@ -87,6 +91,11 @@ finished_is command.Code rows = unchanged built_file refl rows
 finished_is command.Fmt rows = unchanged built_file refl rows
 finished_is command.Load rows = unchanged built_file refl rows
 finished_is command.TraceUp rows = unchanged built_file refl rows
+finished_is command.Replay rows =
+    skip name.Seed refl (drop 1 (rules command.Replay)) rows ∙ skip name.Steps refl (drop 2 (rules command.Replay)) rows
+    ∙ skip name.Until refl (drop 3 (rules command.Replay)) rows
+    ∙ ap (λ (rs : List Row). with_default rs built_args) (unchanged built_file refl (with_default rows (built_option name.Trace)))
+    ∙ unchanged built_args refl (with_default rows (built_option name.Trace))
 finished_is command.Sim rows =
     skip name.Seed refl (drop 1 (rules command.Sim)) rows ∙ skip name.Steps refl (drop 2 (rules command.Sim)) rows
     ∙ skip name.Policy refl (drop 3 (rules command.Sim)) rows ∙ skip name.Salt refl (drop 4 (rules command.Sim)) rows ∙ skip name.Until refl (drop 5 (rules command.Sim)) rows
@@ -102,6 +111,7 @@ trace_kept id rows apart = each (has_row (codes "trace") rows) where
 
 end_kept : (c : Command) (id : Text) (rows : List Row) → bytes_eq (codes "trace") id ≡ false → row_at id (at_end c rows) ≡ row_at id rows
 end_kept command.Sim id rows apart = trace_kept id rows apart
+end_kept command.Replay id rows apart = trace_kept id rows apart
 end_kept command.Check id rows apart = refl
 end_kept command.Code id rows apart = refl
 end_kept command.Fmt id rows apart = refl
@@ -143,6 +153,7 @@ trace_end rows = each (row_at (codes "trace") rows) refl where
 
 flag_end : (c : Command) (rows : List Row) → flag_of (row_at (codes "trace") (at_end c rows)) ≡ flag_of (row_at (codes "trace") rows)
 flag_end command.Sim rows = trace_end rows
+flag_end command.Replay rows = trace_end rows
 flag_end command.Check rows = refl
 flag_end command.Code rows = refl
 flag_end command.Fmt rows = refl
@@ -182,6 +193,7 @@ check_is command.Check rows = wants (row_is_given (codes "file") rows)
 check_is command.Code rows = wants (row_is_given (codes "file") rows)
 check_is command.Fmt rows = wants (row_is_given (codes "file") rows)
 check_is command.Load rows = wants (row_is_given (codes "file") rows)
+check_is command.Replay rows = wants (row_is_given (codes "file") rows)
 check_is command.TraceUp rows = wants (row_is_given (codes "file") rows)
 
 file_given : (words : List Text) → option_map_or (λ (r : Row). explicit_source r.source) (words_row (codes "file") (one_word words)) false ≡ is_given words

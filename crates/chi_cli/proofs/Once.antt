@@ -80,6 +80,7 @@ twice_after options (g ∷ gs) twice =
 -- a plain word too many stays one
 pub no_place_after : (c : Command) (plain more : List Text) → has_place c plain ≡ false → has_place c (plain ++ more) ≡ false
 no_place_after command.Sim plain more none = absurd (cc)
+no_place_after command.Replay plain more none = absurd (cc)
 no_place_after command.Check [] more none = absurd (cc)
 no_place_after command.Check (word ∷ []) more none = absurd (cc)
 no_place_after command.Check (word ∷ other ∷ plain) more none = refl

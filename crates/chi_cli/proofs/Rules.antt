@@ -1,5 +1,5 @@
 -- The arguments that clap builds of a command's rules.
-use Rattle.std.proofs.Common.{◌≡◌, ◌||◌, ℕ, Bool, true, false, codes, List, Option, Some, None, if◌then◌else◌, refl}
+use Rattle.std.proofs.Common.{◌≡◌, ◌||◌, ℕ, Bool, true, false, codes, List, Option, Some, None, if◌then◌else◌, refl, subst}
 use Rattle.std.specs.Prelude.{bytes_eq, option_map}
 use Rattle.clap.specs.Walk.{Rule, arg_by_id, arg_by_index, arg_by_long, arg_by_short, takes_values}
 use Rattle.clap.specs.Simple.{Shape, built, filled, with_index}
@@ -8,7 +8,7 @@ use Rattle.chi_cli.specs.declared.command.Command.TheVariants as command
 use Rattle.chi_cli.specs.declared.command.OptionName.{OptionName}
 use Rattle.chi_cli.specs.declared.command.OptionName.TheVariants as option
 use Rattle.chi_cli.specs.Commands.{Text, option_named, option_text, takes_value}
-use Rattle.chi_cli.specs.Parsing.{app_for, args_rule, file_rule, option_rule}
+use Rattle.chi_cli.specs.Parsing.{app_for, args_rule, file_rule, has_place, option_rule}
 
 abbrev pub shape : Command → Shape
 shape c = (built (app_for c)).top
@@ -34,6 +34,19 @@ long_found command.Code name = refl
 long_found command.Fmt name = refl
 long_found command.Load name = refl
 long_found command.TraceUp name = refl
+long_found command.Replay name = each
+    (bytes_eq (option_text option.Seed) name) (bytes_eq (option_text option.Steps) name) (bytes_eq (option_text option.Until) name)
+    (bytes_eq (option_text option.Trace) name) where
+      each : (a b c d : Bool)
+          → built_for (a || false) option.Seed (built_for (b || false) option.Steps (built_for (c || false) option.Until
+          (built_for (d || false) option.Trace None)))
+          ≡ option_map built_option (if a then Some option.Seed else if b then Some option.Steps else if c then Some option.Until
+          else if d then Some option.Trace else None)
+      each true b c d = refl
+      each false true c d = refl
+      each false false true d = refl
+      each false false false true = refl
+      each false false false false = refl
 long_found command.Sim name = each
     (bytes_eq (option_text option.Seed) name) (bytes_eq (option_text option.Steps) name) (bytes_eq (option_text option.Policy) name)
     (bytes_eq (option_text option.Salt) name) (bytes_eq (option_text option.Until) name) (bytes_eq (option_text option.Probe) name)
@@ -60,6 +73,7 @@ short_none command.Check x = refl
 short_none command.Code x = refl
 short_none command.Fmt x = refl
 short_none command.Load x = refl
+short_none command.Replay x = refl
 short_none command.TraceUp x = refl
 
 pub id_found : (c : Command) (name : Text) (o : OptionName) → option_named c name ≡ Some o → arg_by_id (rules c) (option_text o) ≡ Some (built_option o)
@@ -68,6 +82,22 @@ id_found command.Code name o e = absurd (cc)
 id_found command.Fmt name o e = absurd (cc)
 id_found command.Load name o e = absurd (cc)
 id_found command.TraceUp name o e = absurd (cc)
+id_found command.Replay name o e = each
+    (bytes_eq (option_text option.Seed) name) (bytes_eq (option_text option.Steps) name) (bytes_eq (option_text option.Until) name)
+    (bytes_eq (option_text option.Trace) name) e where
+      there : (known : OptionName) → arg_by_id (rules command.Replay) (option_text known) ≡ Some (built_option known) → Some known ≡ Some o
+          → arg_by_id (rules command.Replay) (option_text o) ≡ Some (built_option o)
+      there known is e =
+          let same : known ≡ o = cc in
+          subst (λ (p : OptionName). arg_by_id (rules command.Replay) (option_text p) ≡ Some (built_option p)) same is
+
+      each : (a b c d : Bool) → (if a then Some option.Seed else if b then Some option.Steps else if c then Some option.Until
+          else if d then Some option.Trace else None) ≡ Some o → arg_by_id (rules command.Replay) (option_text o) ≡ Some (built_option o)
+      each true b c d e = there option.Seed refl e
+      each false true c d e = there option.Steps refl e
+      each false false true d e = there option.Until refl e
+      each false false false true e = there option.Trace refl e
+      each false false false false e = absurd (cc)
 id_found command.Sim name option.Seed e = refl
 id_found command.Sim name option.Steps e = refl
 id_found command.Sim name option.Policy e = refl
@@ -82,6 +112,7 @@ file_first command.Check = refl
 file_first command.Code = refl
 file_first command.Fmt = refl
 file_first command.Load = refl
+file_first command.Replay = refl
 file_first command.TraceUp = refl
 
 pub file_found : (c : Command) → arg_by_id (rules c) (codes "file") ≡ Some built_file
@@ -90,7 +121,20 @@ file_found command.Check = refl
 file_found command.Code = refl
 file_found command.Fmt = refl
 file_found command.Load = refl
+file_found command.Replay = refl
 file_found command.TraceUp = refl
+
+-- a command that takes any number of plain words after the first
+pub record TakesMore (c : Command) : Type 0 where
+  pub second : arg_by_index (rules c) 2 ≡ Some built_args
+  pub found : arg_by_id (rules c) (codes "args") ≡ Some built_args
+  pub room : (plain : List Text) → has_place c plain ≡ true
+
+pub sim_takes_more : TakesMore command.Sim
+sim_takes_more = record { second = refl; found = refl; room = λ plain. refl }
+
+pub replay_takes_more : TakesMore command.Replay
+replay_takes_more = record { second = refl; found = refl; room = λ plain. refl }
 
 pub takes : (o : OptionName) → takes_values (built_option o) ≡ takes_value o
 takes option.Seed = refl

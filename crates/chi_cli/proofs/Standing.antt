@@ -14,7 +14,7 @@ use Rattle.chi_cli.specs.Splitting.{Said, Next, any, value_of, plain_alone}
 use Rattle.chi_cli.specs.Parsing.{has_place}
 use Rattle.chi_cli.proofs.Holding.{Holds, holds_args, holds_file, none, use_args, use_file}
 use Rattle.chi_cli.proofs.Once.{Given, is_right}
-use Rattle.chi_cli.proofs.Rules.{built_args, built_file, built_option, file_first, file_found, rules, shape}
+use Rattle.chi_cli.proofs.Rules.{built_args, built_file, built_option, file_first, file_found, rules, shape, TakesMore, sim_takes_more, replay_takes_more}
 
 -- the argument that is being read, with its values so far
 abbrev pub Pending : Type 0
@@ -109,6 +109,7 @@ one_place command.Check word = refl
 one_place command.Code word = refl
 one_place command.Fmt word = refl
 one_place command.Load word = refl
+one_place command.Replay word = refl
 one_place command.TraceUp word = refl
 
 -- the fault of settling, and then whatever it comes to
@@ -166,11 +167,9 @@ module _ (c : Command) (rows : List Row) (pending : Pending) (waiting : Waiting)
       })
       (λ twice. and_left (each_once options) _ twice)
 
--- a plain word after the first: `sim` takes it
-module _ (rows : List Row) (pending : Pending) (waiting : Waiting) (alone : Bool) (options : List Given) (file : Text) (args : List Text) (word : Text) where
-  abbrev sim : Command
-  sim = command.Sim
-
+-- a plain word after the first, of a command that takes more
+module _ (c : Command) (more : TakesMore c) (rows : List Row) (pending : Pending) (waiting : Waiting) (alone : Bool) (options : List Given) (file : Text) (args : List Text)
+    (word : Text) where
   abbrev said_before : Said
   said_before = record { options = options; plain = file ∷ args }
 
@@ -178,38 +177,51 @@ module _ (rows : List Row) (pending : Pending) (waiting : Waiting) (alone : Bool
   said_now = record { options = options; plain = file ∷ args ++ word ∷ [] }
 
   abbrev rows_now : List Row
-  rows_now = settled_rows (rules sim) pending rows
+  rows_now = settled_rows (rules c) pending rows
 
   abbrev next_fault : Kinds
-  next_fault = step_fault (shape sim) 2 (held rows pending) value
+  next_fault = step_fault (shape c) 2 (held rows pending) value
 
   abbrev next_put : Walk
-  next_put = to_positional (rules sim) (arg_by_index (rules sim) 2) word (stand rows pending waiting alone said_before) (held rows pending)
+  next_put = to_positional (rules c) (arg_by_index (rules c) 2) word (stand rows pending waiting alone said_before) (held rows pending)
+
+  next_fault_is : next_fault ≡ settle_fault (rules c) false (held rows pending)
+  next_fault_is = ap (λ (a : Option Rule). option_map_or (λ r. positional_fault (rules c) false r (held rows pending)) a (stray_fault (shape c))) more.second
+      ∙ never (is_pending built_args pending) (settle_fault (rules c) false (held rows pending))
 
   next_is : next_put ≡ stand rows_now (Some (codes "args", word ∷ [])) positional alone said_now
-  next_is = ap₂ (λ (h : Held) (b : Bool). record { held = pushed (codes "args") word h; waiting = positional; position = 2; is_trailing = b; stopped = None })
-      (never_held (is_pending built_args pending) (held rows pending) (settled (rules sim) (held rows pending))) (or_not alone)
+  next_is = ap (λ (a : Option Rule). to_positional (rules c) a word (stand rows pending waiting alone said_before) (held rows pending)) more.second
+      ∙ ap₂ (λ (h : Held) (b : Bool). record { held = pushed (codes "args") word h; waiting = positional; position = 2; is_trailing = b; stopped = None })
+      (never_held (is_pending built_args pending) (held rows pending) (settled (rules c) (held rows pending))) (or_not alone)
 
-  plain_next : Settles sim rows pending said_before → TakesPlain sim next_fault next_put alone said_now
-  plain_next before_is = settling sim next_fault next_put alone said_now (each_once options)
-      (ap none (never (is_pending built_args pending) (settle_fault (rules sim) false (held rows pending))) ∙ before_is.once)
+  next_settles : Settles c rows pending said_before → each_once options ≡ true → Settles c rows_now (Some (codes "args", word ∷ [])) said_now
+  next_settles before_is once =
+      let by_id : (a : Option Rule) → a ≡ Some built_args → none (option_map_or (λ r. use_fault false r (word ∷ []) rows_now) a []) ≡ true
+      = λ a is. rw is (use_args word rows_now) in
+      let rows_are : used built_args (word ∷ []) rows_now ≡ used_by_id (arg_by_id (rules c) (codes "args")) (word ∷ []) rows_now
+      = ap (λ (a : Option Rule). used_by_id a (word ∷ []) rows_now) (sym more.found) in
+      record {
+        once = by_id (arg_by_id (rules c) (codes "args")) more.found ∙ sym once;
+        holds = λ _. subst (λ (rs : List Row). Holds rs said_now) rows_are (holds_args word rows_now options file args (before_is.holds once));
+        room = more.room said_now.plain;
+      }
+
+  plain_next : Settles c rows pending said_before → TakesPlain c next_fault next_put alone said_now
+  plain_next before_is = settling c next_fault next_put alone said_now (each_once options) (ap none next_fault_is ∙ before_is.once)
       (λ once. record {
         rows = rows_now;
         pending = Some (codes "args", word ∷ []);
         waiting = positional;
         is = next_is;
         idle = refl;
-        settles = record {
-          once = use_args word rows_now ∙ sym once;
-          holds = λ _. holds_args word rows_now options file args (before_is.holds once);
-          room = refl;
-        };
+        settles = next_settles before_is once;
       })
       (λ twice. and_left (each_once options) _ twice)
 
 -- and another command doesn't
 no_place : (c : Command) (file word : Text) (args : List Text) → has_place c (file ∷ args ++ word ∷ []) ≡ has_place c (file ∷ word ∷ [])
 no_place command.Sim file word args = refl
+no_place command.Replay file word args = refl
 no_place command.Check file word [] = refl
 no_place command.Check file word (arg ∷ args) = refl
 no_place command.Code file word [] = refl
@@ -227,7 +239,8 @@ pub takes_plain : (c : Command) (rows : List Row) (pending : Pending) (waiting :
     (to_positional (rules c) (arg_by_index (rules c) (place plain)) word (stand rows pending waiting alone (record { options = options; plain = plain })) (held rows pending))
     alone (record { options = options; plain = plain ++ word ∷ [] })
 takes_plain c rows pending waiting alone options [] word before_is = plain_first c rows pending waiting alone options word before_is
-takes_plain command.Sim rows pending waiting alone options (file ∷ args) word before_is = plain_next rows pending waiting alone options file args word before_is
+takes_plain command.Sim rows pending waiting alone options (file ∷ args) word before_is = plain_next command.Sim sim_takes_more rows pending waiting alone options file args word before_is
+takes_plain command.Replay rows pending waiting alone options (file ∷ args) word before_is = plain_next command.Replay replay_takes_more rows pending waiting alone options file args word before_is
 takes_plain command.Check rows pending waiting alone options (file ∷ args) word before_is = inr (refl, and_right (each_once options) _ (no_place command.Check file word args))
 takes_plain command.Code rows pending waiting alone options (file ∷ args) word before_is = inr (refl, and_right (each_once options) _ (no_place command.Code file word args))
 takes_plain command.Fmt rows pending waiting alone options (file ∷ args) word before_is = inr (refl, and_right (each_once options) _ (no_place command.Fmt file word args))

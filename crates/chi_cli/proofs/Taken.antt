@@ -174,6 +174,7 @@ starts : (c : Command) → Stands c [] None idle any nothing
 starts c = (refl, record { once = refl; holds = λ _. holds_nothing; room = has_room c }) where
   has_room : (c : Command) → has_place c [] ≡ true
   has_room command.Sim = refl
+  has_room command.Replay = refl
   has_room command.Check = refl
   has_room command.Code = refl
   has_room command.Fmt = refl

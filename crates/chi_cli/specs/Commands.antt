@@ -16,6 +16,7 @@ command_named word =
     else if bytes_eq word (codes "code") then Some command.Code
     else if bytes_eq word (codes "fmt") then Some command.Fmt
     else if bytes_eq word (codes "load") then Some command.Load
+    else if bytes_eq word (codes "replay") then Some command.Replay
     else if bytes_eq word (codes "trace-up") then Some command.TraceUp
     else None
 
@@ -27,6 +28,7 @@ options_of command.Check = []
 options_of command.Code = []
 options_of command.Fmt = []
 options_of command.Load = []
+options_of command.Replay = option.Seed ∷ option.Steps ∷ option.Until ∷ option.Trace ∷ []
 options_of command.TraceUp = []
 
 -- the name of an option, which its word has after two hyphens

@@ -67,6 +67,25 @@ sim [] options = Err fault.Usage
 sim (file ∷ args) options =
     sim_of_file file args (policy_or_first (value_given option.Policy options)) (probe_or_all (value_given option.Probe options)) options
 
+-- a run of a file by the picks of another, with arguments, where all its numbers are in their forms and ranges
+abbrev pub replay_asked : Text → Text → List Text → Bool → Option ℕ → Option ℕ → Option (Option ℤ) → Result Request CliFault
+replay_asked file picks args trace (Some seed) (Some bound) (Some until) = Ok (request.Replay file picks args seed bound until trace)
+replay_asked file picks args trace seed bound until = Err fault.BadNumber
+
+abbrev pub replay_of_files : Text → Text → List Text → List (OptionName × Text) → Result Request CliFault
+replay_of_files file picks args options = replay_asked file picks args (is_some (value_given option.Trace options))
+    (number_or 0 0 18_446_744_073_709_551_615 (value_given option.Seed options))
+    (number_or STEPS 0 MOST_STEPS (value_given option.Steps options)) (time_or_none (value_given option.Until options))
+
+abbrev pub replay_with : Text → List Text → List (OptionName × Text) → Result Request CliFault
+replay_with file [] options = Err fault.Usage
+replay_with file (picks ∷ args) options = replay_of_files file picks args options
+
+-- `replay`: a file, that of the picks, and arguments
+abbrev pub replay : List Text → List (OptionName × Text) → Result Request CliFault
+replay [] options = Err fault.Usage
+replay (file ∷ words) options = replay_with file words options
+
 -- one plain word and no other
 abbrev pub one_word : List Text → Option Text
 one_word (word ∷ []) = Some word
@@ -93,6 +112,7 @@ asked command.Check said = of_file request.Check (one_word said.plain)
 asked command.Code said = of_file request.Code (one_word said.plain)
 asked command.Fmt said = of_file request.Fmt (one_word said.plain)
 asked command.Load said = load (one_word said.plain)
+asked command.Replay said = replay said.plain said.options
 asked command.TraceUp said = of_file request.TraceUp (one_word said.plain)
 
 abbrev pub said_request : Command → Option Said → Result Request CliFault

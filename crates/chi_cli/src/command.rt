@@ -9,6 +9,7 @@ pub enum Command {
     Code,
     Fmt,
     Load,
+    Replay,
     TraceUp,
 }
 
@@ -34,6 +35,13 @@ const SIM_OPTIONS: [OptionName; 7] = [
     OptionName::Trace,
 ];
 
+const REPLAY_OPTIONS: [OptionName; 4] = [
+    OptionName::Seed,
+    OptionName::Steps,
+    OptionName::Until,
+    OptionName::Trace,
+];
+
 impl Command {
     /// The command that a word names.
     pub fn named(word: &[u8]) -> Option<Command>
@@ -49,6 +57,8 @@ impl Command {
             Some(Command::Fmt)
         } else if word == b"load".as_slice() {
             Some(Command::Load)
+        } else if word == b"replay".as_slice() {
+            Some(Command::Replay)
         } else if word == b"trace-up".as_slice() {
             Some(Command::TraceUp)
         } else {
@@ -62,6 +72,7 @@ impl Command {
     {
         match self {
             Command::Sim => &SIM_OPTIONS,
+            Command::Replay => &REPLAY_OPTIONS,
             Command::Check | Command::Code | Command::Fmt | Command::Load | Command::TraceUp => &[],
         }
     }

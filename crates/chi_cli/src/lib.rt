@@ -16,6 +16,7 @@ mod words;
 pub use args::ArgFault;
 pub use fault::CliFault;
 pub use laws::{numbers_are_in_range, one_request_law, values_are_of_parameters};
+pub use number::number_in;
 pub use reading::read_args;
 pub use request::{Pick, Request};
 pub use words::{MOST_STEPS, STEPS, read_words};

@@ -45,6 +45,20 @@ pub enum Request {
         /// The size of the factory.
         n: u32,
     },
+    /// To run a program by the picks that another file has.
+    Replay {
+        file: Bytes,
+        picks: Bytes,
+        /// The texts of the model's arguments.
+        args: Items<Bytes>,
+        seed: u64,
+        /// On the costs of all steps together.
+        bound: u64,
+        /// The stopping time.
+        until: Option<Real>,
+        /// Whether the trace is wanted.
+        trace: bool,
+    },
     /// To bring a log of traces in version 1 to version 2.
     TraceUp {
         file: Bytes,

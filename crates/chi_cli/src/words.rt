@@ -4,7 +4,7 @@ ghost use Rattle.chi_cli.specs.declared.command.Command.TheVariants as command;
 ghost use Rattle.chi_cli.specs.declared.request.Request.TheVariants as asked_for;
 ghost use Rattle.chi_cli.specs.Commands.{option_text};
 ghost use Rattle.chi_cli.specs.Parsing.{EachGiven, rest, truth_text};
-ghost use Rattle.chi_cli.specs.Requests.{IsRefused, asked, load, of_file, request_of, sim, sim_of_file};
+ghost use Rattle.chi_cli.specs.Requests.{IsRefused, asked, load, of_file, replay, replay_of_files, replay_with, request_of, sim, sim_of_file};
 ghost use Rattle.chi_cli.specs.Saying.{texts};
 
 use crate::command::{Command, OptionName};
@@ -53,6 +53,7 @@ fn asked(alloc: Global, command: Command, matches: &ArgMatches<'_>) -> Result<Re
         Command::Code => code(alloc, text_of(matches, "file")),
         Command::Fmt => fmt(alloc, text_of(matches, "file")),
         Command::Load => load(text_of(matches, "file")),
+        Command::Replay => replay(alloc, matches),
         Command::TraceUp => trace_up(alloc, text_of(matches, "file")),
     }
 }
@@ -199,6 +200,72 @@ fn sim_of_file(
         pick: policy.pick(salt),
         trace,
         probe,
+    })
+}
+
+/// A run by picks, by what the matches give. The first plain word after the file names that of the picks.
+fn replay(alloc: Global, matches: &ArgMatches<'_>) -> Result<Request, CliFault>
+    ensures request { IfOk result (λ request. EachGiven command.Replay (rows_of (found_of matches.now)) (λ said. replay said.plain said.options ≡ Ok request)) }
+    ensures fault { IfErr result (λ fault. EachGiven command.Replay (rows_of (found_of matches.now)) (λ said. IsRefused (replay said.plain said.options) fault)) }
+{
+    let Some(file) = text_of(matches, "file") else {
+        return Err(CliFault::Usage);
+    };
+    match matches.get_strs("args") {
+        Some(words) => replay_with(alloc, file, words, matches),
+        None => Err(CliFault::Usage),
+    }
+}
+
+/// A run by picks of a file, with the plain words after it.
+fn replay_with(
+    alloc: Global,
+    file: &[u8],
+    words: &[&str],
+    matches: &ArgMatches<'_>,
+) -> Result<Request, CliFault>
+    ensures request { IfOk result (λ request. EachGiven command.Replay (rows_of (found_of matches.now))
+        (λ said. replay_with file.now (texts words.now) said.options ≡ Ok request)) }
+    ensures fault { IfErr result (λ fault. EachGiven command.Replay (rows_of (found_of matches.now))
+        (λ said. IsRefused (replay_with file.now (texts words.now) said.options) fault)) }
+{
+    match words.split_first() {
+        Some((picks, args)) => replay_of_files(alloc, file, picks.as_bytes(), args, matches),
+        None => Err(CliFault::Usage),
+    }
+}
+
+/// A run of a file by the picks of another.
+fn replay_of_files(
+    alloc: Global,
+    file: &[u8],
+    picks: &[u8],
+    args: &[&str],
+    matches: &ArgMatches<'_>,
+) -> Result<Request, CliFault>
+    ensures request { IfOk result (λ request. EachGiven command.Replay (rows_of (found_of matches.now))
+        (λ said. replay_of_files file.now picks.now (texts args.now) said.options ≡ Ok request)) }
+    ensures fault { IfErr result (λ fault. EachGiven command.Replay (rows_of (found_of matches.now))
+        (λ said. IsRefused (replay_of_files file.now picks.now (texts args.now) said.options) fault)) }
+{
+    let trace = has_trace(matches);
+    let Some(seed) = number_or(0, 0, u64::MAX, value_of(matches, OptionName::Seed)) else {
+        return Err(CliFault::BadNumber);
+    };
+    let Some(bound) = number_or(STEPS, 0, MOST_STEPS, value_of(matches, OptionName::Steps)) else {
+        return Err(CliFault::BadNumber);
+    };
+    let Some(until) = time_or_none(value_of(matches, OptionName::Until)) else {
+        return Err(CliFault::BadNumber);
+    };
+    Ok(Request::Replay {
+        file: Bytes::copy_of(alloc, file)?,
+        picks: Bytes::copy_of(alloc, picks)?,
+        args: copied(alloc, args)?,
+        seed,
+        bound,
+        until,
+        trace,
     })
 }
 

@@ -5,12 +5,13 @@ use Rattle.chi_load.specs.Factory.{factory_source}
 use Rattle.chi_lex.specs.declared.lexer.TheConstants.{MOST_BYTES}
 use Rattle.chi_trace.specs.declared.log.TheConstants.{MOST_LOG_BYTES}
 use Rattle.chi_tool.specs.declared.task.Task.{Task}
-use Rattle.chi_tool.specs.declared.task.Task.TheVariants.{OfFile, OfLog, OfFactory}
+use Rattle.chi_tool.specs.declared.task.TheConstants.{MOST_BESIDE}
+use Rattle.chi_tool.specs.declared.task.Task.TheVariants.{OfFile, OfPair, OfLog, OfFactory}
 use Rattle.chi_tool.specs.Call.{Call}
-use Rattle.chi_tool.specs.Headline.{IsAskedSource, held, made, IsAskedLog}
+use Rattle.chi_tool.specs.Headline.{IsAskedSource, held, beside, made, IsAskedLog}
 use Rattle.chi_tool.specs.Refusals.{Report, usage, no_such_file, file_too_long}
-use Rattle.chi_tool.specs.Report.{IsReportOfLog, IsReportFor, IsReportOfFile, missing, long, fetched, IsReportOfTask, IsReportOfWish, IsReport}
-use Rattle.chi_tool.specs.Settings.{simulates, Aim, of_program, wanted_of, aim_of, plain}
+use Rattle.chi_tool.specs.Report.{IsReportOfSource, IsReportOfPair, IsReportOfLog, IsReportFor, IsReportOfFile, missing, long, fetched, IsReportOfTask, IsReportOfWish, IsReport}
+use Rattle.chi_tool.specs.Settings.{simulates, Aim, of_program, wanted_of, aim_of, pair_aim, plain}
 use Rattle.chi_tool.specs.Words.{Wish, nothing, of_task, wish_of}
 use Rattle.chi_tool.proofs.Contents.{source_of_file, log_of_file}
 use Rattle.chi_tool.proofs.Promises.{is_report}
@@ -34,6 +35,10 @@ module _ (call : Call) (files : Files) (r : Report) where
   task_case (OfFile name purpose) asked is =
       file_case MOST_BYTES (IsReportFor (aim_of purpose)) (files name)
       (λ source there within of. of_source (aim_of purpose) source (held name purpose asked there within refl) of) is
+  task_case (OfPair pair) asked is =
+      file_case MOST_BYTES (λ source. IsReportOfFile MOST_BESIDE (λ text. IsReportOfSource source (pair_aim pair.purpose text)) (files pair.beside)) (files pair.file)
+      (λ source there within. file_case MOST_BESIDE (λ text. IsReportOfSource source (pair_aim pair.purpose text)) (files pair.beside)
+      (λ text also short of. of_source (of_program (pair_aim pair.purpose text)) source (beside pair text asked there within also short refl) of)) is
   task_case (OfLog name) asked is =
       file_case MOST_LOG_BYTES IsReportOfLog (files name)
       (λ text there within of. of_log text (record { name = name; asked = asked; there = there; within = within }) of) is
@@ -52,6 +57,11 @@ pub asked_report : (call : Call) (files : Files) (aim : Aim) (source : List ℕ)
 asked_report call files aim source r (held name purpose asked there within same) is =
     is_report (OfFile name purpose) name MOST_BYTES (IsReportFor (aim_of purpose)) (source_of_file name purpose) call asked files (Some source) r there
     (fetched source refl within (subst (λ (a : Aim). IsReportFor a source r) same is))
+asked_report call files aim source r (beside pair text asked there within also short same) is =
+    let of_text : IsReportOfSource source (pair_aim pair.purpose text) r = subst (λ (a : Aim). IsReportFor a source r) same is in
+    let of_pair : IsReportOfPair pair files r = fetched source there within (fetched text also short of_text) in
+    let at_wish : Wish → Type 0 = λ w. IsReportOfWish w files r in
+    subst at_wish (sym asked) of_pair
 asked_report call files aim source r (made size asked same plainly) is =
     let of_size : IsReportFor aim (factory_source size) r = subst (λ (s : List ℕ). IsReportFor aim s r) same is in
     let at_wish : Wish → Type 0 = λ w. IsReportOfWish w files r in

@@ -6,6 +6,7 @@ use Rattle.chi_core.specs.declared.program.Core.{Core}
 use Rattle.chi_io.specs.Shelf.{Files}
 use Rattle.chi_lex.specs.declared.lexer.TheConstants.{MOST_BYTES}
 use Rattle.chi_trace.specs.declared.log.TheConstants.{MOST_LOG_BYTES}
+use Rattle.chi_value.specs.declared.value.Value.{Value}
 use Rattle.chi_tool.specs.declared.task.Purpose.{Purpose}
 use Rattle.chi_tool.specs.declared.task.Task.{Task}
 use Rattle.chi_tool.specs.declared.task.Task.TheVariants.{OfFile, OfLog}
@@ -13,11 +14,10 @@ use Rattle.chi_tool.specs.Call.{ShelfUse}
 use Rattle.chi_tool.specs.Headline.{IsUnread, CannotBeRead}
 use Rattle.chi_tool.specs.Refusals as refusal
 use Rattle.chi_tool.specs.Refusals.{Report}
-use Rattle.chi_tool.specs.Report as report
-use Rattle.chi_tool.specs.Report.{IsReportOfProgram, IsReportOfSource, refused, program, IsReportOfLayout, faulty, laid_out, too_long, IsReportOfLog, up, misfit, IsReportOfFile, IsReportFor, IsReportOfTask}
-use Rattle.chi_tool.specs.Running.{Course, run_report}
-use Rattle.chi_tool.specs.Settings.{Wanted, ProgramAim, simulates, checks, lists, Aim, of_program, lays_out, aim_of}
-use Rattle.chi_tool.specs.Sources.{by_lexer, by_parser, unparsed, by_checker}
+use Rattle.chi_tool.specs.Report.{IsReportWith, unfit, fit, IsReportByPicks, mispicked, replayed, IsReportOfProgram, IsReportOfSource, refused, program, IsReportOfLayout, faulty, laid_out, too_long, IsReportOfLog, up, misfit, IsReportOfFile, IsReportFor, IsReportOfTask}
+use Rattle.chi_tool.specs.Running.{Course, IsRunReport, run_report}
+use Rattle.chi_tool.specs.Settings.{Wanted, Unpicked, ProgramAim, simulates, replays, checks, lists, Aim, of_program, lays_out, aim_of, settings_with}
+use Rattle.chi_tool.specs.Sources.{IsRefused, by_lexer, by_parser, unparsed, by_checker}
 use Rattle.chi_tool.specs.Words.{of_task, NamesNoFile}
 use Rattle.chi_tool.proofs.Verdicts.{status_bound}
 
@@ -25,43 +25,83 @@ pub status_ap : (r s : Report) → r ≡ s → r.status ≡ s.status
 status_ap r s e = ap (λ x. x.status) e
 
 -- what a program's report is of
-data ProgramCase (core : Core) (aim : ProgramAim) (r : Report) : Type 0 where
-  is_accepted : aim ≡ checks → r ≡ refusal.accepted → ProgramCase core aim r
-  is_listed : aim ≡ lists → (code : Code) → r ≡ refusal.listed code → ProgramCase core aim r
-  is_unfit : (w : Wanted) → aim ≡ simulates w → (wanted given : ℕ) (fault : ArgFault) → r ≡ refusal.unfit_arguments wanted given fault → ProgramCase core aim r
-  is_run : (w : Wanted) → aim ≡ simulates w → (course : Course) → r ≡ run_report core course → ProgramCase core aim r
+data ProgramCase (core : Core) (r : Report) : Type 0 where
+  is_accepted : r ≡ refusal.accepted → ProgramCase core r
+  is_listed : (code : Code) → r ≡ refusal.listed code → ProgramCase core r
+  is_unfit : (wanted given : ℕ) (fault : ArgFault) → r ≡ refusal.unfit_arguments wanted given fault → ProgramCase core r
+  is_mispicked : (k : ℕ) → r ≡ refusal.mispicked k → ProgramCase core r
+  is_run : (course : Course) → r ≡ run_report core course → ProgramCase core r
 
-program_case : (core : Core) (aim : ProgramAim) (r : Report) → IsReportOfProgram core aim r → ProgramCase core aim r
-program_case core checks r is = is_accepted refl is
-program_case core lists r is = is_listed refl is.code is.listed
-program_case core (simulates w) r (report.unfit wanted fault misfits is) = is_unfit w refl wanted _ fault is
-program_case core (simulates w) r (report.run values means of) = is_run w refl of.course of.is
+with_case : (core : Core) (texts : List (List ℕ)) (P : List Value → Report → Type 0) (r : Report) → ((values : List Value) → P values r → ProgramCase core r)
+    → IsReportWith core texts P r → ProgramCase core r
+with_case core texts P r of (unfit wanted fault misfits is) = is_unfit wanted _ fault is
+with_case core texts P r of (fit values means is) = of values is
 
--- which statuses a program's report has
-program_status : (core : Core) (aim : ProgramAim) (r : Report) → ProgramCase core aim r → (r.status ≡ 0) ⊎ (((10 ≤ r.status) × (r.status ≤ 14)) ⊎ (r.status ≡ 23))
-program_status core aim r (is_accepted p e) = inl (status_ap r _ e)
-program_status core aim r (is_listed p code e) = inl (status_ap r _ e)
-program_status core aim r (is_unfit w p wanted given fault e) = inr (inr (status_ap r _ e))
-program_status core aim r (is_run w p course e) = of_run (status_bound course.told.ending.verdict) (status_ap r _ e)
+picks_case : (core : Core) (u : Unpicked) (text : List ℕ) (values : List Value) (r : Report) → IsReportByPicks core u text values r → ProgramCase core r
+picks_case core u text values r (mispicked k misfits is) = is_mispicked k is
+picks_case core u text values r (replayed numbers has of) = is_run of.course of.is
+
+program_case : (core : Core) (aim : ProgramAim) (r : Report) → IsReportOfProgram core aim r → ProgramCase core r
+program_case core checks r is = is_accepted is
+program_case core lists r is = is_listed is.code is.listed
+program_case core (simulates w) r is = with_case core w.texts (λ values. IsRunReport core (settings_with w values)) r (λ values of. is_run of.course of.is) is
+program_case core (replays u text) r is = with_case core u.texts (IsReportByPicks core u text) r (λ values of. picks_case core u text values r of) is
+
+-- which statuses a run's report has
+pub ran_bound : (core : Core) (course : Course) (r : Report) → r ≡ run_report core course → (r.status ≡ 0) ⊎ ((10 ≤ r.status) × (r.status ≤ 14))
+ran_bound core course r e = by (status_bound course.told.ending.verdict) (status_ap r _ e)
   where
-    of_run : {n : ℕ} → (n ≡ 0) ⊎ ((10 ≤ n) × (n ≤ 14)) → r.status ≡ n → (r.status ≡ 0) ⊎ (((10 ≤ r.status) × (r.status ≤ 14)) ⊎ (r.status ≡ 23))
-    of_run (inl z) is = inl (is ∙ z)
-    of_run (inr b) is = inr (inl (let low = b.0 in let high = b.1 in (omega arith, omega arith)))
+    by : {n : ℕ} → (n ≡ 0) ⊎ ((10 ≤ n) × (n ≤ 14)) → r.status ≡ n → (r.status ≡ 0) ⊎ ((10 ≤ r.status) × (r.status ≤ 14))
+    by (inl z) is = inl (is ∙ z)
+    by (inr b) is = inr (let low = b.0 in let high = b.1 in (omega arith, omega arith))
 
-pub source_program : (core : Core) (aim : ProgramAim) (r : Report) → IsReportOfProgram core aim r → (r.status ≡ 0) ⊎ (((10 ≤ r.status) × (r.status ≤ 14)) ⊎ (r.status ≡ 23))
-source_program core aim r is = program_status core aim r (program_case core aim r is)
+-- which a program's report has
+abbrev pub OfProgramStatus : ℕ → Type 0
+OfProgramStatus n = (n ≡ 0) ⊎ (((10 ≤ n) × (n ≤ 14)) ⊎ ((n ≡ 23) ⊎ (n ≡ 26)))
 
--- which a source's report has
-pub source_bound : (source : List ℕ) (aim : ProgramAim) (r : Report) → IsReportOfSource source aim r → (r.status ≡ 0) ⊎ ((10 ≤ r.status) × (r.status ≤ 23))
-source_bound source aim r (refused (unparsed (by_lexer fault has e))) = let is = status_ap r _ e in inr (omega arith, omega arith)
-source_bound source aim r (refused (unparsed (by_parser tokens fault has e))) = let is = status_ap r _ e in inr (omega arith, omega arith)
-source_bound source aim r (refused (by_checker fault has e)) = let is = status_ap r _ e in inr (omega arith, omega arith)
+program_status : (core : Core) (r : Report) → ProgramCase core r → OfProgramStatus r.status
+program_status core r (is_accepted e) = inl (status_ap r _ e)
+program_status core r (is_listed code e) = inl (status_ap r _ e)
+program_status core r (is_unfit wanted given fault e) = inr (inr (inl (status_ap r _ e)))
+program_status core r (is_mispicked k e) = inr (inr (inr (status_ap r _ e)))
+program_status core r (is_run course e) = by (ran_bound core course r e)
+  where
+    by : (r.status ≡ 0) ⊎ ((10 ≤ r.status) × (r.status ≤ 14)) → OfProgramStatus r.status
+    by (inl z) = inl z
+    by (inr b) = inr (inl b)
+
+pub source_program : (core : Core) (aim : ProgramAim) (r : Report) → IsReportOfProgram core aim r → OfProgramStatus r.status
+source_program core aim r is = program_status core r (program_case core aim r is)
+
+-- which a source's refusal has
+pub refused_bound : (source : List ℕ) (r : Report) → IsRefused source r → (20 ≤ r.status) × (r.status ≤ 22)
+refused_bound source r (unparsed (by_lexer fault has e)) = let is = status_ap r _ e in (omega arith, omega arith)
+refused_bound source r (unparsed (by_parser tokens fault has e)) = let is = status_ap r _ e in (omega arith, omega arith)
+refused_bound source r (by_checker fault has e) = let is = status_ap r _ e in (omega arith, omega arith)
+
+-- and which a source's report has
+abbrev pub OfSourceStatus : ℕ → Type 0
+OfSourceStatus n = (n ≡ 0) ⊎ (((10 ≤ n) × (n ≤ 23)) ⊎ (n ≡ 26))
+
+pub source_bound : (source : List ℕ) (aim : ProgramAim) (r : Report) → IsReportOfSource source aim r → OfSourceStatus r.status
+source_bound source aim r (refused is) = let b = refused_bound source r is in let low = b.0 in let high = b.1 in inr (inl (omega arith, omega arith))
 source_bound source aim r (program core comes of) = widened (source_program core aim r of)
   where
-    widened : (r.status ≡ 0) ⊎ (((10 ≤ r.status) × (r.status ≤ 14)) ⊎ (r.status ≡ 23)) → (r.status ≡ 0) ⊎ ((10 ≤ r.status) × (r.status ≤ 23))
+    widened : OfProgramStatus r.status → OfSourceStatus r.status
     widened (inl z) = inl z
-    widened (inr (inl b)) = let high = b.1 in inr (b.0, omega arith)
-    widened (inr (inr e)) = inr (omega arith, omega arith)
+    widened (inr (inl b)) = let high = b.1 in inr (inl (b.0, omega arith))
+    widened (inr (inr (inl e))) = inr (inl (omega arith, omega arith))
+    widened (inr (inr (inr e))) = inr (inr e)
+
+-- the same where its program is run by a policy
+pub simulated_bound : (source : List ℕ) (w : Wanted) (r : Report) → IsReportOfSource source (simulates w) r → (r.status ≡ 0) ⊎ ((10 ≤ r.status) × (r.status ≤ 23))
+simulated_bound source w r (refused is) = let b = refused_bound source r is in let low = b.0 in let high = b.1 in inr (omega arith, omega arith)
+simulated_bound source w r (program core comes (unfit wanted fault misfits e)) = let is = status_ap r _ e in inr (omega arith, omega arith)
+simulated_bound source w r (program core comes (fit values means of)) = by (ran_bound core of.course r of.is)
+  where
+    by : (r.status ≡ 0) ⊎ ((10 ≤ r.status) × (r.status ≤ 14)) → (r.status ≡ 0) ⊎ ((10 ≤ r.status) × (r.status ≤ 23))
+    by (inl z) = inl z
+    by (inr b) = let high = b.1 in inr (b.0, omega arith)
 
 -- which the report of its layout has
 pub layout_bound : (source : List ℕ) (r : Report) → IsReportOfLayout source r → (r.status ≡ 0) ⊎ ((r.status ≡ 20) ⊎ ((r.status ≡ 21) ⊎ (r.status ≡ 27)))
@@ -71,19 +111,23 @@ layout_bound source r (laid_out text has within e) = inl (status_ap r _ e)
 layout_bound source r (too_long text has above e) = inr (inr (inr (status_ap r _ e)))
 
 -- which it has, whatever is done with it
-pub aim_bound : (aim : Aim) (source : List ℕ) (r : Report) → IsReportFor aim source r → (r.status ≡ 0) ⊎ (((10 ≤ r.status) × (r.status ≤ 23)) ⊎ (r.status ≡ 27))
+abbrev pub OfAimStatus : ℕ → Type 0
+OfAimStatus n = (n ≡ 0) ⊎ (((10 ≤ n) × (n ≤ 23)) ⊎ ((n ≡ 26) ⊎ (n ≡ 27)))
+
+pub aim_bound : (aim : Aim) (source : List ℕ) (r : Report) → IsReportFor aim source r → OfAimStatus r.status
 aim_bound (of_program aim) source r of = widened (source_bound source aim r of)
   where
-    widened : (r.status ≡ 0) ⊎ ((10 ≤ r.status) × (r.status ≤ 23)) → (r.status ≡ 0) ⊎ (((10 ≤ r.status) × (r.status ≤ 23)) ⊎ (r.status ≡ 27))
+    widened : OfSourceStatus r.status → OfAimStatus r.status
     widened (inl z) = inl z
-    widened (inr b) = inr (inl b)
+    widened (inr (inl b)) = inr (inl b)
+    widened (inr (inr e)) = inr (inr (inl e))
 aim_bound lays_out source r of = widened (layout_bound source r of)
   where
-    widened : (r.status ≡ 0) ⊎ ((r.status ≡ 20) ⊎ ((r.status ≡ 21) ⊎ (r.status ≡ 27))) → (r.status ≡ 0) ⊎ (((10 ≤ r.status) × (r.status ≤ 23)) ⊎ (r.status ≡ 27))
+    widened : (r.status ≡ 0) ⊎ ((r.status ≡ 20) ⊎ ((r.status ≡ 21) ⊎ (r.status ≡ 27))) → OfAimStatus r.status
     widened (inl z) = inl z
     widened (inr (inl e)) = inr (inl (omega arith, omega arith))
     widened (inr (inr (inl e))) = inr (inl (omega arith, omega arith))
-    widened (inr (inr (inr e))) = inr (inr e)
+    widened (inr (inr (inr e))) = inr (inr (inr e))
 
 -- and which a log's has
 pub log_bound : (text : List ℕ) (r : Report) → IsReportOfLog text r → (r.status ≡ 0) ⊎ (r.status ≡ 24)
@@ -100,20 +144,17 @@ of_content : (n : ℕ) → (n ≡ 0) ⊎ (10 ≤ n) → IsOfContent n
 of_content n (inl z) = record { is_request = λ h. omega arith; is_read = λ h. omega arith; is_written = λ h. omega arith }
 of_content n (inr low) = record { is_request = λ h. omega arith; is_read = λ h. omega arith; is_written = λ h. omega arith }
 
-pub source_status : (source : List ℕ) (aim : ProgramAim) (r : Report) → IsReportOfSource source aim r → IsOfContent r.status
-source_status source aim r of = of_content r.status (low (source_bound source aim r of))
-  where
-    low : (r.status ≡ 0) ⊎ ((10 ≤ r.status) × (r.status ≤ 23)) → (r.status ≡ 0) ⊎ (10 ≤ r.status)
-    low (inl z) = inl z
-    low (inr b) = inr b.0
-
-aim_status : (aim : Aim) (source : List ℕ) (r : Report) → IsReportFor aim source r → IsOfContent r.status
+pub aim_status : (aim : Aim) (source : List ℕ) (r : Report) → IsReportFor aim source r → IsOfContent r.status
 aim_status aim source r of = of_content r.status (low (aim_bound aim source r of))
   where
-    low : (r.status ≡ 0) ⊎ (((10 ≤ r.status) × (r.status ≤ 23)) ⊎ (r.status ≡ 27)) → (r.status ≡ 0) ⊎ (10 ≤ r.status)
+    low : OfAimStatus r.status → (r.status ≡ 0) ⊎ (10 ≤ r.status)
     low (inl z) = inl z
     low (inr (inl b)) = inr b.0
-    low (inr (inr e)) = inr (omega arith)
+    low (inr (inr (inl e))) = inr (omega arith)
+    low (inr (inr (inr e))) = inr (omega arith)
+
+pub source_status : (source : List ℕ) (aim : ProgramAim) (r : Report) → IsReportOfSource source aim r → IsOfContent r.status
+source_status source aim r of = aim_status (of_program aim) source r of
 
 log_status : (text : List ℕ) (r : Report) → IsReportOfLog text r → IsOfContent r.status
 log_status text r of = of_content r.status (low (log_bound text r of))

@@ -20,14 +20,17 @@ use Rattle.chi_lex.specs.declared.lexer.TheConstants.{MOST_BYTES}
 use Rattle.chi_lex.specs.Reading.{Reads}
 use Rattle.chi_check.specs.Programs.{checked, Answers}
 use Rattle.chi_check_laws.specs.Laws.{IsWhole}
+use Rattle.chi_picks.specs.Lists as picks
 use Rattle.chi_trace.specs.Logs as logs
 use Rattle.chi_trace.specs.Logs.{IsUp}
+use Rattle.chi_sched.specs.Policies.{listed}
 use Rattle.chi_types.specs.declared.ty.Ty.{Ty}
 use Rattle.chi_value.specs.declared.value.Value.{Value}
 use Rattle.chi_tool.specs.Refusals.{Report}
 use Rattle.chi_tool.specs.Report.{IsReportFor, IsReport}
 use Rattle.chi_tool.specs.Running.{Course, IsRunOf, MayHave}
 use Rattle.chi_tool.specs.Settings.{Aim, MayBeAimed, Settings}
+use Rattle.chi_tool.specs.Simulations.{AreOwnPicks, IsDerived}
 use Rattle.chi_tool.specs.Sources.{ComesTo}
 
 -- tokens are one program, or have one fault
@@ -73,6 +76,19 @@ pub record LogLaw : Type 0 where
   pub one_log : (text up other : List ℕ) → IsUp text up → IsUp text other → up ≡ other
   pub one_line : (text : List ℕ) (j k : ℕ) → logs.Misfits text j → logs.Misfits text k → j ≡ k
   pub apart : (text up : List ℕ) (k : ℕ) → IsUp text up → logs.Misfits text k → ⊥
+
+-- the run by the list of a derivation's own picks is that derivation
+abbrev pub OwnLaw : Type 0
+OwnLaw =
+    (core : Core) (s : Settings) (course : Course) (numbers : List ℕ) → IsDerived core s course → AreOwnPicks core s course numbers
+    → s.pick ≡ listed numbers → IsRunOf core s course
+
+-- a text has one list of picks, or one first line that doesn't fit
+pub record PicksLaw : Type 0 where
+  pub some : (text : List ℕ) → ((numbers : List ℕ) × picks.Has text numbers) ⊎ ((k : ℕ) × picks.Misfits text k)
+  pub one_list : (text numbers other : List ℕ) → picks.Has text numbers → picks.Has text other → numbers ≡ other
+  pub one_line : (text : List ℕ) (j k : ℕ) → picks.Misfits text j → picks.Misfits text k → j ≡ k
+  pub apart : (text numbers : List ℕ) (k : ℕ) → picks.Has text numbers → picks.Misfits text k → ⊥
 
 -- a source within the limit has one report
 pub record SourceLaw : Type 0 where

@@ -11,12 +11,15 @@ pub mod Wishes
 pub mod Reports
 pub mod Verdicts
 pub mod Contents
+pub mod Endings
 pub mod Promises
 pub mod Cases
 pub mod Causes
+pub mod TwoFiles
 pub mod Served
 pub mod Factories
 pub mod Simulations
+pub mod Replays
 pub mod Readings
 pub mod Turns
 pub mod RunEnds

@@ -11,9 +11,10 @@ use Rattle.chi_tool.specs.Report.{IsReportOfFile, IsReportOfWish, IsReport}
 use Rattle.chi_tool.specs.Call.{Call, SinkUse, Took, TookFront, TookSome, SinkStood, ShelfRose}
 use Rattle.chi_tool.specs.Delivery.{TookWhole, Delivers, whole, out_broke, log_broke, DeliversReport}
 use Rattle.chi_tool.specs.Headline.{NothingFailed, IsReported, IsReportedOrLost, IsReportedInFront, IsRefusedByFault, MeetsAlone, delivered, wanting, Meets, alone, not_there, too_long, unread, MayHold, Headline, Follows, GoesWell, with_files, by_words}
-use Rattle.chi_tool.specs.Serving.{Serves, reported, missing, long, failed, lost}
+use Rattle.chi_tool.specs.Serving.{Tells, told, untold, Refuses, missing, long, failed, lost, Serves, served, refused}
 use Rattle.chi_tool.proofs.Sinks.{whole_front, none_front, broken_front, none_some, none_whole}
 use Rattle.chi_tool.proofs.Contents.{IsOfFile}
+use Rattle.chi_tool.proofs.Endings.{goes_stopped, delivered_stopped}
 use Rattle.chi_tool.proofs.LawClauses.{ReportLaw}
 
 stood_rose : (before after : ℕ) → Rose before after → Stood before after → ⊥
@@ -112,11 +113,11 @@ met_status n other r call m is = by (meets-status r call m)
 
 -- files that the shelf may have
 
-abbrev Holds : Option Files → (Files → Type 0) → Type 0
-Holds told P = (files : Files) × IfSome told (λ t. t ≡ files) × P files
+abbrev pub Holds : Option Files → (Files → Type 0) → Type 0
+Holds tells P = (files : Files) × IfSome tells (λ t. t ≡ files) × P files
 
 -- those that it tells, or else some of which P holds
-held_or : (told : Option Files) (P : Files → Type 0) → IfSome told P → (others : Files) → P others → Holds told P
+pub held_or : (told : Option Files) (P : Files → Type 0) → IfSome told P → (others : Files) → P others → Holds told P
 held_or None P is others p = (others, tt, p)
 held_or (Some files) P is others p = (files, refl, is)
 
@@ -143,6 +144,44 @@ by_any law call m =
 pub by_files : (call : Call) (r : Report) → ((files : Files) → IsReport call.words files r) → Meets r call → MeetsOne call
 by_files call r is m = let h = held_any call.shelf.files in (h.0, h.1, r, is h.0, m)
 
+pub if_both : (o : Option Files) (P Q : Files → Type 0) → IfSome o P → IfSome o Q → IfSome o (λ f. P f × Q f)
+if_both None P Q p q = tt
+if_both (Some files) P Q p q = (p, q)
+
+pub if_any : (o : Option Files) → IfSome o (λ files. Unit {0})
+if_any None = tt
+if_any (Some files) = tt
+
+both_some : (o : Option Files) (P Q : Files → Type 0) → IsSomeAnd o P → IfSome o Q → IsSomeAnd o (λ f. P f × Q f)
+both_some None P Q p q = absurd p
+both_some (Some files) P Q p q = (p, q)
+
+module _ (law : ReportLaw) (call : Call) where
+  -- a report was told
+  pub told_one : (P : Report → Type 0) → Holds call.shelf.files (λ files. (r : Report) → P r → IsReport call.words files r) → Tells P call.status call.out call.log → MeetsOne call
+  told_one P held (told r is d) = (held.0, held.1, r, held.2 r is, alone (delivered d))
+  told_one P held (untold status out log) = by_any law call (λ r. alone (wanting status out log))
+
+  -- a file was refused, of files of which Of holds
+  module _ (most : ℕ) (name : List ℕ) (Of : Files → Type 0) (is_missing : (files : Files) → Of files → files name ≡ None → IsReport call.words files no_such_file)
+      (is_long : (files : Files) → Of files → (content : List ℕ) → files name ≡ Some content → most < length content → IsReport call.words files file_too_long) where
+    pub refused_one : IfSome call.shelf.files Of → Refuses most name call.shelf call.status call.out call.log → MeetsOne call
+    refused_one of (missing (inr rose) d) = by_any law call (λ r. not_there rose d)
+    refused_one of (missing (inl lacks) d) =
+        let h = held_told call.shelf.files (λ f. (f name ≡ None) × Of f) (both_some call.shelf.files (λ f. f name ≡ None) Of lacks of) in
+        (h.0, h.1, no_such_file, is_missing h.0 h.2.1 h.2.0, alone (delivered d))
+    refused_one of (long (inr rose) d) = by_any law call (λ r. too_long rose d)
+    refused_one of (long (inl exceeds) d) =
+        let Exceeds : Files → Type 0 = λ f. IsSomeAnd (f name) (λ content. most < length content) in
+        let h = held_told call.shelf.files (λ f. Exceeds f × Of f) (both_some call.shelf.files Exceeds Of exceeds of) in
+        by_file h.0 h.1 h.2.1 (h.0 name) refl h.2.0
+      where
+        by_file : (files : Files) → MayHold call.shelf files → Of files → (o : Option (List ℕ)) → files name ≡ o → IsSomeAnd o (λ content. most < length content) → MeetsOne call
+        by_file files may of None there e = absurd e
+        by_file files may of (Some content) there e = (files, may, file_too_long, is_long files of content there e, alone (delivered d))
+    refused_one of (failed rose status out log) = by_any law call (λ r. unread rose status out log)
+    refused_one of (lost status out log) = by_any law call (λ r. alone (wanting status out log))
+
 module _ (t : Task) (name : List ℕ) (most : ℕ) (P : List ℕ → Report → Type 0) (of : IsOfFile t name most P) (call : Call)
     (asked : wish_of call.words ≡ of_task t) where
   pub is_report : (files : Files) (o : Option (List ℕ)) (r : Report) → files name ≡ o → IsReportOfFile most P o r → IsReport call.words files r
@@ -151,42 +190,13 @@ module _ (t : Task) (name : List ℕ) (most : ℕ) (P : List ℕ → Report → 
       let at_file : Option (List ℕ) → Type 0 = λ x. IsReportOfFile most P x r in
       subst at_wish (sym asked) (of.reports files r (subst at_file (sym there) is))
 
-  served_one : ReportLaw → Serves most P name call.shelf call.status call.out call.log → MeetsOne call
-  served_one law (reported content within is r by d) =
-      let h = held_or call.shelf.files (λ f. f name ≡ Some content) is (λ other. Some content) refl in
-      (h.0, h.1, r, is_report h.0 (Some content) r h.2 (report.fetched content refl within by), alone (delivered d))
-  served_one law (missing (inr rose) d) = by_any law call (λ r. not_there rose d)
-  served_one law (missing (inl lacks) d) =
-      let h = held_told call.shelf.files (λ f. f name ≡ None) lacks in
-      (h.0, h.1, no_such_file, is_report h.0 None no_such_file h.2 (report.missing refl refl), alone (delivered d))
-  served_one law (long (inr rose) d) = by_any law call (λ r. too_long rose d)
-  served_one law (long (inl exceeds) d) =
-      let h = held_told call.shelf.files (λ f. IsSomeAnd (f name) (λ content. most < length content)) exceeds in
-      by_file h.0 h.1 (h.0 name) refl h.2
-    where
-      by_file : (files : Files) → MayHold call.shelf files → (o : Option (List ℕ)) → files name ≡ o → IsSomeAnd o (λ content. most < length content) → MeetsOne call
-      by_file files may None there e = absurd e
-      by_file files may (Some content) there e =
-          (files, may, file_too_long, is_report files (Some content) file_too_long there (report.long content refl e refl), alone (delivered d))
-  served_one law (failed rose status out log) = by_any law call (λ r. unread rose status out log)
-  served_one law (lost status out log) = by_any law call (λ r. alone (wanting status out log))
-
-pub goes_stopped : (sink : SinkUse) → sink.stopped ≡ false → sink.stopped ≡ true → ⊥
-goes_stopped sink goes stopped = cc
-
-pub delivered_stopped : (status result : ℕ) (output lines : List ℕ) (out log : SinkUse) → Delivers status output lines result out log
-    → out.stopped ≡ true → Took log []
-delivered_stopped status result output lines out log (whole s o l) stopped = absurd (goes_stopped out o.goes stopped)
-delivered_stopped status result output lines out log (out_broke s o l) stopped = l.took
-delivered_stopped status result output lines out log (log_broke s o l) stopped = absurd (goes_stopped out o.goes stopped)
-
-served_stopped : (most : ℕ) (P : List ℕ → Report → Type 0) (name : List ℕ) (call : Call) → Serves most P name call.shelf call.status call.out call.log
-    → call.out.stopped ≡ true → Took call.log []
-served_stopped most P name call (reported content within is r by d) stopped = delivered_stopped _ _ _ _ call.out call.log d stopped
-served_stopped most P name call (missing cause d) stopped = delivered_stopped _ _ _ _ call.out call.log d stopped
-served_stopped most P name call (long cause d) stopped = delivered_stopped _ _ _ _ call.out call.log d stopped
-served_stopped most P name call (failed rose status out log) stopped = log.took
-served_stopped most P name call (lost status out log) stopped = log.took
+  pub served_one : ReportLaw → Serves most P name call.shelf call.status call.out call.log → MeetsOne call
+  served_one law (served content is tells) =
+      let h = held_or call.shelf.files (λ f. f name ≡ Some content) is.1 (λ other. Some content) refl in
+      told_one law call (P content) (h.0, h.1, λ r by. is_report h.0 (Some content) r h.2 (report.fetched content refl is.0 by)) tells
+  served_one law (refused refuses) =
+      refused_one law call most name (λ files. Unit {0}) (λ files here there. is_report files None no_such_file there (report.missing refl refl))
+      (λ files here content there above. is_report files (Some content) file_too_long there (report.long content refl above refl)) (if_any call.shelf.files) refuses
 
 pub asks_something : (w : Wish) (t : Task) → w ≡ of_task t → w ≡ nothing → ⊥
 asks_something w t asked none = cc
@@ -196,14 +206,9 @@ pub names_file : (t : Task) (name : List ℕ) (most : ℕ) (P : List ℕ → Rep
     → (w : Wish) → w ≡ of_task t → NamesNoFile w → ⊥
 names_file t name most P of w asked none = of.named (subst NamesNoFile asked none)
 
-module _ (t : Task) (name : List ℕ) (most : ℕ) (P : List ℕ → Report → Type 0) (of : IsOfFile t name most P) (call : Call)
-    (asked : wish_of call.words ≡ of_task t) where
-  pub served-headline : ReportLaw → Serves most P name call.shelf call.status call.out call.log → Headline call
-  served-headline law s = record {
-    report = served_one t name most P of call asked law s;
-    by_words = λ none files. absurd (names_file t name most P of (wish_of call.words) asked none);
-    out_stopped = served_stopped most P name call s;
-  }
+-- words that name a file
+pub named-headline : (call : Call) → (NamesNoFile (wish_of call.words) → ⊥) → MeetsOne call → (call.out.stopped ≡ true → Took call.log []) → Headline call
+named-headline call named one stopped = record { report = one; by_words = λ none files. absurd (named none); out_stopped = stopped }
 
 -- memory was wanting before the words were read
 pub record IsLost (call : Call) : Type 0 where
@@ -243,9 +248,9 @@ abbrev pub MetOne : Call → Files → Type 0
 MetOne call files = (r : Report) × IsReport call.words files r × IsReportedOrLost r call
 
 pub met_of : (call : Call) → Headline call → (files : Files) → GoesWell call files → MetOne call files
-met_of call h files (with_files told none) =
+met_of call h files (with_files tells none) =
     let m = h.report in
     let P : Option Files → Type 0 = λ o. IfSome o (λ t. t ≡ m.0) in
-    let same : files ≡ m.0 = subst P told m.1 in
+    let same : files ≡ m.0 = subst P tells m.1 in
     (m.2, subst (λ (f : Files). IsReport call.words f m.2) (sym same) m.3, meets-whole m.2 call m.4 none)
 met_of call h files (by_words no_file out log) = let p = h.by_words no_file files in (p.0, p.1, alone-whole p.0 call p.2 out log)

@@ -15,18 +15,21 @@ use Rattle.chi_trace.specs.Logs.{IsUp}
 use Rattle.chi_value.specs.declared.value.Value.{Value}
 use Rattle.chi_tool.specs.declared.task.Purpose.TheVariants.{OfProgram}
 use Rattle.chi_tool.specs.declared.task.ProgramPurpose.TheVariants.{Simulate}
-use Rattle.chi_tool.specs.declared.task.Task.TheVariants.{OfFile, OfLog, OfFactory}
+use Rattle.chi_picks.specs.Lists as picks
+use Rattle.chi_sched.specs.Policies.{listed}
+use Rattle.chi_tool.specs.declared.task.TheConstants.{MOST_BESIDE}
+use Rattle.chi_tool.specs.declared.task.Task.TheVariants.{OfFile, OfPair, OfLog, OfFactory}
 use Rattle.chi_tool.specs.Arguments.{Means, Misfits}
 use Rattle.chi_tool.specs.Refusals as refusal
 use Rattle.chi_tool.specs.Refusals.{Report, usage, no_such_file, file_too_long, unfit_arguments, brought_up, accepted}
-use Rattle.chi_tool.specs.Report.{IsReportOfRun, unfit, run, IsReportOfProgram, IsReportOfSource, refused, program, IsReportOfLog, up, misfit, IsReportFor, IsReportOfFile, missing, long, fetched, IsReportOfWish, IsReport}
-use Rattle.chi_tool.specs.Running.{IsRunOf, run_report}
-use Rattle.chi_tool.specs.Settings.{Wanted, ProgramAim, simulates, checks, lists, Aim, of_program, lays_out, wanted_of, aim_of, MayBeAimedAt, MayBeAimed, plain, settings_with}
+use Rattle.chi_tool.specs.Report.{IsReportWith, unfit, fit, IsReportByPicks, mispicked, replayed, IsReportOfProgram, IsReportOfSource, refused, program, IsReportOfLog, up, misfit, IsReportFor, IsReportOfFile, missing, long, fetched, IsReportOfWish, IsReport}
+use Rattle.chi_tool.specs.Running.{IsRunReport, run_report}
+use Rattle.chi_tool.specs.Settings.{Settings, Wanted, Unpicked, picked_by, ProgramAim, simulates, replays, checks, lists, Aim, of_program, lays_out, wanted_of, aim_of, pair_aim, MayBeAimedAt, MayBeAimed, plain, settings_with}
 use Rattle.chi_tool.specs.Sources.{ComesTo}
 use Rattle.chi_tool.specs.Words.{Wish, nothing, of_task, wish_of}
 use Rattle.chi_tool.proofs.Layouts.{layout_some, layout_one}
-use Rattle.chi_tool.proofs.LawClauses.{AnswerLaw, RunLaw, CodeLaw, CheckLaw, comes_sound, ValuesLaw, RangeLaw, LogLaw}
-use Rattle.chi_tool.proofs.Runs.{may_be_aimed, asked_settings}
+use Rattle.chi_tool.proofs.LawClauses.{AnswerLaw, RunLaw, CodeLaw, CheckLaw, comes_sound, ValuesLaw, RangeLaw, LogLaw, PicksLaw}
+use Rattle.chi_tool.proofs.Runs.{may_be_aimed, pair_may_be_aimed, listed_lawful, asked_settings}
 use Rattle.chi_tool.proofs.Sources.{Comes, source_comes, one_refusal, refused_or_comes, one_core}
 use Rattle.chi_tool.proofs.Wishes.{IsBoundedWish, bounded_wish, factory_within}
 
@@ -69,22 +72,41 @@ module _ (law : LogLaw) where
   log_one text r s (misfit k p a) (up log q b) = absurd (law.apart text log k q p)
   log_one text r s (misfit j p a) (misfit k q b) = a ∙ ap refusal.misfit (law.one_line text j k p q) ∙ sym b
 
-module _ (answers : AnswerLaw) (runs : RunLaw) (coded : CodeLaw) (check : CheckLaw) (fit : ValuesLaw) where
+module _ (answers : AnswerLaw) (runs : RunLaw) (coded : CodeLaw) (check : CheckLaw) (values_law : ValuesLaw) (picks_law : PicksLaw) where
   -- there is one
 
-  arguments_some : (w : Wanted) → MayBeAimedAt (simulates w) → (source : List ℕ) (core : Core) → length source ≤ MOST_BYTES → ComesTo source core → (d : ProcDef) → slice_get core.procs core.model ≡ Some d
-      → (o : Result (List Value) ArgFault) → values_of d.params w.texts ≡ o → (r : Report) × IsReportOfRun core w r
-  arguments_some w bounded source core within comes d is (Ok values) read =
-      let ran = runs.some source core within comes (settings_with w values) (asked_settings fit core w values d is read bounded) in
-      (run_report core ran.0, run values (record { model = d; is = is; read = read }) (record { course = ran.0; run = ran.1; is = refl }))
-  arguments_some w bounded source core within comes d is (Err fault) read =
-      (unfit_arguments (length d.params) (length w.texts) fault, unfit (length d.params) fault (record { model = d; is = is; read = read; count = refl }) refl)
+  module _ (core : Core) (texts : List (List ℕ)) (P : List Value → Report → Type 0) (d : ProcDef) (is : slice_get core.procs core.model ≡ Some d) where
+    arguments_some : ((values : List Value) → values_of d.params texts ≡ Ok values → (r : Report) × P values r)
+        → (o : Result (List Value) ArgFault) → values_of d.params texts ≡ o → (r : Report) × IsReportWith core texts P r
+    arguments_some some (Ok values) read = let p = some values read in (p.0, fit values (record { model = d; is = is; read = read }) p.1)
+    arguments_some some (Err fault) read =
+        (unfit_arguments (length d.params) (length texts) fault, unfit (length d.params) fault (record { model = d; is = is; read = read; count = refl }) refl)
+
+    with_some : ((values : List Value) → values_of d.params texts ≡ Ok values → (r : Report) × P values r) → (r : Report) × IsReportWith core texts P r
+    with_some some = arguments_some some (values_of d.params texts) refl
+
+  module _ (source : List ℕ) (core : Core) (within : length source ≤ MOST_BYTES) (comes : ComesTo source core) (d : ProcDef) (is : slice_get core.procs core.model ≡ Some d) where
+    run_some : (w : Wanted) → MayBeAimedAt (simulates w) → (values : List Value) → values_of d.params w.texts ≡ Ok values
+        → (r : Report) × IsRunReport core (settings_with w values) r
+    run_some w bounded values read =
+        let ran = runs.some source core within comes (settings_with w values) (asked_settings values_law core w values d is read bounded) in
+        (run_report core ran.0, record { course = ran.0; run = ran.1; is = refl })
+
+    by_picks_some : (u : Unpicked) (text : List ℕ) → MayBeAimedAt (replays u text) → (values : List Value) → values_of d.params u.texts ≡ Ok values
+        → (r : Report) × IsReportByPicks core u text values r
+    by_picks_some u text bounded values read = by (picks_law.some text)
+      where
+        by : ((numbers : List ℕ) × picks.Has text numbers) ⊎ ((k : ℕ) × picks.Misfits text k) → (r : Report) × IsReportByPicks core u text values r
+        by (inl (numbers, has)) = let p = run_some (picked_by (listed numbers) u) (bounded, listed_lawful numbers) values read in (p.0, replayed numbers has p.1)
+        by (inr (k, misfits)) = (refusal.mispicked k, mispicked k misfits refl)
 
   program_some : (aim : ProgramAim) → MayBeAimedAt aim → (source : List ℕ) (core : Core) → length source ≤ MOST_BYTES → ComesTo source core → (r : Report) × IsReportOfProgram core aim r
   program_some (simulates w) bounded source core within comes =
-      let s : Sound core = comes_sound check source core within comes in
-      let m = s.model in
-      arguments_some w bounded source core within comes m.0 m.1 (values_of m.0.params w.texts) refl
+      let m = (comes_sound check source core within comes).model in
+      with_some core w.texts (λ values. IsRunReport core (settings_with w values)) m.0 m.1 (run_some source core within comes m.0 m.1 w bounded)
+  program_some (replays u text) bounded source core within comes =
+      let m = (comes_sound check source core within comes).model in
+      with_some core u.texts (IsReportByPicks core u text) m.0 m.1 (by_picks_some source core within comes m.0 m.1 u text bounded)
   program_some checks bounded source core within comes = (accepted, refl)
   program_some lists bounded source core within comes =
       let there = coded.some source core within comes in (refusal.listed there.0, record { code = there.0; is = there.1; listed = refl })
@@ -101,6 +123,10 @@ module _ (answers : AnswerLaw) (runs : RunLaw) (coded : CodeLaw) (check : CheckL
   wish_some log_law nothing bounded files = (usage, refl)
   wish_some log_law (of_task (OfFile name purpose)) bounded files =
       file_some MOST_BYTES (IsReportFor (aim_of purpose)) (source_some (aim_of purpose) (may_be_aimed purpose bounded)) (files name)
+  wish_some log_law (of_task (OfPair pair)) bounded files =
+      file_some MOST_BYTES (λ source. IsReportOfFile MOST_BESIDE (λ text. IsReportOfSource source (pair_aim pair.purpose text)) (files pair.beside))
+      (λ source within. file_some MOST_BESIDE (λ text. IsReportOfSource source (pair_aim pair.purpose text))
+      (λ text short. source_some (of_program (pair_aim pair.purpose text)) (pair_may_be_aimed pair.purpose text bounded) source within) (files pair.beside)) (files pair.file)
   wish_some log_law (of_task (OfLog name)) bounded files = file_some MOST_LOG_BYTES IsReportOfLog (λ text within. log_some log_law text) (files name)
   wish_some log_law (of_task (OfFactory size)) bounded files = source_some (of_program (simulates (wanted_of plain))) (may_be_aimed (OfProgram (Simulate plain)) (omega arith)) (factory_source size) (factory_within size bounded)
 
@@ -116,26 +142,40 @@ module _ (answers : AnswerLaw) (runs : RunLaw) (coded : CodeLaw) (check : CheckL
       let both : ◌≡◌ {A = Result (List Value) ArgFault} (Ok values) (Err fault) = sym there ∙ q.read in
       cc
 
-  run_one : (core : Core) (w : Wanted) (r s : Report) → IsReportOfRun core w r → IsReportOfRun core w s → r ≡ s
-  run_one core w r s (unfit wanted fault p e) (unfit counted other q f) =
+  with_one : (core : Core) (texts : List (List ℕ)) (P : List Value → Report → Type 0) → ((values : List Value) (r s : Report) → P values r → P values s → r ≡ s)
+      → (r s : Report) → IsReportWith core texts P r → IsReportWith core texts P s → r ≡ s
+  with_one core texts P one r s (unfit wanted fault p e) (unfit counted other q f) =
       let same : p.model ≡ q.model = cc (p.is, q.is) in
-      let there : values_of q.model.params w.texts ≡ Err fault = subst (λ (d : ProcDef). values_of d.params w.texts ≡ Err fault) same p.read in
+      let there : values_of q.model.params texts ≡ Err fault = subst (λ (d : ProcDef). values_of d.params texts ≡ Err fault) same p.read in
       let both : ◌≡◌ {A = Result (List Value) ArgFault} (Err fault) (Err other) = sym there ∙ q.read in
       let counts : wanted ≡ counted = p.count ∙ ap (λ (d : ProcDef). length d.params) same ∙ sym q.count in
       let faults : fault ≡ other = cc in
-      e ∙ (λ i. unfit_arguments (counts i) (length w.texts) (faults i)) ∙ sym f
-  run_one core w r s (unfit wanted fault p e) (run values q of) = absurd (one_reading core w.texts values wanted fault q p)
-  run_one core w r s (run values p of) (unfit wanted fault q f) = absurd (one_reading core w.texts values wanted fault p q)
-  run_one core w r s (run values p of) (run given q also) =
+      e ∙ (λ i. unfit_arguments (counts i) (length texts) (faults i)) ∙ sym f
+  with_one core texts P one r s (unfit wanted fault p e) (fit values q of) = absurd (one_reading core texts values wanted fault q p)
+  with_one core texts P one r s (fit values p of) (unfit wanted fault q f) = absurd (one_reading core texts values wanted fault p q)
+  with_one core texts P one r s (fit values p of) (fit given q also) =
       let same : p.model ≡ q.model = cc (p.is, q.is) in
-      let there : values_of q.model.params w.texts ≡ Ok values = subst (λ (d : ProcDef). values_of d.params w.texts ≡ Ok values) same p.read in
+      let there : values_of q.model.params texts ≡ Ok values = subst (λ (d : ProcDef). values_of d.params texts ≡ Ok values) same p.read in
       let both : ◌≡◌ {A = Result (List Value) ArgFault} (Ok values) (Ok given) = sym there ∙ q.read in
-      let lists : given ≡ values = cc in
-      let ran : IsRunOf core (settings_with w values) also.course = subst (λ (xs : List Value). IsRunOf core (settings_with w xs) also.course) lists also.run in
-      of.is ∙ ap (run_report core) (runs.one core (settings_with w values) of.course also.course of.run ran) ∙ sym also.is
+      let same_values : given ≡ values = cc in
+      one values r s of (subst (λ (xs : List Value). P xs s) same_values also)
+
+  run_one : (core : Core) (s : Settings) (r t : Report) → IsRunReport core s r → IsRunReport core s t → r ≡ t
+  run_one core s r t of also = of.is ∙ ap (run_report core) (runs.one core s of.course also.course of.run also.run) ∙ sym also.is
+
+  by_picks_one : (core : Core) (u : Unpicked) (text : List ℕ) (values : List Value) (r s : Report) → IsReportByPicks core u text values r → IsReportByPicks core u text values s → r ≡ s
+  by_picks_one core u text values r s (mispicked j p e) (mispicked k q f) = e ∙ ap refusal.mispicked (picks_law.one_line text j k p q) ∙ sym f
+  by_picks_one core u text values r s (mispicked k p e) (replayed numbers has of) = absurd (picks_law.apart text numbers k has p)
+  by_picks_one core u text values r s (replayed numbers has of) (mispicked k p e) = absurd (picks_law.apart text numbers k has p)
+  by_picks_one core u text values r s (replayed numbers has of) (replayed others had also) =
+      let same : others ≡ numbers = picks_law.one_list text others numbers had has in
+      run_one core (settings_with (picked_by (listed numbers) u) values) r s of
+      (subst (λ (ns : List ℕ). IsRunReport core (settings_with (picked_by (listed ns) u) values) s) same also)
 
   program_one : (core : Core) (aim : ProgramAim) (r s : Report) → IsReportOfProgram core aim r → IsReportOfProgram core aim s → r ≡ s
-  program_one core (simulates w) r s p q = run_one core w r s p q
+  program_one core (simulates w) r s p q =
+      with_one core w.texts (λ values. IsRunReport core (settings_with w values)) (λ values. run_one core (settings_with w values)) r s p q
+  program_one core (replays u text) r s p q = with_one core u.texts (IsReportByPicks core u text) (by_picks_one core u text) r s p q
   program_one core checks r s p q = p ∙ sym q
   program_one core lists r s p q = p.listed ∙ ap refusal.listed (coded.one core p.code q.code p.is q.is) ∙ sym q.listed
 
@@ -153,6 +193,10 @@ module _ (answers : AnswerLaw) (runs : RunLaw) (coded : CodeLaw) (check : CheckL
   wish_one : LogLaw → (w : Wish) (files : Files) (r s : Report) → IsReportOfWish w files r → IsReportOfWish w files s → r ≡ s
   wish_one log_law nothing files r s p q = p ∙ sym q
   wish_one log_law (of_task (OfFile name purpose)) files r s p q = file_one MOST_BYTES (IsReportFor (aim_of purpose)) (λ source. source_one source (aim_of purpose)) (files name) r s p q
+  wish_one log_law (of_task (OfPair pair)) files r s p q =
+      file_one MOST_BYTES (λ source. IsReportOfFile MOST_BESIDE (λ text. IsReportOfSource source (pair_aim pair.purpose text)) (files pair.beside))
+      (λ source. file_one MOST_BESIDE (λ text. IsReportOfSource source (pair_aim pair.purpose text)) (λ text. checked_one source (pair_aim pair.purpose text)) (files pair.beside))
+      (files pair.file) r s p q
   wish_one log_law (of_task (OfLog name)) files r s p q = file_one MOST_LOG_BYTES IsReportOfLog (log_one log_law) (files name) r s p q
   wish_one log_law (of_task (OfFactory size)) files r s p q = source_one (factory_source size) (of_program (simulates (wanted_of plain))) r s p q
 

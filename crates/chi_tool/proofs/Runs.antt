@@ -13,6 +13,8 @@ use Rattle.chi_value.specs.declared.value.Value.{Value}
 use Rattle.chi_core.specs.declared.program.Core.{Core}
 use Rattle.chi_core.specs.declared.program.ProcDef.{ProcDef}
 use Rattle.chi_core.specs.Beginning.{Beginning, start}
+use Rattle.chi_core.specs.Kinds.{kinds_of}
+use Rattle.chi_core.specs.Of.{at_start, AreOf}
 use Rattle.chi_core.specs.Picks.{Pick, IsLawful}
 use Rattle.chi_core.specs.Runs.{Told, Derivation}
 use Rattle.chi_core.specs.Sound.{Sound}
@@ -20,19 +22,25 @@ use Rattle.chi_trace.specs.declared.filter.Filter.{Filter}
 use Rattle.chi_trace_events.specs.Laws.{EachHasATrace, OneTrace}
 use Rattle.chi_plain.specs.Stage.{Stage, Begun}
 use Rattle.chi_core_runs.specs.Picked.{IsBeginning, PickedIsDerived, PickedOnce, PickedAlways}
-use Rattle.chi_sched.specs.Policies.{Answers}
+use Rattle.chi_picks.specs.Lists as picks
+use Rattle.chi_sched.specs.Formulas.{listed_below}
+use Rattle.chi_sched.specs.Policies.{Answers, listed}
 use Rattle.chi_tool.specs.declared.report.Reported.{Reported}
 use Rattle.chi_tool.specs.declared.task.Asked.{Asked}
+use Rattle.chi_tool.specs.declared.task.PairPurpose.{PairPurpose}
+use Rattle.chi_tool.specs.declared.task.PairPurpose.TheVariants.{Replay}
 use Rattle.chi_tool.specs.declared.task.Purpose.{Purpose}
 use Rattle.chi_tool.specs.declared.task.Purpose.TheVariants.{OfProgram, LayOut}
 use Rattle.chi_tool.specs.declared.task.ProgramPurpose.{ProgramPurpose}
 use Rattle.chi_tool.specs.declared.task.ProgramPurpose.TheVariants.{Simulate, Check, ListCode}
-use Rattle.chi_tool.specs.Arguments.{is_misfit}
-use Rattle.chi_tool.specs.Refusals.{unfit_arguments}
-use Rattle.chi_tool.specs.Report.{IsReportOfRun, unfit, run, IsReportOfProgram, IsReportOfSource, program}
+use Rattle.chi_tool.specs.Arguments.{Means, Misfits, is_misfit}
+use Rattle.chi_tool.specs.Headline.{IsRunAsked}
+use Rattle.chi_tool.specs.Refusals.{Report, unfit_arguments}
+use Rattle.chi_tool.specs.Refusals as refusal
+use Rattle.chi_tool.specs.Report.{IsReportOfRun, fit, IsReportByPicks, mispicked, replayed, IsReportOfProgram, IsReportOfSource, program}
 use Rattle.chi_tool.specs.Reported.{report_in}
 use Rattle.chi_tool.specs.Running.{Course, IsLogged, IsRunOf, IsRunReport, MayHave}
-use Rattle.chi_tool.specs.Settings.{Settings, Wanted, ProgramAim, simulates, wanted_of, program_aim, aim_of, IsBoundedFor, IsBounded, MayBeAimedAt, MayBeAimed, policy_of, settings_with}
+use Rattle.chi_tool.specs.Settings.{Settings, Wanted, Unpicked, ProgramAim, simulates, replays, checks, lists, Aim, of_program, lays_out, wanted_of, program_aim, aim_of, pair_aim, IsBoundedFor, IsBoundedPair, IsBounded, MayBeAimedAt, MayBeAimed, policy_of, settings_with}
 use Rattle.chi_tool.specs.Sources.{ComesTo}
 use Rattle.chi_tool.specs.Turns.{RunsTo}
 use Rattle.chi_tool.proofs.LawClauses.{CheckLaw, ValuesLaw, comes_sound}
@@ -57,13 +65,28 @@ pub may_be_aimed : (purpose : Purpose) → IsBounded purpose → MayBeAimed (aim
 may_be_aimed (OfProgram purpose) bounded = may_be_aimed_at purpose bounded
 may_be_aimed LayOut bounded = tt
 
+-- the numbers of a list are such a policy
+pub listed_lawful : (numbers : List ℕ) → IsLawful (listed numbers)
+listed_lawful numbers question count early some few = listed_below numbers question count (record { numbered = early; some = some; counted = few })
+
+pub pair_may_be_aimed : (purpose : PairPurpose) (text : List ℕ) → IsBoundedPair purpose → MayBeAimedAt (pair_aim purpose text)
+pair_may_be_aimed (Replay a) text bounded = bounded
+
+-- and so is each run that is asked for
+pub run_may_be_asked : (aim : Aim) (w : Wanted) → IsRunAsked aim w → MayBeAimed aim → MayBeAimedAt (simulates w)
+run_may_be_asked (of_program (simulates v)) w is may = subst (λ (x : Wanted). MayBeAimedAt (simulates x)) (sym is) may
+run_may_be_asked (of_program (replays u text)) w is may = subst (λ (x : Wanted). MayBeAimedAt (simulates x)) (sym is.2) (may, listed_lawful is.0)
+run_may_be_asked (of_program checks) w is may = absurd is
+run_may_be_asked (of_program lists) w is may = absurd is
+run_may_be_asked lays_out w is may = absurd is
+
 -- settings that are wanted may be had
 pub asked_settings : ValuesLaw → (core : Core) (w : Wanted) (values : List Value) (d : ProcDef) → slice_get core.procs core.model ≡ Some d
     → values_of d.params w.texts ≡ Ok values → MayBeAimedAt (simulates w) → MayHave core (settings_with w values)
-asked_settings fit core w values d is read bounded = record {
+asked_settings kinded core w values d is read bounded = record {
   model = d;
   is = is;
-  arguments = fit core.names.kinds d.params w.texts values read;
+  arguments = kinded core.names.kinds d.params w.texts values read;
   lawful = bounded.1;
   bound = bounded.0;
 }
@@ -119,21 +142,37 @@ begun_ran core seed bound arguments until trace stage gives (Ok r) begun ran =
 begun_ran core seed bound arguments until trace stage gives (Err lost) begun ran = tt
 
 -- what follows of a result, where there is one
-if_ok : {P Q : Reported → Type 0} (result : Result Reported NoMemory) → ((r : Reported) → P r → Q r) → IfOk result P → IfOk result Q
+pub if_ok : {P Q : Reported → Type 0} (result : Result Reported NoMemory) → ((r : Reported) → P r → Q r) → IfOk result P → IfOk result Q
 if_ok (Ok r) follows is = follows r is
 if_ok (Err lost) follows is = tt
 
 -- a formula answers as its policy does
-formula_given : (pick : Pick) → IsLawful pick → Answers (λ question count answer. answer ≡ pick question count) pick
-formula_given pick lawful question count asked = (lawful question count asked.numbered asked.some asked.counted, refl)
+pub formula_given : (pick : Pick) → IsLawful pick → Answers (λ question count answer. answer ≡ pick question count) pick
+formula_given pick lawful question count asked = (lawful question count asked.numbered asked.some asked.counted, ∣ refl ∣₁)
 
 -- a filter keeps to itself
 itself : (trace : Option Filter) → option_map (λ (filter : Filter). filter) trace ≡ trace
 itself None = refl
 itself (Some filter) = refl
 
+-- the report of a run by a list of numbers
+pub listed_ran : (core : Core) (u : Unpicked) (values : List Value) (text numbers : List ℕ) (result : Result Reported NoMemory) → picks.Has text numbers
+    → IfOk result (λ r. (pick : Pick) → Answers (λ question count answer. answer ≡ listed numbers question count) pick
+    → IsRunReport core (record { seed = u.seed; bound = u.bound; pick = pick; arguments = values; until = u.until; trace = option_map (λ (filter : Filter). filter) u.trace }) (report_in r))
+    → IfOk result (λ r. IsReportByPicks core u text values (report_in r))
+listed_ran core u values text numbers (Ok r) has is =
+    let at : Option Filter → Type 0 = λ trace.
+    IsRunReport core (record { seed = u.seed; bound = u.bound; pick = listed numbers; arguments = values; until = u.until; trace = trace }) (report_in r) in
+    replayed numbers has (subst at (itself u.trace) (is (listed numbers) (formula_given (listed numbers) (listed_lawful numbers))))
+listed_ran core u values text numbers (Err lost) has is = tt
+
+-- the refusal of picks
+pub mispicked_told : (core : Core) (u : Unpicked) (values : List Value) (text : List ℕ) (k : ℕ) (result : Result Reported NoMemory) → picks.Misfits text k
+    → IfOk result (λ r. report_in r ≡ refusal.mispicked k) → IfOk result (λ r. IsReportByPicks core u text values (report_in r))
+mispicked_told core u values text k result misfits told = if_ok result (λ r is. mispicked k misfits is) told
+
 -- the report of a run with the formula that words ask for as its policy
-pub formula_ran : (p : words.Pick) (core : Core) (a : Asked) (result : Result Reported NoMemory) → a.terms.policy ≡ p
+pub formula_ran : (p : words.Pick) (core : Core) (a : Asked words.Pick) (result : Result Reported NoMemory) → a.terms.policy ≡ p
     → IfOk result (λ r. (pick : Pick) → Answers (λ question count answer. answer ≡ policy_of p question count) pick
     → IsReportOfRun core (record { seed = a.terms.seed; bound = a.terms.bound; pick = pick; texts = a.texts; until = a.terms.until; trace = option_map (λ (filter : Filter). filter) a.terms.trace }) (report_in r))
     → IfOk result (λ r. IsReportOfRun core (wanted_of a) (report_in r))
@@ -158,26 +197,33 @@ pub terms_reported : (gives : ℕ → ℕ → ℕ → Type 0) (source : List ℕ
     → IsReportOfSource source (simulates (record { seed = seed; bound = bound; pick = pick; texts = texts; until = until; trace = trace })) (report_in r))
 terms_reported gives source core seed bound texts until trace result comes is = if_ok result (λ r of pick answers. program core comes (of pick answers)) is
 
--- the report of a model's run, with the arguments that were read, or the refusal of these; whatever the policy picks
+-- the arguments that were read, or the refusal of these
 
-module _ (gives : ℕ → ℕ → ℕ → Type 0) (core : Core) (seed bound : ℕ) (texts : List (List ℕ)) (until : Option ℤ) (trace : Option Filter) (d : ProcDef)
-    (is : slice_get core.procs core.model ≡ Some d) (result : Result Reported NoMemory) where
-  abbrev Ran : Type 0
-  Ran = IfOk result (λ r. (pick : Pick) → Answers gives pick
-      → IsReportOfRun core (record { seed = seed; bound = bound; pick = pick; texts = texts; until = until; trace = trace }) (report_in r))
+module _ (core : Core) (texts : List (List ℕ)) (d : ProcDef) (is : slice_get core.procs core.model ≡ Some d) where
+  pub arguments_fit : ValuesLaw → (values : List Value) → values_of d.params texts ≡ Ok values
+      → (e : ProcDef) → slice_get core.procs core.model ≡ Some e → AreOf (at_start core.names.kinds) values (kinds_of e.params)
+  arguments_fit kinded values read e there =
+      let same : d ≡ e = cc (is, there) in
+      kinded core.names.kinds e.params texts values (subst (λ (x : ProcDef). values_of x.params texts ≡ Ok values) same read)
 
-  pub model_ran : (values : List Value) → values_of d.params texts ≡ Ok values
-      → IfOk result (λ r. (pick : Pick) → Answers gives pick
-      → IsRunReport core (record { seed = seed; bound = bound; pick = pick; arguments = values; until = until; trace = trace }) (report_in r)) → Ran
-  model_ran values read ran = if_ok result (λ r of pick answers. run values (record { model = d; is = is; read = read }) (of pick answers)) ran
+  abbrev Misread : Report → Type 0
+  Misread r = (wanted : ℕ) × (fault : ArgFault) × Misfits core texts wanted fault × (r ≡ unfit_arguments wanted (length texts) fault)
 
-  misfit : (fault : ArgFault) → values_of d.params texts ≡ Err fault
-      → IfOk result (λ r. report_in r ≡ unfit_arguments (length d.params) (length texts) fault) → Ran
-  misfit fault read told = if_ok result (λ r of pick answers. unfit (length d.params) fault (record { model = d; is = is; read = read; count = refl }) of) told
+  misread : (fault : ArgFault) → values_of d.params texts ≡ Err fault → (r : Report) → r ≡ unfit_arguments (length d.params) (length texts) fault → Misread r
+  misread fault read r told = (length d.params, fault, record { model = d; is = is; read = read; count = refl }, told)
 
-  pub model_refused : (fault : ArgFault) → is_misfit fault ≡ true → IsRefused (values_of d.params texts) fault
-      → IfOk result (λ r. report_in r ≡ unfit_arguments (length d.params) (length texts) fault) → Ran
-  model_refused arg.Count other refused told = misfit arg.Count refused told
-  model_refused (arg.Kind k) other refused told = misfit (arg.Kind k) refused told
-  model_refused (arg.Text k) other refused told = misfit (arg.Text k) refused told
-  model_refused arg.NoMemory other refused told = absurd (cc)
+  pub arguments_refused : (fault : ArgFault) → is_misfit fault ≡ true → IsRefused (values_of d.params texts) fault
+      → (r : Report) → r ≡ unfit_arguments (length d.params) (length texts) fault → Misread r
+  arguments_refused arg.Count other refused r told = misread arg.Count refused r told
+  arguments_refused (arg.Kind k) other refused r told = misread (arg.Kind k) refused r told
+  arguments_refused (arg.Text k) other refused r told = misread (arg.Text k) refused r told
+  arguments_refused arg.NoMemory other refused r told = absurd (cc)
+
+-- the report of a run with such arguments, whatever the policy picks
+pub model_ran : (gives : ℕ → ℕ → ℕ → Type 0) (core : Core) (seed bound : ℕ) (texts : List (List ℕ)) (until : Option ℤ) (trace : Option Filter) (result : Result Reported NoMemory)
+    (values : List Value) → Means core texts values
+    → IfOk result (λ r. (pick : Pick) → Answers gives pick
+    → IsRunReport core (record { seed = seed; bound = bound; pick = pick; arguments = values; until = until; trace = trace }) (report_in r))
+    → IfOk result (λ r. (pick : Pick) → Answers gives pick
+    → IsReportOfRun core (record { seed = seed; bound = bound; pick = pick; texts = texts; until = until; trace = trace }) (report_in r))
+model_ran gives core seed bound texts until trace result values means ran = if_ok result (λ r of pick answers. fit values means (of pick answers)) ran

@@ -1,119 +1,41 @@
 -- When each status comes of a call, by how it was served.
-use Rattle.std.proofs.Common.{◌≡◌, ◌≢◌, ℕ, ◌<◌, ◌≤◌, true, false, List, Option, Some, None, length, ◌⊎◌, inl, inr, sym, ◌∙◌, subst, arith}
-use Rattle.std.specs.Prelude.{IsSomeAnd}
+use Rattle.std.proofs.Common.{◌≡◌, ◌≢◌, ℕ, ◌≤◌, true, false, List, length, ◌⊎◌, inl, inr, sym, subst, arith}
 use Rattle.chi_io.specs.Shelf.{Files}
 use Rattle.chi_lex.specs.declared.lexer.TheConstants.{MOST_BYTES}
 use Rattle.chi_core.specs.declared.verdict.Verdict.TheVariants as verdict
-use Rattle.chi_tool.specs.Call.{Call, SinkUse}
-use Rattle.chi_tool.specs.Delivery.{Delivers, whole, out_broke, log_broke, DeliversReport}
-use Rattle.chi_tool.specs.Serving.{Serves, reported, missing, long, failed, lost}
+use Rattle.chi_tool.specs.Call.{Call}
+use Rattle.chi_tool.specs.Delivery.{whole, out_broke, log_broke, DeliversReport}
+use Rattle.chi_tool.specs.Serving.{Serves, served, refused, ServesPair}
+use Rattle.chi_tool.specs.declared.task.Pair.{Pair}
 use Rattle.chi_tool.specs.declared.task.Purpose.TheVariants.{OfProgram}
 use Rattle.chi_tool.specs.declared.task.ProgramPurpose.TheVariants.{Simulate}
 use Rattle.chi_tool.specs.declared.task.Task.{Task}
-use Rattle.chi_tool.specs.Headline.{Headline, IsAskedSource, held, made, HasLexicalFault, HasSyntaxFault, IsMistyped, Ends, IsExit, IsFault, HasUnfitArguments, IsTooLong, IsNoContent, IsUnread, CannotBeRead, IsExactly, IsExactlyOf, StoppedByFailure, Causes, IsComplete}
+use Rattle.chi_tool.specs.declared.task.Task.TheVariants.{OfPair}
+use Rattle.chi_tool.specs.Headline.{Headline, IsAskedSource, held, beside, made, HasLexicalFault, HasSyntaxFault, IsMistyped, Ends, IsExit, IsFault, HasUnfitArguments, HasMispick, IsTooLong, IsUnread, CannotBeRead, IsExactly, IsExactlyOf, Causes, IsComplete}
 use Rattle.chi_tool.specs.Refusals.{Report, usage}
-use Rattle.chi_tool.specs.Settings.{Wanted, simulates, Aim, of_program, MayBeAimed, plain, settings_with}
+use Rattle.chi_tool.specs.Settings.{Aim, MayBeAimed, plain, settings_with}
 use Rattle.chi_tool.specs.Words.{Wish, nothing, of_task, wish_of}
-use Rattle.chi_tool.proofs.Causes.{StatusOf, exit_status, deadlock_status, fault_status, out_of_steps_status, stopped_status, lexical_status, syntax_status, mistyped_status, unfit_status, too_long_status, of_source_status, of_done_status, of_misfit_status, ends_complete}
-use Rattle.chi_tool.proofs.Contents.{IsOfContent, IsOfFile}
+use Rattle.chi_tool.proofs.Causes.{StatusOf, exit_status, deadlock_status, fault_status, out_of_steps_status, stopped_status, lexical_status, syntax_status, mistyped_status, unfit_status, mispicked_status, too_long_status, of_source_status, of_done_status, of_misfit_status, ends_complete}
+use Rattle.chi_tool.proofs.Contents.{IsOfFile}
+use Rattle.chi_tool.proofs.Endings.{goes_stopped, Breaks, Ended, ended_for, delivered_ended, silent_ended, tells_ended, refuses_ended}
 use Rattle.chi_tool.proofs.LawClauses.{RunLaw, CodeLaw, ReportLaw, ValuesLaw, RangeLaw}
-use Rattle.chi_tool.proofs.Promises.{IsLost, met_of, goes_stopped, asks_something, served-headline, usage-headline, lost-headline}
-use Rattle.chi_tool.proofs.Runs.{may_be_aimed, asked_settings}
+use Rattle.chi_tool.proofs.TwoFiles.{names_pair, pair_one, pair_ended}
+use Rattle.chi_tool.proofs.Promises.{IsLost, met_of, asks_something, names_file, served_one, named-headline, usage-headline, lost-headline}
+use Rattle.chi_tool.proofs.Runs.{may_be_aimed, pair_may_be_aimed, run_may_be_asked, asked_settings}
 use Rattle.chi_tool.proofs.Wishes.{IsBoundedWish, bounded_wish, factory_within}
 
--- a status that a delivery doesn't have by itself tells which of the sinks broke off
-pub delivered_status : (status n : ℕ) (output lines : List ℕ) (result : ℕ) (out log : SinkUse) → status ≢ n → n ≢ 5
-    → Delivers status output lines result out log → result ≡ n → ⊥
-delivered_status status n output lines result out log a b (whole s o l) is = a (sym s ∙ is)
-delivered_status status n output lines result out log a b (out_broke s o l) is = b (sym is ∙ s)
-delivered_status status n output lines result out log a b (log_broke s o l) is = b (sym is ∙ s)
-
--- status 5 comes exactly where a sink is stopped, and each sink's count rose where it is
-pub record Breaks (result : ℕ) (out log : SinkUse) : Type 0 where
-  pub stops : result ≡ 5 → (out.stopped ≡ true) ⊎ (log.stopped ≡ true)
-  pub tells : (out.stopped ≡ true) ⊎ (log.stopped ≡ true) → result ≡ 5
-  pub out_failed : StoppedByFailure out
-  pub log_failed : StoppedByFailure log
-
-both_go : (out log : SinkUse) → out.stopped ≡ false → log.stopped ≡ false → (out.stopped ≡ true) ⊎ (log.stopped ≡ true) → ⊥
-both_go out log o l (inl stopped) = goes_stopped out o stopped
-both_go out log o l (inr stopped) = goes_stopped log l stopped
-
-pub unbroken : (result : ℕ) (out log : SinkUse) → result ≢ 5 → out.stopped ≡ false → log.stopped ≡ false → Breaks result out log
-unbroken result out log other o l = record {
-  stops = λ is. absurd (other is);
-  tells = λ stopped. absurd (both_go out log o l stopped);
-  out_failed = λ stopped. absurd (goes_stopped out o stopped);
-  log_failed = λ stopped. absurd (goes_stopped log l stopped);
-}
-
-pub delivered_breaks : (status : ℕ) (output lines : List ℕ) (result : ℕ) (out log : SinkUse) → status ≢ 5
-    → Delivers status output lines result out log → Breaks result out log
-delivered_breaks status output lines result out log other (whole s o l) = unbroken result out log (λ is. other (sym s ∙ is)) o.goes l.goes
-delivered_breaks status output lines result out log other (out_broke s o l) = record {
-  stops = λ is. inl o.stopped;
-  tells = λ stopped. s;
-  out_failed = λ stopped. o.rose;
-  log_failed = λ stopped. absurd (goes_stopped log l.goes stopped);
-}
-delivered_breaks status output lines result out log other (log_broke s o l) = record {
-  stops = λ is. inr l.stopped;
-  tells = λ stopped. s;
-  out_failed = λ stopped. absurd (goes_stopped out o.goes stopped);
-  log_failed = λ stopped. l.rose;
-}
-
--- a file that isn't there or is too long is no content
-module _ (most : ℕ) (name : List ℕ) where
-  unfit_missing : (o : Option Files) → IsSomeAnd o (λ f. f name ≡ None) → IsSomeAnd o (λ f. IsNoContent most (f name))
-  unfit_missing None h = h
-  unfit_missing (Some files) h = let P : Option (List ℕ) → Type 0 = IsNoContent most in subst P (sym h) tt
-
-  unfit_long : (o : Option Files) → IsSomeAnd o (λ f. IsSomeAnd (f name) (λ content. most < length content))
-      → IsSomeAnd o (λ f. IsNoContent most (f name))
-  unfit_long None h = h
-  unfit_long (Some files) h = by_file (files name) h
-    where
-      by_file : (o : Option (List ℕ)) → IsSomeAnd o (λ content. most < length content) → IsNoContent most o
-      by_file None e = absurd e
-      by_file (Some content) e = e
-
--- what follows of the serving of a file, whose content's report has none of the statuses around it
-module _ (most : ℕ) (P : List ℕ → Report → Type 0) (own : (content : List ℕ) (r : Report) → P content r → IsOfContent r.status) (name : List ℕ) (call : Call) where
-  served_breaks : Serves most P name call.shelf call.status call.out call.log → Breaks call.status call.out call.log
-  served_breaks (reported content within is r by d) = delivered_breaks _ _ _ _ call.out call.log (own content r by).is_written d
-  served_breaks (missing cause d) = delivered_breaks _ _ _ _ call.out call.log (λ e. omega arith) d
-  served_breaks (long cause d) = delivered_breaks _ _ _ _ call.out call.log (λ e. omega arith) d
-  served_breaks (failed rose status out log) = unbroken _ call.out call.log (λ is. omega arith) out.goes log.goes
-  served_breaks (lost status out log) = unbroken _ call.out call.log (λ is. omega arith) out.goes log.goes
-
-  served_request : Serves most P name call.shelf call.status call.out call.log → call.status ≢ 3
-  served_request (reported content within is r by d) e =
-      delivered_status _ 3 _ _ _ call.out call.log (own content r by).is_request (λ h. omega arith) d e
-  served_request (missing cause d) e = delivered_status _ 3 _ _ _ call.out call.log (λ h. omega arith) (λ h. omega arith) d e
-  served_request (long cause d) e = delivered_status _ 3 _ _ _ call.out call.log (λ h. omega arith) (λ h. omega arith) d e
-  served_request (failed rose status out log) e = omega arith
-  served_request (lost status out log) e = omega arith
-
-  served_unread : Serves most P name call.shelf call.status call.out call.log → call.status ≡ 4 → IsUnread most name call.shelf
-  served_unread (reported content within is r by d) e =
-      absurd (delivered_status _ 4 _ _ _ call.out call.log (own content r by).is_read (λ h. omega arith) d e)
-  served_unread (missing (inl lacks) d) e = inr (unfit_missing most name call.shelf.files lacks)
-  served_unread (missing (inr rose) d) e = inl rose
-  served_unread (long (inl exceeds) d) e = inr (unfit_long most name call.shelf.files exceeds)
-  served_unread (long (inr rose) d) e = inl rose
-  served_unread (failed rose status out log) e = inl rose
-  served_unread (lost status out log) e = absurd (omega arith)
-
 -- what is asked for is within what is counted
-asked_bound : RangeLaw → (call : Call) (files : Files) (w : Wanted) (source : List ℕ) → IsAskedSource call files (of_program (simulates w)) source → MayBeAimed (of_program (simulates w))
-asked_bound bounds call files w source (held name purpose asked there within same) =
+asked_bound : RangeLaw → (call : Call) (files : Files) (aim : Aim) (source : List ℕ) → IsAskedSource call files aim source → MayBeAimed aim
+asked_bound bounds call files aim source (held name purpose asked there within same) =
     subst MayBeAimed (sym same) (may_be_aimed purpose (subst IsBoundedWish asked (bounded_wish bounds call.words)))
-asked_bound bounds call files w source (made size asked same plainly) = subst MayBeAimed (sym plainly) (may_be_aimed (OfProgram (Simulate plain)) (omega arith))
+asked_bound bounds call files aim source (beside pair text asked there within also short same) =
+    subst MayBeAimed (sym same) (pair_may_be_aimed pair.purpose text (subst IsBoundedWish asked (bounded_wish bounds call.words)))
+asked_bound bounds call files aim source (made size asked same plainly) = subst MayBeAimed (sym plainly) (may_be_aimed (OfProgram (Simulate plain)) (omega arith))
 
 -- and its source within the limit
 asked_within : RangeLaw → (call : Call) (files : Files) (aim : Aim) (source : List ℕ) → IsAskedSource call files aim source → length source ≤ MOST_BYTES
 asked_within bounds call files aim source (held name purpose asked there within same) = within
+asked_within bounds call files aim source (beside pair text asked there within also short same) = within
 asked_within bounds call files aim source (made size asked same plainly) =
     subst (λ s. length s ≤ MOST_BYTES) (sym same) (factory_within size (subst IsBoundedWish asked (bounded_wish bounds call.words)))
 
@@ -136,6 +58,7 @@ module _ (law : ReportLaw) (coded : CodeLaw) (call : Call) (head : Headline call
     syntax = of_source 21 (λ aim. HasSyntaxFault) syntax_status (λ e. omega arith) (λ e. omega arith, λ e. omega arith);
     typing = of_source 22 IsMistyped mistyped_status (λ e. omega arith) (λ e. omega arith, λ e. omega arith);
     arguments = of_source 23 HasUnfitArguments unfit_status (λ e. omega arith) (λ e. omega arith, λ e. omega arith);
+    mispicked = of_source 26 HasMispick mispicked_status (λ e. omega arith) (λ e. omega arith, λ e. omega arith);
     layout_too_long = of_source 27 IsTooLong too_long_status (λ e. omega arith) (λ e. omega arith, λ e. omega arith);
     misfit = of_misfit_status law coded call head;
     no_request = request;
@@ -147,23 +70,57 @@ module _ (law : ReportLaw) (coded : CodeLaw) (call : Call) (head : Headline call
 
   pub complete : RunLaw → ValuesLaw → RangeLaw → IsComplete call
   complete runs fit bounds =
-      λ files well w source asked core comes arguments means.
-      let bounded = asked_bound bounds call files w source asked in
-      let ran = runs.some source core (asked_within bounds call files (of_program (simulates w)) source asked) comes (settings_with w arguments) (asked_settings fit core w arguments means.model means.is means.read bounded) in
-      (ran.0, ran.1, ends_complete law coded call files (met_of call head files well) w source asked core comes arguments means ran.0 ran.1)
+      λ files well aim source asked w is core comes arguments means.
+      let bounded = run_may_be_asked aim w is (asked_bound bounds call files aim source asked) in
+      let ran = runs.some source core (asked_within bounds call files aim source asked) comes (settings_with w arguments) (asked_settings fit core w arguments means.model means.is means.read bounded) in
+      (ran.0, ran.1, ends_complete law coded call files (met_of call head files well) aim source asked w is core comes arguments means ran.0 ran.1)
 
+-- of a task
+module _ (t : Task) (call : Call) (asked : wish_of call.words ≡ of_task t) (law : ReportLaw) (coded : CodeLaw) (head : Headline call)
+    (ended : Ended ⊥ (CannotBeRead call.shelf (of_task t)) call.status call.out call.log) where
+  pub task-causes : Causes call
+  task-causes =
+      causes law coded call head ended.breaks
+      (λ out log. ((λ is. absurd (ended.request is)), λ none. absurd (asks_something (wish_of call.words) t asked none)))
+      (λ is. let Q : Wish → Type 0 = CannotBeRead call.shelf in subst Q (sym asked) (ended.unread is))
+
+  pub task-complete : RunLaw → ValuesLaw → RangeLaw → IsComplete call
+  task-complete = complete law coded call head
+
+-- of a task with one file
 module _ (t : Task) (name : List ℕ) (most : ℕ) (P : List ℕ → Report → Type 0) (of : IsOfFile t name most P) (call : Call)
-    (asked : wish_of call.words ≡ of_task t) (law : ReportLaw) (coded : CodeLaw) where
-  pub served-causes : Serves most P name call.shelf call.status call.out call.log → Causes call
-  served-causes s =
-      causes law coded call (served-headline t name most P of call asked law s) (served_breaks most P of.own name call s)
-      (λ out log. ((λ is. absurd (served_request most P of.own name call s is)), λ none. absurd (asks_something (wish_of call.words) t asked none)))
-      (λ is. let Q : Wish → Type 0 = CannotBeRead call.shelf in subst Q (sym asked) (of.unread call.shelf (served_unread most P of.own name call s is)))
+    (asked : wish_of call.words ≡ of_task t) (law : ReportLaw) where
+  served_ended : Serves most P name call.shelf call.status call.out call.log → Ended ⊥ (CannotBeRead call.shelf (of_task t)) call.status call.out call.log
+  served_ended (served content is tells) = tells_ended ⊥ _ (P content) call.status call.out call.log (of.own content) tells
+  served_ended (refused refuses) =
+      ended_for ⊥ (IsUnread most name call.shelf) _ call.status call.out call.log (of.unread call.shelf) (refuses_ended most name ⊥ call.shelf call.status call.out call.log refuses)
 
-  pub served-complete : RunLaw → ValuesLaw → RangeLaw → Serves most P name call.shelf call.status call.out call.log → IsComplete call
-  served-complete runs fit bounds s = complete law coded call (served-headline t name most P of call asked law s) runs fit bounds
+  pub served-headline : Serves most P name call.shelf call.status call.out call.log → Headline call
+  served-headline s =
+      named-headline call (names_file t name most P of (wish_of call.words) asked) (served_one t name most P of call asked law s) (served_ended s).stopped
+
+  pub served-causes : CodeLaw → Serves most P name call.shelf call.status call.out call.log → Causes call
+  served-causes coded s = task-causes t call asked law coded (served-headline s) (served_ended s)
+
+  pub served-complete : CodeLaw → RunLaw → ValuesLaw → RangeLaw → Serves most P name call.shelf call.status call.out call.log → IsComplete call
+  served-complete coded runs fit bounds s = task-complete t call asked law coded (served-headline s) (served_ended s) runs fit bounds
+
+-- of one with two
+module _ (pair : Pair) (call : Call) (asked : wish_of call.words ≡ of_task (OfPair pair)) (law : ReportLaw) where
+  pub pair-headline : ServesPair pair call.shelf call.status call.out call.log → Headline call
+  pair-headline s = named-headline call (names_pair pair (wish_of call.words) asked) (pair_one pair call asked law s) (pair_ended pair call.shelf call.status call.out call.log s).stopped
+
+  pub pair-causes : CodeLaw → ServesPair pair call.shelf call.status call.out call.log → Causes call
+  pair-causes coded s = task-causes (OfPair pair) call asked law coded (pair-headline s) (pair_ended pair call.shelf call.status call.out call.log s)
+
+  pub pair-complete : CodeLaw → RunLaw → ValuesLaw → RangeLaw → ServesPair pair call.shelf call.status call.out call.log → IsComplete call
+  pair-complete coded runs fit bounds s =
+      task-complete (OfPair pair) call asked law coded (pair-headline s) (pair_ended pair call.shelf call.status call.out call.log s) runs fit bounds
 
 -- a refusal that is told by the words alone
+
+usage_ended : (call : Call) → DeliversReport usage call.status call.out call.log → Ended (Unit {0}) ⊥ call.status call.out call.log
+usage_ended call d = delivered_ended (Unit {0}) ⊥ _ _ _ call.status call.out call.log (λ e. tt) (λ e. absurd (omega arith)) (λ e. omega arith) d
 
 usage_exactly : (call : Call) → wish_of call.words ≡ nothing → DeliversReport usage call.status call.out call.log
     → call.out.stopped ≡ false → call.log.stopped ≡ false → IsExactly call 3 (wish_of call.words ≡ nothing)
@@ -171,28 +128,26 @@ usage_exactly call none (whole s o l) out log = ((λ is. none), λ h. inl s)
 usage_exactly call none (out_broke s o l) out log = absurd (goes_stopped call.out out o.stopped)
 usage_exactly call none (log_broke s o l) out log = absurd (goes_stopped call.log log l.stopped)
 
-refusal_unread : (call : Call) (refusal : Report) → refusal.status ≢ 4 → DeliversReport refusal call.status call.out call.log → call.status ≡ 4
-    → CannotBeRead call.shelf (wish_of call.words)
-refusal_unread call refusal other d is = absurd (delivered_status _ 4 _ _ _ call.out call.log other (λ h. omega arith) d is)
-
 pub usage-causes : ReportLaw → CodeLaw → (call : Call) → wish_of call.words ≡ nothing → DeliversReport usage call.status call.out call.log → Causes call
 usage-causes law coded call none d =
-    causes law coded call (usage-headline call none d) (delivered_breaks _ _ _ _ call.out call.log (λ e. omega arith) d)
-    (usage_exactly call none d) (refusal_unread call usage (λ e. omega arith) d)
+    let ended = usage_ended call d in
+    causes law coded call (usage-headline call none d) ended.breaks (usage_exactly call none d) (λ is. absurd (ended.unread is))
 
 pub usage-complete : RunLaw → ValuesLaw → RangeLaw → ReportLaw → CodeLaw → (call : Call) → wish_of call.words ≡ nothing → DeliversReport usage call.status call.out call.log → IsComplete call
 usage-complete runs fit bounds law coded call none d = complete law coded call (usage-headline call none d) runs fit bounds
 
 -- memory was wanting before the words were read
 
-lost_breaks : (call : Call) → IsLost call → Breaks call.status call.out call.log
-lost_breaks call l = let lost = l.status in unbroken _ call.out call.log (λ is. omega arith) l.out.goes l.log.goes
+lost_ended : (call : Call) → IsLost call → Ended ⊥ ⊥ call.status call.out call.log
+lost_ended call l =
+    let lost = l.status in
+    silent_ended ⊥ ⊥ call.status call.out call.log (λ is. omega arith) (λ is. omega arith) (λ is. omega arith) l.out.goes l.log.goes l.log.took
 
 pub lost-causes : ReportLaw → CodeLaw → (call : Call) → IsLost call → Causes call
 lost-causes law coded call l =
-    causes law coded call (lost-headline law call l) (lost_breaks call l)
-    (λ out log. ((λ is. let lost = l.status in absurd (omega arith)), λ none. inr l.status))
-    (λ is. let lost = l.status in absurd (omega arith))
+    let ended = lost_ended call l in
+    causes law coded call (lost-headline law call l) ended.breaks
+    (λ out log. ((λ is. absurd (ended.request is)), λ none. inr l.status)) (λ is. absurd (ended.unread is))
 
 pub lost-complete : RunLaw → ValuesLaw → RangeLaw → ReportLaw → CodeLaw → (call : Call) → IsLost call → IsComplete call
 lost-complete runs fit bounds law coded call l = complete law coded call (lost-headline law call l) runs fit bounds

@@ -3,8 +3,9 @@ use Rattle.std.proofs.Common.{◌≡◌, ◌≢◌, ℕ, ◌≤◌, Bool, true, 
 use Rattle.chi_cli.specs.declared.words.TheConstants.{MOST_STEPS}
 use Rattle.chi_lex.specs.declared.lexer.TheConstants.{MOST_BYTES}
 use Rattle.chi_core.specs.declared.program.Core.{Core}
+use Rattle.chi_core.specs.declared.verdict.Verdict.{Verdict}
 use Rattle.chi_core.specs.declared.verdict.Verdict.TheVariants as verdict
-use Rattle.chi_sched.specs.Policies.{Answers}
+use Rattle.chi_sched.specs.Policies.{Answers, listed}
 use Rattle.chi_trace.specs.declared.filter.Filter.{Filter}
 use Rattle.chi_value.specs.declared.value.Value.{Value}
 use Rattle.chi_tool.specs.Arguments.{Means}
@@ -16,15 +17,15 @@ use Rattle.chi_tool.specs.Report.{IsReportOfSource, program}
 use Rattle.chi_tool.specs.Running.{Course, IsRunOf, run_report}
 use Rattle.chi_tool.specs.Serving.{Tells, told, untold}
 use Rattle.chi_tool.specs.Settings.{Wanted, simulates, Aim, of_program, MayBeAimed, settings_with, trace_by}
-use Rattle.chi_tool.specs.Simulations.{Simulation, as_call, SimulationHeadline, ComesOf, IsExactlyFor, SimulationCauses, IsSimulatedToItsEnd}
+use Rattle.chi_tool.specs.Simulations.{Simulation, as_call, SimulationHeadline, ComesOf, IsExactlyFor, SimulationCauses, IsReplayed, IsSimulatedToItsEnd}
 use Rattle.chi_tool.specs.Sources.{ComesTo}
 use Rattle.chi_tool.specs.Statuses.{status_of}
 use Rattle.chi_tool.proofs.Causes.{StatusOf, exactly, done_status, exit_status, deadlock_status, fault_status, out_of_steps_status, stopped_status, lexical_status, syntax_status, mistyped_status, unfit_status}
-use Rattle.chi_tool.proofs.Contents.{status_ap, source_bound, IsOfContent, source_status}
-use Rattle.chi_tool.proofs.LawClauses.{RunLaw, ValuesLaw, SourceLaw}
-use Rattle.chi_tool.proofs.Promises.{alone-whole, delivered_stopped}
+use Rattle.chi_tool.proofs.Contents.{status_ap, simulated_bound, IsOfContent, source_status}
+use Rattle.chi_tool.proofs.Endings.{Ended, tells_ended, delivered_status}
+use Rattle.chi_tool.proofs.LawClauses.{RunLaw, ValuesLaw, SourceLaw, OwnLaw}
+use Rattle.chi_tool.proofs.Promises.{alone-whole}
 use Rattle.chi_tool.proofs.Runs.{asked_settings}
-use Rattle.chi_tool.proofs.Served.{Breaks, unbroken, delivered_breaks, delivered_status}
 
 -- a policy that picks among the choices, within the bound
 pub may_be_simulated : (gives : ℕ → ℕ → ℕ → Type 0) (w : Wanted) → w.bound ≤ MOST_STEPS → Answers gives w.pick → MayBeAimed (of_program (simulates w))
@@ -44,46 +45,51 @@ tells_kept keeps_to trace probe shown is source wanted status out log tells =
     let same : option_map keeps_to shown ≡ trace_by trace (keeps_to probe) = ap (option_map keeps_to) is ∙ kept keeps_to trace probe in
     subst (λ (t : Option Filter). Tells (IsReportOfSource source (simulates (wanted t))) status out log) same tells
 
+-- a report that is met
+abbrev Met : Simulation → Type 0
+Met s = (r : Report) × IsReportOfSource s.source (simulates s.wanted) r × MeetsAlone r (as_call s)
+
+module _ (law : SourceLaw) (s : Simulation) where
+  -- is that of a run of the program
+  run_met : Met s → (core : Core) → ComesTo s.source core → (arguments : List Value) → Means core s.wanted.texts arguments
+      → (course : Course) → IsRunOf core (settings_with s.wanted arguments) course → SinkStood s.out → SinkStood s.log
+      → IsReportedOrLost (run_report core course) (as_call s)
+  run_met (r, is, met) core its_core arguments means course run out log =
+      let its : IsReportOfSource s.source (simulates s.wanted) (run_report core course) =
+      program core its_core (report.fit arguments means (record { course = course; run = run; is = refl })) in
+      let one : r ≡ run_report core course = law.one s.source (of_program (simulates s.wanted)) r (run_report core course) is its in
+      subst (λ (x : Report). IsReportedOrLost x (as_call s)) one (alone-whole r (as_call s) met out log)
+
+  -- and so that of a derivation whose own numbers the policy has
+  pub simulation-own : OwnLaw → SimulationHeadline s → (numbers : List ℕ) → s.wanted.pick ≡ listed numbers → IsReplayed s numbers
+  simulation-own own head numbers by_list =
+      λ out log core its_core arguments means course derived picks.
+      run_met head.report core its_core arguments means course (own core (settings_with s.wanted arguments) course numbers derived picks by_list) out log
+
 -- a simulation that was told of
 module _ (law : SourceLaw) (s : Simulation) (within : length s.source ≤ MOST_BYTES) (may : MayBeAimed (of_program (simulates s.wanted)))
     (tells : Tells (IsReportOfSource s.source (simulates s.wanted)) s.status s.out s.log) where
   abbrev Telling : Type 0
   Telling = Tells (IsReportOfSource s.source (simulates s.wanted)) s.status s.out s.log
 
-  abbrev Met : Type 0
-  Met = (r : Report) × IsReportOfSource s.source (simulates s.wanted) r × MeetsAlone r (as_call s)
-
   content : (r : Report) → IsReportOfSource s.source (simulates s.wanted) r → IsOfContent r.status
   content r is = source_status s.source (simulates s.wanted) r is
 
-  -- no log is brought up, and nothing is laid out
-  above : (n : ℕ) → 24 ≤ n → (r : Report) → IsReportOfSource s.source (simulates s.wanted) r → r.status ≢ n
-  above n high r is h = let b = source_bound s.source (simulates s.wanted) r is in let far = high in grind arith
+  ended : Ended ⊥ ⊥ s.status s.out s.log
+  ended = tells_ended ⊥ ⊥ (IsReportOfSource s.source (simulates s.wanted)) s.status s.out s.log content tells
 
-  met_by : Telling → Met
+  -- no log is brought up, nothing is laid out, and there are no picks that don't fit
+  above : (n : ℕ) → 24 ≤ n → (r : Report) → IsReportOfSource s.source (simulates s.wanted) r → r.status ≢ n
+  above n high r is h = let b = simulated_bound s.source s.wanted r is in let far = high in grind arith
+
+  met_by : Telling → Met s
   met_by (told r is d) = (r, is, delivered d)
   met_by (untold status out log) =
       let p = law.some s.source (of_program (simulates s.wanted)) within may in
       (p.0, p.1, wanting status out log)
 
-  stopped_by : Telling → s.out.stopped ≡ true → Took s.log []
-  stopped_by (told r is d) stopped = delivered_stopped _ _ _ _ s.out s.log d stopped
-  stopped_by (untold status out log) stopped = log.took
-
   pub simulation-headline : SimulationHeadline s
-  simulation-headline = record { report = met_by tells; out_stopped = stopped_by tells }
-
-  breaks_by : Telling → Breaks s.status s.out s.log
-  breaks_by (told r is d) = delivered_breaks _ _ _ _ s.out s.log (content r is).is_written d
-  breaks_by (untold status out log) = unbroken _ s.out s.log (λ is. omega arith) out.goes log.goes
-
-  no_request_by : Telling → s.status ≢ 3
-  no_request_by (told r is d) e = delivered_status _ 3 _ _ _ s.out s.log (content r is).is_request (λ h. omega arith) d e
-  no_request_by (untold status out log) e = omega arith
-
-  not_read_by : Telling → s.status ≢ 4
-  not_read_by (told r is d) e = delivered_status _ 4 _ _ _ s.out s.log (content r is).is_read (λ h. omega arith) d e
-  not_read_by (untold status out log) e = omega arith
+  simulation-headline = record { report = met_by tells; out_stopped = ended.stopped }
 
   above_by : (n : ℕ) → 24 ≤ n → Telling → s.status ≢ n
   above_by n high (told r is d) e = delivered_status _ n _ _ _ s.out s.log (above n high r is) (λ h. omega arith) d e
@@ -96,7 +102,7 @@ module _ (law : SourceLaw) (s : Simulation) (within : length s.source ≤ MOST_B
         let p = status.from (of_program (simulates s.wanted)) s.source tt h in
         status_ap r p.0 (law.one s.source (of_program (simulates s.wanted)) r p.0 is p.1) ∙ p.2
 
-    exactly_by : (cause : Type 0) → (P (of_program (simulates s.wanted)) s.source → cause) → (cause → P (of_program (simulates s.wanted)) s.source) → Met → IsExactlyFor s n cause
+    exactly_by : (cause : Type 0) → (P (of_program (simulates s.wanted)) s.source → cause) → (cause → P (of_program (simulates s.wanted)) s.source) → Met s → IsExactlyFor s n cause
     exactly_by cause to from (r, is, met) out log =
         exactly r (as_call s) n cause status.other.2 (alone-whole r (as_call s) met out log)
         (λ e. to (status.to (of_program (simulates s.wanted)) s.source r is e)) (λ h. causing r is (from h))
@@ -104,49 +110,45 @@ module _ (law : SourceLaw) (s : Simulation) (within : length s.source ≤ MOST_B
   comes : (n : ℕ) (P : Aim → List ℕ → Type 0) → StatusOf n P → ComesOf s n (P (of_program (simulates s.wanted)))
   comes n P status = exactly_by n P status (P (of_program (simulates s.wanted)) s.source) (λ h. h) (λ h. h) (met_by tells)
 
+  -- a run ends so, as it is asked for here
+  ends_here : (Q : Verdict → Type 0) → Ends Q (of_program (simulates s.wanted)) s.source → EndsAs Q s.wanted s.source
+  ends_here Q e = subst (λ (w : Wanted). EndsAs Q w s.source) e.1 e.2
+
+  ends : (n : ℕ) (Q : Verdict → Type 0) → StatusOf n (Ends Q) → ComesOf s n (EndsAs Q s.wanted)
+  ends n Q status = exactly_by n (Ends Q) status (EndsAs Q s.wanted s.source) (ends_here Q) (λ e. (s.wanted, refl, e)) (met_by tells)
+
   completed : IsDone (of_program (simulates s.wanted)) s.source → EndsAs (λ v. v ≡ verdict.Completed) s.wanted s.source
-  completed (inl ends) = ends
+  completed (inl e) = ends_here (λ v. v ≡ verdict.Completed) e
   completed (inr none) = absurd none
 
   pub simulation-causes : SimulationCauses s
-  simulation-causes =
-      let breaks = breaks_by tells in
-      record {
-        done = exactly_by 0 IsDone done_status (EndsAs (λ v. v ≡ verdict.Completed) s.wanted s.source) completed (λ h. inl h) (met_by tells);
-        exit = comes 10 (Ends IsExit) exit_status;
-        deadlock = comes 11 (Ends (λ v. v ≡ verdict.Deadlock)) deadlock_status;
-        fault = comes 12 (Ends IsFault) fault_status;
-        out_of_steps = comes 13 (Ends (λ v. v ≡ verdict.OutOfSteps)) out_of_steps_status;
-        stopped = comes 14 (Ends (λ v. v ≡ verdict.Stopped)) stopped_status;
-        lexical = comes 20 (λ aim. HasLexicalFault) lexical_status;
-        syntax = comes 21 (λ aim. HasSyntaxFault) syntax_status;
-        typing = comes 22 IsMistyped mistyped_status;
-        arguments = comes 23 HasUnfitArguments unfit_status;
-        no_request = no_request_by tells;
-        not_read = not_read_by tells;
-        misfit = above_by 24 (omega arith) tells;
-        layout_too_long = above_by 27 (omega arith) tells;
-        not_written = (breaks.stops, breaks.tells);
-        out_failed = breaks.out_failed;
-        log_failed = breaks.log_failed;
-      }
+  simulation-causes = record {
+    done = exactly_by 0 IsDone done_status (EndsAs (λ v. v ≡ verdict.Completed) s.wanted s.source) completed (λ e. inl (s.wanted, refl, e)) (met_by tells);
+    exit = ends 10 IsExit exit_status;
+    deadlock = ends 11 (λ v. v ≡ verdict.Deadlock) deadlock_status;
+    fault = ends 12 IsFault fault_status;
+    out_of_steps = ends 13 (λ v. v ≡ verdict.OutOfSteps) out_of_steps_status;
+    stopped = ends 14 (λ v. v ≡ verdict.Stopped) stopped_status;
+    lexical = comes 20 (λ aim. HasLexicalFault) lexical_status;
+    syntax = comes 21 (λ aim. HasSyntaxFault) syntax_status;
+    typing = comes 22 IsMistyped mistyped_status;
+    arguments = comes 23 HasUnfitArguments unfit_status;
+    no_request = ended.request;
+    not_read = ended.unread;
+    misfit = above_by 24 (omega arith) tells;
+    mispicked = above_by 26 (omega arith) tells;
+    layout_too_long = above_by 27 (omega arith) tells;
+    not_written = (ended.breaks.stops, ended.breaks.tells);
+    out_failed = ended.breaks.out_failed;
+    log_failed = ended.breaks.log_failed;
+  }
 
   pub simulation-complete : RunLaw → ValuesLaw → IsSimulatedToItsEnd s
   simulation-complete runs fit =
       λ out log core its_core arguments means.
       let ran = runs.some s.source core within its_core (settings_with s.wanted arguments) (asked_settings fit core s.wanted arguments means.model means.is means.read may) in
-      (ran.0, ran.1, by_met core its_core arguments means ran.0 ran.1 (met_by tells) out log)
+      (ran.0, ran.1, ends_by core ran.0 (run_met law s (met_by tells) core its_core arguments means ran.0 ran.1 out log))
     where
-      by_met : (core : Core) → ComesTo s.source core → (arguments : List Value) → Means core s.wanted.texts arguments
-          → (course : Course) → IsRunOf core (settings_with s.wanted arguments) course → Met → SinkStood s.out → SinkStood s.log
-          → (s.status ≡ status_of course.told.ending.verdict) ⊎ (s.status ≡ 6)
-      by_met core its_core arguments means course run (r, is, met) out log =
-          let its : IsReportOfSource s.source (simulates s.wanted) (run_report core course) =
-          program core its_core (report.run arguments means (record { course = course; run = run; is = refl })) in
-          let one : r ≡ run_report core course = law.one s.source (of_program (simulates s.wanted)) r (run_report core course) is its in
-          ends (status_ap r (run_report core course) one) (alone-whole r (as_call s) met out log)
-        where
-          ends : r.status ≡ status_of course.told.ending.verdict → IsReportedOrLost r (as_call s)
-              → (s.status ≡ status_of course.told.ending.verdict) ⊎ (s.status ≡ 6)
-          ends e (inl lost) = inr lost
-          ends e (inr m) = inl (m.status ∙ e)
+      ends_by : (core : Core) (course : Course) → IsReportedOrLost (run_report core course) (as_call s) → (s.status ≡ status_of course.told.ending.verdict) ⊎ (s.status ≡ 6)
+      ends_by core course (inl lost) = inr lost
+      ends_by core course (inr m) = inl m.status

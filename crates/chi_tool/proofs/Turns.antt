@@ -2,6 +2,8 @@
 use Rattle.std.proofs.Common.{◌≡◌, ℕ, ◌+◌, ◌*◌, ◌-◌, ◌<◌, ◌≤◌, ◌^◌, ℤ, List, [], ◌∷◌, ◌++◌, Option, Some, None, length, sym, ◌∙◌, ap, subst, refl, arith, append-nil, length-append}
 use Rattle.std.specs.Prelude.{IfSome, option_map}
 use Rattle.std.specs.List.{slice_get}
+use Rattle.std.proofs.Math.Logic.{∥∥₁_elim}
+use Rattle.std.specs.Coded.{Coded-set, coded_ℕ}
 use Rattle.chi_sched.specs.Policies.{Answers, GivesOne, IsAsked}
 use Rattle.chi_core.specs.declared.program.Core.{Core}
 use Rattle.chi_core.specs.declared.label.Label.{Label}
@@ -53,7 +55,8 @@ module _ (law : ChoiceLaw) (gives : ℕ → ℕ → ℕ → Type 0) (turn : ℕ)
   answered : GivesOne gives → (pick : Pick) → Answers gives pick → (question count answer : ℕ) → IsAsked question count → gives question count answer
       → pick question count ≡ answer
   answered one pick answers question count answer asked given =
-      one question count (pick question count) answer asked (answers question count asked).1 given
+      ∥∥₁_elim (answers question count asked).1 (Coded-set coded_ℕ (pick question count) answer)
+      (λ told. one question count (pick question count) answer asked told given)
 
   pub picks_option : GivesOne gives → (stage : Stage) → GoesOn stage → (a p b : ℕ) (label : Label)
       → IsAsked (2 * turn) (length (actors_at stage)) → gives (2 * turn) (length (actors_at stage)) a → slice_get (actors_at stage) a ≡ Some p

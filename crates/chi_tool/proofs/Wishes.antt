@@ -11,9 +11,9 @@ use Rattle.chi_lex.specs.declared.lexer.TheConstants.{MOST_BYTES}
 use Rattle.chi_load.specs.declared.source.TheConstants.{MOST_MACHINES}
 use Rattle.chi_load.specs.Factory.{factory_source}
 use Rattle.chi_load.proofs.Short.{source_short}
-use Rattle.chi_tool.specs.Settings.{IsBounded}
+use Rattle.chi_tool.specs.Settings.{IsBounded, IsBoundedPair}
 use Rattle.chi_tool.specs.declared.task.Task.{Task}
-use Rattle.chi_tool.specs.declared.task.Task.TheVariants.{OfFile, OfLog, OfFactory}
+use Rattle.chi_tool.specs.declared.task.Task.TheVariants.{OfFile, OfPair, OfLog, OfFactory}
 use Rattle.chi_tool.specs.Words.{Wish, nothing, of_task, task_of, is_refusal, wish_by, wish_of}
 use Rattle.chi_tool.proofs.LawClauses.{RangeLaw}
 
@@ -21,6 +21,7 @@ use Rattle.chi_tool.proofs.LawClauses.{RangeLaw}
 abbrev pub IsBoundedWish : Wish → Type 0
 IsBoundedWish nothing = Unit {0}
 IsBoundedWish (of_task (OfFile name purpose)) = IsBounded purpose
+IsBoundedWish (of_task (OfPair pair)) = IsBoundedPair pair.purpose
 IsBoundedWish (of_task (OfLog name)) = Unit {0}
 IsBoundedWish (of_task (OfFactory size)) = (1 ≤ size) × (size ≤ MOST_MACHINES)
 
@@ -34,6 +35,7 @@ by_reading law words (Ok (request.Check file)) is = tt
 by_reading law words (Ok (request.Code file)) is = tt
 by_reading law words (Ok (request.Fmt file)) is = tt
 by_reading law words (Ok (request.Load n)) is = law words _ is
+by_reading law words (Ok (request.Replay file picks texts seed bound until trace)) is = counted bound (law words _ is).1
 by_reading law words (Ok (request.TraceUp file)) is = tt
 
 -- the source of a factory is within the limit

@@ -16,15 +16,19 @@ use Rattle.chi_trace.specs.declared.log.TheConstants.{MOST_LOG_BYTES}
 use Rattle.chi_trace.specs.Logs as logs
 use Rattle.chi_value.specs.declared.value.Value.{Value}
 use Rattle.chi_cli.specs.declared.args.ArgFault.{ArgFault}
+use Rattle.chi_picks.specs.Lists as picks
+use Rattle.chi_sched.specs.Policies.{listed}
+use Rattle.chi_tool.specs.declared.task.TheConstants.{MOST_BESIDE}
+use Rattle.chi_tool.specs.declared.task.Pair.{Pair}
 use Rattle.chi_tool.specs.declared.task.Purpose.{Purpose}
-use Rattle.chi_tool.specs.declared.task.Task.TheVariants.{OfFile, OfLog, OfFactory}
+use Rattle.chi_tool.specs.declared.task.Task.TheVariants.{OfFile, OfPair, OfLog, OfFactory}
 use Rattle.chi_tool.specs.Words.{Wish, nothing, of_task, wish_of, NamesNoFile}
 use Rattle.chi_tool.specs.Arguments.{Means, Misfits}
 use Rattle.chi_tool.specs.Layouts.{HasLayout}
 use Rattle.chi_tool.specs.Refusals.{Report, no_such_file, file_too_long}
 use Rattle.chi_tool.specs.Report.{IsReport}
 use Rattle.chi_tool.specs.Running.{Course, IsRunOf}
-use Rattle.chi_tool.specs.Settings.{Wanted, simulates, checks, lists, Aim, of_program, lays_out, wanted_of, aim_of, settings_with, plain}
+use Rattle.chi_tool.specs.Settings.{Wanted, picked_by, simulates, replays, checks, lists, Aim, of_program, lays_out, wanted_of, aim_of, pair_aim, settings_with, plain}
 use Rattle.chi_tool.specs.Sources.{IsNoProgram, BreaksRule, ComesTo}
 use Rattle.chi_tool.specs.Statuses as statuses
 use Rattle.chi_tool.specs.Statuses.{status_of}
@@ -95,10 +99,13 @@ pub record Follows (r : Report) (call : Call) : Type 0 where
   -- the log follows the output
   pub out_first : TookSome call.log → Took call.out r.out ⊎ IsRefusedByFault call
 
--- the words ask for this to be done with this source: the content of a file, within the limit, or that of a factory
+-- the words ask for this to be done with this source: the content of a file, within the limit, with that of a second one where
+-- they name it; or that of a factory
 pub data IsAskedSource (call : Call) (files : Files) (aim : Aim) (source : List ℕ) : Type 0 where
   held : (name : List ℕ) (purpose : Purpose) → wish_of call.words ≡ of_task (OfFile name purpose) → files name ≡ Some source → length source ≤ MOST_BYTES
       → aim ≡ aim_of purpose → IsAskedSource call files aim source
+  beside : (pair : Pair) (text : List ℕ) → wish_of call.words ≡ of_task (OfPair pair) → files pair.file ≡ Some source → length source ≤ MOST_BYTES
+      → files pair.beside ≡ Some text → length text ≤ MOST_BESIDE → aim ≡ of_program (pair_aim pair.purpose text) → IsAskedSource call files aim source
   made : (size : ℕ) → wish_of call.words ≡ of_task (OfFactory size) → source ≡ factory_source size → aim ≡ of_program (simulates (wanted_of plain))
       → IsAskedSource call files aim source
 
@@ -152,16 +159,22 @@ pub record EndsAs (P : Verdict → Type 0) (w : Wanted) (source : List ℕ) : Ty
   pub run : IsRunOf core (settings_with w arguments) course
   pub ends : P course.told.ending.verdict
 
--- a run is asked for, and ends so
+-- a run is asked for, as w wants it: by a policy that words name, or by the numbers of a text of picks
+abbrev pub IsRunAsked : Aim → Wanted → Type 0
+IsRunAsked (of_program (simulates v)) w = w ≡ v
+IsRunAsked (of_program (replays u text)) w = (numbers : List ℕ) × picks.Has text numbers × (w ≡ picked_by (listed numbers) u)
+IsRunAsked (of_program checks) w = ⊥
+IsRunAsked (of_program lists) w = ⊥
+IsRunAsked lays_out w = ⊥
+
+-- and ends so
 abbrev pub Ends : (Verdict → Type 0) → Aim → List ℕ → Type 0
-Ends P (of_program (simulates w)) source = EndsAs P w source
-Ends P (of_program checks) source = ⊥
-Ends P (of_program lists) source = ⊥
-Ends P lays_out source = ⊥
+Ends P aim source = (w : Wanted) × IsRunAsked aim w × EndsAs P w source
 
 -- a check or a listing is asked for, and the source comes to a program; or its layout is, which is within the limit
 abbrev pub IsAccepted : Aim → List ℕ → Type 0
 IsAccepted (of_program (simulates w)) source = ⊥
+IsAccepted (of_program (replays u text)) source = ⊥
 IsAccepted (of_program checks) source = (core : Core) × ComesTo source core
 IsAccepted (of_program lists) source = (core : Core) × ComesTo source core
 IsAccepted lays_out source = (text : List ℕ) × HasLayout source text × (length text ≤ MOST_BYTES)
@@ -171,19 +184,37 @@ abbrev pub IsDone : Aim → List ℕ → Type 0
 IsDone aim source = Ends (λ v. v ≡ verdict.Completed) aim source ⊎ IsAccepted aim source
 
 -- it comes to a program whose parameters the given arguments don't fit
-pub record IsUnfit (w : Wanted) (source : List ℕ) : Type 0 where
+pub record IsUnfit (texts : List (List ℕ)) (source : List ℕ) : Type 0 where
   pub core : Core
   pub program : ComesTo source core
   pub wanted : ℕ
   pub fault : ArgFault
-  pub misfits : Misfits core w.texts wanted fault
+  pub misfits : Misfits core texts wanted fault
 
 -- a run is asked for, with such arguments
 abbrev pub HasUnfitArguments : Aim → List ℕ → Type 0
-HasUnfitArguments (of_program (simulates w)) source = IsUnfit w source
+HasUnfitArguments (of_program (simulates w)) source = IsUnfit w.texts source
+HasUnfitArguments (of_program (replays u text)) source = IsUnfit u.texts source
 HasUnfitArguments (of_program checks) source = ⊥
 HasUnfitArguments (of_program lists) source = ⊥
 HasUnfitArguments lays_out source = ⊥
+
+-- it comes to a program whose parameters the arguments fit, and line k of the picks is the first that doesn't fit
+pub record IsMispicked (texts : List (List ℕ)) (text : List ℕ) (source : List ℕ) : Type 0 where
+  pub core : Core
+  pub program : ComesTo source core
+  pub arguments : List Value
+  pub fit : Means core texts arguments
+  pub k : ℕ
+  pub misfits : picks.Misfits text k
+
+-- a run by such picks is asked for
+abbrev pub HasMispick : Aim → List ℕ → Type 0
+HasMispick (of_program (simulates w)) source = ⊥
+HasMispick (of_program (replays u text)) source = IsMispicked u.texts text source
+HasMispick (of_program checks) source = ⊥
+HasMispick (of_program lists) source = ⊥
+HasMispick lays_out source = ⊥
 
 -- a layout is asked for, which has more bytes than a source may have
 abbrev pub IsTooLong : Aim → List ℕ → Type 0
@@ -205,10 +236,11 @@ IsNoContent most (Some content) = most < length content
 abbrev pub IsUnread : ℕ → List ℕ → ShelfUse → Type 0
 IsUnread most file shelf = ShelfRose shelf ⊎ IsSomeAnd shelf.files (λ files. IsNoContent most (files file))
 
--- the file that the words ask for can't be read
+-- a file that the words ask for can't be read
 abbrev pub CannotBeRead : ShelfUse → Wish → Type 0
 CannotBeRead shelf nothing = ⊥
 CannotBeRead shelf (of_task (OfFile file purpose)) = IsUnread MOST_BYTES file shelf
+CannotBeRead shelf (of_task (OfPair pair)) = IsUnread MOST_BYTES pair.file shelf ⊎ IsUnread MOST_BESIDE pair.beside shelf
 CannotBeRead shelf (of_task (OfLog file)) = IsUnread MOST_LOG_BYTES file shelf
 CannotBeRead shelf (of_task (OfFactory size)) = ⊥
 
@@ -250,6 +282,7 @@ pub record Causes (call : Call) : Type 0 where
   pub syntax : IsExactlyOf call statuses.syntax (λ aim. HasSyntaxFault)
   pub typing : IsExactlyOf call statuses.typing IsMistyped
   pub arguments : IsExactlyOf call statuses.arguments HasUnfitArguments
+  pub mispicked : IsExactlyOf call statuses.mispicked HasMispick
   pub layout_too_long : IsExactlyOf call statuses.layout_too_long IsTooLong
   pub misfit : IsExactlyIn call statuses.misfit (λ files. AsksForLog call files HasMisfit)
   pub no_request : call.out.stopped ≡ false → call.log.stopped ≡ false → IsExactly call statuses.no_request (wish_of call.words ≡ nothing)
@@ -263,7 +296,7 @@ pub record Causes (call : Call) : Type 0 where
 -- memory is wanting
 abbrev pub IsComplete : Call → Type 0
 IsComplete call =
-    (files : Files) → GoesWell call files → (w : Wanted) (source : List ℕ) → IsAskedSource call files (of_program (simulates w)) source
+    (files : Files) → GoesWell call files → (aim : Aim) (source : List ℕ) → IsAskedSource call files aim source → (w : Wanted) → IsRunAsked aim w
     → (core : Core) → ComesTo source core → (arguments : List Value) → Means core w.texts arguments
     → (course : Course) × IsRunOf core (settings_with w arguments) course
     × ((call.status ≡ status_of course.told.ending.verdict) ⊎ (call.status ≡ statuses.no_memory))

@@ -8,10 +8,11 @@ use Rattle.chi_lex.specs.declared.lexer.TheConstants.{MOST_BYTES}
 use Rattle.chi_load.specs.declared.source.TheConstants.{MOST_MACHINES}
 use Rattle.chi_trace.specs.declared.log.TheConstants.{MOST_LOG_BYTES}
 use Rattle.chi_trace_events.specs.declared.value.TheConstants.{MOST_SHOWN}
+use Rattle.chi_tool.specs.declared.task.TheConstants.{MOST_BESIDE}
 use Rattle.chi_tree.specs.declared.limits.TheConstants.{MOST_BLOCKS, MOST_EXPRESSIONS}
 
 -- bytes of a source; nesting of blocks and of expressions; depth of a type; the bound on steps without an option, and the greatest;
--- bytes of a value that a trace shows; bytes of a log that is brought up; machines of a made factory
+-- bytes of a value that a trace shows; bytes of a log that is brought up, and of a second file; machines of a made factory
 pub record LimitsAre : Type 0 where
   pub of_a_run : core.LimitsAre
   pub source : MOST_BYTES ≡ 1_048_576
@@ -22,4 +23,5 @@ pub record LimitsAre : Type 0 where
   pub most_steps : MOST_STEPS ≡ 1_000_000_000_000_000
   pub shown : MOST_SHOWN ≡ 65_536
   pub log : MOST_LOG_BYTES ≡ 67_108_864
+  pub beside : MOST_BESIDE ≡ 67_108_864
   pub machines : MOST_MACHINES ≡ 1_000

@@ -62,6 +62,10 @@ arguments_text wanted given arg.NoMemory = []
 abbrev pub unfit_arguments : ℕ → ℕ → ArgFault → Report
 unfit_arguments wanted given fault = refused statuses.arguments (arguments_text wanted given fault)
 
+-- line k of the picks, counted from 1, is the first that doesn't fit
+abbrev pub mispicked : ℕ → Report
+mispicked k = refused statuses.mispicked (codes "picks line " ++ decimal k)
+
 -- line k of a log, counted from 1, is the first that doesn't fit
 abbrev pub misfit : ℕ → Report
 misfit k = refused statuses.misfit (codes "line " ++ decimal k ++ codes ": trace form")

@@ -10,21 +10,38 @@ use Rattle.chi_core.specs.declared.program.Core.{Core}
 use Rattle.chi_trace.specs.declared.log.TheConstants.{MOST_LOG_BYTES}
 use Rattle.chi_trace.specs.Logs as logs
 use Rattle.chi_value.specs.declared.value.Value.{Value}
+use Rattle.chi_picks.specs.Lists as picks
+use Rattle.chi_sched.specs.Policies.{listed}
+use Rattle.chi_tool.specs.declared.task.TheConstants.{MOST_BESIDE}
+use Rattle.chi_tool.specs.declared.task.Pair.{Pair}
 use Rattle.chi_tool.specs.declared.task.Task.{Task}
-use Rattle.chi_tool.specs.declared.task.Task.TheVariants.{OfFile, OfLog, OfFactory}
+use Rattle.chi_tool.specs.declared.task.Task.TheVariants.{OfFile, OfPair, OfLog, OfFactory}
 use Rattle.chi_tool.specs.Arguments.{Means, Misfits}
 use Rattle.chi_tool.specs.Refusals as refusal
 use Rattle.chi_tool.specs.Layouts.{HasLayout}
 use Rattle.chi_tool.specs.Refusals.{Report, usage, no_such_file, file_too_long, unfit_arguments, brought_up, accepted}
 use Rattle.chi_tool.specs.Running.{IsRunReport}
-use Rattle.chi_tool.specs.Settings.{Wanted, ProgramAim, simulates, checks, lists, Aim, of_program, lays_out, wanted_of, aim_of, settings_with, plain}
+use Rattle.chi_tool.specs.Settings.{Wanted, Unpicked, picked_by, ProgramAim, simulates, replays, checks, lists, Aim, of_program, lays_out, wanted_of, aim_of, pair_aim, settings_with, plain}
 use Rattle.chi_tool.specs.Sources.{IsUnparsed, IsRefused, ComesTo}
 use Rattle.chi_tool.specs.Words.{Wish, nothing, of_task, wish_of}
 
--- a program that is to be run: its arguments are refused, or it is run with them
-pub data IsReportOfRun (core : Core) (w : Wanted) (r : Report) : Type 0 where
-  unfit : (wanted : ℕ) (fault : ArgFault) → Misfits core w.texts wanted fault → r ≡ unfit_arguments wanted (length w.texts) fault → IsReportOfRun core w r
-  run : (values : List Value) → Means core w.texts values → IsRunReport core (settings_with w values) r → IsReportOfRun core w r
+-- a program with which something is done by arguments: these are refused, or P says what comes of them
+pub data IsReportWith (core : Core) (texts : List (List ℕ)) (P : List Value → Report → Type 0) (r : Report) : Type 0 where
+  unfit : (wanted : ℕ) (fault : ArgFault) → Misfits core texts wanted fault → r ≡ unfit_arguments wanted (length texts) fault → IsReportWith core texts P r
+  fit : (values : List Value) → Means core texts values → P values r → IsReportWith core texts P r
+
+-- it is run with them
+abbrev pub IsReportOfRun : Core → Wanted → Report → Type 0
+IsReportOfRun core w r = IsReportWith core w.texts (λ values. IsRunReport core (settings_with w values)) r
+
+-- a program that is run with arguments by the picks of a text: these are refused, or it is run by them
+pub data IsReportByPicks (core : Core) (u : Unpicked) (text : List ℕ) (values : List Value) (r : Report) : Type 0 where
+  mispicked : (k : ℕ) → picks.Misfits text k → r ≡ refusal.mispicked k → IsReportByPicks core u text values r
+  replayed : (numbers : List ℕ) → picks.Has text numbers → IsRunReport core (settings_with (picked_by (listed numbers) u) values) r
+      → IsReportByPicks core u text values r
+
+abbrev pub IsReportOfReplay : Core → Unpicked → List ℕ → Report → Type 0
+IsReportOfReplay core u text r = IsReportWith core u.texts (IsReportByPicks core u text) r
 
 -- a program whose code is to be listed: the listing of what is its code, by the layout of code
 pub record IsReportOfCode (core : Core) (r : Report) : Type 0 where
@@ -35,6 +52,7 @@ pub record IsReportOfCode (core : Core) (r : Report) : Type 0 where
 -- what is done with a program
 abbrev pub IsReportOfProgram : Core → ProgramAim → Report → Type 0
 IsReportOfProgram core (simulates w) r = IsReportOfRun core w r
+IsReportOfProgram core (replays u text) r = IsReportOfReplay core u text r
 IsReportOfProgram core checks r = r ≡ accepted
 IsReportOfProgram core lists r = IsReportOfCode core r
 
@@ -65,9 +83,15 @@ abbrev pub IsReportFor : Aim → List ℕ → Report → Type 0
 IsReportFor (of_program aim) source = IsReportOfSource source aim
 IsReportFor lays_out source = IsReportOfLayout source
 
+-- what is said of two files, the source and the text: the first refusal of one is told, in this order
+abbrev pub IsReportOfPair : Pair → Files → Report → Type 0
+IsReportOfPair pair files r =
+    IsReportOfFile MOST_BYTES (λ source. IsReportOfFile MOST_BESIDE (λ text. IsReportOfSource source (pair_aim pair.purpose text)) (files pair.beside)) (files pair.file) r
+
 -- a factory is run like its source, with nothing asked for
 abbrev pub IsReportOfTask : Task → Files → Report → Type 0
 IsReportOfTask (OfFile file purpose) files r = IsReportOfFile MOST_BYTES (IsReportFor (aim_of purpose)) (files file) r
+IsReportOfTask (OfPair pair) files r = IsReportOfPair pair files r
 IsReportOfTask (OfLog file) files r = IsReportOfFile MOST_LOG_BYTES IsReportOfLog (files file) r
 IsReportOfTask (OfFactory size) files r = IsReportOfSource (factory_source size) (simulates (wanted_of plain)) r
 
@@ -75,7 +99,7 @@ abbrev pub IsReportOfWish : Wish → Files → Report → Type 0
 IsReportOfWish nothing files r = r ≡ usage
 IsReportOfWish (of_task t) files r = IsReportOfTask t files r
 
--- r is the report of these words and files: the first refusal among words, file, bytes, tokens, program and arguments,
+-- r is the report of these words and files: the first refusal among words, files, bytes, tokens, program, arguments and picks,
 -- or what was asked for: the output, trace and verdict of the run, that the program is accepted, the listing of its code,
 -- the layout of the source, or what the log is brought up to
 abbrev pub IsReport : List (List ℕ) → Files → Report → Type 0

@@ -8,6 +8,9 @@ use Rattle.chi_value.specs.declared.value.Value.{Value}
 use Rattle.chi_core.specs.Picks.{Pick, IsLawful}
 use Rattle.chi_sched.specs.Policies.{first, last, spread}
 use Rattle.chi_tool.specs.declared.task.Asked.{Asked}
+use Rattle.chi_tool.specs.declared.settings.ByPicks.{ByPicks}
+use Rattle.chi_tool.specs.declared.task.PairPurpose.{PairPurpose}
+use Rattle.chi_tool.specs.declared.task.PairPurpose.TheVariants.{Replay}
 use Rattle.chi_tool.specs.declared.task.Purpose.{Purpose}
 use Rattle.chi_tool.specs.declared.task.Purpose.TheVariants.{OfProgram, LayOut}
 use Rattle.chi_tool.specs.declared.task.ProgramPurpose.{ProgramPurpose}
@@ -33,9 +36,22 @@ pub record Wanted : Type 0 where
   pub until : Option ℤ
   pub trace : Option Filter
 
--- what is done with a program: it is run, is only checked, or has its code listed
+-- the same, but for the policy
+pub record Unpicked : Type 0 where
+  pub seed : ℕ
+  pub bound : ℕ
+  pub texts : List (List ℕ)
+  pub until : Option ℤ
+  pub trace : Option Filter
+
+-- by a policy
+abbrev pub picked_by : Pick → Unpicked → Wanted
+picked_by pick u = record { seed = u.seed; bound = u.bound; pick = pick; texts = u.texts; until = u.until; trace = u.trace }
+
+-- what is done with a program: it is run, is run by the picks of a text, is only checked, or has its code listed
 pub data ProgramAim : Type 0 where
   simulates : Wanted → ProgramAim
+  replays : Unpicked → List ℕ → ProgramAim
   checks : ProgramAim
   lists : ProgramAim
 
@@ -56,8 +72,11 @@ policy_of pick.Last = last
 policy_of (pick.Spread salt) = spread salt
 
 -- as words ask
-abbrev pub wanted_of : Asked → Wanted
+abbrev pub wanted_of : Asked words.Pick → Wanted
 wanted_of a = record { seed = a.terms.seed; bound = a.terms.bound; pick = policy_of a.terms.policy; texts = a.texts; until = a.terms.until; trace = a.terms.trace }
+
+abbrev pub unpicked_of : Asked ByPicks → Unpicked
+unpicked_of a = record { seed = a.terms.seed; bound = a.terms.bound; texts = a.texts; until = a.terms.until; trace = a.terms.trace }
 
 abbrev pub program_aim : ProgramPurpose → ProgramAim
 program_aim (Simulate a) = simulates (wanted_of a)
@@ -68,12 +87,16 @@ abbrev pub aim_of : Purpose → Aim
 aim_of (OfProgram p) = of_program (program_aim p)
 aim_of LayOut = lays_out
 
+-- what is done with a program by the text of a second file
+abbrev pub pair_aim : PairPurpose → List ℕ → ProgramAim
+pair_aim (Replay a) text = replays (unpicked_of a) text
+
 -- with the arguments that the texts mean
 abbrev pub settings_with : Wanted → List Value → Settings
 settings_with w arguments = record { seed = w.seed; bound = w.bound; pick = w.pick; arguments = arguments; until = w.until; trace = w.trace }
 
 -- where the words say nothing of it
-abbrev pub plain : Asked
+abbrev pub plain : Asked words.Pick
 plain = record { terms = record { seed = 0; bound = STEPS; policy = pick.First; until = None; trace = None }; texts = [] }
 
 -- within what is counted
@@ -82,6 +105,9 @@ IsBoundedFor (Simulate a) = a.terms.bound < 2 ^ 63
 IsBoundedFor Check = Unit {0}
 IsBoundedFor ListCode = Unit {0}
 
+abbrev pub IsBoundedPair : PairPurpose → Type 0
+IsBoundedPair (Replay a) = a.terms.bound < 2 ^ 63
+
 abbrev pub IsBounded : Purpose → Type 0
 IsBounded (OfProgram p) = IsBoundedFor p
 IsBounded LayOut = Unit {0}
@@ -89,6 +115,7 @@ IsBounded LayOut = Unit {0}
 -- the same, by a policy that picks one of the choices
 abbrev pub MayBeAimedAt : ProgramAim → Type 0
 MayBeAimedAt (simulates w) = (w.bound < 2 ^ 63) × IsLawful w.pick
+MayBeAimedAt (replays u text) = u.bound < 2 ^ 63
 MayBeAimedAt checks = Unit {0}
 MayBeAimedAt lists = Unit {0}
 

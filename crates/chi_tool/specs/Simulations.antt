@@ -1,15 +1,18 @@
--- What the library call `simulate` is given, what it did, and what is promised of it.
+-- What the library calls are given, what they did, and what is promised of it.
 use Rattle.std.specs.Prelude.{◌≡◌, ◌≢◌, ℕ, ◌⊎◌, ◌↔◌, true, List, [], None}
 use Rattle.chi_core.specs.declared.program.Core.{Core}
+use Rattle.chi_core.specs.Beginning.{start}
+use Rattle.chi_core.specs.Picks.{picks_of}
+use Rattle.chi_core.specs.Runs.{Derivation}
 use Rattle.chi_core.specs.declared.verdict.Verdict.TheVariants as verdict
 use Rattle.chi_value.specs.declared.value.Value.{Value}
 use Rattle.chi_tool.specs.Arguments.{Means}
 use Rattle.chi_tool.specs.Call.{Call, SinkUse, Took, SinkStood}
-use Rattle.chi_tool.specs.Headline.{MeetsAlone, HasLexicalFault, HasSyntaxFault, HasTypeFault, EndsAs, IsUnfit, IsExit, IsFault, IsExactly, StoppedByFailure}
+use Rattle.chi_tool.specs.Headline.{IsReportedOrLost, MeetsAlone, HasLexicalFault, HasSyntaxFault, HasTypeFault, EndsAs, IsUnfit, IsExit, IsFault, IsExactly, StoppedByFailure}
 use Rattle.chi_tool.specs.Refusals.{Report}
 use Rattle.chi_tool.specs.Report.{IsReportOfSource}
-use Rattle.chi_tool.specs.Running.{Course, IsRunOf}
-use Rattle.chi_tool.specs.Settings.{Wanted, simulates, settings_with}
+use Rattle.chi_tool.specs.Running.{Course, IsLogged, IsRunOf, run_report}
+use Rattle.chi_tool.specs.Settings.{Settings, Wanted, simulates, settings_with}
 use Rattle.chi_tool.specs.Sources.{ComesTo}
 use Rattle.chi_tool.specs.Statuses as statuses
 use Rattle.chi_tool.specs.Statuses.{status_of}
@@ -57,11 +60,12 @@ pub record SimulationCauses (s : Simulation) : Type 0 where
   pub lexical : ComesOf s statuses.lexical HasLexicalFault
   pub syntax : ComesOf s statuses.syntax HasSyntaxFault
   pub typing : ComesOf s statuses.typing HasTypeFault
-  pub arguments : ComesOf s statuses.arguments (IsUnfit s.wanted)
-  -- no words and no file are to blame
+  pub arguments : ComesOf s statuses.arguments (IsUnfit s.wanted.texts)
+  -- no words, no file and no text of picks are to blame
   pub no_request : s.status ≢ statuses.no_request
   pub not_read : s.status ≢ statuses.not_read
   pub misfit : s.status ≢ statuses.misfit
+  pub mispicked : s.status ≢ statuses.mispicked
   pub layout_too_long : s.status ≢ statuses.layout_too_long
   pub not_written : (s.status ≡ statuses.not_written) ↔ ((s.out.stopped ≡ true) ⊎ (s.log.stopped ≡ true))
   -- each sink by its own count
@@ -75,3 +79,21 @@ IsSimulatedToItsEnd s =
     → (core : Core) → ComesTo s.source core → (arguments : List Value) → Means core s.wanted.texts arguments
     → (course : Course) × IsRunOf core (settings_with s.wanted arguments) course
     × ((s.status ≡ status_of course.told.ending.verdict) ⊎ (s.status ≡ statuses.no_memory))
+
+-- a derivation of a program with its settings, whatever the policy, and what is logged of it
+pub record IsDerived (core : Core) (s : Settings) (course : Course) : Type 0 where
+  pub derived : Derivation core (start core s.arguments s.seed s.until) s.bound course.told
+  pub logged : IsLogged s.trace core (start core s.arguments s.seed s.until) s.bound course.told course.log
+
+-- the numbers are those by which it is picked
+abbrev pub AreOwnPicks : Core → Settings → Course → List ℕ → Type 0
+AreOwnPicks core s course numbers = numbers ≡ picks_of core (start core s.arguments s.seed s.until) s.bound course.told
+
+-- Of the program, with arguments that fit: a derivation whose own numbers these are is what was simulated. Where no sink fails, what it
+-- wrote is written, and its log and the line of its verdict are logged, unless memory is wanting.
+abbrev pub IsReplayed : Simulation → List ℕ → Type 0
+IsReplayed s numbers =
+    SinkStood s.out → SinkStood s.log
+    → (core : Core) → ComesTo s.source core → (arguments : List Value) → Means core s.wanted.texts arguments
+    → (course : Course) → IsDerived core (settings_with s.wanted arguments) course → AreOwnPicks core (settings_with s.wanted arguments) course numbers
+    → IsReportedOrLost (run_report core course) (as_call s)

@@ -82,6 +82,11 @@ typing = 22
 abbrev pub arguments : ℕ
 arguments = 23
 
+-- the picks of a run don't fit
+
+abbrev pub mispicked : ℕ
+mispicked = 26
+
 -- a log that is to be brought up is, or one of its lines doesn't fit
 
 abbrev pub brought_up : ℕ

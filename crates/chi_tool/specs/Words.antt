@@ -5,13 +5,15 @@ use Rattle.chi_cli.specs.declared.fault.CliFault.TheVariants as fault
 use Rattle.chi_cli.specs.declared.request.Request.{Request}
 use Rattle.chi_cli.specs.declared.request.Request.TheVariants as request
 use Rattle.chi_cli.specs.Requests.{request_of}
+use Rattle.chi_trace.specs.declared.filter.Filter.TheVariants.{All}
 use Rattle.chi_tool.specs.Settings.{trace_by}
 use Rattle.chi_tool.specs.declared.task.Task.{Task}
 use Rattle.chi_tool.specs.declared.task.Task.TheVariants as task
+use Rattle.chi_tool.specs.declared.task.PairPurpose.TheVariants.{Replay}
 use Rattle.chi_tool.specs.declared.task.Purpose.TheVariants.{OfProgram, LayOut}
 use Rattle.chi_tool.specs.declared.task.ProgramPurpose.TheVariants.{Simulate, Check, ListCode}
 
--- a run, a check, a listing of code, a layout, a run of a factory, or a log of old that is to be brought up
+-- a run, a run by picks, a check, a listing of code, a layout, a run of a factory, or a log of old that is to be brought up
 abbrev pub task_of : Request → Task
 task_of (request.Sim file texts seed bound until pick trace probe) =
     task.OfFile file (OfProgram (Simulate (record { terms = record { seed = seed; bound = bound; policy = pick; until = until; trace = trace_by trace probe }; texts = texts })))
@@ -19,6 +21,12 @@ task_of (request.Check file) = task.OfFile file (OfProgram Check)
 task_of (request.Code file) = task.OfFile file (OfProgram ListCode)
 task_of (request.Fmt file) = task.OfFile file LayOut
 task_of (request.Load n) = task.OfFactory n
+task_of (request.Replay file picks texts seed bound until trace) =
+    task.OfPair (record {
+      file = file;
+      beside = picks;
+      purpose = Replay (record { terms = record { seed = seed; bound = bound; policy = record {}; until = until; trace = trace_by trace All }; texts = texts });
+    })
 task_of (request.TraceUp file) = task.OfLog file
 
 -- nothing, since the words are no request; or a task
@@ -37,6 +45,7 @@ wish_of words = wish_by (request_of words)
 abbrev pub NamesNoFile : Wish → Type 0
 NamesNoFile nothing = Unit {0}
 NamesNoFile (of_task (task.OfFile file purpose)) = ⊥
+NamesNoFile (of_task (task.OfPair pair)) = ⊥
 NamesNoFile (of_task (task.OfLog file)) = ⊥
 NamesNoFile (of_task (task.OfFactory size)) = Unit {0}
 

@@ -1,6 +1,10 @@
-ghost use Rattle.std.specs.Prelude.{◌≡◌, ◌++◌, codes, OnOk, IfOk};
+//! The arguments of a program's model.
+
+ghost use Rattle.std.specs.Prelude.{◌≡◌, ◌++◌, Some, codes, OnOk, IfOk, slice_get};
 ghost use Rattle.std.specs.Fmt.{decimal};
+ghost use Rattle.chi_core.specs.Sound.{Sound};
 ghost use Rattle.chi_tool.specs.Arguments.{is_misfit};
+ghost use Rattle.chi_tool.specs.Readings.{AreReadAs};
 ghost use Rattle.chi_tool.specs.Refusals.{arguments_text, unfit_arguments};
 ghost use Rattle.chi_tool.specs.Reported.{report_in};
 
@@ -8,8 +12,56 @@ use crate::refusal::one_line;
 use crate::report::Reported;
 use crate::status::ARGUMENTS;
 use chi_base::NoMemory;
-use chi_cli::ArgFault;
+use chi_cli::{ArgFault, read_args, values_are_of_parameters};
+use chi_core::{Core, ProcDef};
+use chi_token::Bytes;
+use chi_value::Value;
 use std::alloc::Global;
+
+/// What the texts of arguments come to.
+#[derive(Debug, Drop)]
+pub enum Arguments {
+    Unfit(Reported),
+    /// They mean these values, as the parameters want them.
+    Fit(Vec<Value>),
+}
+
+/// The arguments of a program's model that the texts mean, or their refusal.
+pub fn arguments_of(alloc: Global, core: &Core, texts: &[Bytes]) -> Result<Arguments, NoMemory>
+    requires sound { Sound core.now }
+    ensures { IfOk result (AreReadAs core.now texts.now) }
+{
+    match core.procs.as_slice().get(core.model as usize) {
+        Some(model) => arguments_for(alloc, core, model, texts),
+        None => unreachable!(),
+    }
+}
+
+fn arguments_for(
+    alloc: Global,
+    core: &Core,
+    model: &ProcDef,
+    texts: &[Bytes],
+) -> Result<Arguments, NoMemory>
+    requires model { slice_get core.now.procs core.now.model ≡ Some model.now }
+    ensures { IfOk result (AreReadAs core.now texts.now) }
+{
+    let _core = core;
+    values_are_of_parameters();
+    let params = model.params.as_slice();
+    if u32::try_from(params.len()).is_err() {
+        return Err(NoMemory);
+    }
+    match read_args(alloc, params, texts) {
+        Ok(arguments) => Ok(Arguments::Fit(arguments)),
+        Err(fault) => {
+            if !is_misfit(fault) {
+                return Err(NoMemory);
+            }
+            Ok(Arguments::Unfit(unfit(alloc, params.len(), texts.len(), fault)?))
+        }
+    }
+}
 
 fn put_number(alloc: Global, text: &mut Vec<u8>, number: u64) -> Result<(), NoMemory>
     ensures { OnOk result (text.new.items ≡ text.old.items ++ decimal number) }
@@ -52,12 +104,7 @@ fn text_of(alloc: Global, wanted: u64, given: u64, fault: ArgFault) -> Result<Ve
 }
 
 /// The refusal of arguments, of which so many are wanted and so many are given.
-pub fn unfit(
-    alloc: Global,
-    wanted: usize,
-    given: usize,
-    fault: ArgFault,
-) -> Result<Reported, NoMemory>
+fn unfit(alloc: Global, wanted: usize, given: usize, fault: ArgFault) -> Result<Reported, NoMemory>
     ensures { IfOk result (λ r. report_in r ≡ unfit_arguments wanted given fault) }
 {
     let text = text_of(alloc, wanted as u64, given as u64, fault)?;
@@ -65,7 +112,7 @@ pub fn unfit(
 }
 
 /// Whether arguments are refused, where there was memory to read them.
-pub fn is_misfit(fault: ArgFault) -> bool
+fn is_misfit(fault: ArgFault) -> bool
     ensures { result ≡ is_misfit fault }
 {
     match fault {

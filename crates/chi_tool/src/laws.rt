@@ -9,6 +9,7 @@ ghost use Rattle.chi_lex.specs.Reading.{Reads};
 ghost use Rattle.chi_tree_spell.specs.Statements.{spelled};
 ghost use Rattle.chi_token.specs.declared.place.Spanned.{Spanned};
 ghost use Rattle.chi_token.specs.Tokens.{IsToken};
+ghost use Rattle.chi_sched.specs.Policies.{listed};
 ghost use Rattle.chi_tool.specs.Call.{Call};
 ghost use Rattle.chi_tool.specs.Headline.{Follows, Meets};
 ghost use Rattle.chi_tool.specs.Layouts.{HasLayout};
@@ -17,6 +18,7 @@ ghost use Rattle.chi_tool.specs.Refusals.{Report};
 ghost use Rattle.chi_tool.specs.Report.{IsReport, IsReportFor};
 ghost use Rattle.chi_tool.specs.Running.{Course, IsRunOf, MayHave};
 ghost use Rattle.chi_tool.specs.Settings.{Aim, MayBeAimed, Settings};
+ghost use Rattle.chi_tool.specs.Simulations.{AreOwnPicks, IsDerived};
 ghost use Rattle.chi_tool.specs.Sources.{ComesTo, IsWritten};
 ghost use Rattle.chi_tree.specs.declared.definition.Program.{Program};
 ghost use Rattle.chi_tree_laws.specs.UnplacedStatements.{unplaced};
@@ -25,8 +27,9 @@ ghost use Rattle.chi_fmt.specs.Kept.{kept};
 use chi_check_parsed::parsed_programs_are_sound;
 use chi_cli::{numbers_are_in_range, values_are_of_parameters};
 use chi_code::code_is_unique;
-use chi_core_runs::picked_law;
+use chi_core_runs::{own_numbers_law, picked_law};
 use chi_gen_laws::sound_programs_have_one_code;
+use chi_picks::picks_law;
 use chi_trace::logs_law;
 use chi_trace_events::trace_law;
 use chi_tree_laws::answer_law;
@@ -39,6 +42,14 @@ pub fn one_run_law()
     parsed_programs_are_sound();
     picked_law();
     trace_law();
+}
+
+/// The run by the list of a derivation's own picks is that derivation.
+pub fn own_picks_law()
+    ensures { (core : Core) (s : Settings) (course : Course) (numbers : List ℕ) → IsDerived core s course → AreOwnPicks core s course numbers
+        → s.pick ≡ listed numbers → IsRunOf core s course }
+{
+    own_numbers_law();
 }
 
 /// The program that a source within the limit comes to has exactly one code.
@@ -61,6 +72,7 @@ pub fn source_law()
     one_run_law();
     one_code_law();
     values_are_of_parameters();
+    picks_law();
 }
 
 /// Words and files have exactly one report.
@@ -76,6 +88,7 @@ pub fn report_law()
     numbers_are_in_range();
     values_are_of_parameters();
     logs_law();
+    picks_law();
 }
 
 /// The layout of a source is its own layout, and what it is read as is the program of the source, but for places, and with those

@@ -2,12 +2,15 @@
 #![tactic(auto)]
 
 mod arguments;
+mod by_picks;
 mod code;
 mod deliver;
+mod fetching;
 mod laws;
 mod layout;
 mod library;
 mod logs;
+mod pairs;
 mod program;
 mod refusal;
 mod report;
@@ -24,8 +27,8 @@ mod tracing;
 mod words;
 
 pub use laws::{
-    layout_law, limits_law, meets_law, one_code_law, one_run_law, report_law, source_law,
-    tokens_law,
+    layout_law, limits_law, meets_law, one_code_law, one_run_law, own_picks_law, report_law,
+    source_law, tokens_law,
 };
-pub use library::{simulate, simulate_probed};
+pub use library::{replay, simulate, simulate_probed};
 pub use top::chi;

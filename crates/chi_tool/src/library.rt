@@ -1,18 +1,18 @@
-//! The library calls: a source is simulated, with whichever policy, and with whichever probe of its trace.
+//! The library calls: a source is simulated, with whichever policy, and with whichever probe of its trace; or by a list of picks.
 
 ghost use Rattle.std.specs.Prelude.{◌≡◌, ◌≤◌, ◌<◌, ◌^◌, false, IfOk, length, option_map};
 ghost use Rattle.chi_core.specs.Picks as picks;
-ghost use Rattle.chi_sched.specs.Policies.{Answers};
+ghost use Rattle.chi_sched.specs.Policies.{Answers, listed};
 ghost use Rattle.chi_trace.specs.declared.filter.Filter.TheVariants.{All};
 ghost use Rattle.chi_tool.specs.Call.{sink_use};
 ghost use Rattle.chi_tool.specs.Serving.{Tells};
 ghost use Rattle.chi_tool.specs.Report.{IsReportOfSource};
 ghost use Rattle.chi_tool.specs.Reported.{report_in};
 ghost use Rattle.chi_tool.specs.Settings.{simulates, trace_by};
-ghost use Rattle.chi_tool.specs.Simulations.{SimulationHeadline, SimulationCauses, IsSimulatedToItsEnd};
+ghost use Rattle.chi_tool.specs.Simulations.{SimulationHeadline, SimulationCauses, IsReplayed, IsSimulatedToItsEnd};
 
 use crate::deliver::deliver;
-use crate::laws::{one_run_law, source_law};
+use crate::laws::{one_run_law, own_picks_law, source_law};
 use crate::program::report_of_run;
 use crate::report::Reported;
 use crate::settings::{Terms, trace_by};
@@ -23,7 +23,7 @@ use chi_cli::{MOST_STEPS, values_are_of_parameters};
 use chi_io::Sink;
 use chi_lex::MOST_BYTES;
 use chi_num::Real;
-use chi_sched::Chooser;
+use chi_sched::{Chooser, Listed};
 use chi_token::Bytes;
 use chi_trace::{Filter, Sieve};
 use std::alloc::Global;
@@ -184,5 +184,70 @@ pub fn simulate<P: Chooser + Drop, O: Sink, L: Sink>(
         trace,
         out,
         log,
+    )
+}
+
+/// The same by a list of picks: the choice at each question is the number that the list has for it, or the first where it
+/// has none below the count.
+pub fn replay<O: Sink, L: Sink>(
+    alloc: Global,
+    source: &[u8],
+    texts: &[Bytes],
+    seed: u64,
+    bound: u64,
+    until: Option<Real>,
+    picks: &[u64],
+    trace: bool,
+    out: &mut O,
+    log: &mut L,
+) -> u8
+    requires out_goes { O.stopped out.old ≡ false }
+    requires log_goes { L.stopped log.old ≡ false }
+    requires within { length source.now ≤ MOST_BYTES }
+    requires bound { bound ≤ MOST_STEPS }
+
+    // The status and every byte are those of the report.
+    ensures headline { SimulationHeadline (record {
+      source = source.now;
+      wanted = record { seed = seed; bound = bound; pick = listed picks.now; texts = texts.now; until = until; trace = trace_by trace All };
+      status = result;
+      out = sink_use O.taken O.faults O.stopped out.old out.new;
+      log = sink_use L.taken L.faults L.stopped log.old log.new;
+    }) }
+    // Each status has its cause.
+    ensures causes { SimulationCauses (record {
+      source = source.now;
+      wanted = record { seed = seed; bound = bound; pick = listed picks.now; texts = texts.now; until = until; trace = trace_by trace All };
+      status = result;
+      out = sink_use O.taken O.faults O.stopped out.old out.new;
+      log = sink_use L.taken L.faults L.stopped log.old log.new;
+    }) }
+    // A program is run to its end.
+    ensures complete { IsSimulatedToItsEnd (record {
+      source = source.now;
+      wanted = record { seed = seed; bound = bound; pick = listed picks.now; texts = texts.now; until = until; trace = trace_by trace All };
+      status = result;
+      out = sink_use O.taken O.faults O.stopped out.old out.new;
+      log = sink_use L.taken L.faults L.stopped log.old log.new;
+    }) }
+    // What a derivation's own picks replay is that derivation.
+    ensures own { IsReplayed (record {
+      source = source.now;
+      wanted = record { seed = seed; bound = bound; pick = listed picks.now; texts = texts.now; until = until; trace = trace_by trace All };
+      status = result;
+      out = sink_use O.taken O.faults O.stopped out.old out.new;
+      log = sink_use L.taken L.faults L.stopped log.old log.new;
+    }) picks.now }
+{
+    own_picks_law();
+    source_law();
+    one_run_law();
+    values_are_of_parameters();
+    let Ok(picks) = Vec::from_slice(alloc, picks) else {
+        return NO_MEMORY;
+    };
+    let policy = Listed { picks };
+    simulate(
+        alloc, source, texts, seed, bound, until, policy, trace, out, log,
     )
 }

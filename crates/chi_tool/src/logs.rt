@@ -8,11 +8,12 @@ ghost use Rattle.chi_tool.specs.Report.{IsReportOfLog};
 ghost use Rattle.chi_tool.specs.Reported.{report_in};
 
 use crate::deliver::deliver;
+use crate::fetching::fetched;
 use crate::refusal::one_line;
 use crate::report::Reported;
-use crate::status::{BROUGHT_UP, MISFIT, NO_MEMORY, NOT_READ};
+use crate::status::{BROUGHT_UP, MISFIT, NO_MEMORY};
 use chi_base::NoMemory;
-use chi_io::{Fetch, Shelf, Sink};
+use chi_io::{Shelf, Sink};
 use chi_trace::{LogFault, MOST_LOG_BYTES, log_up};
 use std::alloc::Global;
 
@@ -70,11 +71,8 @@ pub fn serve_log<H: Shelf, O: Sink, L: Sink>(
     ensures { Serves MOST_LOG_BYTES IsReportOfLog name.now (shelf_use H.files H.faults shelf.old shelf.new) result
         (sink_use O.taken O.faults O.stopped out.old out.new) (sink_use L.taken L.faults L.stopped log.old log.new) }
 {
-    match shelf.fetch(alloc, name, MOST_LOG_BYTES as u64) {
-        Fetch::Bytes(text) => tell_log(alloc, &text, out, log),
-        Fetch::NoSuch => deliver(NOT_READ, out, b"", log, b"no such file\n"),
-        Fetch::TooLong => deliver(NOT_READ, out, b"", log, b"file too long\n"),
-        Fetch::Failed => NOT_READ,
-        Fetch::NoMemory => NO_MEMORY,
+    match fetched(alloc, name, MOST_LOG_BYTES as u64, shelf, out, log) {
+        Ok(text) => tell_log(alloc, &text, out, log),
+        Err(status) => status,
     }
 }

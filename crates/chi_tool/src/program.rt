@@ -1,6 +1,6 @@
 //! What is done with the program that a source comes to.
 
-ghost use Rattle.std.specs.Prelude.{◌≡◌, ◌<◌, ◌^◌, Some, IfOk, option_map, slice_get};
+ghost use Rattle.std.specs.Prelude.{◌<◌, ◌^◌, IfOk, option_map};
 ghost use Rattle.chi_core.specs.Picks as picks;
 ghost use Rattle.chi_core.specs.Sound.{Sound};
 ghost use Rattle.chi_sched.specs.Policies.{Answers};
@@ -8,7 +8,7 @@ ghost use Rattle.chi_tool.specs.Report.{IsReportOfRun, IsReportOfProgram};
 ghost use Rattle.chi_tool.specs.Reported.{report_in};
 ghost use Rattle.chi_tool.specs.Settings.{IsBoundedFor, program_aim, wanted_of};
 
-use crate::arguments::{is_misfit, unfit};
+use crate::arguments::{Arguments, arguments_of};
 use crate::code::report_of_code;
 use crate::refusal::one_line;
 use crate::report::Reported;
@@ -17,42 +17,12 @@ use crate::settings::Terms;
 use crate::status::ACCEPTED;
 use crate::task::{Asked, ProgramPurpose};
 use chi_base::NoMemory;
-use chi_cli::{Pick, read_args, values_are_of_parameters};
-use chi_core::{Core, ProcDef};
+use chi_cli::Pick;
+use chi_core::Core;
 use chi_sched::{Chooser, First, Last, Spread};
 use chi_token::Bytes;
 use chi_trace::Sieve;
 use std::alloc::Global;
-
-/// The report of the run on these terms, with the arguments that the texts mean, or the refusal of these.
-fn run_model<P: Chooser + Drop, S: Sieve + Drop>(
-    alloc: Global,
-    core: &Core,
-    model: &ProcDef,
-    texts: &[Bytes],
-    terms: Terms<P, S>,
-) -> Result<Reported, NoMemory>
-    requires sound { Sound core.now }
-    requires model { slice_get core.now.procs core.now.model ≡ Some model.now }
-    requires bound { terms.bound < 2 ^ 63 }
-    ensures { IfOk result (λ r. (pick : picks.Pick) → Answers (P.gives terms.policy) pick
-        → IsReportOfRun core.now (record { seed = terms.seed; bound = terms.bound; pick = pick; texts = texts.now; until = terms.until; trace = option_map S.keeps_to terms.trace }) (report_in r)) }
-{
-    values_are_of_parameters();
-    let params = model.params.as_slice();
-    if u32::try_from(params.len()).is_err() {
-        return Err(NoMemory);
-    }
-    match read_args(alloc, params, texts) {
-        Ok(arguments) => run(alloc, core, arguments, terms),
-        Err(fault) => {
-            if !is_misfit(fault) {
-                return Err(NoMemory);
-            }
-            unfit(alloc, params.len(), texts.len(), fault)
-        }
-    }
-}
 
 /// The report of a program that is to be run on these terms.
 pub fn report_of_run<P: Chooser + Drop, S: Sieve + Drop>(
@@ -66,14 +36,14 @@ pub fn report_of_run<P: Chooser + Drop, S: Sieve + Drop>(
     ensures { IfOk result (λ r. (pick : picks.Pick) → Answers (P.gives terms.policy) pick
         → IsReportOfRun core.now (record { seed = terms.seed; bound = terms.bound; pick = pick; texts = texts.now; until = terms.until; trace = option_map S.keeps_to terms.trace }) (report_in r)) }
 {
-    match core.procs.as_slice().get(core.model as usize) {
-        Some(model) => run_model(alloc, core, model, texts, terms),
-        None => unreachable!(),
+    match arguments_of(alloc, core, texts)? {
+        Arguments::Unfit(refusal) => Ok(refusal),
+        Arguments::Fit(arguments) => run(alloc, core, arguments, terms),
     }
 }
 
 /// The same, with the policy that words ask for.
-fn run_asked(alloc: Global, core: &Core, asked: &Asked) -> Result<Reported, NoMemory>
+fn run_asked(alloc: Global, core: &Core, asked: &Asked<Pick>) -> Result<Reported, NoMemory>
     requires sound { Sound core.now }
     requires bound { asked.now.terms.bound < 2 ^ 63 }
     ensures { IfOk result (λ r. IsReportOfRun core.now (wanted_of asked.now) (report_in r)) }

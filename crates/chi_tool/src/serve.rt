@@ -7,14 +7,15 @@ ghost use Rattle.chi_tool.specs.Reported.{report_in};
 ghost use Rattle.chi_tool.specs.Settings.{IsBounded, IsBoundedFor, aim_of, plain, program_aim, simulates, wanted_of};
 
 use crate::deliver::deliver;
+use crate::fetching::fetched;
 use crate::layout::report_of_layout;
 use crate::program::report_of_program;
 use crate::report::Reported;
 use crate::source::{Source, read};
-use crate::status::{NO_MEMORY, NOT_READ};
+use crate::status::NO_MEMORY;
 use crate::task::{ProgramPurpose, Purpose, unasked};
 use chi_base::NoMemory;
-use chi_io::{Fetch, Shelf, Sink};
+use chi_io::{Shelf, Sink};
 use chi_lex::MOST_BYTES;
 use chi_load::{MOST_MACHINES, factory};
 use std::alloc::Global;
@@ -102,11 +103,8 @@ pub fn serve<H: Shelf, O: Sink, L: Sink>(
     ensures { Serves MOST_BYTES (IsReportFor (aim_of purpose.now)) name.now (shelf_use H.files H.faults shelf.old shelf.new) result
         (sink_use O.taken O.faults O.stopped out.old out.new) (sink_use L.taken L.faults L.stopped log.old log.new) }
 {
-    match shelf.fetch(alloc, name, MOST_BYTES as u64) {
-        Fetch::Bytes(source) => tell(alloc, &source, purpose, out, log),
-        Fetch::NoSuch => deliver(NOT_READ, out, b"", log, b"no such file\n"),
-        Fetch::TooLong => deliver(NOT_READ, out, b"", log, b"file too long\n"),
-        Fetch::Failed => NOT_READ,
-        Fetch::NoMemory => NO_MEMORY,
+    match fetched(alloc, name, MOST_BYTES as u64, shelf, out, log) {
+        Ok(source) => tell(alloc, &source, purpose, out, log),
+        Err(status) => status,
     }
 }

@@ -19,6 +19,10 @@ pub struct Terms<P, S> {
     pub trace: Option<S>,
 }
 
+/// Stands for a policy where the picks of a file are to be it.
+#[derive(Clone, Copy, Debug)]
+pub struct ByPicks;
+
 impl<P> Terms<P, Filter> {
     /// The same, with a policy in place of what names it.
     pub fn with<Q>(&self, policy: Q) -> Terms<Q, Filter>

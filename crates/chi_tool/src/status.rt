@@ -12,6 +12,9 @@ pub const ACCEPTED: u8 = 0;
 /// The code of a program is listed.
 pub const LISTED: u8 = 0;
 
+/// The picks of a run don't fit.
+pub const MISPICKED: u8 = 26;
+
 /// A source is laid out.
 pub const LAID_OUT: u8 = 0;
 

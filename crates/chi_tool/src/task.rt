@@ -1,24 +1,27 @@
 ghost use Rattle.std.specs.Prelude.{◌≡◌, IfOk};
 ghost use Rattle.chi_tool.specs.Settings.{plain};
 
-use crate::settings::Terms;
+use crate::settings::{ByPicks, Terms};
 use chi_base::{Items, NoMemory};
 use chi_cli::{Pick, STEPS};
 use chi_token::Bytes;
 use chi_trace::Filter;
 use std::alloc::Global;
 
+/// The most bytes of a second file.
+pub const MOST_BESIDE: usize = 67_108_864;
+
 /// What a run is asked for with, beside its program.
 #[derive(Debug, Drop)]
-pub struct Asked {
-    /// With the policy by its name.
-    pub terms: Terms<Pick, Filter>,
+pub struct Asked<P> {
+    /// With what names the policy.
+    pub terms: Terms<P, Filter>,
     /// Those of the model's arguments.
     pub texts: Items<Bytes>,
 }
 
 /// What a run is asked for with where the words say nothing of it.
-pub fn unasked(alloc: Global) -> Result<Asked, NoMemory>
+pub fn unasked(alloc: Global) -> Result<Asked<Pick>, NoMemory>
     ensures { IfOk result (λ asked. asked ≡ plain) }
 {
     Ok(Asked {
@@ -36,7 +39,7 @@ pub fn unasked(alloc: Global) -> Result<Asked, NoMemory>
 /// What is done with a program.
 #[derive(Debug, Drop)]
 pub enum ProgramPurpose {
-    Simulate(Asked),
+    Simulate(Asked<Pick>),
     Check,
     /// Its code is listed.
     ListCode,
@@ -51,11 +54,29 @@ pub enum Purpose {
     LayOut,
 }
 
+/// What is done with a source and the text of a second file.
+#[derive(Debug, Drop)]
+pub enum PairPurpose {
+    /// Its program is run by the picks of the text.
+    Replay(Asked<ByPicks>),
+}
+
+/// Two files, and what is done with what they hold.
+#[derive(Debug, Drop)]
+pub struct Pair {
+    /// It holds a source.
+    pub file: Bytes,
+    pub beside: Bytes,
+    pub purpose: PairPurpose,
+}
+
 /// What is done, and with what.
 #[derive(Debug, Drop)]
 pub enum Task {
     /// With the source that a file holds.
     OfFile { file: Bytes, purpose: Purpose },
+    /// With the source that a file holds, and the text of another.
+    OfPair(Pair),
     /// The log that a file holds is brought up.
     OfLog { file: Bytes },
     /// A factory of this size is run.

@@ -6,6 +6,7 @@ ghost use Rattle.chi_tool.specs.Headline.{Headline, Causes, IsComplete};
 use crate::deliver::deliver;
 use crate::laws::{one_code_law, one_run_law, report_law};
 use crate::logs::serve_log;
+use crate::pairs::serve_pair;
 use crate::serve::{serve, serve_factory};
 use crate::status::{NO_MEMORY, NO_REQUEST};
 use crate::task::Task;
@@ -63,6 +64,7 @@ pub fn chi<H: Shelf, O: Sink, L: Sink>(
             Task::OfFile { file, purpose } => {
                 serve(alloc, file.as_slice(), &purpose, shelf, out, log)
             }
+            Task::OfPair(pair) => serve_pair(alloc, &pair, shelf, out, log),
             Task::OfLog { file } => serve_log(alloc, file.as_slice(), shelf, out, log),
             Task::OfFactory { size } => serve_factory(alloc, size, out, log),
         },

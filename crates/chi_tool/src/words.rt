@@ -1,9 +1,10 @@
 ghost use Rattle.std.specs.Prelude.{◌≡◌};
 ghost use Rattle.chi_tool.specs.Words.{is_refusal, task_of};
 
-use crate::settings::{Terms, trace_by};
-use crate::task::{Asked, ProgramPurpose, Purpose, Task};
+use crate::settings::{ByPicks, Terms, trace_by};
+use crate::task::{Asked, Pair, PairPurpose, ProgramPurpose, Purpose, Task};
 use chi_cli::{CliFault, Request};
+use chi_trace::Filter;
 
 /// What a request wants to be done.
 pub fn task_of(request: Request) -> Task
@@ -46,6 +47,29 @@ pub fn task_of(request: Request) -> Task
             purpose: Purpose::LayOut,
         },
         Request::Load { n } => Task::OfFactory { size: n },
+        Request::Replay {
+            file,
+            picks,
+            args,
+            seed,
+            bound,
+            until,
+            trace,
+        } => {
+            let terms = Terms {
+                seed,
+                bound,
+                policy: ByPicks,
+                until,
+                trace: trace_by(trace, Filter::All),
+            };
+            let asked = Asked { terms, texts: args };
+            Task::OfPair(Pair {
+                file,
+                beside: picks,
+                purpose: PairPurpose::Replay(asked),
+            })
+        }
         Request::TraceUp { file } => Task::OfLog { file },
     }
 }

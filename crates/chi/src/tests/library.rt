@@ -1,4 +1,4 @@
-//! The library call: a source is simulated by a policy.
+//! The library calls: a source is simulated by a policy, and by a list of picks.
 
 ghost use Rattle.std.specs.Prelude.{◌≡◌, ◌<◌};
 ghost use Rattle.chi_sched.specs.Policies.{listed};
@@ -6,7 +6,7 @@ ghost use Rattle.chi_sched.specs.Policies.{listed};
 use crate::tests::Wanted;
 use chi_io::MemSink;
 use chi_sched::{Chooser, First, Last, Listed, Policy, Spread, listed_of};
-use chi_tool::simulate;
+use chi_tool::{replay, simulate};
 use std::alloc::Global;
 use std::process::Abort;
 use std::test::Fail;
@@ -103,17 +103,42 @@ fn expect_replayed(
     expect_by(rt, alloc, policy, 1_000, true, wanted)
 }
 
+/// The picks of the policy `last`; where there are none, the first choice is taken.
+const LAST_PICKS: [u64; 15] = [0, 0, 0, 0, 2, 0, 2, 0, 1, 0, 1, 0, 1, 0, 1];
+
+const BY_LAST: Wanted = Wanted {
+    out: "2\n1\n",
+    log: "trace 2\n0 local 0 M 1\n1 local 0 M 1\n2 local 3 R 1\n3 local 3 R 1\n4 local 2 S 1\n5 pair 2 0 3 0 0 2\n\
+         6 local 3 R 1\n7 local 3 R 1\n8 local 1 S 1\n9 pair 1 0 3 0 0 1\n10 local 3 R 1\ncompleted at time 0.0\n",
+    status: 0,
+};
+
 #[test]
 fn a_stored_closure_replays_a_run(rt: HostRuntime) -> Result<(), Fail> {
-    // the picks of the policy `last`; where there are none, the first choice is taken
-    let picks = [0, 0, 0, 0, 2, 0, 2, 0, 1, 0, 1, 0, 1, 0, 1];
-    let picks = Vec::from_slice(rt.alloc(), &picks)?;
-    let last = Wanted {
-        out: "2\n1\n",
-        log: "trace 2\n0 local 0 M 1\n1 local 0 M 1\n2 local 3 R 1\n3 local 3 R 1\n4 local 2 S 1\n5 pair 2 0 3 0 0 2\n\
-             6 local 3 R 1\n7 local 3 R 1\n8 local 1 S 1\n9 pair 1 0 3 0 0 1\n10 local 3 R 1\ncompleted at time 0.0\n",
-        status: 0,
-    };
-    expect_by(&rt, rt.alloc(), Last, 1_000, true, last)?;
-    expect_replayed(&rt, rt.alloc(), picks, last)
+    let picks = Vec::from_slice(rt.alloc(), &LAST_PICKS)?;
+    expect_by(&rt, rt.alloc(), Last, 1_000, true, BY_LAST)?;
+    expect_replayed(&rt, rt.alloc(), picks, BY_LAST)
+}
+
+#[test]
+fn a_run_is_replayed_by_its_picks(rt: HostRuntime) -> Result<(), Fail> {
+    let mut out = MemSink::new(rt.alloc(), 65_536, 65_536, Vec::new(rt.alloc()))?;
+    let mut log = MemSink::new(rt.alloc(), 65_536, 65_536, Vec::new(rt.alloc()))?;
+    let source = STARTED.as_bytes();
+    let status = replay(
+        rt.alloc(),
+        source,
+        &[],
+        0,
+        1_000,
+        None,
+        &LAST_PICKS,
+        true,
+        &mut out,
+        &mut log,
+    );
+    assert_eq!(rt; log.bytes(), BY_LAST.log.as_bytes());
+    assert_eq!(rt; out.bytes(), BY_LAST.out.as_bytes());
+    assert_eq!(rt; status, BY_LAST.status);
+    Ok(())
 }

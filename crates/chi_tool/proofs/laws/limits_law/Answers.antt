@@ -12,5 +12,6 @@ returns c = record {
   most_steps = refl;
   shown = refl;
   log = refl;
+  beside = refl;
   machines = refl;
 }

@@ -1,4 +1,4 @@
-use Rattle.chi_tool.proofs.LawClauses.{AnswerLaw, RunLaw, CodeLaw, CheckLaw, LogLaw}
+use Rattle.chi_tool.proofs.LawClauses.{AnswerLaw, RunLaw, CodeLaw, CheckLaw, LogLaw, PicksLaw}
 use Rattle.chi_tool.proofs.Reports.{report_some, report_one}
 use Rattle.chi_tool.proofs.laws.report_law.Goals as goal
 
@@ -9,7 +9,8 @@ returns c =
     let coded : CodeLaw = record { some = c.one_code_law.ensures.some; one = c.one_code_law.ensures.one } in
     let check : CheckLaw = record { whole = c.parsed_programs_are_sound.ensures.whole; sound = c.parsed_programs_are_sound.ensures.sound } in
     let log_law : LogLaw = record { some = c.logs_law.ensures.some; one_log = c.logs_law.ensures.one_log; one_line = c.logs_law.ensures.one_line; apart = c.logs_law.ensures.apart } in
+    let picks : PicksLaw = record { some = c.picks_law.ensures.some; one_list = c.picks_law.ensures.one_list; one_line = c.picks_law.ensures.one_line; apart = c.picks_law.ensures.apart } in
     record {
-      some = report_some answers runs coded check c.values_are_of_parameters.ensures log_law c.numbers_are_in_range.ensures;
-      one = report_one answers runs coded check c.values_are_of_parameters.ensures log_law;
+      some = report_some answers runs coded check c.values_are_of_parameters.ensures picks log_law c.numbers_are_in_range.ensures;
+      one = report_one answers runs coded check c.values_are_of_parameters.ensures picks log_law;
     }

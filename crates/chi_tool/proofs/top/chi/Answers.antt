@@ -2,15 +2,16 @@ use Rattle.std.proofs.Common.{◌≡◌, refl, sym, subst, ◌∙◌}
 use Rattle.chi_cli.specs.Saying.{texts}
 use Rattle.chi_lex.specs.declared.lexer.TheConstants.{MOST_BYTES}
 use Rattle.chi_trace.specs.declared.log.TheConstants.{MOST_LOG_BYTES}
-use Rattle.chi_tool.specs.declared.task.Task.TheVariants.{OfFile, OfLog, OfFactory}
+use Rattle.chi_tool.specs.declared.task.Task.TheVariants.{OfFile, OfPair, OfLog, OfFactory}
 use Rattle.chi_tool.specs.Report.{IsReportOfLog, IsReportFor}
 use Rattle.chi_tool.specs.Settings.{aim_of}
 use Rattle.chi_tool.specs.Words.{task_of}
 use Rattle.chi_tool.proofs.Contents.{source_of_file, log_of_file}
 use Rattle.chi_tool.proofs.Factories.{factory-headline, factory-causes, factory-complete}
 use Rattle.chi_tool.proofs.LawClauses.{RunLaw, CodeLaw, ReportLaw}
-use Rattle.chi_tool.proofs.Promises.{names_file, served-headline, usage-headline, lost-headline}
-use Rattle.chi_tool.proofs.Served.{served-causes, served-complete, usage-causes, usage-complete, lost-causes, lost-complete}
+use Rattle.chi_tool.proofs.TwoFiles.{names_pair}
+use Rattle.chi_tool.proofs.Promises.{names_file, usage-headline, lost-headline}
+use Rattle.chi_tool.proofs.Served.{served-headline, served-causes, served-complete, pair-headline, pair-causes, pair-complete, usage-causes, usage-complete, lost-causes, lost-complete}
 use Rattle.chi_tool.proofs.Sinks.{still}
 use Rattle.chi_tool.proofs.Wishes.{IsBoundedWish, bounded_wish, wish_task, wish_nothing}
 use Rattle.chi_tool.proofs.top.chi.Goals as goal
@@ -44,6 +45,33 @@ pub returns-in-OfFile-clause-untouched : goal.returns-in-OfFile-clause-untouched
 returns-in-OfFile-clause-untouched g c =
     λ none. absurd (names_file (OfFile c.in-OfFile.file c.in-OfFile.purpose) c.in-OfFile.file MOST_BYTES (IsReportFor (aim_of c.in-OfFile.purpose)) (source_of_file c.in-OfFile.file c.in-OfFile.purpose) _
     (wish_task (texts c.args.words.now) c.in-Ok.request (OfFile c.in-OfFile.file c.in-OfFile.purpose) c.in-Ok.ensures.request c.in-OfFile.ensures) none)
+
+pub serve_pair-requires-clause-bounded : goal.serve_pair-requires-clause-bounded
+serve_pair-requires-clause-bounded g c =
+    subst IsBoundedWish (wish_task (texts c.args.words.now) c.in-Ok.request (OfPair c.in-OfPair.pair) c.in-Ok.ensures.request c.in-OfPair.ensures) (bounded_wish c.numbers_are_in_range.ensures (texts c.args.words.now))
+
+pub returns-in-OfPair-clause-headline : goal.returns-in-OfPair-clause-headline
+returns-in-OfPair-clause-headline g c =
+    let law : ReportLaw = record { some = c.report_law.ensures.some; one = c.report_law.ensures.one } in
+    pair-headline c.in-OfPair.pair _ (wish_task (texts c.args.words.now) c.in-Ok.request (OfPair c.in-OfPair.pair) c.in-Ok.ensures.request c.in-OfPair.ensures) law c.serve_pair.ensures
+
+pub returns-in-OfPair-clause-causes : goal.returns-in-OfPair-clause-causes
+returns-in-OfPair-clause-causes g c =
+    let law : ReportLaw = record { some = c.report_law.ensures.some; one = c.report_law.ensures.one } in
+    let coded : CodeLaw = record { some = c.one_code_law.ensures.some; one = c.one_code_law.ensures.one } in
+    pair-causes c.in-OfPair.pair _ (wish_task (texts c.args.words.now) c.in-Ok.request (OfPair c.in-OfPair.pair) c.in-Ok.ensures.request c.in-OfPair.ensures) law coded c.serve_pair.ensures
+
+pub returns-in-OfPair-clause-complete : goal.returns-in-OfPair-clause-complete
+returns-in-OfPair-clause-complete g c =
+    let law : ReportLaw = record { some = c.report_law.ensures.some; one = c.report_law.ensures.one } in
+    let coded : CodeLaw = record { some = c.one_code_law.ensures.some; one = c.one_code_law.ensures.one } in
+    let runs : RunLaw = record { some = c.one_run_law.ensures.some; one = c.one_run_law.ensures.one } in
+    pair-complete c.in-OfPair.pair _ (wish_task (texts c.args.words.now) c.in-Ok.request (OfPair c.in-OfPair.pair) c.in-Ok.ensures.request c.in-OfPair.ensures) law coded runs
+    c.values_are_of_parameters.ensures c.numbers_are_in_range.ensures c.serve_pair.ensures
+
+pub returns-in-OfPair-clause-untouched : goal.returns-in-OfPair-clause-untouched
+returns-in-OfPair-clause-untouched g c =
+    λ none. absurd (names_pair c.in-OfPair.pair _ (wish_task (texts c.args.words.now) c.in-Ok.request (OfPair c.in-OfPair.pair) c.in-Ok.ensures.request c.in-OfPair.ensures) none)
 
 pub returns-in-OfLog-clause-headline : goal.returns-in-OfLog-clause-headline
 returns-in-OfLog-clause-headline g c =

@@ -1,7 +1,8 @@
 -- The stored closure gives, for each question, what the list has.
 use Rattle.std.proofs.Common.{◌∙◌, ℕ, sym}
 use Rattle.chi_sched.specs.Policies.{listed}
-use Rattle.chi_sched.proofs.Boxed.{lawful_box, read_alike, listed_below}
+use Rattle.chi_sched.proofs.Boxed.{lawful_box, read_alike}
+use Rattle.chi_sched.specs.Formulas.{listed_below}
 use Rattle.chi.proofs.tests.library.expect_replayed.OwnLists.{own-1, at-1-1}
 use Rattle.chi.proofs.tests.library.expect_replayed.Goals as goal
 
