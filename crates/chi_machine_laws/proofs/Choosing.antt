@@ -33,7 +33,7 @@ module _ (core : Core) (code : Code) where
   instances_alike : (is : List Instance) (hs : List Held) → Pairwise (InstanceAt core code) is hs → map bare is ≡ map instance_of hs
   instances_alike _ _ none = refl
   instances_alike _ _ (more i h is hs at r) =
-      λ j. record { definition = sym at.definition j; variables = sym at.variables j; term = []; state = state_alike at.process.slots h.frame.under h.at i.term i.state h.standing at.state j } ∷ instances_alike is hs r j
+      λ j. record { definition = sym at.definition j; variables = []; term = []; state = state_alike at.process.slots h.frame.under h.at i.term i.state h.standing at.state j } ∷ instances_alike is hs r j
 
   configs_alike : (c : Config) (m : Whole) → Stands core code c m → bare_config c ≡ config_of m
   configs_alike c m st = λ j. record {

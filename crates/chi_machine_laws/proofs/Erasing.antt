@@ -1,4 +1,4 @@
--- What may come next doesn't depend on what is left to do, or on the bodies of offers.
+-- What may come next doesn't depend on variables, on what is left to do, or on the bodies of offers.
 use Rattle.std.proofs.Common.{◌≡◌, ℕ, zero, suc, ℤ, List, [], ◌∷◌, ◌++◌, map, length, Option, Some, None, cond, refl, ap, ◌∙◌}
 use Rattle.std.proofs.lemmas.List.{length-map}
 use Rattle.std.specs.Prelude.{slice_get, option_map, filter, nat_eq, nat_lt, not, ◌&&◌, ◌+◌, ◌*◌}
@@ -24,7 +24,7 @@ bare_state (Joining numbers) = Joining numbers
 bare_state Finished = Finished
 
 abbrev pub bare : Instance → Instance
-bare i = record { definition = i.definition; variables = i.variables; term = []; state = bare_state i.state }
+bare i = record { definition = i.definition; variables = []; term = []; state = bare_state i.state }
 
 abbrev pub bare_config : Config → Config
 bare_config config = record config { instances = map bare config.instances }

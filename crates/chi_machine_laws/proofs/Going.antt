@@ -10,11 +10,11 @@ use Rattle.chi_code.specs.ExpressionLayout.{Has}
 use Rattle.chi_exec_law.specs.Runs.{End, Goes, Ends, taken, Goal, Just, Reaches, Leads, Brings, above}
 use Rattle.chi_exec_law.specs.State.{State, state, Frame}
 use Rattle.chi_exec_law.specs.Instructions.{by_truth}
-use Rattle.chi_exec_law.specs.Machine.{class_of, stops_at, step}
+use Rattle.chi_exec_law.specs.Machine.{class_of, past_work, stops_at, step}
 use Rattle.chi_exec_law.proofs.Going.{leads_step, reaches_step, then_brings, taken_brings}
 use Rattle.chi_exec_law.proofs.Lifting as lifting
 use Rattle.chi_exec_law.proofs.Moving.{rests_at}
-use Rattle.chi_machine_laws.specs.Deeds.{Brought, Rest, Within, deed, acts_itself, past_work, setting, moves}
+use Rattle.chi_machine_laws.specs.Deeds.{Brought, Rest, Within, deed, acts_itself, setting, moves}
 
 -- the first of two things that are done before a third
 pub in_order : {A B C : Type 0} (a : Answer A) (f : A → Does B) (g : B → Does C) → then_do a (λ x now. then_do (f x now) g) ≡ then_do (then_do a f) g

@@ -32,13 +32,13 @@ use Rattle.chi_code.specs.ExpressionLayout.{Has}
 use Rattle.chi_code.specs.StatementLayout.{BlockAt, GuardAt, no_guard, a_guard, CommAt, sends, sends_void, receives, receives_void, delays, waits_for_timer, AltsAt, no_alternative, one_alternative, AltAt, guarded as guarded_at, unwinds as unwinds_at}
 use Rattle.chi_exec_law.specs.Runs.{taken, Goal, Just, Brings}
 use Rattle.chi_exec_law.specs.State.{Turning, Walking, State, state, frame_of, on_stack}
-use Rattle.chi_exec_law.specs.Machine.{class_of, step}
+use Rattle.chi_exec_law.specs.Machine.{class_of, past_work, step}
 use Rattle.chi_exec_law.specs.Laws.{Calls}
 use Rattle.chi_exec_law.proofs.Going.{leads_step, after, then_brings, fewer, brings_here, taken_brings, truth_brings}
 use Rattle.chi_exec_law.proofs.Moving.{acts}
 use Rattle.chi_exec_law.proofs.Expressions.{expr_runs}
 use Rattle.chi_machine_laws.specs.Instances.{Kept, Held}
-use Rattle.chi_machine_laws.specs.Deeds.{Brought, Deed, Within, keep, behind, offers_on, deed, past_work, setting, moves}
+use Rattle.chi_machine_laws.specs.Deeds.{Brought, Deed, Within, keep, behind, offers_on, deed, setting, moves}
 use Rattle.chi_machine_laws.specs.Parts.{Opened as OpenedAt, opened_so}
 use Rattle.chi_machine_laws.specs.Stands.{Pairwise, OfferAt}
 use Rattle.chi_machine_laws.proofs.Going.{in_order, lift, first, two_ways, does, ends_so}

@@ -20,7 +20,7 @@ use Rattle.chi_core.specs.declared.statement.CStat.{out-CStat}
 use Rattle.chi_core.specs.declared.view.View.{View}
 use Rattle.chi_core.specs.Answer.{Answer, Gives, Fails, Spent, Amiss, Does, then_do, gives, wanted, giving, in_turn}
 use Rattle.chi_core.specs.Config as instance
-use Rattle.chi_core.specs.Config.{Config, Instance, rested, settled, run_of, value_in, with_instance, with_view}
+use Rattle.chi_core.specs.Config.{Config, Instance, settled, run_of, value_in, with_instance, with_view}
 use Rattle.chi_core.specs.Evaluation.{Run}
 use Rattle.chi_core.specs.Opening.{Opening, opened}
 use Rattle.chi_core.specs.Performing as meaning
@@ -51,14 +51,14 @@ use Rattle.chi_exec_law.proofs.Standing.{settle}
 use Rattle.chi_exec_law.proofs.Items.{stat_runs, item_runs}
 use Rattle.chi_exec_law.proofs.Bodies.{calls_run}
 use Rattle.chi_machine_laws.specs.Instances.{Waiting, Joining, Held, Whole}
-use Rattle.chi_machine_laws.specs.Deeds.{Brought, nothing, Rest, Pauses, Waits, Joins, Exits, resting, behind, exit_by, shown_in, text_by, joins_on, standing_at, held_there, Within, deed, setting, moves}
+use Rattle.chi_machine_laws.specs.Deeds.{Brought, nothing, Rest, Pauses, Waits, Joins, Exits, resting, behind, exit_by, shown_in, text_by, joins_on, held_there, Within, deed, setting, moves}
 use Rattle.chi_machine_laws.specs.Labels.{held_at, with_held, GoesOn, After, paused, waited, joined}
 use Rattle.chi_machine_laws.specs.Parts.{Opened, opened_so, Made, made_so}
-use Rattle.chi_machine_laws.specs.Stands.{none, StateAt, waits as waits_so, joins as joins_so, InstanceAt, Stands}
+use Rattle.chi_machine_laws.specs.Stands.{none, waits as waits_so, joins as joins_so, InstanceAt, Stands}
 use Rattle.chi_machine_laws.proofs.Going.{in_order, lift, beside, ends_so, deed_brings}
 use Rattle.chi_machine_laws.proofs.Openings.{alts_run}
 use Rattle.chi_machine_laws.proofs.Pairs.{pairs_length}
-use Rattle.chi_machine_laws.proofs.Standing.{within_of, ready_state, stands_after, stands_started}
+use Rattle.chi_machine_laws.proofs.Standing.{within_of, ready_instance, stands_after, stands_started}
 use Rattle.chi_machine_laws.proofs.Startings.{elems_run}
 
 one_more : (n : ℕ) (xs : List Value) (rest : Option (List ℕ)) (o : Option (List ℕ)) → (n ≡ length xs) ⊎ (rest ≡ None) → (suc n ≡ suc (length xs)) ⊎ (option_and_then (before rest) o ≡ None)
@@ -157,10 +157,10 @@ module _ (core : Core) (code : Code) (codes : Codes core code) (config : Config)
         ends_so w (i.Mark _) a [] (frame_of variables under) view (item_line code.instrs in_process process.slots i.Done around under x term a h) refl b _ refl
 
     rests_at : (around : List Around) (under : List Turning) (term : Term) (a : ℕ) → Stood around under term a → (variables : Variables) (b : Brought) (view : View)
-        → (z : ℕ) × Reaches (moves w) (Bare a [] variables under view, b) (Rests (Pauses (Bare z [] variables under view) b)) × StateAt code.instrs process.slots under z term (rested term instance.Running) (standing_at (slice_get code.instrs z))
+        → (z : ℕ) × Reaches (moves w) (Bare a [] variables under view, b) (Rests (Pauses (Bare z [] variables under view) b)) × ReadyAt code.instrs in_process process.slots i.Done around under term z
     rests_at around under term a t variables b view =
         let r = settle (setting w) in_process process.slots i.Done [] (frame_of variables under) [] view refl around under term a t in
-        (r.0, reaches_on (moves w) _ _ _ (lift w _ _ b r.2) (rests_ready around under term r.0 r.1 variables b view), ready_state code.instrs process.slots around under term r.0 r.1)
+        (r.0, reaches_on (moves w) _ _ _ (lift w _ _ b r.2) (rests_ready around under term r.0 r.1 variables b view), r.1)
 
     -- it goes on with its term
     goes_ends : (around : List Around) (under : List Turning) (term : Term) (a : ℕ) → Stood around under term a → (variables : Variables) (text : List ℕ) (view : View)
@@ -174,7 +174,7 @@ module _ (core : Core) (code : Code) (codes : Codes core code) (config : Config)
           (
             with_held m p (held_there code definition s.frame s.at) [] view,
             paused s b,
-            stands_after core code config m st p view (record it { variables = variables; term = term; state = instance.Running }) _ (record { definition = same; variables = refl; process = process; is = defined; state = r.2 }),
+            stands_after core code config m st p view (record it { variables = variables; term = term; state = instance.Running }) _ (ready_instance core code process it.definition defined definition same variables variables refl around under term r.0 r.2),
           ),
         )
 
@@ -289,7 +289,7 @@ module _ (core : Core) (code : Code) (codes : Codes core code) (config : Config)
                     with_held m p held hs now,
                     paused s b,
                     stands_started core code config m st p now (record it { variables = after; state = instance.Running }) held made hs
-                        (record { definition = same; variables = refl; process = process; is = defined; state = r.2 }) all,
+                        (ready_instance core code process it.definition defined definition same after after refl around under it.term r.0 r.2) all,
                   ),
                 )
 

@@ -1,24 +1,24 @@
 -- The machine's state after a step of one instance stands for the configuration after it.
-use Rattle.std.proofs.Common.{◌≡◌, ℕ, List, [], ◌∷◌, ◌++◌, map, length, refl, sym, subst}
+use Rattle.std.proofs.Common.{◌≡◌, ℕ, List, [], ◌∷◌, ◌++◌, map, length, Some, refl, sym, subst}
 use Rattle.std.proofs.lemmas.List.{append-nil}
 use Rattle.std.specs.Prelude.{slice_get, slice_set}
-use Rattle.chi_types.specs.declared.ty.Ty.{Ty}
 use Rattle.chi_core.specs.declared.program.Core.{Core}
+use Rattle.chi_core.specs.declared.program.ProcDef.{ProcDef}
 use Rattle.chi_core.specs.declared.view.View.{View}
 use Rattle.chi_core.specs.Config as config
-use Rattle.chi_core.specs.Config.{Config, Instance, rested, settled, has_finished, with_instance, with_view, scene_of, view_of}
+use Rattle.chi_core.specs.Config.{Config, Instance, settled, has_finished, with_instance, with_view, scene_of, view_of}
 use Rattle.chi_core.specs.Terms.{Term}
+use Rattle.chi_core.specs.Variables.{Variables}
 use Rattle.chi_code.specs.declared.code.Around.{Around}
 use Rattle.chi_code.specs.declared.code.Code.{Code}
-use Rattle.chi_code.specs.declared.instr.Instr.{Instr}
 use Rattle.chi_code.specs.declared.instr.Instr.TheVariants as i
 use Rattle.chi_code.specs.Codes.{in_process, Codes}
-use Rattle.chi_exec_law.specs.State.{Turning}
+use Rattle.chi_exec_law.specs.State.{Turning, frame_of}
 use Rattle.chi_exec_law.specs.Standing.{ReadyAt, over}
 use Rattle.chi_exec_law.proofs.Lines.{item_line}
 use Rattle.chi_machine_laws.specs.Instances.{Standing, Held, Whole}
 use Rattle.chi_machine_laws.specs.Choosing.{state_of, instance_of}
-use Rattle.chi_machine_laws.specs.Deeds.{standing_at, Within}
+use Rattle.chi_machine_laws.specs.Deeds.{held_by, held_there, Within}
 use Rattle.chi_machine_laws.specs.Labels.{scene_at, within_at, view_at, with_held}
 use Rattle.chi_machine_laws.specs.Stands.{Pairwise, none, more, StateAt, runs, waits, joins, ends, InstanceAt, Stands}
 use Rattle.chi_machine_laws.proofs.Pairs.{pairs_length, pairs_append, pairs_set}
@@ -42,11 +42,17 @@ all_finished_alike core code _ _ none = refl
 all_finished_alike core code _ _ (more i h is hs at r) = λ j. finished_alike core code i h at j ∷ all_finished_alike core code is hs r j
 
 -- before a turn an instance runs, and at the end it has finished
-pub ready_state : (code : List Instr) (slots : List Ty) (around : List Around) (under : List Turning) (term : Term) (a : ℕ) → ReadyAt code in_process slots i.Done around under term a
-    → StateAt code slots under a term (rested term config.Running) (standing_at (slice_get code a))
-ready_state code slots _ _ [] _ (over a e) = subst (λ o. StateAt code slots [] a [] config.Finished (standing_at o)) (sym e) (ends a e)
-ready_state code slots around under (x ∷ term) a h =
-    subst (λ o. StateAt code slots under a (x ∷ term) config.Running (standing_at o)) (sym (item_line code in_process slots i.Done around under x term a h)) (runs around under x term a h)
+module _ (core : Core) (code : Code) (process : ProcDef) (k : ℕ) (is : slice_get core.procs k ≡ Some process) (definition : ℕ) (same : definition ≡ k) (its held : Variables) (equal : held ≡ its) where
+  abbrev Goes_on : Term → Instance
+  Goes_on term = settled (record { definition = k; variables = its; term = term; state = config.Running })
+
+  pub ready_instance : (around : List Around) (under : List Turning) (term : Term) (a : ℕ) → ReadyAt code.instrs in_process process.slots i.Done around under term a
+      → InstanceAt core code (settled (record { definition = k; variables = its; term = term; state = config.Running })) (held_there code definition (frame_of held under) a)
+  ready_instance _ _ [] _ (over a e) =
+      subst (λ o. InstanceAt core code (Goes_on []) (held_by definition (frame_of held []) a o)) (sym e) (record { definition = same; variables = refl; process = process; is = is; state = ends a e })
+  ready_instance around under (x ∷ term) a h =
+      subst (λ o. InstanceAt core code (Goes_on (x ∷ term)) (held_by definition (frame_of held under) a o)) (sym (item_line code.instrs in_process process.slots i.Done around under x term a h))
+      (record { definition = same; variables = equal; process = process; is = is; state = runs around under x term a h })
 
 -- what a run works within, by the configuration
 abbrev pub within_of : Core → Code → Config → Within

@@ -13,19 +13,18 @@ use Rattle.chi_core.specs.declared.fault.FaultKind.TheVariants.{TooManyInstances
 use Rattle.chi_core.specs.declared.limits.TheConstants.{MOST_INSTANCES}
 use Rattle.chi_core.specs.declared.program.Core.{Core}
 use Rattle.chi_core.specs.declared.program.ProcDef.{ProcDef}
-use Rattle.chi_core.specs.declared.statement.CStat.{CStat, out-CStat}
+use Rattle.chi_core.specs.declared.statement.CStat.{CStat}
 use Rattle.chi_core.specs.declared.target.CTarget.{CTarget}
 use Rattle.chi_core.specs.declared.view.View.{View}
 use Rattle.chi_core.specs.Answer.{Answer, Gives, Fails, Spent, Amiss, Does, then_do, gives, wanted, giving, through}
-use Rattle.chi_core.specs.Config as config
-use Rattle.chi_core.specs.Config.{Instance, new_instance, rested, settled}
+use Rattle.chi_core.specs.Config.{Instance, new_instance, settled}
 use Rattle.chi_core.specs.Evaluation.{Run, eval, Evaluates}
 use Rattle.chi_core.specs.Reading.{elements_of}
 use Rattle.chi_core.specs.Spots.{Spot, spot_of}
 use Rattle.chi_core.specs.Starting as starting
 use Rattle.chi_core.specs.Starting.{Started, taking, started_by, numbered, made_by, Starts, told_at, makes, unwound, starts}
 use Rattle.chi_core.specs.Terms.{Do}
-use Rattle.chi_core.specs.Variables.{Variables, bound}
+use Rattle.chi_core.specs.Variables.{Variables, variables_of, bound}
 use Rattle.chi_core.proofs.Started.{starts_make, starts_unwind}
 use Rattle.chi_core.proofs.Used as used
 use Rattle.chi_core.proofs.Used.{uses-wanted}
@@ -42,20 +41,20 @@ use Rattle.chi_exec_law.specs.Runs.{Goal, Just, Brings}
 use Rattle.chi_exec_law.specs.State.{Turning, Walking, State, state, frame_of, on_stack, pushed}
 use Rattle.chi_exec_law.specs.Instructions.{index_count, spots_from}
 use Rattle.chi_exec_law.specs.Machine.{step}
-use Rattle.chi_exec_law.specs.Standing.{TermAt, here, over, does}
+use Rattle.chi_exec_law.specs.Standing.{TermAt, here, ReadyAt, over, does}
 use Rattle.chi_exec_law.specs.Laws.{Calls, All}
 use Rattle.chi_exec_law.proofs.Going.{leads_step, after, then_brings, just_brings, fewer, brings_here, taken_brings}
-use Rattle.chi_exec_law.proofs.Lines.{stat_line}
 use Rattle.chi_exec_law.proofs.Moving.{many, acts}
 use Rattle.chi_exec_law.proofs.Expressions.{expr_runs, exprs_run}
 use Rattle.chi_exec_law.proofs.Standing.{block_term}
 use Rattle.chi_exec_law.proofs.Targets.{path_keys, spots_keys, FitTargets, no_spot, spots_back, keys_counted, target_runs}
 use Rattle.chi_machine_laws.specs.Instances.{Held}
-use Rattle.chi_machine_laws.specs.Deeds.{Brought, Within, setting, held_of, standing_at, told, aims_of, spot_in, makes_at, make_on, moves}
+use Rattle.chi_machine_laws.specs.Deeds.{Brought, Within, setting, held_of, told, aims_of, spot_in, makes_at, make_on, moves}
 use Rattle.chi_machine_laws.specs.Parts.{News as NewsAt, Made as MadeAt, made_so}
-use Rattle.chi_machine_laws.specs.Stands.{StateAt, runs, ends, InstanceAt}
+use Rattle.chi_machine_laws.specs.Stands.{InstanceAt}
 use Rattle.chi_machine_laws.proofs.Going.{lift, beside, first, deed_brings}
 use Rattle.chi_machine_laws.proofs.Pairs.{pairs_end}
+use Rattle.chi_machine_laws.proofs.Standing.{ready_instance}
 
 makes_by : (e : CElem) (target : Option CTarget) (process : ℕ) (arguments : List CExpr) → out-CElem e ≡ CElem-F.Make target process arguments → e ≡ element.Make target process arguments
 makes_by e target process arguments h = sym (roll-out-CElem e) ∙ ap roll-CElem h ∙ element.rolls-Make target process arguments
@@ -78,17 +77,16 @@ find code _ _ (suc k) _ _ (one_process d ds entries a b c h e hs) = next (find c
     next (found g p q is at h e) = found g p q is at h e
 
 -- a new instance stands where its process begins
-new_state : (code : List Instr) (slots : List Ty) (body : List CStat) (a z : ℕ) → BlockAt code in_process slots [] body a z → Has code z i.Done
-    → StateAt code slots [] a (map Do body) (rested (map Do body) config.Running) (standing_at (slice_get code a))
-new_state code slots _ _ _ (no_statement _ a) e = subst (λ o. StateAt code slots [] a [] config.Finished (standing_at o)) (sym e) (ends a e)
-new_state code slots _ _ _ (one_statement _ x xs a b z h k) e =
-    subst (λ o. StateAt code slots [] a (Do x ∷ map Do xs) config.Running (standing_at o)) (sym (stat_line code in_process slots [] (out-CStat x) a b h))
-    (runs [] [] (Do x) (map Do xs) a (does [] [] x (map Do xs) a b h
-    (subst (λ u. TermAt code in_process slots i.Done [] [] u b) (append-nil (map Do xs)) (block_term code in_process slots i.Done [] [] xs [] b z k (here [] [] [] z (over z e))))))
+new_ready : (code : List Instr) (slots : List Ty) (body : List CStat) (a z : ℕ) → BlockAt code in_process slots [] body a z → Has code z i.Done → ReadyAt code in_process slots i.Done [] [] (map Do body) a
+new_ready code slots _ _ _ (no_statement _ a) e = over a e
+new_ready code slots _ _ _ (one_statement _ x xs a b z h k) e =
+    does [] [] x (map Do xs) a b h
+    (subst (λ u. TermAt code in_process slots i.Done [] [] u b) (append-nil (map Do xs)) (block_term code in_process slots i.Done [] [] xs [] b z k (here [] [] [] z (over z e))))
 
 pub new_stands : (core : Core) (code : Code) (k : ℕ) (d : ProcDef) (a b : ℕ) (xs : List Value) → slice_get core.procs k ≡ Some d → BlockAt code.instrs in_process d.slots [] d.body a b → Has code.instrs b i.Done
     → InstanceAt core code (settled (new_instance k d xs)) (held_of code k (process_entry d a) xs)
-new_stands core code k d a b xs is at last = record { definition = refl; variables = refl; process = d; is = is; state = new_state code.instrs d.slots d.body a b at last }
+new_stands core code k d a b xs is at last =
+    ready_instance core code d k is k refl (variables_of (length d.slots) xs) (variables_of (length d.slots) xs) refl [] [] (map Do d.body) a (new_ready code.instrs d.slots d.body a b at last)
 
 -- the target, as a list
 abbrev targets_of : Option CTarget → List CTarget

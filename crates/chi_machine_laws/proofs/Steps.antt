@@ -34,14 +34,14 @@ use Rattle.chi_machine_laws.specs.Instances.{Standing, Held, Whole}
 use Rattle.chi_machine_laws.specs.Deeds.{nothing, Rest, Exits, moves, held_there}
 use Rattle.chi_machine_laws.specs.Labels.{Outcome, within_at, view_at, going, name_at, After, exited, broke, spent, Takes, none_left, goes, meets, wakes, joins, advances}
 use Rattle.chi_machine_laws.specs.Laws.{StepsFollow}
-use Rattle.chi_machine_laws.specs.Stands.{StateAt, runs, waits, joins as joins_so, ends, InstanceAt, Stands, Follows}
+use Rattle.chi_machine_laws.specs.Stands.{StateAt, runs, waits, joins as joins_so, ends, VariablesAt, InstanceAt, Stands, Follows}
 use Rattle.chi_machine_laws.proofs.Choosing.{over_alike, due_alike}
 use Rattle.chi_machine_laws.proofs.Pairs.{pairs_get}
 use Rattle.chi_machine_laws.proofs.Performing.{EndsIn, item_ends}
 use Rattle.chi_machine_laws.proofs.Standing.{within_of, withins_alike, views_alike, stands_with}
 use Rattle.chi_machine_laws.proofs.Taking.{goes_on_at, Offered, offered}
 
-names_alike : (core : Core) (code : Code) → Codes core code → (k : ℕ) → name_of core k ≡ name_at code k
+pub names_alike : (core : Core) (code : Code) → Codes core code → (k : ℕ) → name_of core k ≡ name_at code k
 names_alike core code codes k = by_place k code.procs codes.second _ codes.processes
   where
     by_place : (k : ℕ) {ds : List ProcDef} (entries : List Entry) (a z : ℕ) → ProcsAt code.instrs ds entries a z → option_map (λ (d : ProcDef). d.name) (slice_get ds k) ≡ option_map (λ (e : Entry). e.name) (slice_get entries k)
@@ -110,8 +110,8 @@ module _ (core : Core) (code : Code) (codes : Codes core code) (config : Config)
       let ready : ReadyAt code.instrs in_process at.process.slots instr.Done around h.frame.under (x ∷ term) h.at =
       subst (λ u. ReadyAt code.instrs in_process at.process.slots instr.Done around u (x ∷ term) h.at) (sym ue) (subst (ReadyAt code.instrs in_process at.process.slots instr.Done around under (x ∷ term)) (sym pe) r) in
       outcome p (line_of x) h there se (item_line code.instrs in_process at.process.slots instr.Done around h.frame.under x term h.at ready)
-      (name_of core i.definition) (ap (name_at code) at.definition ∙ sym (names_alike core code codes i.definition)) i.variables at.variables
-      (performed core config p (record i { term = term }) x (view_of config left))
+      (name_of core i.definition) (ap (name_at code) at.definition ∙ sym (names_alike core code codes i.definition)) i.variables
+      (subst (λ s. VariablesAt s i.variables h.frame.variables) ie at.variables) (performed core config p (record i { term = term }) x (view_of config left))
       (item_ends core code codes config m st p (line_of x) h.definition at.process (record i { term = term }) at.is at.definition ie around h.frame.under x h.at ready (view_of config left))
 
   local_step : (p : ℕ) (o : Option Instance) → slice_get config.instances p ≡ o → Comes_so (Local p) (local core config p o (view_of config left))
@@ -213,16 +213,16 @@ module _ (core : Core) (code : Code) (codes : Codes core code) (config : Config)
   -- the end of waiting for instances, and time
 
   state_join : (p : ℕ) (i : Instance) (h : Held) → slice_get m.instances p ≡ Some h → (at : InstanceAt core code i h) → (under : List Turning) (place : ℕ) (term : Term) (s : instance.State) (standing : Standing)
-      → StateAt code.instrs at.process.slots under place term s standing → h.frame.under ≡ under → h.at ≡ place → h.standing ≡ standing → i.term ≡ term → Comes_so (Join p) (after_step no_fault (joined_in config p i s (view_of config left)))
-  state_join p i h there at _ _ _ _ _ (runs around under x term place r) ue pe se te = tt
-  state_join p i h there at _ _ _ _ _ (waits around under term place end offers ks all t) ue pe se te = tt
-  state_join p i h there at _ _ _ _ _ (ends place r) ue pe se te = tt
-  state_join p i h there at _ _ _ _ _ (joins_so around under term place numbers t) ue pe se te = by_over (are_over config numbers) refl
+      → StateAt code.instrs at.process.slots under place term s standing → h.frame.under ≡ under → h.at ≡ place → h.standing ≡ standing → i.state ≡ s → i.term ≡ term → Comes_so (Join p) (after_step no_fault (joined_in config p i s (view_of config left)))
+  state_join p i h there at _ _ _ _ _ (runs around under x term place r) ue pe se ie te = tt
+  state_join p i h there at _ _ _ _ _ (waits around under term place end offers ks all t) ue pe se ie te = tt
+  state_join p i h there at _ _ _ _ _ (ends place r) ue pe se ie te = tt
+  state_join p i h there at _ _ _ _ _ (joins_so around under term place numbers t) ue pe se ie te = by_over (are_over config numbers) refl
     where
       by_over : (b : Bool) → are_over config numbers ≡ b → Comes_so (Join p) (after_step no_fault (cond b (Gives (quietly (with_instance config p (record i { state = instance.Running }))) (view_of config left)) answer.Amiss))
       by_over false e = tt
       by_over true e =
-          let g = goes_on_at core code at.process i at.is h.definition at.definition i.variables i.term h.frame at.variables around h.at
+          let g = goes_on_at core code at.process i at.is h.definition at.definition i.variables i.term h.frame (subst (λ s. VariablesAt s i.variables h.frame.variables) ie at.variables) around h.at
           (subst (λ u. TermAt code.instrs in_process at.process.slots instr.Done around u i.term h.at) (sym ue) (subst (TermAt code.instrs in_process at.process.slots instr.Done around under i.term) (sym pe)
           (subst (λ t. TermAt code.instrs in_process at.process.slots instr.Done around under t place) (sym te) t))) in (
             record m { instances = slice_set m.instances p (held_there code h.definition h.frame g.0) },
@@ -234,7 +234,7 @@ module _ (core : Core) (code : Code) (codes : Codes core code) (config : Config)
   join_step p None e = tt
   join_step p (Some i) e =
       let h = pairs_get (InstanceAt core code) config.instances m.instances p i st.instances e in
-      state_join p i h.0 h.1 h.2 h.0.frame.under h.0.at i.term i.state h.0.standing h.2.state refl refl refl refl
+      state_join p i h.0 h.1 h.2 h.0.frame.under h.0.at i.term i.state h.0.standing h.2.state refl refl refl refl refl
 
   advance_step : (o : Option ℤ) → next_due config ≡ o → Comes_so Advance (after_step no_fault (advanced config o (view_of config left)))
   advance_step None e = tt

@@ -25,9 +25,9 @@ use Rattle.chi_machine_laws.specs.Instances.{Standing, Held, Whole}
 use Rattle.chi_machine_laws.specs.Instances as machine
 use Rattle.chi_machine_laws.specs.Deeds.{held_there}
 use Rattle.chi_machine_laws.specs.Labels.{jumps_from, jumps, Resumed, Keeps}
-use Rattle.chi_machine_laws.specs.Stands.{OfferAt, StateAt, runs, waits, joins, ends, InstanceAt, Stands}
+use Rattle.chi_machine_laws.specs.Stands.{OfferAt, StateAt, runs, waits, joins, ends, VariablesAt, InstanceAt, Stands}
 use Rattle.chi_machine_laws.proofs.Pairs.{pairs_get}
-use Rattle.chi_machine_laws.proofs.Standing.{ready_state}
+use Rattle.chi_machine_laws.proofs.Standing.{ready_instance}
 
 module _ (code : List Instr) (slots : List Ty) where
   no_jump : (around : List Around) (under : List Turning) (term : Term) (a : ℕ) → ReadyAt code in_process slots instr.Done around under term a → jumps code a ≡ Ends (Rests a)
@@ -53,7 +53,7 @@ module _ (core : Core) (code : Code) where
       → (z : ℕ) × Reaches (jumps code.instrs) a (Rests z) × InstanceAt core code (settled (record i { variables = variables; term = term; state = instance.Running })) (held_there code definition frame z)
   goes_on_at process i is definition same variables term frame its around a t =
       let r = settles code.instrs process.slots around frame.under term a t in
-      (r.0, r.1, record { definition = same; variables = its; process = process; is = is; state = ready_state code.instrs process.slots around frame.under term r.0 r.2 })
+      (r.0, r.1, ready_instance core code process i.definition is definition same variables frame.variables its around frame.under term r.0 r.2)
 
   module _ (config : Config) (m : Whole) (st : Stands core code config m) where
     -- an offer that the configuration's instance has, the machine's has; and once it is taken both go on alike
@@ -66,11 +66,12 @@ module _ (core : Core) (code : Code) where
 
     offered_by : (p a : ℕ) (h : Held) (i : Instance) (o : Offer) → slice_get m.instances p ≡ Some h → InstanceAt core code i h → (under : List Turning) (place : ℕ) (term : Term) (s : instance.State) (standing : Standing)
         → (process : ProcDef) → slice_get core.procs i.definition ≡ Some process
-        → StateAt code.instrs process.slots under place term s standing → h.frame.under ≡ under → h.standing ≡ standing → i.term ≡ term → slice_get (offers_in s) a ≡ Some o → Offered p a h i o
-    offered_by p a h i o there at _ _ _ _ _ process is (runs around under x term place r) ue se te e = absurd (cc)
-    offered_by p a h i o there at _ _ _ _ _ process is (joins around under term place numbers t) ue se te e = absurd (cc)
-    offered_by p a h i o there at _ _ _ _ _ process is (ends place r) ue se te e = absurd (cc)
-    offered_by p a h i o there at _ _ _ _ _ process is (waits around under term place end offers ks all t) ue se te e =
+        → StateAt code.instrs process.slots under place term s standing → h.frame.under ≡ under → h.standing ≡ standing → i.state ≡ s → i.term ≡ term → slice_get (offers_in s) a ≡ Some o → Offered p a h i o
+    offered_by p a h i o there at _ _ _ _ _ process is (runs around under x term place r) ue se ie te e = absurd (cc)
+    offered_by p a h i o there at _ _ _ _ _ process is (joins around under term place numbers t) ue se ie te e = absurd (cc)
+    offered_by p a h i o there at _ _ _ _ _ process is (ends place r) ue se ie te e = absurd (cc)
+    offered_by p a h i o there at _ _ _ _ _ process is (waits around under term place end offers ks all t) ue se ie te e =
+        let its : h.frame.variables ≡ i.variables = subst (λ s. VariablesAt s i.variables h.frame.variables) ie at.variables in
         let k = pairs_get (OfferAt code.instrs process.slots around end) offers ks a o all e in
         record {
           kept = k.0;
@@ -84,7 +85,7 @@ module _ (core : Core) (code : Code) where
                 held_there code h.definition (frame_of full h.frame.under) g.0,
                 record {
                   bound = bound;
-                  binds = (λ j. bind (k.2.bindings j) (at.variables j)) ∙ binds;
+                  binds = (λ j. bind (k.2.bindings j) (its j)) ∙ binds;
                   full = full;
                   fills = fills;
                   place = g.0;
@@ -98,4 +99,4 @@ module _ (core : Core) (code : Code) where
     pub offered : (p a : ℕ) (i : Instance) (o : Offer) → slice_get config.instances p ≡ Some i → slice_get (offers_in i.state) a ≡ Some o → (h : Held) × Offered p a h i o
     offered p a i o there e =
         let h = pairs_get (InstanceAt core code) config.instances m.instances p i st.instances there in
-        (h.0, offered_by p a h.0 i o h.1 h.2 h.0.frame.under h.0.at i.term i.state h.0.standing h.2.process h.2.is h.2.state refl refl refl e)
+        (h.0, offered_by p a h.0 i o h.1 h.2 h.0.frame.under h.0.at i.term i.state h.0.standing h.2.process h.2.is h.2.state refl refl refl refl e)

@@ -1,5 +1,5 @@
--- What may come next is read off the machine's own state: as of a configuration in which no instance has anything left to
--- do, and no offer has a body. So options, endings, due times and picks are those of the language.
+-- What may come next is read off the machine's own state: as of a configuration in which no instance has variables or
+-- anything left to do, and no offer has a body. So options, endings, due times and picks are those of the language.
 use Rattle.std.specs.Prelude.{[], map}
 use Rattle.chi_core.specs.Config as config
 use Rattle.chi_core.specs.Config.{Config, Instance, Offer, State}
@@ -15,7 +15,7 @@ state_of (Joining numbers) = config.Joining numbers
 state_of Finished = config.Finished
 
 abbrev pub instance_of : Held → Instance
-instance_of h = record { definition = h.definition; variables = h.frame.variables; term = []; state = state_of h.standing }
+instance_of h = record { definition = h.definition; variables = []; term = []; state = state_of h.standing }
 
 abbrev pub config_of : Whole → Config
 config_of m = record {

@@ -7,6 +7,7 @@ use Rattle.chi_core.specs.Config as config
 use Rattle.chi_core.specs.Config.{Config, Offer, Instance, State}
 use Rattle.chi_core.specs.Step as step
 use Rattle.chi_core.specs.Terms.{Item, Term}
+use Rattle.chi_core.specs.Variables.{Variables}
 use Rattle.chi_code.specs.declared.code.Around.{Around}
 use Rattle.chi_code.specs.declared.code.Code.{Code}
 use Rattle.chi_code.specs.declared.instr.Instr.{Instr}
@@ -43,9 +44,14 @@ pub data StateAt (code : List Instr) (slots : List Ty) : List Turning → ℕ �
       → StateAt code slots under a term (config.Joining numbers) (Joining numbers)
   ends : (a : ℕ) → Has code a i.Done → StateAt code slots [] a [] config.Finished Finished
 
+-- Variables are those of an instance; one that has finished keeps none.
+abbrev pub VariablesAt : State → Variables → Variables → Type 0
+VariablesAt config.Finished its held = held ≡ []
+VariablesAt _ its held = held ≡ its
+
 pub record InstanceAt (core : Core) (code : Code) (p : Instance) (h : Held) : Type 0 where
   pub definition : h.definition ≡ p.definition
-  pub variables : h.frame.variables ≡ p.variables
+  pub variables : VariablesAt p.state p.variables h.frame.variables
   pub process : ProcDef
   pub is : slice_get core.procs p.definition ≡ Some process
   pub state : StateAt code.instrs process.slots h.frame.under h.at p.term p.state h.standing
