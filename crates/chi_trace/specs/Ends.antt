@@ -1,4 +1,4 @@
--- Private to proofs: lines cut off a text, and what comes of one that is none of an event.
+-- Lines cut off a text, and what comes of one that is none of an event.
 use Rattle.std.specs.Prelude.{◌≡◌, ◌≢◌, ℕ, ◌+◌, ◌==◌, not, ◌++◌, ◌⊎◌, Bool, true, false, List, []}
 use Rattle.chi_trace.specs.declared.fault.LogFault.{LogFault}
 use Rattle.chi_trace.specs.declared.fault.LogFault.TheVariants.{Form, NoMemory}

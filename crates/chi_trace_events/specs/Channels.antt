@@ -1,4 +1,4 @@
--- Private to proofs: the channel on which a label sends, which is told without its event.
+-- The channel on which a label sends, which is told without its event.
 use Rattle.std.specs.Prelude.{ℕ, Option, Some, None, option_and_then, slice_get}
 use Rattle.chi_core.specs.declared.act.Act.{Act}
 use Rattle.chi_core.specs.declared.act.Act.TheVariants.{Send, Receive, Delay}

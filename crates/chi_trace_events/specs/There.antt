@@ -1,4 +1,4 @@
--- Private to proofs: what an event tells is there.
+-- What an event tells is there.
 use Rattle.std.specs.Prelude.{◌≡◌, ◌≢◌, ℕ, List, [], Option, Some, None, IfSome, IsSomeAnd, IsTrue, slice_get, option_map}
 use Rattle.chi_value.specs.declared.value.Value.{Value}
 use Rattle.chi_value.specs.Plain.{within}

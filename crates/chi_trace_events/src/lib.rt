@@ -1,12 +1,9 @@
 //! The events of a run: what a trace tells of each label, and the traces of whole runs.
 #![tactic(auto)]
 
-mod event;
 mod laws;
 mod plain;
-mod showing;
 mod value;
 
-pub use event::event_of;
 pub use laws::{events_law, trace_law, tracing_law};
-pub use value::MOST_SHOWN;
+pub use value::{MOST_SHOWN, sent_text};

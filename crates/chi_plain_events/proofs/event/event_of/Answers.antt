@@ -1,6 +1,6 @@
 use Rattle.std.proofs.Common.{◌∙◌, sym}
 use Rattle.chi_trace_events.proofs.Unmade.{hidden}
-use Rattle.chi_trace_events.proofs.event.event_of.Goals as goal
+use Rattle.chi_plain_events.proofs.event.event_of.Goals as goal
 
 pub returns-else-is_shown-clause-event : goal.returns-else-is_shown-clause-event
 returns-else-is_shown-clause-event c =

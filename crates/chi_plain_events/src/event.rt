@@ -10,14 +10,13 @@ ghost use Rattle.chi_trace.specs.declared.event.Event.{Event as AnEvent};
 ghost use Rattle.chi_trace.specs.Events.{Fits};
 ghost use Rattle.chi_trace.specs.Filters.{where_shown};
 
-use crate::laws::events_law;
 use crate::showing::is_shown;
-use crate::value::sent_text;
 use chi_base::NoMemory;
 use chi_core::{Act, Core, Label};
 use chi_plain_steps::Configuration;
 use chi_token::Bytes;
 use chi_trace::{Detail, Event, Filter};
+use chi_trace_events::{events_law, sent_text};
 use std::alloc::Global;
 
 /// The name of the definition of instance `pid`.

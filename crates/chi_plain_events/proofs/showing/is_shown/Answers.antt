@@ -1,7 +1,7 @@
 use Rattle.std.proofs.Common.{◌∙◌, ap}
 use Rattle.chi_trace.specs.Filters.{admits}
 use Rattle.chi_trace_events.proofs.Unmade.{shown_told}
-use Rattle.chi_trace_events.proofs.showing.is_shown.Goals as goal
+use Rattle.chi_plain_events.proofs.showing.is_shown.Goals as goal
 
 pub returns : goal.returns
 returns c =
