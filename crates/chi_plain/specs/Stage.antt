@@ -1,5 +1,5 @@
 -- What a runner stands for: a configuration, or the end of a run.
-use Rattle.std.specs.Prelude.{◌≡◌, ℕ, ◌+◌, ◌≤◌, ℤ, List, [], Option, Some, None, option_map, Contains, IsTrue}
+use Rattle.std.specs.Prelude.{◌≡◌, ◌↔◌, ℕ, ◌+◌, ◌≤◌, ℤ, Bool, List, [], Option, Some, None, option_map, Contains, IsTrue}
 use Rattle.chi_value.specs.declared.text.limit.TheConstants.{MOST_TEXT}
 use Rattle.chi_core.specs.declared.program.Core.{Core}
 use Rattle.chi_core.specs.declared.label.Label.{Label}
@@ -84,6 +84,12 @@ abbrev pub MayStep : Stage → Label → Type 0
 MayStep (At config) label = Contains (enabled config) label
 MayStep (Ended end) label = ⊥
 MayStep Lost label = Unit {0}
+
+-- a label costs more there than is left of the bound
+abbrev pub TellsSpent : Core → Stage → Label → ℕ → Bool → Type 0
+TellsSpent core (At config) label left spent = IsTrue spent ↔ (step core config label left ≡ outcome.Spent)
+TellsSpent core (Ended end) label left spent = ⊥
+TellsSpent core Lost label left spent = ⊥
 
 -- What a call that takes a label does, where so much is left of the bound: the step of the semantics, from the
 -- old stage to the new one, with the text that it appends to the output.

@@ -6,19 +6,19 @@ ghost use Rattle.chi_core.specs.Beginning.{start};
 ghost use Rattle.chi_core.specs.Kinds.{kinds_of};
 ghost use Rattle.chi_core.specs.Of.{at_start, AreOf};
 ghost use Rattle.chi_core.specs.Sound.{Sound};
-ghost use Rattle.chi_plain.specs.Stage.{Begun, IsEventAt, actors_at, options_at, enabled_at, verdict_at, clock_at, MayTell, MayStep, Steps, Appends};
+ghost use Rattle.chi_plain.specs.Stage.{Begun, IsEventAt, actors_at, options_at, enabled_at, verdict_at, clock_at, MayTell, MayStep, TellsSpent, Steps, Appends};
 ghost use Rattle.chi_trace.specs.declared.event.Event.{Event as AnEvent};
 ghost use Rattle.chi_trace.specs.Events.{Fits};
 ghost use Rattle.chi_trace.specs.Filters.{where_shown};
 
-use crate::standing::{Standing, standing_of, step};
+use crate::standing::{Standing, spent, standing_of, step};
 use crate::stepped::Stepped;
 use chi_base::NoMemory;
 use chi_core::{Core, Label, Verdict};
 use chi_core_kinds::kinded_law;
+use chi_plain_events::event_of;
 use chi_plain_steps::begin;
 use chi_trace::{Event, Filter};
-use chi_trace_events::event_of;
 use chi_value::Value;
 use std::alloc::Global;
 use std::marker::Model;
@@ -174,6 +174,18 @@ impl<'a> Plain<'a> {
                 let at = watched.configuration();
                 event_of(self.alloc, self.core, at, turn, label, filter)
             }
+            Standing::Ended(_) => unreachable!(),
+            Standing::Lost => Err(NoMemory),
+        }
+    }
+
+    /// Whether a label costs more than is left of the bound. Nothing changes.
+    pub fn spent(&self, label: &Label, left: u64) -> Result<bool, NoMemory>
+        requires { MayStep self.now.stage label.now }
+        ensures { IfOk result (λ spent. TellsSpent self.now.core self.now.stage label.now left spent) }
+    {
+        match &self.standing {
+            Standing::At(watched, _) => spent(self.alloc, self.core, watched, label, left),
             Standing::Ended(_) => unreachable!(),
             Standing::Lost => Err(NoMemory),
         }

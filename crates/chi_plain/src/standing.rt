@@ -1,6 +1,8 @@
-ghost use Rattle.std.specs.Prelude.{◌≡◌, Contains, IfOk};
+ghost use Rattle.std.specs.Prelude.{◌≡◌, ◌↔◌, Contains, IfOk, IsTrue};
+ghost use Rattle.chi_core.specs.Kinded.{Kinded};
 ghost use Rattle.chi_core.specs.Options.{enabled};
 ghost use Rattle.chi_core.specs.Sound.{Sound};
+ghost use Rattle.chi_core.specs.Step.{Spent, step};
 ghost use Rattle.chi_plain.specs.Stage.{At, MayStep, Steps};
 ghost use Rattle.chi_plain_steps.specs.Takings.{Appends};
 ghost use Rattle.chi_plain.specs.Standings.{IsAt, Stands, stage_of, standing_at};
@@ -12,6 +14,7 @@ use chi_base::NoMemory;
 use chi_core::{Core, Label};
 use chi_core_kinds::kinded_law;
 use chi_core_runs::time_law;
+use chi_plain_costs::spends;
 use chi_plain_steps::{Begun, Ending};
 use std::alloc::Global;
 
@@ -90,4 +93,21 @@ pub fn step<'a>(
         Standing::Ended(_) => unreachable!(),
         Standing::Lost => (Standing::Lost, Stepped::NoMemory),
     }
+}
+
+/// Whether a label costs more in a configuration than is left of the bound.
+pub fn spent<'a>(
+    alloc: Global,
+    core: &'a Core,
+    watched: &Watched<'a>,
+    label: &Label,
+    left: u64,
+) -> Result<bool, NoMemory>
+    requires sound { Sound core.now }
+    requires kinded { Kinded core.now watched.now }
+    requires may { Contains (enabled watched.now) label.now }
+    ensures { IfOk result (λ spent. IsTrue spent ↔ (step core.now watched.now label.now left ≡ Spent)) }
+{
+    kinded_law();
+    spends(alloc, core, watched.configuration(), label, left)
 }

@@ -1,4 +1,4 @@
--- Private to proofs: what an own statement of a process comes to, before it is carried out.
+-- What an own statement of a process comes to, before it is carried out.
 use Rattle.std.specs.Prelude.{◌≡◌, ℕ, ℤ, ◌≤◌, List, [], ◌∷◌, length, map, Option, Some, None, Bool, true, false, slice_get, unwrap_or}
 use Rattle.chi_value.specs.declared.value.Value.{Value}
 use Rattle.chi_core.specs.declared.expression.CExpr.{CExpr}

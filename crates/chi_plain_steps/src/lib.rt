@@ -12,5 +12,7 @@ mod stepping;
 
 pub use beginning::{Begun, begin};
 pub use configuration::Configuration;
+pub use deed::Deed;
 pub use ending::Ending;
+pub use performing::own_statement;
 pub use stepping::Went;

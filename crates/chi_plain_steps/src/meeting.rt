@@ -16,7 +16,7 @@ use std::alloc::Global;
 
 impl<'a> Configuration<'a> {
     /// What is used up here, where so much is left of the bound.
-    pub(crate) fn view(&self, left: u64) -> View
+    pub fn view(&self, left: u64) -> View
         ensures { result ≡ view_of self.now left }
     {
         View {

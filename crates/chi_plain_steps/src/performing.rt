@@ -28,7 +28,7 @@ use std::alloc::Global;
 
 /// The statement that comes first, where functions don't have it.
 #[tactic(auto, using(crate::proofs::Owned::owning))]
-fn own_statement<'a>(instance: &Instance<'a>) -> Option<&'a CStat>
+pub fn own_statement<'a>(instance: &Instance<'a>) -> Option<&'a CStat>
     ensures { option_copied result ≡ own_of instance.now.term }
 {
     match instance.first() {
@@ -101,7 +101,7 @@ fn surroundings<'s>(
 
 impl<'a> Configuration<'a> {
     /// What evaluations read here.
-    fn scene<'s>(&'s self, core: &'s Core) -> Surroundings<'s>
+    pub fn scene<'s>(&'s self, core: &'s Core) -> Surroundings<'s>
         ensures scene { scene_in result ≡ scene_of core.now self.now }
         ensures functions { result.functions.now ≡ core.now.funcs }
     {
@@ -116,7 +116,7 @@ impl<'a> Configuration<'a> {
     }
 
     /// What the statement comes to that is the first item of instance `pid`, this one.
-    fn plan(
+    pub fn plan(
         &self,
         alloc: Global,
         core: &'a Core,

@@ -1,0 +1,4 @@
+pub mod Tries
+pub mod Foretold
+pub mod Unspent
+pub mod Labels
