@@ -8,3 +8,4 @@ pub mod Rests
 pub mod Begun
 pub mod Texts
 pub mod Refused
+pub mod Deciding

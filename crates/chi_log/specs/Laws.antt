@@ -1,5 +1,5 @@
 -- What holds of logs: a text is the log of one derivation at most, and how it is told line by line whether it is one.
-use Rattle.std.specs.Prelude.{◌≡◌, ◌≢◌, ℕ, suc, List, [], ◌++◌, Some, None, Contains}
+use Rattle.std.specs.Prelude.{◌≡◌, ◌≢◌, ◌⊎◌, ℕ, suc, List, [], ◌++◌, Some, None, Contains}
 use Rattle.chi_core.specs.declared.label.Label.{Label}
 use Rattle.chi_core.specs.declared.program.Core.{Core}
 use Rattle.chi_core.specs.Beginning.{Beginning}
@@ -31,6 +31,12 @@ OneFirstWrong =
 pub record IsRefused (core : Core) (beginning : Beginning) (bound : ℕ) (text : List ℕ) (k : ℕ) : Type 0 where
   pub not_allowed : IsAllowed core beginning bound text → ⊥
   pub first_wrong : IsFirstWrong core beginning bound text k
+
+-- each text is a log of the program, or has a first wrong line
+abbrev pub EachIsJudged : Type 0
+EachIsJudged =
+    (core : Core) → Sound core → (beginning : Beginning) → IsBeginning core beginning → (bound : ℕ) (text : List ℕ)
+    → IsAllowed core beginning bound text ⊎ ((k : ℕ) × IsRefused core beginning bound text k)
 
 -- reading line by line
 

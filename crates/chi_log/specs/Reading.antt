@@ -1,5 +1,5 @@
 -- Private to proofs: a log that is read line by line, and the run that it tells.
-use Rattle.std.specs.Prelude.{◌≡◌, ◌≢◌, ◌⊎◌, ℕ, suc, List, [], ◌∷◌, ◌++◌, map, Some, Contains}
+use Rattle.std.specs.Prelude.{◌≡◌, ◌≢◌, ◌⊎◌, ℕ, suc, Bool, false, bytes_eq, List, [], ◌∷◌, ◌++◌, map, Option, Some, None, Contains}
 use Rattle.std.specs.List.{flat_map}
 use Rattle.chi_core.specs.declared.label.Label.{Label}
 use Rattle.chi_core.specs.declared.program.Core.{Core}
@@ -111,6 +111,14 @@ pub record IsLineOf (core : Core) (turn : ℕ) (config : Config) (label : Label)
   pub event : Event
   pub told : event_at core turn config label ≡ Some event
   pub is : event_line event ≡ line
+
+-- a line is that of an event, or of a label
+abbrev pub has_line : List ℕ → Option Event → Bool
+has_line line None = false
+has_line line (Some e) = bytes_eq (event_line e) line
+
+abbrev pub has_line_at : Core → ℕ → Config → List ℕ → Label → Bool
+has_line_at core turn config line label = has_line line (event_at core turn config label)
 
 -- the place that a step leads to
 abbrev pub LeadsTo : ℕ → Config → Outcome → List ℕ → Place → Type 0

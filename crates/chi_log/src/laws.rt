@@ -1,6 +1,6 @@
 //! What holds of the logs of runs. The functions compute nothing: their contracts are the laws.
 
-ghost use Rattle.chi_log.specs.Laws.{FirstLineWrong, LabelTooDear, NextLineWrong, NoLineMore, NothingAfterTheEnd, OneFirstWrong, OneLog, ReadingBegins, ReadingEnds, ReadingGoesOn, RestsWithoutNumbers};
+ghost use Rattle.chi_log.specs.Laws.{EachIsJudged, FirstLineWrong, LabelTooDear, NextLineWrong, NoLineMore, NothingAfterTheEnd, OneFirstWrong, OneLog, ReadingBegins, ReadingEnds, ReadingGoesOn, RestsWithoutNumbers};
 
 use chi_core_kinds::kinded_law;
 use chi_trace_events::events_law;
@@ -9,6 +9,14 @@ use chi_trace_events::events_law;
 pub fn one_log_law()
     ensures one_log { OneLog }
     ensures one_line { OneFirstWrong }
+{
+    kinded_law();
+    events_law();
+}
+
+/// Each text is the log of a derivation, or has a first wrong line.
+pub fn judging_law()
+    ensures { EachIsJudged }
 {
     kinded_law();
     events_law();

@@ -2,6 +2,6 @@
 //! their contracts are the laws.
 #![tactic(auto)]
 
-pub use laws::{one_log_law, reading_law};
+pub use laws::{judging_law, one_log_law, reading_law};
 
 mod laws;
