@@ -1,6 +1,11 @@
-mod Offers
-mod Offered
+mod Acted
 mod Bound
-mod Shown
 mod Joined
 mod Many
+mod News
+mod Offered
+mod Offers
+mod Ran
+mod Resumed
+mod Settled
+mod Shown

@@ -1,4 +1,5 @@
 pub mod Kept
 pub mod Keeping
 pub mod Making
+pub mod Resuming
 pub mod Views

@@ -1,13 +1,13 @@
 //! For which instances an instance waits.
 
-ghost use Rattle.std.specs.Prelude.{◌≡◌, ◌≢◌, ◌+◌, ◌<◌, ◌≤◌, ◌^◌, ◌++◌, [], length, IfErr, IfOk, OnOk};
+ghost use Rattle.std.specs.Prelude.{◌≡◌, ◌≢◌, ◌+◌, ◌<◌, ◌^◌, [], length, IfErr, OnOk};
 ghost use Rattle.std.specs.List.{range_with_len};
 ghost use Rattle.chi_core.specs.Answer.{Amiss, Gives};
 ghost use Rattle.chi_core.specs.Performing.{all_named};
 ghost use Rattle.chi_exec.specs.Views.{state_of};
 ghost use Rattle.chi_exec_law.specs.Runs.{Ends, Rests, Stuck};
 ghost use Rattle.chi_machine_laws.specs.Deeds.{Joins, finish_on, join_on};
-ghost use Rattle.chi_machine_runs.specs.Views.{brought_of, Failed};
+ghost use Rattle.chi_machine_runs.specs.Views.{brought_of, done_by};
 
 use crate::brought::Brought;
 use crate::opened::Opened;
@@ -45,13 +45,13 @@ pub fn join(
     w: &Within<'_>,
 ) -> Result<(), Stop>
     requires place { m.old.at + 1 < 2 ^ 64 }
-    requires none { brought.old.joins.items ≡ [] }
-    ensures joins { OnOk result (join_on (length w.now.scenery.finished.now) (state_of m.old) (brought_of w.now.code.now opened.now brought.old)
+    ensures joins { OnOk result (done_by (join_on (length w.now.scenery.finished.now)) w.now.code.now m.old opened.now brought.old
         ≡ Ends (Rests (Joins brought.new.joins.items (state_of m.new) (brought_of w.now.code.now opened.now brought.new)))) }
     ensures ends { IfErr result (λ stop. stop ≡ Stop.NoMemory) }
 {
     let count = w.scenery.finished.len();
     let made = brought.made.len();
+    brought.joins.clear();
     number(&mut brought.joins, count, made)?;
     m.at += 1;
     Ok(())
@@ -83,13 +83,13 @@ pub fn finish(
     count: u32,
 ) -> Result<(), Stop>
     requires place { m.old.at + 1 < 2 ^ 64 }
-    requires none { brought.old.joins.items ≡ [] }
-    requires sound { finish_on count (state_of m.old) (brought_of w.now.code.now opened.now brought.old) ≢ Stuck }
-    ensures joins { OnOk result (finish_on count (state_of m.old) (brought_of w.now.code.now opened.now brought.old)
+    requires sound { done_by (finish_on count) w.now.code.now m.old opened.now brought.old ≢ Stuck }
+    ensures joins { OnOk result (done_by (finish_on count) w.now.code.now m.old opened.now brought.old
         ≡ Ends (Rests (Joins brought.new.joins.items (state_of m.new) (brought_of w.now.code.now opened.now brought.new)))) }
     ensures ends { IfErr result (λ stop. stop ≡ Stop.NoMemory) }
 {
     let values = pop_many(&mut m.stack, count as usize)?;
+    brought.joins.clear();
     name(&mut brought.joins, values.as_slice(), &m.view)?;
     m.at += 1;
     Ok(())

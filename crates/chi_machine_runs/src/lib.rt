@@ -1,20 +1,24 @@
-//! What an instance offers within a step, and what is kept of it.
+//! A run of an instance within a step, by the code; and how one that waited goes on.
 #![tactic(auto)]
 
+mod acting;
 mod brought;
 mod doing;
 mod joining;
 mod made;
+mod making;
 mod offering;
 mod opened;
+mod running;
+mod settling;
 mod speaking;
+mod taken;
 mod within;
 
 pub use brought::Brought;
 pub use doing::Doing;
-pub use joining::{finish, join};
 pub use made::{Made, Room};
-pub use offering::{delay, receive, send, send_void, timer};
 pub use opened::{Binding, Carried, Kept, Opened};
-pub use speaking::{exit, write};
+pub use running::run;
+pub use settling::settle;
 pub use within::Within;

@@ -1,17 +1,16 @@
 //! What an instance offers.
 
-ghost use Rattle.std.specs.Prelude.{◌≡◌, ◌≢◌, ◌+◌, ◌<◌, ◌^◌, reverse, IfErr, IfOk, OnOk};
+ghost use Rattle.std.specs.Prelude.{◌≡◌, ◌≢◌, ◌+◌, ◌<◌, ◌^◌, IfErr, IfOk, OnOk};
 ghost use Rattle.chi_core.specs.declared.act.Act.TheVariants as act;
 ghost use Rattle.chi_core.specs.Answer.{Amiss, Gives};
 ghost use Rattle.chi_core.specs.Opening.{delayed_by};
 ghost use Rattle.chi_core_apply.specs.Scenery.{scene_of};
 ghost use Rattle.chi_core_frame.specs.Stops.{Stops};
-ghost use Rattle.chi_exec.specs.Views.{state_of};
 ghost use Rattle.chi_exec_law.specs.Runs.{Goes, Stuck};
 ghost use Rattle.chi_machine_laws.specs.Deeds.{send_on, send_void_on, receive_on, delay_on, timer_on};
 ghost use Rattle.chi_machine_runs.specs.Keeping.{kept_with};
 ghost use Rattle.chi_machine_runs.specs.Kept.{act_of, slot_in};
-ghost use Rattle.chi_machine_runs.specs.Views.{brought_of, Failed};
+ghost use Rattle.chi_machine_runs.specs.Views.{done_by, there, Failed};
 
 use crate::brought::Brought;
 use crate::opened::{Carried, Kept, Opened};
@@ -55,9 +54,9 @@ pub fn send(
     names: &[u32],
 ) -> Result<(), Stop>
     requires place { m.old.at + 1 < 2 ^ 64 }
-    requires sound { send_on place names.now (state_of m.old) (brought_of w.now.code.now opened.old brought.now) ≢ Stuck }
-    ensures goes { OnOk result (send_on place names.now (state_of m.old) (brought_of w.now.code.now opened.old brought.now) ≡ Goes (state_of m.new, brought_of w.now.code.now opened.new brought.now)) }
-    ensures ends { IfErr result (λ stop. Failed stop (send_on place names.now (state_of m.old) (brought_of w.now.code.now opened.old brought.now))) }
+    requires sound { done_by (send_on place names.now) w.now.code.now m.old opened.old brought.now ≢ Stuck }
+    ensures goes { OnOk result (done_by (send_on place names.now) w.now.code.now m.old opened.old brought.now ≡ Goes (there w.now.code.now m.new opened.new brought.now)) }
+    ensures ends { IfErr result (λ stop. Failed stop (done_by (send_on place names.now) w.now.code.now m.old opened.old brought.now)) }
 {
     let value = pop(&mut m.stack);
     let channel = channel_in(&pop(&mut m.stack));
@@ -83,9 +82,9 @@ pub fn send_void(
     names: &[u32],
 ) -> Result<(), Stop>
     requires place { m.old.at + 1 < 2 ^ 64 }
-    requires sound { send_void_on place names.now (state_of m.old) (brought_of w.now.code.now opened.old brought.now) ≢ Stuck }
-    ensures goes { OnOk result (send_void_on place names.now (state_of m.old) (brought_of w.now.code.now opened.old brought.now) ≡ Goes (state_of m.new, brought_of w.now.code.now opened.new brought.now)) }
-    ensures ends { IfErr result (λ stop. Failed stop (send_void_on place names.now (state_of m.old) (brought_of w.now.code.now opened.old brought.now))) }
+    requires sound { done_by (send_void_on place names.now) w.now.code.now m.old opened.old brought.now ≢ Stuck }
+    ensures goes { OnOk result (done_by (send_void_on place names.now) w.now.code.now m.old opened.old brought.now ≡ Goes (there w.now.code.now m.new opened.new brought.now)) }
+    ensures ends { IfErr result (λ stop. Failed stop (done_by (send_void_on place names.now) w.now.code.now m.old opened.old brought.now)) }
 {
     let channel = channel_in(&pop(&mut m.stack));
     let carried = Carried::Nothing;
@@ -110,9 +109,9 @@ pub fn receive(
     kept: Kept,
 ) -> Result<(), Stop>
     requires place { m.old.at + 1 < 2 ^ 64 }
-    requires sound { receive_on kept.place (slot_in kept.carried) names.now (state_of m.old) (brought_of w.now.code.now opened.old brought.now) ≢ Stuck }
-    ensures goes { OnOk result (receive_on kept.place (slot_in kept.carried) names.now (state_of m.old) (brought_of w.now.code.now opened.old brought.now) ≡ Goes (state_of m.new, brought_of w.now.code.now opened.new brought.now)) }
-    ensures ends { IfErr result (λ stop. Failed stop (receive_on kept.place (slot_in kept.carried) names.now (state_of m.old) (brought_of w.now.code.now opened.old brought.now))) }
+    requires sound { done_by (receive_on kept.place (slot_in kept.carried) names.now) w.now.code.now m.old opened.old brought.now ≢ Stuck }
+    ensures goes { OnOk result (done_by (receive_on kept.place (slot_in kept.carried) names.now) w.now.code.now m.old opened.old brought.now ≡ Goes (there w.now.code.now m.new opened.new brought.now)) }
+    ensures ends { IfErr result (λ stop. Failed stop (done_by (receive_on kept.place (slot_in kept.carried) names.now) w.now.code.now m.old opened.old brought.now)) }
 {
     let channel = channel_in(&pop(&mut m.stack));
     offer(m, opened, names, Offer::Receive(channel), kept)
@@ -146,9 +145,9 @@ pub fn delay(
     names: &[u32],
 ) -> Result<(), Stop>
     requires place { m.old.at + 1 < 2 ^ 64 }
-    requires sound { delay_on (scene_of w.now.scenery) place names.now (state_of m.old) (brought_of w.now.code.now opened.old brought.now) ≢ Stuck }
-    ensures goes { OnOk result (delay_on (scene_of w.now.scenery) place names.now (state_of m.old) (brought_of w.now.code.now opened.old brought.now) ≡ Goes (state_of m.new, brought_of w.now.code.now opened.new brought.now)) }
-    ensures ends { IfErr result (λ stop. Failed stop (delay_on (scene_of w.now.scenery) place names.now (state_of m.old) (brought_of w.now.code.now opened.old brought.now))) }
+    requires sound { done_by (delay_on (scene_of w.now.scenery) place names.now) w.now.code.now m.old opened.old brought.now ≢ Stuck }
+    ensures goes { OnOk result (done_by (delay_on (scene_of w.now.scenery) place names.now) w.now.code.now m.old opened.old brought.now ≡ Goes (there w.now.code.now m.new opened.new brought.now)) }
+    ensures ends { IfErr result (λ stop. Failed stop (done_by (delay_on (scene_of w.now.scenery) place names.now) w.now.code.now m.old opened.old brought.now)) }
 {
     let delay = real_in(&pop(&mut m.stack));
     let due = due_after(w.scenery.clock, delay, &m.view)?;
@@ -168,9 +167,9 @@ pub fn timer(
     names: &[u32],
 ) -> Result<(), Stop>
     requires place { m.old.at + 1 < 2 ^ 64 }
-    requires sound { timer_on place names.now (state_of m.old) (brought_of w.now.code.now opened.old brought.now) ≢ Stuck }
-    ensures goes { OnOk result (timer_on place names.now (state_of m.old) (brought_of w.now.code.now opened.old brought.now) ≡ Goes (state_of m.new, brought_of w.now.code.now opened.new brought.now)) }
-    ensures ends { IfErr result (λ stop. Failed stop (timer_on place names.now (state_of m.old) (brought_of w.now.code.now opened.old brought.now))) }
+    requires sound { done_by (timer_on place names.now) w.now.code.now m.old opened.old brought.now ≢ Stuck }
+    ensures goes { OnOk result (done_by (timer_on place names.now) w.now.code.now m.old opened.old brought.now ≡ Goes (there w.now.code.now m.new opened.new brought.now)) }
+    ensures ends { IfErr result (λ stop. Failed stop (done_by (timer_on place names.now) w.now.code.now m.old opened.old brought.now)) }
 {
     let due = due_in(&pop(&mut m.stack));
     let carried = Carried::Nothing;

@@ -1,6 +1,6 @@
 //! The offers of an instance.
 
-ghost use Rattle.std.specs.Prelude.{◌≡◌, ◌≢◌, ◌++◌, ◌<◌, ◌≤◌, [], length, map, take, vec_capacity, None, Some, IfOk, IfErr, OnOk, OnErr};
+ghost use Rattle.std.specs.Prelude.{◌≡◌, ◌≢◌, ◌++◌, ◌<◌, ◌≤◌, [], length, map, take, vec_capacity, None, Some, IfErr, OnOk, OnErr};
 ghost use Rattle.chi_core.specs.Answer.{Amiss, Gives};
 ghost use Rattle.chi_core.specs.Variables.{Bindings, bindings_at};
 ghost use Rattle.chi_core_frame.specs.Stops.{Stops};
@@ -47,11 +47,11 @@ pub struct Binding {
 pub struct Opened {
     alloc: Global,
     /// What waiting lists have.
-    offers: Vec<Offer>,
+    pub(crate) offers: Vec<Offer>,
     /// What is kept beside each.
-    kept: Vec<Kept>,
+    pub(crate) kept: Vec<Kept>,
     /// Those of all offers.
-    bindings: Vec<Binding>,
+    pub(crate) bindings: Vec<Binding>,
 }
 
 impl Model for Opened {

@@ -6,7 +6,7 @@ ghost use Rattle.chi_core.specs.Answer.{Amiss, Gives};
 ghost use Rattle.chi_exec.specs.Views.{state_of};
 ghost use Rattle.chi_exec_law.specs.Runs.{Goes, Ends, Rests, Stuck};
 ghost use Rattle.chi_machine_laws.specs.Deeds.{Exits, exit_by, exit_on, shown_in, text_by, write_on};
-ghost use Rattle.chi_machine_runs.specs.Views.{brought_of, Failed};
+ghost use Rattle.chi_machine_runs.specs.Views.{done_by, there, Failed};
 
 use crate::brought::Brought;
 use crate::opened::Opened;
@@ -65,14 +65,12 @@ pub fn write(
     pieces: &[Piece],
 ) -> Result<(), Stop>
     requires place { m.old.at + 1 < 2 ^ 64 }
-    requires shown { shown_in pieces.now < 2 ^ 64 }
-    requires sound { write_on w.now.code.now.names pieces.now (state_of m.old) (brought_of w.now.code.now opened.now brought.old) ≢ Stuck }
-    ensures goes { OnOk result (write_on w.now.code.now.names pieces.now (state_of m.old) (brought_of w.now.code.now opened.now brought.old) ≡ Goes (state_of m.new, brought_of w.now.code.now opened.now brought.new)) }
-    ensures ends { IfErr result (λ stop. Failed stop (write_on w.now.code.now.names pieces.now (state_of m.old) (brought_of w.now.code.now opened.now brought.old))) }
-    ensures rest { OnOk result (brought.new ≡ record brought.old { text = brought.new.text }) }
+    requires sound { done_by (write_on w.now.scenery.names.now pieces.now) w.now.code.now m.old opened.now brought.old ≢ Stuck }
+    ensures goes { OnOk result (done_by (write_on w.now.scenery.names.now pieces.now) w.now.code.now m.old opened.now brought.old ≡ Goes (there w.now.code.now m.new opened.now brought.new)) }
+    ensures ends { IfErr result (λ stop. Failed stop (done_by (write_on w.now.scenery.names.now pieces.now) w.now.code.now m.old opened.now brought.old)) }
 {
     let values = pop_many(&mut m.stack, shown_in(pieces))?;
-    let text = text_by(w.alloc, &w.code.names, pieces, values.as_slice(), &m.view)?;
+    let text = text_by(w.alloc, w.scenery.names, pieces, values.as_slice(), &m.view)?;
     brought.text.extend_from_slice(text.as_slice())?;
     m.at += 1;
     Ok(())
@@ -95,12 +93,12 @@ fn tell(alloc: Global, names: &Names, value: &Value, view: &View) -> Result<(), 
 /// It ends the run of all, with the value on top.
 #[inline(never)]
 pub fn exit(m: &mut Machine, brought: &mut Brought, w: &Within<'_>) -> Result<(), Stop>
-    requires sound { exit_on w.now.code.now.names (state_of m.old) ≢ Stuck }
-    ensures exits { OnOk result (exit_on w.now.code.now.names (state_of m.old) ≡ Ends (Rests (Exits brought.new.exit))) }
-    ensures ends { IfErr result (λ stop. Failed stop (exit_on w.now.code.now.names (state_of m.old))) }
+    requires sound { exit_on w.now.scenery.names.now (state_of m.old) ≢ Stuck }
+    ensures exits { OnOk result (exit_on w.now.scenery.names.now (state_of m.old) ≡ Ends (Rests (Exits brought.new.exit))) }
+    ensures ends { IfErr result (λ stop. Failed stop (exit_on w.now.scenery.names.now (state_of m.old))) }
 {
     let value = pop(&mut m.stack);
-    tell(w.alloc, &w.code.names, &value, &m.view)?;
+    tell(w.alloc, w.scenery.names, &value, &m.view)?;
     brought.exit = Some(value);
     Ok(())
 }
