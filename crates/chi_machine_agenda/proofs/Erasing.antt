@@ -1,0 +1,196 @@
+-- What may come next doesn't depend on values, variables, or what is left to do.
+use Rattle.std.proofs.Common.{◌≡◌, ℕ, ℤ, List, [], ◌∷◌, ◌++◌, map, length, Option, Some, None, cond, refl, ap, ◌∙◌}
+use Rattle.std.proofs.lemmas.List.{length-map}
+use Rattle.std.specs.Prelude.{slice_get, option_map, filter, nat_eq, nat_lt, not, ◌&&◌, ◌+◌, ◌*◌}
+use Rattle.std.specs.List.{flat_map, list_all}
+use Rattle.std.specs.Option.{option_and_then, option_to_list}
+use Rattle.chi_core.specs.declared.act.Act.{Act}
+use Rattle.chi_core.specs.declared.act.Act.TheVariants.{Send, Receive, Delay}
+use Rattle.chi_core.specs.declared.label.Label.{Label}
+use Rattle.chi_core.specs.declared.label.Label.TheVariants as label
+use Rattle.chi_core.specs.declared.verdict.Verdict.TheVariants.{Completed}
+use Rattle.chi_core.specs.Config.{Config, Instance, Offer, State, Running, Waiting, Joining, Finished, offers_in, has_finished, is_finished}
+use Rattle.chi_core.specs.Meeting.{due_in, least_time, next_due}
+use Rattle.chi_core.specs.Options.{numbers, receives_on, is_receiver, receivers, pairs_with, pairs, options_by, options_for, is_under_way, none_under_way, options_in, options_of, options, actors, advance_to, advance, enabled_of, enabled, Ending, ending_at, stopped_at, at_rest, ending_of, ending}
+use Rattle.chi_core.specs.Picks.{Pick, picked_from, picked_among, picked_label}
+use Rattle.chi_chan_laws.specs.Agreement.{offered_by, offered_as}
+use Rattle.chi_machine_agenda.specs.Laws.{OptionsAlike, ActorsAlike, DueAlike, AdvancesAlike, EnabledAlike, EndingsAlike, PicksAlike}
+use Rattle.chi_machine_agenda.specs.Reading.{act_of, offer_of, state_of, instance_of, config_of, phase_in, phase_of, agenda_of}
+use Rattle.chi_machine_agenda.proofs.Lists.{map-got, map-map}
+
+abbrev bare_offer : Offer → Offer
+bare_offer o = offer_of (offered_as o)
+
+abbrev bare_state : State → State
+bare_state Running = Running
+bare_state (Waiting offers) = Waiting (map bare_offer offers)
+bare_state (Joining numbers) = Joining numbers
+bare_state Finished = Finished
+
+abbrev bare : Instance → Instance
+bare i = record { definition = 0; variables = []; term = []; state = bare_state i.state }
+
+abbrev bare_config : Config → Config
+bare_config config = record {
+  clock = config.clock;
+  draws = [];
+  channels = 0;
+  instances = map bare config.instances;
+  seed = 0;
+  until = config.until;
+  constants = [];
+}
+
+-- that is how a configuration is read off its agenda
+
+read_state : (s : State) → state_of (phase_in s) ≡ bare_state s
+read_state Running = refl
+read_state (Waiting offers) = ap Waiting (map-map offered_as offer_of offers)
+read_state (Joining numbers) = refl
+read_state Finished = refl
+
+read_all : (is : List Instance) → map instance_of (map phase_of is) ≡ map bare is
+read_all [] = refl
+read_all (i ∷ is) = λ j. record { definition = 0; variables = []; term = []; state = read_state i.state j } ∷ read_all is j
+
+read : (c : Config) → config_of (agenda_of c) ≡ bare_config c
+read c = λ j. record { clock = c.clock; draws = []; channels = 0; instances = read_all c.instances j; seed = 0; until = c.until; constants = [] }
+
+same_test : (channel : ℕ) (x : Act) → receives_on channel (act_of (offered_by x)) ≡ receives_on channel x
+same_test channel (Send number v) = refl
+same_test channel (Receive number slot) = refl
+same_test channel (Delay due) = refl
+
+receives : (channel : ℕ) (o : Option Offer) → is_receiver channel (option_map bare_offer o) ≡ is_receiver channel o
+receives channel None = refl
+receives channel (Some o) = same_test channel o.act
+
+received : (channel : ℕ) (offers : List Offer) → receivers channel (map bare_offer offers) ≡ receivers channel offers
+received channel offers = λ j. filter (λ b. (ap (is_receiver channel) (map-got bare_offer offers b) ∙ receives channel (slice_get offers b)) j) (numbers (length-map offers bare_offer j))
+
+offers_bare : (s : State) → offers_in (bare_state s) ≡ map bare_offer (offers_in s)
+offers_bare Running = refl
+offers_bare (Waiting offers) = refl
+offers_bare (Joining numbers) = refl
+offers_bare Finished = refl
+
+finished_bare : (s : State) → is_finished (bare_state s) ≡ is_finished s
+finished_bare Running = refl
+finished_bare (Waiting offers) = refl
+finished_bare (Joining numbers) = refl
+finished_bare Finished = refl
+
+paired_with : (p a channel q : ℕ) (o : Option Instance) → pairs_with p a channel q (option_map bare o) ≡ pairs_with p a channel q o
+paired_with p a channel q None = refl
+paired_with p a channel q (Some i) = ap (λ bs. cond (nat_eq q p) [] (map (λ b. label.Pair p a q b) bs)) (ap (receivers channel) (offers_bare i.state) ∙ received channel (offers_in i.state))
+
+under_way : (o : Option Instance) → is_under_way (option_map bare o) ≡ is_under_way o
+under_way None = refl
+under_way (Some i) = ap not (finished_bare i.state)
+
+same_due : (x : Act) → due_in (act_of (offered_by x)) ≡ due_in x
+same_due (Send channel v) = refl
+same_due (Receive channel slot) = refl
+same_due (Delay due) = refl
+
+module _ (config : Config) where
+  abbrev count_same : length (map bare config.instances) ≡ length config.instances
+  count_same = length-map config.instances bare
+
+  pairs_bare : (p a channel : ℕ) → pairs (bare_config config) p a channel ≡ pairs config p a channel
+  pairs_bare p a channel = λ j. flat_map (λ q. (ap (pairs_with p a channel q) (map-got bare config.instances q) ∙ paired_with p a channel q (slice_get config.instances q)) j) (numbers (count_same j))
+
+  options_by_bare : (p a : ℕ) (x : Act) → options_by (bare_config config) p a (act_of (offered_by x)) ≡ options_by config p a x
+  options_by_bare p a (Send channel x) = pairs_bare p a channel
+  options_by_bare p a (Receive channel slot) = refl
+  options_by_bare p a (Delay t) = refl
+
+  options_for_bare : (p a : ℕ) (o : Option Offer) → options_for (bare_config config) p a (option_map bare_offer o) ≡ options_for config p a o
+  options_for_bare p a None = refl
+  options_for_bare p a (Some o) = options_by_bare p a o.act
+
+  none_bare : (waited : List ℕ) → none_under_way (bare_config config) waited ≡ none_under_way config waited
+  none_bare waited = λ j. list_all (λ q. not ((ap is_under_way (map-got bare config.instances q) ∙ under_way (slice_get config.instances q)) j)) waited
+
+  options_in_bare : (p : ℕ) (s : State) → options_in (bare_config config) p (bare_state s) ≡ options_in config p s
+  options_in_bare p Running = refl
+  options_in_bare p (Waiting offers) =
+      λ j. flat_map (λ a. (ap (options_for (bare_config config) p a) (map-got bare_offer offers a) ∙ options_for_bare p a (slice_get offers a)) j) (numbers (length-map offers bare_offer j))
+  options_in_bare p (Joining waited) = ap (λ b. cond b (label.Join p ∷ []) []) (none_bare waited)
+  options_in_bare p Finished = refl
+
+  options_of_bare : (p : ℕ) (o : Option Instance) → options_of (bare_config config) p (option_map bare o) ≡ options_of config p o
+  options_of_bare p None = refl
+  options_of_bare p (Some i) = options_in_bare p i.state
+
+  options_bare : (p : ℕ) → options (bare_config config) p ≡ options config p
+  options_bare p = ap (options_of (bare_config config) p) (map-got bare config.instances p) ∙ options_of_bare p (slice_get config.instances p)
+
+  actors_bare : actors (bare_config config) ≡ actors config
+  actors_bare = λ j. filter (λ p. nat_lt 0 (length (options_bare p j))) (numbers (count_same j))
+
+  due_offers : (offers : List Offer) → flat_map (λ o. due_in o.act) (map bare_offer offers) ≡ flat_map (λ o. due_in o.act) offers
+  due_offers [] = refl
+  due_offers (o ∷ offers) = λ j. same_due o.act j ++ due_offers offers j
+
+  due_all : (is : List Instance) → flat_map (λ i. flat_map (λ o. due_in o.act) (offers_in i.state)) (map bare is) ≡ flat_map (λ i. flat_map (λ o. due_in o.act) (offers_in i.state)) is
+  due_all [] = refl
+  due_all (i ∷ is) = λ j. (ap (flat_map (λ o. due_in o.act)) (offers_bare i.state) ∙ due_offers (offers_in i.state)) j ++ due_all is j
+
+  next_due_bare : next_due (bare_config config) ≡ next_due config
+  next_due_bare = ap least_time (due_all config.instances)
+
+  advance_bare : advance (bare_config config) ≡ advance config
+  advance_bare = ap (advance_to config) next_due_bare
+
+  enabled_of_bare : (ps : List ℕ) → enabled_of (bare_config config) ps ≡ enabled_of config ps
+  enabled_of_bare [] = ap option_to_list advance_bare
+  enabled_of_bare (p ∷ ps) = λ j. flat_map (λ p. options_bare p j) (p ∷ ps)
+
+  enabled_bare : enabled (bare_config config) ≡ enabled config
+  enabled_bare = ap (enabled_of (bare_config config)) actors_bare ∙ enabled_of_bare (actors config)
+
+  all_over : (is : List Instance) → list_all has_finished (map bare is) ≡ list_all has_finished is
+  all_over [] = refl
+  all_over (i ∷ is) = λ j. finished_bare i.state j && all_over is j
+
+  at_rest_bare : at_rest (bare_config config) ≡ at_rest config
+  at_rest_bare = λ j. cond (all_over config.instances j) (ending_at Completed config) (stopped_so (next_due_bare j) config.until)
+    where
+      stopped_so : Option ℤ → Option ℤ → Ending
+      stopped_so = stopped_at config
+
+  ending_bare : ending (bare_config config) ≡ ending config
+  ending_bare = ap (λ ls. ending_of ls (bare_config config)) enabled_bare ∙ by_labels (enabled config)
+    where
+      by_labels : (ls : List Label) → ending_of ls (bare_config config) ≡ ending_of ls config
+      by_labels [] = ap Some at_rest_bare
+      by_labels (l ∷ ls) = refl
+
+  picked_bare : (pick : Pick) (turn : ℕ) → picked_label pick turn (bare_config config) ≡ picked_label pick turn config
+  picked_bare pick turn = ap (picked_among pick turn (bare_config config)) actors_bare ∙ among (actors config)
+    where
+      among : (ps : List ℕ) → picked_among pick turn (bare_config config) ps ≡ picked_among pick turn config ps
+      among [] = advance_bare
+      among (p ∷ ps) = λ j. option_and_then (λ q. picked_from pick (2 * turn + 1) (options_bare q j)) (picked_from pick (2 * turn) (p ∷ ps))
+
+pub options_alike : OptionsAlike
+options_alike c p = ap (λ x. options x p) (read c) ∙ options_bare c p
+
+pub actors_alike : ActorsAlike
+actors_alike c = ap actors (read c) ∙ actors_bare c
+
+pub due_alike : DueAlike
+due_alike c = ap next_due (read c) ∙ next_due_bare c
+
+pub advances_alike : AdvancesAlike
+advances_alike c = ap advance (read c) ∙ advance_bare c
+
+pub enabled_alike : EnabledAlike
+enabled_alike c = ap enabled (read c) ∙ enabled_bare c
+
+pub endings_alike : EndingsAlike
+endings_alike c = ap ending (read c) ∙ ending_bare c
+
+pub picks_alike : PicksAlike
+picks_alike c pick turn = ap (picked_label pick turn) (read c) ∙ picked_bare c pick turn

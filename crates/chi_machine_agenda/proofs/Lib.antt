@@ -1,0 +1,14 @@
+pub mod Lists
+pub mod Telling
+pub mod Going
+pub mod Times
+pub mod Watching
+pub mod Seats
+pub mod Following
+pub mod More
+pub mod Advancing
+pub mod Phases
+pub mod Erasing
+pub mod Options
+pub mod Due
+pub mod Endings

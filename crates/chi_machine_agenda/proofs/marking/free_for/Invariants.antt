@@ -1,0 +1,9 @@
+use Rattle.std.proofs.Common.{◌≡◌, true, length, drop}
+use Rattle.chi_machine_agenda.specs.Asking.{told_for}
+use Rattle.chi_machine_agenda.proofs.marking.free_for.Given as goal
+
+abbrev pub invariant-loop-offer : goal.invariant-loop-offer
+invariant-loop-offer l = record {
+  told : told_for (λ p. true) l.waiting (drop l.offer-index l.offers) l.ready ≡ told_for (λ p. true) l.waiting l.offers l.fn.ready;
+  room : length l.ready ≡ length l.fn.ready;
+}

@@ -1,0 +1,9 @@
+pub mod Phases
+pub mod Reading
+pub mod Laws
+pub mod Asking
+pub mod Timed
+pub mod Joined
+pub mod Joining
+pub mod Meeting
+pub mod Kept
