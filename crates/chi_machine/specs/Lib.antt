@@ -1,0 +1,12 @@
+pub mod Views
+pub mod Crowds
+pub mod Ends
+pub mod Resuming
+pub mod Takings
+pub mod Runs
+pub mod Sane
+pub mod Went
+pub mod Beginnings
+pub mod Turned
+pub mod Courses
+pub mod Calls

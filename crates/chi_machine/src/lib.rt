@@ -1,0 +1,26 @@
+//! The machine of processes: a program's code to its run, label by label.
+#![tactic(auto)]
+
+mod beginning;
+mod course;
+mod crowd;
+mod instance;
+mod labels;
+mod local;
+mod machine;
+mod meeting;
+mod placing;
+mod running;
+mod starting;
+mod taken;
+mod turn;
+mod world;
+
+pub use beginning::Begun;
+pub use course::Course;
+pub use crowd::Crowd;
+pub use instance::Instance;
+pub use machine::{After, Machine};
+pub use taken::Taken;
+pub use turn::Turn;
+pub use world::World;
