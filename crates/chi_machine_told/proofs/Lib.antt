@@ -1,0 +1,4 @@
+mod Found
+mod Placed
+mod Sent
+mod Told
