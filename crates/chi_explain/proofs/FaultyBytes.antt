@@ -1,5 +1,5 @@
 -- At the place of a bad byte there stands one, on its line.
-use Rattle.std.proofs.Common.{◌≡◌, ℕ, suc, ◌+◌, ◌<◌, ◌==◌, Bool, true, false, cond, not, Option, Some, None, List, [], ◌∷◌, length, drop, take, refl, ap, sym, ◌∙◌, subst, inl, inr, arith}
+use Rattle.std.proofs.Common.{◌≡◌, ℕ, suc, ◌+◌, ◌<◌, false, cond, not, Option, Some, None, List, ◌∷◌, length, drop, take, refl, ap, sym, ◌∙◌, subst, inl, inr, arith}
 use Rattle.std.specs.List.{before_first, prefix_len}
 use Rattle.std.proofs.lemmas.Bool.{cases_Bool, eqb-true, ne_eqb}
 use Rattle.std.proofs.lemmas.List.{drop-drop}
@@ -8,7 +8,7 @@ use Rattle.chi_token.specs.declared.place.Spanned.{Spanned}
 use Rattle.chi_token.specs.Characters.{line_feed, quote}
 use Rattle.chi_lex.specs.declared.fault.LexFault.{LexFault}
 use Rattle.chi_lex.specs.declared.fault.LexFault.TheVariants.{BadByte, OpenString, BadEscape, NoMemory}
-use Rattle.chi_lex.specs.Faults.{IsFaultAt, bad_byte, open_string, bad_escape, bad_byte_in_text, characters_length, after_characters}
+use Rattle.chi_lex.specs.Faults.{IsFaultAt, bad_byte, open_string, bad_escape, bad_byte_in_text, characters_length}
 use Rattle.chi_lex.specs.Gaps.{gap_of}
 use Rattle.chi_lex.specs.Places.{is_line_feed, place_of}
 use Rattle.chi_lex.specs.Reading.{ReadsFrom, at_end, past_gap, past_token, at_fault, HasFault}
