@@ -1,9 +1,11 @@
 -- The line that tells how a run ended.
-use Rattle.std.specs.Prelude.{ℕ, ℤ, List, [], ◌∷◌, ◌++◌, codes, length, Some, None, Bool, true, ◌&&◌}
+use Rattle.std.specs.Prelude.{ℕ, ◌≤◌, ℤ, List, [], ◌∷◌, ◌++◌, codes, length, Some, None, Bool, true, ◌&&◌, IsTrue}
 use Rattle.std.specs.Fmt.{decimal}
 use Rattle.chi_num.specs.RealText.{real_text_of}
 use Rattle.chi_value.specs.Plain.{is_plain, within}
 use Rattle.chi_value.specs.Text.{quoted_text}
+use Rattle.chi_value.specs.declared.text.limit.TheConstants.{MOST_TEXT}
+use Rattle.chi_core.specs.declared.program.Core.{Core}
 use Rattle.chi_core.specs.declared.verdict.Verdict.{Verdict}
 use Rattle.chi_core.specs.declared.verdict.Verdict.TheVariants.{Completed, Exit, Deadlock, Fault, OutOfSteps, Stopped}
 use Rattle.chi_core.specs.Fault.{kind_name}
@@ -30,3 +32,8 @@ verdict_text names Stopped = codes "stopped"
 -- the verdict and the time, and a line feed
 unfoldable pub verdict_line_of : List (List (List ℕ)) → Verdict → ℤ → List ℕ
 verdict_line_of names verdict clock = verdict_text names verdict ++ codes " at time " ++ real_text_of clock ++ 10 ∷ []
+
+-- the line of the verdict of a run of the program can be told
+pub record MayTell (core : Core) (verdict : Verdict) : Type 0 where
+  pub may : IsTrue (may_tell core.names.kinds verdict)
+  pub within : told_length core.names.kinds verdict ≤ MOST_TEXT

@@ -7,6 +7,7 @@ pub mod Time
 pub mod Turns
 pub mod Tellings
 pub mod Bounds
+pub mod Endings
 pub mod Picks
 pub mod Choices
 pub mod OwnNumbers

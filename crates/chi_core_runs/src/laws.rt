@@ -1,6 +1,7 @@
 //! What holds of every run. The functions compute nothing: their contracts are the laws.
 
 ghost use Rattle.chi_core_runs.specs.Choices.{OptionIsPicked, AdvanceIsPicked, PickedMayCome, ActorsHaveOptions, ChoicesAreFew};
+ghost use Rattle.chi_core_runs.specs.Endings.{EachEndingIsTold};
 ghost use Rattle.chi_core_runs.specs.Once.{EachOfOne, EachMayCome};
 ghost use Rattle.chi_core_runs.specs.OwnNumbers.{ListedIsLawful, OwnNumbersPickIt};
 ghost use Rattle.chi_core_runs.specs.Picked.{PickedIsDerived, PickedOnce, PickedAlways};
@@ -85,3 +86,11 @@ pub fn own_numbers_law()
     ensures lawful { ListedIsLawful }
     ensures picks { OwnNumbersPickIt }
 {}
+
+/// The verdict of each derivation of a sound program can be told.
+#[tactic(auto, using(crate::proofs::Endings::each_ending_is_told))]
+pub fn endings_law()
+    ensures told { EachEndingIsTold }
+{
+    kinded_law();
+}

@@ -3,7 +3,8 @@
 #![tactic(auto)]
 
 pub use laws::{
-    choice_law, options_law, own_numbers_law, picked_law, run_law, telling_law, time_law, turn_law,
+    choice_law, endings_law, options_law, own_numbers_law, picked_law, run_law, telling_law,
+    time_law, turn_law,
 };
 
 mod laws;

@@ -2,7 +2,7 @@
 
 ghost use Rattle.std.specs.Prelude.{◌≡◌, ◌↔◌, IfOk, IsTrue};
 ghost use Rattle.chi_core.specs.VerdictLine.{verdict_line_of};
-ghost use Rattle.chi_plain.specs.Stage.{MayTell};
+ghost use Rattle.chi_core.specs.VerdictLine.{MayTell};
 ghost use Rattle.chi_judge.specs.Asking.{IsCutBy, RestsBy};
 
 use crate::asking::{Question, first_label};

@@ -1,24 +1,16 @@
 -- A runner of a sound program stays in kinded configurations, and what it tells can be told.
-use Rattle.std.proofs.Common.{◌≡◌, ◌≢◌, ℕ, ◌-◌, ◌<◌, ◌≤◌, List, [], ◌∷◌, ◌++◌, Option, Some, None, pos, Bool, true, false, cond, sym, ◌∙◌, ap, subst, refl, arith}
-use Rattle.std.specs.Prelude.{IsTrue, ◌&&◌, codes, length}
+use Rattle.std.proofs.Common.{Some, ◌≡◌, ◌≢◌, ℕ, ◌-◌, ◌<◌, ◌≤◌, List, [], Option, sym, ◌∙◌, ap, subst, refl, arith}
 use Rattle.chi_value.specs.declared.value.Value.{Value}
 use Rattle.chi_core.specs.declared.label.Label.{Label}
-use Rattle.chi_core.specs.declared.program.ConstDef.{ConstDef}
 use Rattle.chi_core.specs.declared.program.Core.{Core}
-use Rattle.chi_core.specs.declared.program.ProcDef.{ProcDef}
 use Rattle.chi_core.specs.declared.verdict.Verdict.{Verdict}
-use Rattle.chi_core.specs.declared.verdict.Verdict.TheVariants.{Completed, Exit, Deadlock, Fault, OutOfSteps, Stopped}
-use Rattle.chi_core.specs.Answer as answer
-use Rattle.chi_core.specs.Answer.{Answer, Gives, Fails}
 use Rattle.chi_core.specs.Beginning as beginning
-use Rattle.chi_core.specs.Beginning.{Beginning, Begins, Breaks, model_begins, constant_value, with_constant, begins_after, start}
+use Rattle.chi_core.specs.Beginning.{Beginning, Begins, Breaks, start}
 use Rattle.chi_core.specs.Config.{Config}
 use Rattle.chi_core.specs.Kinded.{Kinded}
-use Rattle.chi_core.specs.Options.{Ending, all_finished, stopped_at, at_rest, ending_of, enabled, ending}
-use Rattle.chi_core.specs.Meeting.{next_due}
-use Rattle.chi_core.specs.Starting.{started_by}
+use Rattle.chi_core.specs.Options.{Ending, ending}
 use Rattle.chi_core.specs.Step.{Outcome, Next, Over, Spent, Amiss, step}
-use Rattle.chi_core_kinds.specs.Keeps.{SoundVerdict, GoesKinded, BeginsKinded}
+use Rattle.chi_core_kinds.specs.Keeps.{GoesKinded, BeginsKinded}
 use Rattle.chi_core_runs.specs.Time.{EachCosts}
 use Rattle.chi_plain_steps.specs.declared.beginning.Begun.{Begun}
 use Rattle.chi_plain_steps.specs.declared.beginning.Begun.TheVariants as begun
@@ -28,64 +20,18 @@ use Rattle.chi_plain.specs.declared.taking.Taken.{Taken}
 use Rattle.chi_plain.specs.declared.taking.Taken.TheVariants as taken
 use Rattle.chi_plain_steps.specs.Begun.{begun_of}
 use Rattle.chi_plain.specs.Stage as stage
-use Rattle.chi_plain.specs.Stage.{MayTell}
+use Rattle.chi_core.specs.VerdictLine.{MayTell}
+use Rattle.chi_core_runs.proofs.Endings as endings
+use Rattle.chi_core_runs.proofs.Endings.{may_tell, breaks_told}
 use Rattle.chi_plain.specs.Standings.{stage_of, standing_at, Stands}
 use Rattle.chi_plain_steps.specs.Takings.{Appends, IsRight}
 use Rattle.chi_plain.specs.Taken.{TakesTo}
 use Rattle.std.proofs.lemmas.List.{append-nil}
 use Rattle.std.proofs.Common.{ℤ}
 
-both_true : (a b : Bool) → IsTrue a → IsTrue b → IsTrue (a && b)
-both_true a b p q = ap (λ x. x && b) p ∙ q
-
-pub may_tell : (core : Core) (v : Verdict) → SoundVerdict core v → MayTell core v
-may_tell core (Exit (Some v)) h = record { may = both_true _ _ h.plain h.named; within = h.short }
-may_tell core (Exit None) h = record { may = refl; within = omega arith }
-may_tell core Completed h = record { may = refl; within = omega arith }
-may_tell core Deadlock h = record { may = refl; within = omega arith }
-may_tell core (Fault kind name line) h = record { may = refl; within = omega arith }
-may_tell core OutOfSteps h = record { may = refl; within = omega arith }
-may_tell core Stopped h = record { may = refl; within = omega arith }
-
 -- the ending where nothing is enabled can be told
 pub rest_told : (core : Core) (config : Config) (end : Ending) → ending config ≡ Some end → MayTell core end.verdict
-rest_told core config end e = by_enabled (enabled config) e
-  where
-    by_stop : (t u : Option ℤ) → SoundVerdict core (stopped_at config t u).verdict
-    by_stop (Some t) (Some u) = tt
-    by_stop (Some t) None = tt
-    by_stop None u = tt
-
-    by_all : (b : Bool) → SoundVerdict core (cond b (record { verdict = Completed; clock = config.clock }) (stopped_at config (next_due config) config.until)).verdict
-    by_all true = tt
-    by_all false = by_stop (next_due config) config.until
-
-    by_enabled : (ls : List Label) → ending_of ls config ≡ Some end → MayTell core end.verdict
-    by_enabled [] e =
-        let same : at_rest config ≡ end = cc in
-        may_tell core end.verdict (subst (λ (x : Ending). SoundVerdict core x.verdict) same (by_all (all_finished config)))
-    by_enabled (l ∷ ls) e = absurd (cc)
-
--- the fault of a constant can be told
-pub breaks_told : (core : Core) (arguments : List Value) (seed : ℕ) (until : Option ℤ) (values : List Value) (cs : List ConstDef) (end : Ending)
-    → begins_after core arguments seed until values cs ≡ Breaks end → MayTell core end.verdict
-breaks_told core arguments seed until values [] end e = by_model (started_by core.procs core.model (length arguments)) e
-  where
-    by_model : (o : Option ProcDef) → model_begins seed until arguments values core.model o ≡ Breaks end → MayTell core end.verdict
-    by_model None e = absurd (cc)
-    by_model (Some d) e = absurd (cc)
-breaks_told core arguments seed until values (c ∷ cs) end e =
-    by_value (λ more. breaks_told core arguments seed until more cs end) (constant_value core seed values c) e
-  where
-    by_value : ((more : List Value) → begins_after core arguments seed until more cs ≡ Breaks end → MayTell core end.verdict)
-        → (m : Answer Value) → with_constant core arguments seed until (λ more. begins_after core arguments seed until more cs) values c m ≡ Breaks end → MayTell core end.verdict
-    by_value later (Gives v view) e = later (values ++ v ∷ []) e
-    by_value later (Fails kind) e =
-        let broken : Ending = record { verdict = Fault kind (codes "const") c.line; clock = pos 0 } in
-        let same : broken ≡ end = cc in
-        may_tell core end.verdict (subst (λ (x : Ending). SoundVerdict core x.verdict) same tt)
-    by_value later answer.Spent e = absurd (cc)
-    by_value later answer.Amiss e = absurd (cc)
+rest_told = endings.rest_told
 
 pub right_of : (core : Core) (o : Outcome) → GoesKinded core o → IsRight o
 right_of core (Next config text left) good = good.few

@@ -1,6 +1,5 @@
 -- What a runner stands for: a configuration, or the end of a run.
-use Rattle.std.specs.Prelude.{◌≡◌, ◌↔◌, ℕ, ◌+◌, ◌≤◌, ℤ, Bool, List, [], Option, Some, None, option_map, Contains, IsTrue}
-use Rattle.chi_value.specs.declared.text.limit.TheConstants.{MOST_TEXT}
+use Rattle.std.specs.Prelude.{◌≡◌, ◌↔◌, ℕ, ◌+◌, ℤ, Bool, List, [], Option, Some, None, option_map, Contains, IsTrue}
 use Rattle.chi_core.specs.declared.program.Core.{Core}
 use Rattle.chi_core.specs.declared.label.Label.{Label}
 use Rattle.chi_core.specs.declared.verdict.Verdict.{Verdict}
@@ -10,7 +9,6 @@ use Rattle.chi_core.specs.Step.{step}
 use Rattle.chi_core.specs.Options.{Ending, options, actors, enabled, ending, ending_at as over_at}
 use Rattle.chi_core.specs.Beginning.{Beginning, Begins, Breaks}
 use Rattle.chi_core.specs.Beginning as beginning
-use Rattle.chi_core.specs.VerdictLine.{may_tell, told_length}
 use Rattle.chi_trace_events.specs.Traces.{event_at}
 use Rattle.chi_trace.specs.declared.event.Event.{Event}
 pub use Rattle.chi_plain_steps.specs.Takings.{Appends}
@@ -67,11 +65,6 @@ abbrev pub clock_at : Stage → Option ℤ
 clock_at (At config) = Some (time_of (ending config) config)
 clock_at (Ended end) = Some end.clock
 clock_at Lost = None
-
--- the line of the verdict can be told
-pub record MayTell (core : Core) (verdict : Verdict) : Type 0 where
-  pub may : IsTrue (may_tell core.names.kinds verdict)
-  pub within : told_length core.names.kinds verdict ≤ MOST_TEXT
 
 -- it is the event of a label at a turn there
 abbrev pub IsEventAt : Core → Stage → ℕ → Label → Event → Type 0

@@ -10,7 +10,8 @@ use Rattle.chi_plain_steps.specs.declared.beginning.Begun.TheVariants as begun
 use Rattle.chi_plain.specs.declared.standing.Standing.{Standing}
 use Rattle.chi_plain.specs.declared.standing.Standing.TheVariants.{At, Ended, Lost}
 use Rattle.chi_plain.specs.Stage as stage
-use Rattle.chi_plain.specs.Stage.{Stage, MayTell}
+use Rattle.chi_core.specs.VerdictLine.{MayTell}
+use Rattle.chi_plain.specs.Stage.{Stage}
 
 -- where a run stands at its beginning
 abbrev pub standing_at : Begun → Standing

@@ -9,11 +9,10 @@ use Rattle.chi_core.specs.Options.{Ending}
 use Rattle.chi_core.specs.Step as outcome
 use Rattle.chi_core.specs.Step.{step}
 use Rattle.chi_trace.specs.declared.filter.Filter.{Filter}
-use Rattle.chi_trace_events.specs.Traces.{event_at, IsTrace}
+use Rattle.chi_trace_events.specs.Traces.{event_at, IsLogged, IsTrace}
 use Rattle.chi_trace_events.specs.Tracing.{TracedSoFar, TraceBegins, TraceGoesOn, TraceIsOver, TraceIsWhole, TraceOfNone}
 use Rattle.chi_plain.specs.Stage.{At}
 use Rattle.chi_core_runs.specs.Turns.{WayBegins, WayGoesOn, WayIsOver, WayIsCutOff, WayRests}
-use Rattle.chi_tool.specs.Running.{IsLogged}
 use Rattle.chi_tool.specs.Turns.{first_log, Logs, LoggedSoFar}
 
 -- the laws of runs that are picked turn by turn, and of their traces

@@ -39,7 +39,8 @@ use Rattle.chi_tool.specs.Refusals.{Report, unfit_arguments}
 use Rattle.chi_tool.specs.Refusals as refusal
 use Rattle.chi_tool.specs.Report.{IsReportOfRun, fit, IsReportByPicks, mispicked, replayed, IsReportOfProgram, IsReportOfSource, program}
 use Rattle.chi_tool.specs.Reported.{report_in}
-use Rattle.chi_tool.specs.Running.{Course, IsLogged, IsRunOf, IsRunReport, MayHave}
+use Rattle.chi_tool.specs.Running.{Course, IsRunOf, IsRunReport, MayHave}
+use Rattle.chi_trace_events.specs.Traces.{IsLogged}
 use Rattle.chi_tool.specs.Settings.{Settings, Wanted, Unpicked, ProgramAim, simulates, replays, checks, lists, Aim, of_program, lays_out, wanted_of, program_aim, aim_of, pair_aim, IsBoundedFor, IsBoundedPair, IsBounded, MayBeAimedAt, MayBeAimed, policy_of, settings_with}
 use Rattle.chi_tool.specs.Sources.{ComesTo}
 use Rattle.chi_tool.specs.Turns.{RunsTo}

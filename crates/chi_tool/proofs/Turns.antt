@@ -17,6 +17,7 @@ use Rattle.chi_core.specs.Options.{Ending, ending_at, actors, options}
 use Rattle.chi_core.specs.Options as option
 use Rattle.chi_core.specs.Picks.{Pick, MayPick}
 use Rattle.chi_core.specs.Runs.{Told}
+use Rattle.chi_core.specs.VerdictLine.{MayTell}
 use Rattle.chi_core_runs.proofs.Lists.{contains-at}
 use Rattle.chi_core_runs.specs.Choices.{OptionIsPicked, AdvanceIsPicked, PickedMayCome, ActorsHaveOptions}
 use Rattle.chi_core_runs.specs.Once.{EachMayCome}
@@ -27,7 +28,7 @@ use Rattle.chi_core.specs.Step.{step}
 use Rattle.chi_plain.specs.declared.stepped.Stepped.{Stepped}
 use Rattle.chi_plain.specs.declared.stepped.Stepped.TheVariants.{Next, Over, Spent}
 use Rattle.chi_plain.specs.Stage as stages
-use Rattle.chi_plain.specs.Stage.{Stage, At, Ended, Lost, Runner, Begun, actors_at, options_at, verdict_at, clock_at, MayTell, MayStep, Steps, Appends}
+use Rattle.chi_plain.specs.Stage.{Stage, At, Ended, Lost, Runner, Begun, actors_at, options_at, verdict_at, clock_at, MayStep, Steps, Appends}
 use Rattle.chi_trace.specs.declared.filter.Filter.{Filter}
 use Rattle.chi_tool.specs.Running.{IsCourse}
 use Rattle.chi_tool.specs.Turns.{GoesOn, PicksAt, EndsWith, first_log, Logs, LogsBy, LoggedSoFar, Leads, IsThere, Keeps}

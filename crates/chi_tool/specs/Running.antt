@@ -1,5 +1,5 @@
 -- What the run of a program is with its settings, and its report.
-use Rattle.std.specs.Prelude.{◌≡◌, ℕ, ◌^◌, ◌<◌, List, [], ◌++◌, Option, Some, None, slice_get}
+use Rattle.std.specs.Prelude.{◌≡◌, ℕ, ◌^◌, ◌<◌, List, ◌++◌, Option, Some, slice_get}
 use Rattle.chi_core.specs.declared.program.Core.{Core}
 use Rattle.chi_core.specs.Beginning.{Beginning, start}
 use Rattle.chi_core.specs.declared.program.ProcDef.{ProcDef}
@@ -9,7 +9,7 @@ use Rattle.chi_core.specs.Picks.{IsLawful, Pick, Picked}
 use Rattle.chi_core.specs.Runs.{Told}
 use Rattle.chi_core.specs.VerdictLine.{verdict_line_of}
 use Rattle.chi_trace.specs.declared.filter.Filter.{Filter}
-use Rattle.chi_trace_events.specs.Traces.{IsTrace}
+use Rattle.chi_trace_events.specs.Traces.{IsLogged}
 use Rattle.chi_tool.specs.Refusals.{Report}
 use Rattle.chi_tool.specs.Settings.{Settings}
 use Rattle.chi_tool.specs.Statuses.{status_of}
@@ -22,11 +22,6 @@ pub record MayHave (core : Core) (s : Settings) : Type 0 where
   pub arguments : AreOf (at_start core.names.kinds) s.arguments (kinds_of model.params)
   pub lawful : IsLawful s.pick
   pub bound : s.bound < 2 ^ 63
-
--- what is logged of a run before the line of its verdict: what is shown of its trace, where that is wanted
-abbrev pub IsLogged : Option Filter → Core → Beginning → ℕ → Told → List ℕ → Type 0
-IsLogged None core beginning bound told log = log ≡ []
-IsLogged (Some probe) core beginning bound told log = IsTrace probe core beginning bound told log
 
 -- all that a run did, and what is logged of it
 pub record Course : Type 0 where

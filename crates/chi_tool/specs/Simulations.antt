@@ -11,7 +11,8 @@ use Rattle.chi_tool.specs.Call.{Call, SinkUse, Took, SinkStood}
 use Rattle.chi_tool.specs.Headline.{IsReportedOrLost, MeetsAlone, HasLexicalFault, HasSyntaxFault, HasTypeFault, EndsAs, IsUnfit, IsExit, IsFault, IsExactly, StoppedByFailure}
 use Rattle.chi_tool.specs.Refusals.{Report}
 use Rattle.chi_tool.specs.Report.{IsReportOfSource}
-use Rattle.chi_tool.specs.Running.{Course, IsLogged, IsRunOf, run_report}
+use Rattle.chi_tool.specs.Running.{Course, IsRunOf, run_report}
+use Rattle.chi_trace_events.specs.Traces.{IsLogged}
 use Rattle.chi_tool.specs.Settings.{Settings, Wanted, simulates, settings_with}
 use Rattle.chi_tool.specs.Sources.{ComesTo}
 use Rattle.chi_tool.specs.Statuses as statuses

@@ -100,3 +100,8 @@ pub record IsTrace (probe : Filter) (core : Core) (beginning : Beginning) (bound
   pub events : List Event
   pub are : events_of core beginning bound told ≡ map Some events
   pub is : text ≡ lines_of (filter (shows probe) events)
+
+-- what is logged of a run before the line of its verdict: what is shown of its trace, where that is wanted
+abbrev pub IsLogged : Option Filter → Core → Beginning → ℕ → Told → List ℕ → Type 0
+IsLogged None core beginning bound told log = log ≡ []
+IsLogged (Some probe) core beginning bound told log = IsTrace probe core beginning bound told log
