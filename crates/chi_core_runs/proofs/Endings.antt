@@ -80,17 +80,20 @@ breaks_told core arguments seed until values (c ∷ cs) end e =
 -- so a run from a kinded configuration ends
 pub run_told : (core : Core) → KeepsKinded core → (labels : List Label) (turn : ℕ) (config : Config) (left : ℕ) (end : Ending) → Kinded core config
     → Runs MayDerive core turn config left labels end → MayTell core end.verdict
+unfolding Runs
 run_told core keeps [] turn config left end kinded (inl rests) = rest_told core config end rests
 run_told core keeps [] turn config left end kinded (inr cut) =
     may_tell core end.verdict (subst (λ (x : Ending). SoundVerdict core x.verdict) (sym cut.out_of_steps) tt)
 run_told core keeps (label ∷ labels) turn config left end kinded run =
-    by_step (step core config label left) (keeps config kinded label run.0 left) run.1
+    by_step (λ new rest good after. run_told core keeps labels (suc turn) new rest end good after)
+    (step core config label left) (keeps config kinded label run.0 left) run.1
   where
-    by_step : (o : Outcome) → GoesKinded core o → After (λ new rest. Runs MayDerive core (suc turn) new rest labels end) o config labels end → MayTell core end.verdict
-    by_step (Next new text rest) good after = run_told core keeps labels (suc turn) new rest end good after
-    by_step (Over verdict) good after = may_tell core end.verdict (subst (λ (x : Ending). SoundVerdict core x.verdict) (sym after.1) good)
-    by_step outcome.Spent good after = absurd after
-    by_step outcome.Amiss good after = absurd after
+    by_step : ((new : Config) (rest : ℕ) → Kinded core new → Runs MayDerive core (suc turn) new rest labels end → MayTell core end.verdict)
+        → (o : Outcome) → GoesKinded core o → After (λ new rest. Runs MayDerive core (suc turn) new rest labels end) o config labels end → MayTell core end.verdict
+    by_step more (Next new text rest) good after = more new rest good after
+    by_step more (Over verdict) good after = may_tell core end.verdict (subst (λ (x : Ending). SoundVerdict core x.verdict) (sym after.1) good)
+    by_step more outcome.Spent good after = absurd after
+    by_step more outcome.Amiss good after = absurd after
 
 pub each_ending_is_told : ((core : Core) → Sound core → BeginsAlways core) → ((core : Core) → Sound core → KeepsKinded core) → EachEndingIsTold
 each_ending_is_told begins keeps core sound beginning' is bound told derived =

@@ -88,7 +88,6 @@ pub fn own_numbers_law()
 {}
 
 /// The verdict of each derivation of a sound program can be told.
-#[tactic(auto, using(crate::proofs::Endings::each_ending_is_told))]
 pub fn endings_law()
     ensures told { EachEndingIsTold }
 {
