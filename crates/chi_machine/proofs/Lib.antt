@@ -7,7 +7,7 @@ mod Ran
 mod Locally
 mod Meetings
 pub mod Timed
-mod Turning
+pub mod Turning
 mod Advancing
 mod Answers
 mod Placed
@@ -15,7 +15,7 @@ mod Added
 mod GoneOn
 mod Rested
 mod Stepped
-mod Turned
+pub mod Turned
 mod Coursed
 mod Begins
 mod Called

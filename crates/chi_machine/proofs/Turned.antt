@@ -1,5 +1,5 @@
--- A turn, by what is picked.
-use Rattle.std.proofs.Common.{◌≡◌, ℕ, suc, ℤ, List, [], ◌∷◌, Option, Some, None, refl, sym, ap, subst, ◌∙◌}
+-- What is picked at a turn, and what taking it comes to.
+use Rattle.std.proofs.Common.{◌≡◌, ◌≢◌, ℕ, suc, ◌+◌, ◌<◌, ◌^◌, ℤ, List, [], ◌∷◌, ◌++◌, Option, Some, None, sym, ap, subst, ◌∙◌, arith}
 use Rattle.chi_sched.specs.Policies.{Answers}
 use Rattle.chi_core.specs.declared.label.Label.{Label}
 use Rattle.chi_core.specs.declared.verdict.Verdict.{Verdict}
@@ -9,76 +9,84 @@ use Rattle.chi_core.specs.Picks.{Pick, picked_label}
 use Rattle.chi_code.specs.declared.code.Code.{Code}
 use Rattle.chi_machine_laws.specs.Choosing.{config_of}
 use Rattle.chi_machine_laws.specs.Laws.{SafeAlways}
-use Rattle.chi_machine_laws.specs.Turns.{event, Ended, Advances, rests, cut_off, over}
+use Rattle.chi_machine_laws.specs.Turns.{Event, event, Ended, Advances}
+use Rattle.chi_machine_laws.specs.Turns as advance
 use Rattle.chi_machine_agenda.specs.Laws.{EndingsAlike, PicksAlike}
 use Rattle.chi_machine_agenda.specs.Reading as agenda
+use Rattle.chi_machine.specs.declared.course.Course.{Course}
 use Rattle.chi_machine.specs.declared.taken.Taken.{Taken}
 use Rattle.chi_machine.specs.declared.taken.Taken.TheVariants.{On, Over, Spent}
 use Rattle.chi_machine.specs.declared.world.World.{World}
-use Rattle.chi_machine.specs.Crowds.{IsCrowd, IsWorld}
+use Rattle.chi_machine.specs.Courses.{IsCourse, IsPicked, EndsBy, over, cut_off, TakesTo}
+use Rattle.chi_machine.specs.Crowds.{IsCrowd}
 use Rattle.chi_machine.specs.Sane.{IsSane}
 use Rattle.chi_machine.specs.Takings.{MayTake, Took}
-use Rattle.chi_machine.specs.Turned.{GoesOnward, EndsThere, TurnsTo, turn_by}
 use Rattle.chi_machine.specs.Views.{whole_of}
 use Rattle.chi_machine.proofs.Timed.{agenda_is}
-use Rattle.chi_machine.proofs.Turning.{is_lawful, picks_on, picks_none, may_take, sane_after}
+use Rattle.chi_machine.proofs.Turning.{is_lawful, picks_none, may_take, sane_after}
 
 pub ending_is : EndingsAlike → (w : World) → IsCrowd w.crowd → ending (agenda.config_of w.crowd.agenda) ≡ ending (config_of (whole_of w))
 ending_is endings w kept = ap (λ a. ending (agenda.config_of a)) (sym (agenda_is w kept)) ∙ endings (config_of (whole_of w))
 
-module _ (safe : SafeAlways) (picks : PicksAlike) (code : Code) (w : World) (kept : IsWorld code w) (turn left : ℕ) (s : IsSane code turn (whole_of w) left) (gives : ℕ → ℕ → ℕ → Type 0) (pick : Pick) (answers : Answers gives pick) where
-  picked_so : (o : Option Label) → o ≡ picked_label pick turn (agenda.config_of w.crowd.agenda) → picked_label pick turn (config_of (whole_of w)) ≡ o
-  picked_so o e = sym (picks (config_of (whole_of w)) pick turn) ∙ ap (λ a. picked_label pick turn (agenda.config_of a)) (agenda_is w kept.crowd) ∙ sym e
+pub picked_is : PicksAlike → (w : World) → IsCrowd w.crowd → (pick : Pick) (turn : ℕ)
+    → picked_label pick turn (agenda.config_of w.crowd.agenda) ≡ picked_label pick turn (config_of (whole_of w))
+picked_is picks w kept pick turn = ap (λ a. picked_label pick turn (agenda.config_of a)) (sym (agenda_is w kept)) ∙ picks (config_of (whole_of w)) pick turn
 
-  module _ (label : Label) (own : Some label ≡ picked_label pick turn (agenda.config_of w.crowd.agenda)) where
-    its : picked_label pick turn (config_of (whole_of w)) ≡ Some label
-    its = picked_so (Some label) own
+-- the policy picks the label, or none, whichever function tells what it answers
+abbrev pub PicksIt : (ℕ → ℕ → ℕ → Type 0) → Course → Option Label → Type 0
+PicksIt gives c o = (pick : Pick) → Answers gives pick → o ≡ picked_label pick c.turn (config_of (whole_of c.world))
 
-    on : ending (config_of (whole_of w)) ≡ None
-    on = picks_on pick turn (config_of (whole_of w)) label its
+pub picked_by : (gives : ℕ → ℕ → ℕ → Type 0) (c : Course) (label : Label) → PicksIt gives c (Some label) → (pick : Pick) → Answers gives pick → IsPicked c label
+picked_by gives c label own pick answers = record { pick = pick; lawful = is_lawful gives pick answers; picked = sym (own pick answers) }
 
-    pub turn_may : MayTake code (whole_of w) label left
-    turn_may = may_take safe code turn left (whole_of w) s pick (is_lawful gives pick answers) label its
+-- where none is picked the run has ended
+pub none_ends : SafeAlways → (code : Code) (c : Course) → IsCourse code c → (gives : ℕ → ℕ → ℕ → Type 0) → PicksIt gives c None → (pick : Pick) → Answers gives pick → ending (config_of (whole_of c.world)) ≢ None
+none_ends safe code c is gives none pick answers = picks_none safe code c.turn c.left (whole_of c.world) is.sane pick (is_lawful gives pick answers) (sym (none pick answers))
 
-    turn_on : (new : World) (text : List ℕ) (rest : ℕ) → Took code (whole_of w) label left (On rest) new text → GoesOnward code pick turn (whole_of w) left rest new text
-    turn_on new text rest t = record {
-      label = label;
-      on = on;
-      picked = its;
-      takes = t.0;
-      kept = t.1;
-      sane = sane_after safe code turn left (whole_of w) s pick (is_lawful gives pick answers) label its (whole_of new) text rest t.0;
-    }
+module _ (safe : SafeAlways) (code : Code) (c : Course) (is : IsCourse code c) (label : Label) (by : IsPicked c label) where
+  pub turn_may : MayTake code (whole_of c.world) label c.left
+  turn_may = may_take safe code c.turn c.left (whole_of c.world) is.sane by.pick by.lawful label by.picked
 
-    turn_over : (new : World) (text : List ℕ) (verdict : Verdict) (clock : ℤ) → clock ≡ w.crowd.agenda.clock → Took code (whole_of w) label left (Over verdict) new text
-        → EndsThere code pick turn (whole_of w) left (record { verdict = verdict; clock = clock }) text
-    turn_over new text verdict clock same t = record {
-      silent = t.1;
-      events = event turn label w.crowd.agenda.clock ∷ [];
-      advances = λ n. subst (λ clock. Advances code pick (suc n) turn (whole_of w) left (event turn label w.crowd.agenda.clock ∷ []) [] (Ended (record { verdict = verdict; clock = clock }))) (sym same)
-          (over n turn left (whole_of w) label verdict on its t.0);
-    }
+  -- the turn may be counted
+  pub turn_counts : c.turn + 1 < 2 ^ 64
+  turn_counts = let b = is.sane.bound.1 in omega (arith, b)
 
-    turn_cut : (new : World) (text : List ℕ) (clock : ℤ) → clock ≡ w.crowd.agenda.clock → Took code (whole_of w) label left Spent new text
-        → EndsThere code pick turn (whole_of w) left (record { verdict = OutOfSteps; clock = clock }) text
-    turn_cut new text clock same t = record {
-      silent = t.1;
-      events = [];
-      advances = λ n. subst (λ clock. Advances code pick (suc n) turn (whole_of w) left [] [] (Ended (record { verdict = OutOfSteps; clock = clock }))) (sym same) (cut_off n turn left (whole_of w) label on its t.0);
-    }
+  module _ (before after : List ℕ) (taken : Taken) (w : World) (t : (text : List ℕ) × (after ≡ before ++ text) × Took code (whole_of c.world) label c.left taken w text) where
+    -- the run goes on
+    pub turn_on : (rest : ℕ) → taken ≡ On rest
+        → (text : List ℕ) × (after ≡ before ++ text) × TakesTo code c label None (record { world = w; turn = c.turn + 1; left = rest }) text
+    turn_on rest e =
+        let took : Took code (whole_of c.world) label c.left (On rest) w t.0 = subst (λ k. Took code (whole_of c.world) label c.left k w t.0) e t.2 in
+        let next : suc c.turn ≡ c.turn + 1 = omega arith in (
+          t.0,
+          t.1,
+          record {
+            takes = took.0;
+            turn = sym next;
+            course = record {
+              kept = took.1;
+              sane = subst (λ n. IsSane code n (whole_of w) rest) next (sane_after safe code c.turn c.left (whole_of c.world) is.sane by.pick by.lawful label by.picked (whole_of w) t.0 rest took.0);
+            };
+          },
+        )
 
-    pub turns_so : (new : World) (text : List ℕ) (taken : Taken) (clock : ℤ) → clock ≡ w.crowd.agenda.clock → Took code (whole_of w) label left taken new text
-        → TurnsTo code pick turn (whole_of w) left (turn_by taken clock) new text
-    turns_so new text (On rest) clock same t = turn_on new text rest t
-    turns_so new text (Over verdict) clock same t = turn_over new text verdict clock same t
-    turns_so new text Spent clock same t = turn_cut new text clock same t
+    module _ (clock : ℤ) (same : clock ≡ c.world.crowd.agenda.clock) (new : Course) (end : Ending) where
+      -- the label ends it
+      pub turn_over : (verdict : Verdict) → taken ≡ Over verdict → end ≡ record { verdict = verdict; clock = clock } → (text : List ℕ) × (after ≡ before ++ text) × TakesTo code c label (Some end) new text
+      turn_over verdict e is =
+          let took : Took code (whole_of c.world) label c.left (Over verdict) w t.0 = subst (λ k. Took code (whole_of c.world) label c.left k w t.0) e t.2 in
+          (t.0, t.1, (subst (EndsBy code c label) (sym is) (subst (λ time. EndsBy code c label (record { verdict = verdict; clock = time })) (sym same) (over verdict took.0)), took.1))
 
-  module _ (endings : EndingsAlike) (none : None ≡ picked_label pick turn (agenda.config_of w.crowd.agenda)) where
-    ending_so : (o : Option Ending) → o ≡ ending (agenda.config_of w.crowd.agenda) → ending (config_of (whole_of w)) ≡ o
-    ending_so o e = sym (endings (config_of (whole_of w))) ∙ ap (λ a. ending (agenda.config_of a)) (agenda_is w kept.crowd) ∙ sym e
+      -- it costs too much
+      pub turn_cut : taken ≡ Spent → end ≡ record { verdict = OutOfSteps; clock = clock } → (text : List ℕ) × (after ≡ before ++ text) × TakesTo code c label (Some end) new text
+      turn_cut e is =
+          let took : Took code (whole_of c.world) label c.left Spent w t.0 = subst (λ k. Took code (whole_of c.world) label c.left k w t.0) e t.2 in
+          (t.0, t.1, (subst (EndsBy code c label) (sym is) (subst (λ time. EndsBy code c label (record { verdict = OutOfSteps; clock = time })) (sym same) (cut_off took.0)), took.1))
 
-    pub turn_rests : (end : Ending) → Some end ≡ ending (agenda.config_of w.crowd.agenda) → EndsThere code pick turn (whole_of w) left end []
-    turn_rests end e = record { silent = refl; events = []; advances = λ n. rests (suc n) turn left (whole_of w) end (ending_so (Some end) e) }
-
-    pub turn_never : None ≡ ending (agenda.config_of w.crowd.agenda) → ⊥
-    turn_never e = picks_none safe code turn left (whole_of w) s pick (is_lawful gives pick answers) (picked_so None none) (ending_so None e)
+-- a turn that ends the run, among turns
+pub ends_there : (code : Code) (c : Course) (label : Label) (end : Ending) → EndsBy code c label end → (pick : Pick) → ending (config_of (whole_of c.world)) ≡ None
+    → picked_label pick c.turn (config_of (whole_of c.world)) ≡ Some label
+    → (events : List Event) × ((n : ℕ) → Advances code pick (suc n) c.turn (whole_of c.world) c.left events [] (Ended end))
+ends_there code c label _ (over verdict takes) pick on own =
+    (event c.turn label c.world.crowd.agenda.clock ∷ [], λ n. advance.over n c.turn c.left (whole_of c.world) label verdict on own takes)
+ends_there code c label _ (cut_off takes) pick on own = ([], λ n. advance.cut_off n c.turn c.left (whole_of c.world) label on own takes)

@@ -7,6 +7,5 @@ pub mod Runs
 pub mod Sane
 pub mod Went
 pub mod Beginnings
-pub mod Turned
 pub mod Courses
 pub mod Calls

@@ -13,7 +13,6 @@ mod placing;
 mod running;
 mod starting;
 mod taken;
-mod turn;
 mod world;
 
 pub use beginning::Begun;
@@ -22,5 +21,4 @@ pub use crowd::Crowd;
 pub use instance::Instance;
 pub use machine::{After, Machine};
 pub use taken::Taken;
-pub use turn::Turn;
 pub use world::World;
