@@ -4,13 +4,13 @@ use Rattle.std.specs.Prelude.{IfErr, IfOk, unwrap_or}
 use Rattle.std.proofs.lemmas.Bool.{and_parts}
 use Rattle.clap.specs.Walk.{Row, all_of, first_of}
 use Rattle.chi_cli.specs.declared.command.Command.{Command}
-use Rattle.chi_cli.specs.declared.command.Command.TheVariants as command
 use Rattle.chi_cli.specs.declared.fault.CliFault.{CliFault}
 use Rattle.chi_cli.specs.declared.fault.CliFault.TheVariants as fault
 use Rattle.chi_cli.specs.declared.request.Request.{Request}
+use Rattle.chi_cli.specs.declared.two_files.TwoFiles.{TwoFiles}
 use Rattle.chi_cli.specs.Commands.{Text, command_named}
 use Rattle.chi_cli.specs.Parsing.{EachGiven, Gives, first, fits, has_place, if_fits, rest, taken}
-use Rattle.chi_cli.specs.Requests.{IsRefused, asked, command_request, each_once, replay, replay_with, request_of, said_request}
+use Rattle.chi_cli.specs.Requests.{IsRefused, asked, command_request, each_once, file_with, of_two, request_of, said_request, two_files}
 use Rattle.chi_cli.specs.Splitting.{Said, split}
 
 -- what fits a command is asked
@@ -39,43 +39,41 @@ fault_read name words c rows said (Ok request) named is gives asks = tt
 fault_read name words c rows said (Err fault) named is gives asks =
     subst (λ (meant : Result Request CliFault). IsRefused meant fault) (sym (request_is name words c named ∙ taken_asked c words said is)) (asks said gives)
 
--- a run by picks: the first of the words after the file names the picks
+-- two files: the first of the words after the file names the second
 
-module _ (said : Said) (rows : List Row) (gives : Gives command.Replay rows said) where
-  replayed_by : (file : Text) (words plain : List Text) → first plain ≡ Some file → rest plain ≡ words → replay plain said.options ≡ replay_with file words said.options
-  replayed_by file words [] named after = absurd (cc)
-  replayed_by file words (word ∷ more) named after = let same : word ≡ file = cc in λ i. replay_with (same i) (after i) said.options
+module _ (c : Command) (said : Said) (rows : List Row) (gives : Gives c rows said) where
+  two_by : (file : Text) (words plain : List Text) → first plain ≡ Some file → rest plain ≡ words → two_files plain said.options ≡ file_with file words said.options
+  two_by file words [] named after = absurd (cc)
+  two_by file words (word ∷ more) named after = let same : word ≡ file = cc in λ i. file_with (same i) (after i) said.options
 
-  pub replay_is : (file : Text) (words : List Text) → first_of (codes "file") rows ≡ Some file → all_of (codes "args") rows ≡ Some words
-      → replay said.plain said.options ≡ replay_with file words said.options
-  replay_is file words named after =
-      replayed_by file words said.plain (sym gives.file ∙ named) (sym gives.args ∙ ap (λ (o : Option (List Text)). unwrap_or o []) after)
+  two_is : (file : Text) (words : List Text) → first_of (codes "file") rows ≡ Some file → all_of (codes "args") rows ≡ Some words
+      → two_files said.plain said.options ≡ file_with file words said.options
+  two_is file words named after =
+      two_by file words said.plain (sym gives.file ∙ named) (sym gives.args ∙ ap (λ (o : Option (List Text)). unwrap_or o []) after)
 
-  replayed_by_none : (plain : List Text) → rest plain ≡ [] → replay plain said.options ≡ Err fault.Usage
-  replayed_by_none [] none = refl
-  replayed_by_none (word ∷ []) none = refl
-  replayed_by_none (word ∷ other ∷ more) none = absurd (cc)
+  one_alone : (plain : List Text) → rest plain ≡ [] → two_files plain said.options ≡ Err fault.Usage
+  one_alone [] none = refl
+  one_alone (word ∷ []) none = refl
+  one_alone (word ∷ other ∷ more) none = absurd (cc)
 
-  pub replay_none : all_of (codes "args") rows ≡ None → replay said.plain said.options ≡ Err fault.Usage
-  replay_none none = replayed_by_none said.plain (sym gives.args ∙ ap (λ (o : Option (List Text)). unwrap_or o []) none)
+  pub no_second : all_of (codes "args") rows ≡ None → two_files said.plain said.options ≡ Err fault.Usage
+  no_second none = one_alone said.plain (sym gives.args ∙ ap (λ (o : Option (List Text)). unwrap_or o []) none)
 
-module _ (rows : List Row) (file : Text) (words : List Text) (answer : Result Request CliFault) (named : first_of (codes "file") rows ≡ Some file)
-    (after : all_of (codes "args") rows ≡ Some words) where
-  pub request_given : IfOk answer (λ request. EachGiven command.Replay rows (λ said. replay_with file words said.options ≡ Ok request))
-      → IfOk answer (λ request. EachGiven command.Replay rows (λ said. replay said.plain said.options ≡ Ok request))
-  request_given asks = by answer asks
-    where
-      by : (answer : Result Request CliFault) → IfOk answer (λ request. EachGiven command.Replay rows (λ said. replay_with file words said.options ≡ Ok request))
-          → IfOk answer (λ request. EachGiven command.Replay rows (λ said. replay said.plain said.options ≡ Ok request))
-      by (Ok request) asks = λ said gives. replay_is said rows gives file words named after ∙ asks said gives
-      by (Err fault) asks = tt
+module _ (rows : List Row) (file : Text) (words : List Text) (named : first_of (codes "file") rows ≡ Some file) (after : all_of (codes "args") rows ≡ Some words) where
+  pub two_given : (answer : Result TwoFiles CliFault) → IfOk answer (λ two. (c : Command) → EachGiven c rows (λ said. file_with file words said.options ≡ Ok two))
+      → IfOk answer (λ two. (c : Command) → EachGiven c rows (λ said. two_files said.plain said.options ≡ Ok two))
+  two_given (Ok two) asks = λ c said gives. two_is c said rows gives file words named after ∙ asks c said gives
+  two_given (Err why) asks = tt
 
-  pub fault_given : IfErr answer (λ fault. EachGiven command.Replay rows (λ said. IsRefused (replay_with file words said.options) fault))
-      → IfErr answer (λ fault. EachGiven command.Replay rows (λ said. IsRefused (replay said.plain said.options) fault))
-  fault_given asks = by answer asks
-    where
-      by : (answer : Result Request CliFault) → IfErr answer (λ fault. EachGiven command.Replay rows (λ said. IsRefused (replay_with file words said.options) fault))
-          → IfErr answer (λ fault. EachGiven command.Replay rows (λ said. IsRefused (replay said.plain said.options) fault))
-      by (Ok request) asks = tt
-      by (Err why) asks =
-          λ said gives. subst (λ (meant : Result Request CliFault). IsRefused meant why) (sym (replay_is said rows gives file words named after)) (asks said gives)
+  pub two_refused : (answer : Result TwoFiles CliFault) → IfErr answer (λ fault. (c : Command) → EachGiven c rows (λ said. IsRefused (file_with file words said.options) fault))
+      → IfErr answer (λ fault. (c : Command) → EachGiven c rows (λ said. IsRefused (two_files said.plain said.options) fault))
+  two_refused (Ok two) asks = tt
+  two_refused (Err why) asks =
+      λ c said gives. subst (λ (meant : Result TwoFiles CliFault). IsRefused meant why) (sym (two_is c said rows gives file words named after)) (asks c said gives)
+
+-- what is done with two files is refused as these are
+pub of_two_refused : (done : TwoFiles → Request) (meant : Result TwoFiles CliFault) (why : CliFault) → IsRefused meant why → IsRefused (of_two done meant) why
+of_two_refused done meant fault.NoMemory is = tt
+of_two_refused done meant fault.Usage is = ap (of_two done) is
+of_two_refused done meant fault.Command is = ap (of_two done) is
+of_two_refused done meant fault.BadNumber is = ap (of_two done) is

@@ -56,12 +56,19 @@ plain_option o is more later = one_more (built_option o) more (without_default (
 file_alone : (rows : List Row) → defaults_fault rows (built_file ∷ []) ≡ []
 file_alone = one_more built_file [] (without_default built_file refl) no_more
 
+no_judge_fault : (rows : List Row) → defaults_fault rows (rules command.Judge) ≡ []
+no_judge_fault rows =
+    plain_option name.Seed refl _ (plain_option name.Steps refl _ (plain_option name.Until refl _
+    (one_more built_file _ (without_default built_file refl) (one_more built_args _ (without_default built_args refl) no_more)))) rows
+
 no_default_fault : (c : Command) (rows : List Row) → defaults_fault rows (rules c) ≡ []
 no_default_fault command.Check rows = file_alone rows
 no_default_fault command.Code rows = file_alone rows
 no_default_fault command.Fmt rows = file_alone rows
 no_default_fault command.Load rows = file_alone rows
 no_default_fault command.TraceUp rows = file_alone rows
+no_default_fault command.Judge rows = no_judge_fault rows
+no_default_fault command.Picks rows = no_judge_fault rows
 no_default_fault command.Replay rows =
     plain_option name.Seed refl _ (plain_option name.Steps refl _ (plain_option name.Until refl _ (one_more (built_option name.Trace) _ trace_default
     (one_more built_file _ (without_default built_file refl) (one_more built_args _ (without_default built_args refl) no_more))))) rows
@@ -85,12 +92,20 @@ at_end _ rows = rows
 skip : (o : OptionName) → (built_option o).defaults ≡ [] → (more : List Rule) (rows : List Row) → fold with_default rows (built_option o ∷ more) ≡ fold with_default rows more
 skip o is more rows = ap (λ (rs : List Row). fold with_default rs more) (unchanged (built_option o) is rows)
 
+judge_finished : (rows : List Row) → fold with_default rows (rules command.Judge) ≡ rows
+judge_finished rows =
+    skip name.Seed refl (drop 1 (rules command.Judge)) rows ∙ skip name.Steps refl (drop 2 (rules command.Judge)) rows
+    ∙ skip name.Until refl (drop 3 (rules command.Judge)) rows
+    ∙ ap (λ (rs : List Row). with_default rs built_args) (unchanged built_file refl rows) ∙ unchanged built_args refl rows
+
 finished_is : (c : Command) (rows : List Row) → fold with_default rows (rules c) ≡ at_end c rows
 finished_is command.Check rows = unchanged built_file refl rows
 finished_is command.Code rows = unchanged built_file refl rows
 finished_is command.Fmt rows = unchanged built_file refl rows
 finished_is command.Load rows = unchanged built_file refl rows
 finished_is command.TraceUp rows = unchanged built_file refl rows
+finished_is command.Judge rows = judge_finished rows
+finished_is command.Picks rows = judge_finished rows
 finished_is command.Replay rows =
     skip name.Seed refl (drop 1 (rules command.Replay)) rows ∙ skip name.Steps refl (drop 2 (rules command.Replay)) rows
     ∙ skip name.Until refl (drop 3 (rules command.Replay)) rows
@@ -112,6 +127,8 @@ trace_kept id rows apart = each (has_row (codes "trace") rows) where
 end_kept : (c : Command) (id : Text) (rows : List Row) → bytes_eq (codes "trace") id ≡ false → row_at id (at_end c rows) ≡ row_at id rows
 end_kept command.Sim id rows apart = trace_kept id rows apart
 end_kept command.Replay id rows apart = trace_kept id rows apart
+end_kept command.Judge id rows apart = refl
+end_kept command.Picks id rows apart = refl
 end_kept command.Check id rows apart = refl
 end_kept command.Code id rows apart = refl
 end_kept command.Fmt id rows apart = refl
@@ -154,6 +171,8 @@ trace_end rows = each (row_at (codes "trace") rows) refl where
 flag_end : (c : Command) (rows : List Row) → flag_of (row_at (codes "trace") (at_end c rows)) ≡ flag_of (row_at (codes "trace") rows)
 flag_end command.Sim rows = trace_end rows
 flag_end command.Replay rows = trace_end rows
+flag_end command.Judge rows = refl
+flag_end command.Picks rows = refl
 flag_end command.Check rows = refl
 flag_end command.Code rows = refl
 flag_end command.Fmt rows = refl
@@ -194,6 +213,8 @@ check_is command.Code rows = wants (row_is_given (codes "file") rows)
 check_is command.Fmt rows = wants (row_is_given (codes "file") rows)
 check_is command.Load rows = wants (row_is_given (codes "file") rows)
 check_is command.Replay rows = wants (row_is_given (codes "file") rows)
+check_is command.Judge rows = wants (row_is_given (codes "file") rows)
+check_is command.Picks rows = wants (row_is_given (codes "file") rows)
 check_is command.TraceUp rows = wants (row_is_given (codes "file") rows)
 
 file_given : (words : List Text) → option_map_or (λ (r : Row). explicit_source r.source) (words_row (codes "file") (one_word words)) false ≡ is_given words

@@ -23,10 +23,11 @@ use Rattle.chi_cli.specs.Commands.{Text, command_named}
 use Rattle.chi_trace.specs.declared.filter.EventKind.{EventKind}
 use Rattle.chi_trace.specs.declared.filter.Filter.{Filter}
 use Rattle.chi_trace.specs.declared.filter.Filter.TheVariants as filter
+use Rattle.chi_cli.specs.declared.two_files.TwoFiles.{TwoFiles}
 use Rattle.chi_cli.specs.Numbers.{is_numeral, number_in, number_or, number_sought, time_in, time_or_none, within}
 use Rattle.chi_cli.specs.Probes.{kind_named, probe_or_all, sought}
 use Rattle.chi_cli.specs.Ranges.{IsFilter, IsInRange, IsPick, IsTime}
-use Rattle.chi_cli.specs.Requests.{asked, command_request, each_once, load, load_of, of_file, one_word, pick_of, policy_or_first, replay, replay_asked, request_of, run_asked, said_request, sim, sim_of_file, value_given}
+use Rattle.chi_cli.specs.Requests.{asked, command_request, each_once, load, load_of, of_file, judged, of_two, one_word, pick_of, picked, policy_or_first, replayed, request_of, run_asked, said_request, sim, sim_of_file, two_files, two_files_asked, value_given}
 use Rattle.chi_cli.specs.Splitting.{Said, name_in, split, value_in}
 use Rattle.chi_load.specs.declared.source.TheConstants.{MOST_MACHINES}
 
@@ -169,22 +170,31 @@ sim_in_range [] options = tt
 sim_in_range (file ∷ args) options = file_in_range file args (policy_or_first (value_given option.Policy options))
     (probe_or_all (value_given option.Probe options)) options (probe_in_range (value_given option.Probe options))
 
-replay_asked_in_range : (file picks : Text) (args : List Text) (trace : Bool) (seed bound : Option ℕ) (until : Option (Option ℤ))
-    → ((n : ℕ) → seed ≡ Some n → n ≤ most_word) → ((n : ℕ) → bound ≡ Some n → n ≤ MOST_STEPS) → ((t : Option ℤ) → until ≡ Some t → IfSome t IsTime)
-    → IfOk (replay_asked file picks args trace seed bound until) IsInRange
-replay_asked_in_range file picks args trace (Some seed) (Some bound) (Some until) a b c = let fits : seed ≤ most_word = a seed refl in (omega arith, b bound refl, c until refl)
-replay_asked_in_range file picks args trace None bound until a b c = tt
-replay_asked_in_range file picks args trace (Some seed) None until a b c = tt
-replay_asked_in_range file picks args trace (Some seed) (Some bound) None a b c = tt
+-- the numbers of a command on two files
+abbrev TwoInRange : TwoFiles → Type 0
+TwoInRange two = (two.seed < 2 ^ 64) × (two.bound ≤ MOST_STEPS) × IfSome two.until IsTime
 
-replay_in_range : (plain : List Text) (options : List (OptionName × Text)) → IfOk (replay plain options) IsInRange
-replay_in_range [] options = tt
-replay_in_range (file ∷ []) options = tt
-replay_in_range (file ∷ picks ∷ args) options = replay_asked_in_range file picks args (is_some (value_given option.Trace options))
+two_asked_in_range : (file beside : Text) (args : List Text) (seed bound : Option ℕ) (until : Option (Option ℤ))
+    → ((n : ℕ) → seed ≡ Some n → n ≤ most_word) → ((n : ℕ) → bound ≡ Some n → n ≤ MOST_STEPS) → ((t : Option ℤ) → until ≡ Some t → IfSome t IsTime)
+    → IfOk (two_files_asked file beside args seed bound until) TwoInRange
+two_asked_in_range file beside args (Some seed) (Some bound) (Some until) a b c = let fits : seed ≤ most_word = a seed refl in (omega arith, b bound refl, c until refl)
+two_asked_in_range file beside args None bound until a b c = tt
+two_asked_in_range file beside args (Some seed) None until a b c = tt
+two_asked_in_range file beside args (Some seed) (Some bound) None a b c = tt
+
+two_in_range : (plain : List Text) (options : List (OptionName × Text)) → IfOk (two_files plain options) TwoInRange
+two_in_range [] options = tt
+two_in_range (file ∷ []) options = tt
+two_in_range (file ∷ beside ∷ args) options = two_asked_in_range file beside args
     (number_or 0 0 most_word (value_given option.Seed options)) (number_or STEPS 0 MOST_STEPS (value_given option.Steps options)) (time_or_none (value_given option.Until options))
     (λ n e. (given_within 0 0 most_word (value_given option.Seed options) n (omega arith, omega arith) e).1)
     (λ n e. (given_within STEPS 0 MOST_STEPS (value_given option.Steps options) n (omega arith, omega arith) e).1)
     (λ t e. time_given (value_given option.Until options) t e)
+
+of_two_in_range : (done : TwoFiles → Request) → ((two : TwoFiles) → TwoInRange two → IsInRange (done two)) → (asks : Result TwoFiles CliFault) → IfOk asks TwoInRange
+    → IfOk (of_two done asks) IsInRange
+of_two_in_range done keeps (Ok two) is = keeps two is
+of_two_in_range done keeps (Err why) is = tt
 
 load_in_range : (o : Option Text) → IfOk (load o) IsInRange
 load_in_range None = tt
@@ -208,7 +218,10 @@ asked_in_range command.Fmt said = each (one_word said.plain) where
   each None = tt
   each (Some file) = tt
 asked_in_range command.Load said = load_in_range (one_word said.plain)
-asked_in_range command.Replay said = replay_in_range said.plain said.options
+asked_in_range command.Replay said =
+    of_two_in_range (replayed (is_some (value_given option.Trace said.options))) (λ two is. is) (two_files said.plain said.options) (two_in_range said.plain said.options)
+asked_in_range command.Judge said = of_two_in_range judged (λ two is. is) (two_files said.plain said.options) (two_in_range said.plain said.options)
+asked_in_range command.Picks said = of_two_in_range picked (λ two is. is) (two_files said.plain said.options) (two_in_range said.plain said.options)
 asked_in_range command.TraceUp said = each (one_word said.plain) where
   each : (o : Option Text) → IfOk (of_file request.TraceUp o) IsInRange
   each None = tt

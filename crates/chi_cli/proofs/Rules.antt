@@ -28,12 +28,26 @@ built_args = with_index 2 (filled args_rule)
 abbrev built_for : Bool → OptionName → Option Rule → Option Rule
 built_for named o other = if named then Some (built_option o) else other
 
+-- `judge` and `picks` have the same rules
+judge_long : (name : Text) → arg_by_long (rules command.Judge) name ≡ option_map built_option (option_named command.Judge name)
+judge_long name = each
+    (bytes_eq (option_text option.Seed) name) (bytes_eq (option_text option.Steps) name) (bytes_eq (option_text option.Until) name) where
+      each : (a b c : Bool)
+          → built_for (a || false) option.Seed (built_for (b || false) option.Steps (built_for (c || false) option.Until None))
+          ≡ option_map built_option (if a then Some option.Seed else if b then Some option.Steps else if c then Some option.Until else None)
+      each true b c = refl
+      each false true c = refl
+      each false false true = refl
+      each false false false = refl
+
 pub long_found : (c : Command) (name : Text) → arg_by_long (rules c) name ≡ option_map built_option (option_named c name)
 long_found command.Check name = refl
 long_found command.Code name = refl
 long_found command.Fmt name = refl
 long_found command.Load name = refl
 long_found command.TraceUp name = refl
+long_found command.Judge name = judge_long name
+long_found command.Picks name = judge_long name
 long_found command.Replay name = each
     (bytes_eq (option_text option.Seed) name) (bytes_eq (option_text option.Steps) name) (bytes_eq (option_text option.Until) name)
     (bytes_eq (option_text option.Trace) name) where
@@ -74,7 +88,25 @@ short_none command.Code x = refl
 short_none command.Fmt x = refl
 short_none command.Load x = refl
 short_none command.Replay x = refl
+short_none command.Judge x = refl
+short_none command.Picks x = refl
 short_none command.TraceUp x = refl
+
+judge_id : (name : Text) (o : OptionName) → option_named command.Judge name ≡ Some o → arg_by_id (rules command.Judge) (option_text o) ≡ Some (built_option o)
+judge_id name o e = each
+    (bytes_eq (option_text option.Seed) name) (bytes_eq (option_text option.Steps) name) (bytes_eq (option_text option.Until) name) e where
+      there : (known : OptionName) → arg_by_id (rules command.Judge) (option_text known) ≡ Some (built_option known) → Some known ≡ Some o
+          → arg_by_id (rules command.Judge) (option_text o) ≡ Some (built_option o)
+      there known is e =
+          let same : known ≡ o = cc in
+          subst (λ (p : OptionName). arg_by_id (rules command.Judge) (option_text p) ≡ Some (built_option p)) same is
+
+      each : (a b c : Bool) → (if a then Some option.Seed else if b then Some option.Steps else if c then Some option.Until else None) ≡ Some o
+          → arg_by_id (rules command.Judge) (option_text o) ≡ Some (built_option o)
+      each true b c e = there option.Seed refl e
+      each false true c e = there option.Steps refl e
+      each false false true e = there option.Until refl e
+      each false false false e = absurd (cc)
 
 pub id_found : (c : Command) (name : Text) (o : OptionName) → option_named c name ≡ Some o → arg_by_id (rules c) (option_text o) ≡ Some (built_option o)
 id_found command.Check name o e = absurd (cc)
@@ -82,6 +114,8 @@ id_found command.Code name o e = absurd (cc)
 id_found command.Fmt name o e = absurd (cc)
 id_found command.Load name o e = absurd (cc)
 id_found command.TraceUp name o e = absurd (cc)
+id_found command.Judge name o e = judge_id name o e
+id_found command.Picks name o e = judge_id name o e
 id_found command.Replay name o e = each
     (bytes_eq (option_text option.Seed) name) (bytes_eq (option_text option.Steps) name) (bytes_eq (option_text option.Until) name)
     (bytes_eq (option_text option.Trace) name) e where
@@ -113,6 +147,8 @@ file_first command.Code = refl
 file_first command.Fmt = refl
 file_first command.Load = refl
 file_first command.Replay = refl
+file_first command.Judge = refl
+file_first command.Picks = refl
 file_first command.TraceUp = refl
 
 pub file_found : (c : Command) → arg_by_id (rules c) (codes "file") ≡ Some built_file
@@ -122,6 +158,8 @@ file_found command.Code = refl
 file_found command.Fmt = refl
 file_found command.Load = refl
 file_found command.Replay = refl
+file_found command.Judge = refl
+file_found command.Picks = refl
 file_found command.TraceUp = refl
 
 -- a command that takes any number of plain words after the first
@@ -135,6 +173,12 @@ sim_takes_more = record { second = refl; found = refl; room = λ plain. refl }
 
 pub replay_takes_more : TakesMore command.Replay
 replay_takes_more = record { second = refl; found = refl; room = λ plain. refl }
+
+pub judge_takes_more : TakesMore command.Judge
+judge_takes_more = record { second = refl; found = refl; room = λ plain. refl }
+
+pub picks_takes_more : TakesMore command.Picks
+picks_takes_more = record { second = refl; found = refl; room = λ plain. refl }
 
 pub takes : (o : OptionName) → takes_values (built_option o) ≡ takes_value o
 takes option.Seed = refl

@@ -14,7 +14,7 @@ use Rattle.chi_cli.specs.Splitting.{Said, Next, any, value_of, plain_alone}
 use Rattle.chi_cli.specs.Parsing.{has_place}
 use Rattle.chi_cli.proofs.Holding.{Holds, holds_args, holds_file, none, use_args, use_file}
 use Rattle.chi_cli.proofs.Once.{Given, is_right}
-use Rattle.chi_cli.proofs.Rules.{built_args, built_file, built_option, file_first, file_found, rules, shape, TakesMore, sim_takes_more, replay_takes_more}
+use Rattle.chi_cli.proofs.Rules.{built_args, built_file, built_option, file_first, file_found, rules, shape, TakesMore, sim_takes_more, replay_takes_more, judge_takes_more, picks_takes_more}
 
 -- the argument that is being read, with its values so far
 abbrev pub Pending : Type 0
@@ -110,6 +110,8 @@ one_place command.Code word = refl
 one_place command.Fmt word = refl
 one_place command.Load word = refl
 one_place command.Replay word = refl
+one_place command.Judge word = refl
+one_place command.Picks word = refl
 one_place command.TraceUp word = refl
 
 -- the fault of settling, and then whatever it comes to
@@ -222,6 +224,8 @@ module _ (c : Command) (more : TakesMore c) (rows : List Row) (pending : Pending
 no_place : (c : Command) (file word : Text) (args : List Text) → has_place c (file ∷ args ++ word ∷ []) ≡ has_place c (file ∷ word ∷ [])
 no_place command.Sim file word args = refl
 no_place command.Replay file word args = refl
+no_place command.Judge file word args = refl
+no_place command.Picks file word args = refl
 no_place command.Check file word [] = refl
 no_place command.Check file word (arg ∷ args) = refl
 no_place command.Code file word [] = refl
@@ -241,6 +245,8 @@ pub takes_plain : (c : Command) (rows : List Row) (pending : Pending) (waiting :
 takes_plain c rows pending waiting alone options [] word before_is = plain_first c rows pending waiting alone options word before_is
 takes_plain command.Sim rows pending waiting alone options (file ∷ args) word before_is = plain_next command.Sim sim_takes_more rows pending waiting alone options file args word before_is
 takes_plain command.Replay rows pending waiting alone options (file ∷ args) word before_is = plain_next command.Replay replay_takes_more rows pending waiting alone options file args word before_is
+takes_plain command.Judge rows pending waiting alone options (file ∷ args) word before_is = plain_next command.Judge judge_takes_more rows pending waiting alone options file args word before_is
+takes_plain command.Picks rows pending waiting alone options (file ∷ args) word before_is = plain_next command.Picks picks_takes_more rows pending waiting alone options file args word before_is
 takes_plain command.Check rows pending waiting alone options (file ∷ args) word before_is = inr (refl, and_right (each_once options) _ (no_place command.Check file word args))
 takes_plain command.Code rows pending waiting alone options (file ∷ args) word before_is = inr (refl, and_right (each_once options) _ (no_place command.Code file word args))
 takes_plain command.Fmt rows pending waiting alone options (file ∷ args) word before_is = inr (refl, and_right (each_once options) _ (no_place command.Fmt file word args))

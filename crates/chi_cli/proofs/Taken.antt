@@ -175,6 +175,8 @@ starts c = (refl, record { once = refl; holds = λ _. holds_nothing; room = has_
   has_room : (c : Command) → has_place c [] ≡ true
   has_room command.Sim = refl
   has_room command.Replay = refl
+  has_room command.Judge = refl
+  has_room command.Picks = refl
   has_room command.Check = refl
   has_room command.Code = refl
   has_room command.Fmt = refl

@@ -17,6 +17,8 @@ command_named word =
     else if bytes_eq word (codes "fmt") then Some command.Fmt
     else if bytes_eq word (codes "load") then Some command.Load
     else if bytes_eq word (codes "replay") then Some command.Replay
+    else if bytes_eq word (codes "judge") then Some command.Judge
+    else if bytes_eq word (codes "picks") then Some command.Picks
     else if bytes_eq word (codes "trace-up") then Some command.TraceUp
     else None
 
@@ -29,6 +31,8 @@ options_of command.Code = []
 options_of command.Fmt = []
 options_of command.Load = []
 options_of command.Replay = option.Seed ∷ option.Steps ∷ option.Until ∷ option.Trace ∷ []
+options_of command.Judge = option.Seed ∷ option.Steps ∷ option.Until ∷ []
+options_of command.Picks = option.Seed ∷ option.Steps ∷ option.Until ∷ []
 options_of command.TraceUp = []
 
 -- the name of an option, which its word has after two hyphens

@@ -12,6 +12,7 @@ use Rattle.chi_cli.specs.declared.request.Pick.{Pick}
 use Rattle.chi_cli.specs.declared.request.Pick.TheVariants as pick
 use Rattle.chi_cli.specs.declared.request.Request.{Request}
 use Rattle.chi_cli.specs.declared.request.Request.TheVariants as request
+use Rattle.chi_cli.specs.declared.two_files.TwoFiles.{TwoFiles}
 use Rattle.chi_cli.specs.declared.words.TheConstants.{STEPS, MOST_STEPS}
 use Rattle.chi_cli.specs.Commands.{Text, command_named, option_text}
 use Rattle.chi_cli.specs.Numbers.{number_in, number_or, time_or_none}
@@ -67,24 +68,42 @@ sim [] options = Err fault.Usage
 sim (file ∷ args) options =
     sim_of_file file args (policy_or_first (value_given option.Policy options)) (probe_or_all (value_given option.Probe options)) options
 
--- a run of a file by the picks of another, with arguments, where all its numbers are in their forms and ranges
-abbrev pub replay_asked : Text → Text → List Text → Bool → Option ℕ → Option ℕ → Option (Option ℤ) → Result Request CliFault
-replay_asked file picks args trace (Some seed) (Some bound) (Some until) = Ok (request.Replay file picks args seed bound until trace)
-replay_asked file picks args trace seed bound until = Err fault.BadNumber
+-- two files, arguments, and the numbers of a run, where these are all in their forms and ranges
+abbrev pub two_files_asked : Text → Text → List Text → Option ℕ → Option ℕ → Option (Option ℤ) → Result TwoFiles CliFault
+two_files_asked file beside args (Some seed) (Some bound) (Some until) =
+    Ok (record { file = file; beside = beside; args = args; seed = seed; bound = bound; until = until })
+two_files_asked file beside args seed bound until = Err fault.BadNumber
 
-abbrev pub replay_of_files : Text → Text → List Text → List (OptionName × Text) → Result Request CliFault
-replay_of_files file picks args options = replay_asked file picks args (is_some (value_given option.Trace options))
+abbrev pub two_files_named : Text → Text → List Text → List (OptionName × Text) → Result TwoFiles CliFault
+two_files_named file beside args options = two_files_asked file beside args
     (number_or 0 0 18_446_744_073_709_551_615 (value_given option.Seed options))
     (number_or STEPS 0 MOST_STEPS (value_given option.Steps options)) (time_or_none (value_given option.Until options))
 
-abbrev pub replay_with : Text → List Text → List (OptionName × Text) → Result Request CliFault
-replay_with file [] options = Err fault.Usage
-replay_with file (picks ∷ args) options = replay_of_files file picks args options
+abbrev pub file_with : Text → List Text → List (OptionName × Text) → Result TwoFiles CliFault
+file_with file [] options = Err fault.Usage
+file_with file (beside ∷ args) options = two_files_named file beside args options
 
--- `replay`: a file, that of the picks, and arguments
-abbrev pub replay : List Text → List (OptionName × Text) → Result Request CliFault
-replay [] options = Err fault.Usage
-replay (file ∷ words) options = replay_with file words options
+-- a file, a second one, and arguments
+abbrev pub two_files : List Text → List (OptionName × Text) → Result TwoFiles CliFault
+two_files [] options = Err fault.Usage
+two_files (file ∷ words) options = file_with file words options
+
+-- what is done with two files
+abbrev pub of_two : (TwoFiles → Request) → Result TwoFiles CliFault → Result Request CliFault
+of_two done (Ok two) = Ok (done two)
+of_two done (Err why) = Err why
+
+-- the program of the first is run by the picks of the second
+abbrev pub replayed : Bool → TwoFiles → Request
+replayed trace two = request.Replay two.file two.beside two.args two.seed two.bound two.until trace
+
+-- the log in the second is judged by the program of the first
+abbrev pub judged : TwoFiles → Request
+judged two = request.Judge two.file two.beside two.args two.seed two.bound two.until
+
+-- the picks of that log are written
+abbrev pub picked : TwoFiles → Request
+picked two = request.Picks two.file two.beside two.args two.seed two.bound two.until
 
 -- one plain word and no other
 abbrev pub one_word : List Text → Option Text
@@ -112,7 +131,9 @@ asked command.Check said = of_file request.Check (one_word said.plain)
 asked command.Code said = of_file request.Code (one_word said.plain)
 asked command.Fmt said = of_file request.Fmt (one_word said.plain)
 asked command.Load said = load (one_word said.plain)
-asked command.Replay said = replay said.plain said.options
+asked command.Replay said = of_two (replayed (is_some (value_given option.Trace said.options))) (two_files said.plain said.options)
+asked command.Judge said = of_two judged (two_files said.plain said.options)
+asked command.Picks said = of_two picked (two_files said.plain said.options)
 asked command.TraceUp said = of_file request.TraceUp (one_word said.plain)
 
 abbrev pub said_request : Command → Option Said → Result Request CliFault
@@ -129,7 +150,7 @@ request_of [] = Err fault.Command
 request_of (name ∷ words) = command_request (command_named name) words
 
 -- what is refused, and why; want of memory is tied to nothing
-abbrev pub IsRefused : Result Request CliFault → CliFault → Type 0
+abbrev pub IsRefused : {A : Type 0} → Result A CliFault → CliFault → Type 0
 IsRefused meant fault.NoMemory = Unit {0}
 IsRefused meant fault.Usage = meant ≡ Err fault.Usage
 IsRefused meant fault.Command = meant ≡ Err fault.Command

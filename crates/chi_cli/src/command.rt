@@ -10,6 +10,8 @@ pub enum Command {
     Fmt,
     Load,
     Replay,
+    Judge,
+    Picks,
     TraceUp,
 }
 
@@ -42,6 +44,8 @@ const REPLAY_OPTIONS: [OptionName; 4] = [
     OptionName::Trace,
 ];
 
+const JUDGE_OPTIONS: [OptionName; 3] = [OptionName::Seed, OptionName::Steps, OptionName::Until];
+
 impl Command {
     /// The command that a word names.
     pub fn named(word: &[u8]) -> Option<Command>
@@ -59,6 +63,10 @@ impl Command {
             Some(Command::Load)
         } else if word == b"replay".as_slice() {
             Some(Command::Replay)
+        } else if word == b"judge".as_slice() {
+            Some(Command::Judge)
+        } else if word == b"picks".as_slice() {
+            Some(Command::Picks)
         } else if word == b"trace-up".as_slice() {
             Some(Command::TraceUp)
         } else {
@@ -73,6 +81,7 @@ impl Command {
         match self {
             Command::Sim => &SIM_OPTIONS,
             Command::Replay => &REPLAY_OPTIONS,
+            Command::Judge | Command::Picks => &JUDGE_OPTIONS,
             Command::Check | Command::Code | Command::Fmt | Command::Load | Command::TraceUp => &[],
         }
     }

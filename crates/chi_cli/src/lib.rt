@@ -11,6 +11,7 @@ mod policy;
 mod probe;
 mod reading;
 mod request;
+mod two_files;
 mod words;
 
 pub use args::ArgFault;

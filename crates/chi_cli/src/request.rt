@@ -59,6 +59,32 @@ pub enum Request {
         /// Whether the trace is wanted.
         trace: bool,
     },
+    /// To judge whether a log is one that a program can give.
+    Judge {
+        file: Bytes,
+        /// The name of the log's file.
+        trace: Bytes,
+        /// The texts of the model's arguments.
+        args: Items<Bytes>,
+        seed: u64,
+        /// On the costs of all steps together.
+        bound: u64,
+        /// The stopping time.
+        until: Option<Real>,
+    },
+    /// To write the picks by which the run of a log is made.
+    Picks {
+        file: Bytes,
+        /// The name of the log's file.
+        trace: Bytes,
+        /// The texts of the model's arguments.
+        args: Items<Bytes>,
+        seed: u64,
+        /// On the costs of all steps together.
+        bound: u64,
+        /// The stopping time.
+        until: Option<Real>,
+    },
     /// To bring a log of traces in version 1 to version 2.
     TraceUp {
         file: Bytes,

@@ -1,10 +1,11 @@
-ghost use Rattle.std.specs.Prelude.{◌≡◌, Bool, [], Some, Ok, IfOk, IfErr, codes, option_map, unwrap_or};
+ghost use Rattle.std.specs.Prelude.{◌≡◌, Bool, [], Some, Ok, IfOk, IfErr, codes, is_some, option_map, unwrap_or};
 ghost use Rattle.clap.specs.Words.{all_of, first_of, found_of, one_of, rows_of};
 ghost use Rattle.chi_cli.specs.declared.command.Command.TheVariants as command;
+ghost use Rattle.chi_cli.specs.declared.command.OptionName.TheVariants as option;
 ghost use Rattle.chi_cli.specs.declared.request.Request.TheVariants as asked_for;
 ghost use Rattle.chi_cli.specs.Commands.{option_text};
 ghost use Rattle.chi_cli.specs.Parsing.{EachGiven, rest, truth_text};
-ghost use Rattle.chi_cli.specs.Requests.{IsRefused, asked, load, of_file, replay, replay_of_files, replay_with, request_of, sim, sim_of_file};
+ghost use Rattle.chi_cli.specs.Requests.{IsRefused, asked, judged, load, of_file, of_two, picked, replayed, request_of, sim, sim_of_file, two_files, value_given};
 ghost use Rattle.chi_cli.specs.Saying.{texts};
 
 use crate::command::{Command, OptionName};
@@ -14,6 +15,7 @@ use crate::parsing::matched;
 use crate::policy::PolicyName;
 use crate::probe::probe_or_all;
 use crate::request::Request;
+use crate::two_files::two_files;
 use chi_base::{Items, NoMemory};
 use chi_load::MOST_MACHINES;
 use chi_token::Bytes;
@@ -54,13 +56,15 @@ fn asked(alloc: Global, command: Command, matches: &ArgMatches<'_>) -> Result<Re
         Command::Fmt => fmt(alloc, text_of(matches, "file")),
         Command::Load => load(text_of(matches, "file")),
         Command::Replay => replay(alloc, matches),
+        Command::Judge => judge(alloc, matches),
+        Command::Picks => picks(alloc, matches),
         Command::TraceUp => trace_up(alloc, text_of(matches, "file")),
     }
 }
 
 /// The first value of an argument.
 #[tactic(auto, using(crate::proofs::Parsed::first_text))]
-fn text_of<'a>(matches: &ArgMatches<'a>, id: &str) -> Option<&'a [u8]>
+pub fn text_of<'a>(matches: &ArgMatches<'a>, id: &str) -> Option<&'a [u8]>
     ensures { option_map (λ text. text.now) result ≡ first_of id.now (rows_of (found_of matches.now)) }
 {
     match matches.get_str(id) {
@@ -70,7 +74,7 @@ fn text_of<'a>(matches: &ArgMatches<'a>, id: &str) -> Option<&'a [u8]>
 }
 
 /// The value of an option.
-fn value_of<'a>(matches: &ArgMatches<'a>, option: OptionName) -> Option<&'a [u8]>
+pub fn value_of<'a>(matches: &ArgMatches<'a>, option: OptionName) -> Option<&'a [u8]>
     ensures { option_map (λ text. text.now) result ≡ first_of (option_text option) (rows_of (found_of matches.now)) }
 {
     text_of(matches, option.text())
@@ -203,70 +207,62 @@ fn sim_of_file(
     })
 }
 
-/// A run by picks, by what the matches give. The first plain word after the file names that of the picks.
+/// A run by the picks of a second file, by what the matches give.
 fn replay(alloc: Global, matches: &ArgMatches<'_>) -> Result<Request, CliFault>
-    ensures request { IfOk result (λ request. EachGiven command.Replay (rows_of (found_of matches.now)) (λ said. replay said.plain said.options ≡ Ok request)) }
-    ensures fault { IfErr result (λ fault. EachGiven command.Replay (rows_of (found_of matches.now)) (λ said. IsRefused (replay said.plain said.options) fault)) }
-{
-    let Some(file) = text_of(matches, "file") else {
-        return Err(CliFault::Usage);
-    };
-    match matches.get_strs("args") {
-        Some(words) => replay_with(alloc, file, words, matches),
-        None => Err(CliFault::Usage),
-    }
-}
-
-/// A run by picks of a file, with the plain words after it.
-fn replay_with(
-    alloc: Global,
-    file: &[u8],
-    words: &[&str],
-    matches: &ArgMatches<'_>,
-) -> Result<Request, CliFault>
     ensures request { IfOk result (λ request. EachGiven command.Replay (rows_of (found_of matches.now))
-        (λ said. replay_with file.now (texts words.now) said.options ≡ Ok request)) }
+        (λ said. of_two (replayed (is_some (value_given option.Trace said.options))) (two_files said.plain said.options) ≡ Ok request)) }
     ensures fault { IfErr result (λ fault. EachGiven command.Replay (rows_of (found_of matches.now))
-        (λ said. IsRefused (replay_with file.now (texts words.now) said.options) fault)) }
-{
-    match words.split_first() {
-        Some((picks, args)) => replay_of_files(alloc, file, picks.as_bytes(), args, matches),
-        None => Err(CliFault::Usage),
-    }
-}
-
-/// A run of a file by the picks of another.
-fn replay_of_files(
-    alloc: Global,
-    file: &[u8],
-    picks: &[u8],
-    args: &[&str],
-    matches: &ArgMatches<'_>,
-) -> Result<Request, CliFault>
-    ensures request { IfOk result (λ request. EachGiven command.Replay (rows_of (found_of matches.now))
-        (λ said. replay_of_files file.now picks.now (texts args.now) said.options ≡ Ok request)) }
-    ensures fault { IfErr result (λ fault. EachGiven command.Replay (rows_of (found_of matches.now))
-        (λ said. IsRefused (replay_of_files file.now picks.now (texts args.now) said.options) fault)) }
+        (λ said. IsRefused (of_two (replayed (is_some (value_given option.Trace said.options))) (two_files said.plain said.options)) fault)) }
 {
     let trace = has_trace(matches);
-    let Some(seed) = number_or(0, 0, u64::MAX, value_of(matches, OptionName::Seed)) else {
-        return Err(CliFault::BadNumber);
-    };
-    let Some(bound) = number_or(STEPS, 0, MOST_STEPS, value_of(matches, OptionName::Steps)) else {
-        return Err(CliFault::BadNumber);
-    };
-    let Some(until) = time_or_none(value_of(matches, OptionName::Until)) else {
-        return Err(CliFault::BadNumber);
-    };
-    Ok(Request::Replay {
-        file: Bytes::copy_of(alloc, file)?,
-        picks: Bytes::copy_of(alloc, picks)?,
-        args: copied(alloc, args)?,
-        seed,
-        bound,
-        until,
-        trace,
-    })
+    match two_files(alloc, matches) {
+        Ok(two) => Ok(Request::Replay {
+            file: two.file,
+            picks: two.beside,
+            args: two.args,
+            seed: two.seed,
+            bound: two.bound,
+            until: two.until,
+            trace,
+        }),
+        Err(fault) => Err(fault),
+    }
+}
+
+/// The judgement on a log in a second file.
+fn judge(alloc: Global, matches: &ArgMatches<'_>) -> Result<Request, CliFault>
+    ensures request { IfOk result (λ request. EachGiven command.Judge (rows_of (found_of matches.now)) (λ said. of_two judged (two_files said.plain said.options) ≡ Ok request)) }
+    ensures fault { IfErr result (λ fault. EachGiven command.Judge (rows_of (found_of matches.now)) (λ said. IsRefused (of_two judged (two_files said.plain said.options)) fault)) }
+{
+    match two_files(alloc, matches) {
+        Ok(two) => Ok(Request::Judge {
+            file: two.file,
+            trace: two.beside,
+            args: two.args,
+            seed: two.seed,
+            bound: two.bound,
+            until: two.until,
+        }),
+        Err(fault) => Err(fault),
+    }
+}
+
+/// The picks of a log in a second file.
+fn picks(alloc: Global, matches: &ArgMatches<'_>) -> Result<Request, CliFault>
+    ensures request { IfOk result (λ request. EachGiven command.Picks (rows_of (found_of matches.now)) (λ said. of_two picked (two_files said.plain said.options) ≡ Ok request)) }
+    ensures fault { IfErr result (λ fault. EachGiven command.Picks (rows_of (found_of matches.now)) (λ said. IsRefused (of_two picked (two_files said.plain said.options)) fault)) }
+{
+    match two_files(alloc, matches) {
+        Ok(two) => Ok(Request::Picks {
+            file: two.file,
+            trace: two.beside,
+            args: two.args,
+            seed: two.seed,
+            bound: two.bound,
+            until: two.until,
+        }),
+        Err(fault) => Err(fault),
+    }
 }
 
 #[tactic(auto, using(crate::proofs::Parsed::all_texts))]
@@ -279,7 +275,8 @@ fn args_of(alloc: Global, matches: &ArgMatches<'_>) -> Result<Items<Bytes>, NoMe
     }
 }
 
-fn copied(alloc: Global, words: &[&str]) -> Result<Items<Bytes>, NoMemory>
+/// The words as a list of their own.
+pub fn copied(alloc: Global, words: &[&str]) -> Result<Items<Bytes>, NoMemory>
     ensures { IfOk result (λ items. items ≡ texts words.now) }
 {
     let mut kept = Vec::new(alloc);

@@ -1,21 +1,20 @@
--- The words after the file are what the matches give as arguments.
-use Rattle.std.proofs.Common.{◌∙◌, codes, sym}
-use Rattle.clap.specs.Words.{found_of, rows_of}
-use Rattle.chi_cli.specs.Saying.{texts}
-use Rattle.chi_cli.proofs.Asking.{replay_none, request_given, fault_given}
-use Rattle.chi_cli.proofs.Parsed.{all_texts}
+use Rattle.std.proofs.Common.{◌∙◌, Bool, Ok, Result, sym, ap}
+use Rattle.std.specs.Prelude.{is_some}
+use Rattle.chi_cli.specs.declared.command.Command.TheVariants as command
+use Rattle.chi_cli.specs.declared.command.OptionName.TheVariants as option
+use Rattle.chi_cli.specs.declared.fault.CliFault.{CliFault}
+use Rattle.chi_cli.specs.declared.request.Request.{Request}
+use Rattle.chi_cli.specs.Requests.{of_two, replayed, two_files, value_given}
+use Rattle.chi_cli.proofs.Asking.{of_two_refused}
 use Rattle.chi_cli.proofs.words.replay.Goals as goal
 
-pub returns-in-Some-get_strs-clause-request : goal.returns-in-Some-get_strs-clause-request
-returns-in-Some-get_strs-clause-request c =
-    request_given (rows_of (found_of c.args.matches.now)) c.in-Some.file.now (texts c.in-Some-get_strs.words.now) c.replay_with.result (sym c.in-Some.ensures)
-    (sym (all_texts (found_of c.args.matches.now) (codes "args")) ∙ sym c.in-Some-get_strs.ensures) c.replay_with.ensures.request
+pub returns-in-Ok-clause-request : goal.returns-in-Ok-clause-request
+returns-in-Ok-clause-request c said gives =
+    let wanted : Bool = is_some (value_given option.Trace said.options) in
+    let answer : Bool → Result Request CliFault = λ trace. Ok (replayed trace c.in-Ok.two) in
+    ap (of_two (replayed wanted)) (c.in-Ok.ensures.asked command.Replay said gives) ∙ ap answer (sym (c.has_trace-trace.ensures wanted gives.trace))
 
-pub returns-in-Some-get_strs-clause-fault : goal.returns-in-Some-get_strs-clause-fault
-returns-in-Some-get_strs-clause-fault c =
-    fault_given (rows_of (found_of c.args.matches.now)) c.in-Some.file.now (texts c.in-Some-get_strs.words.now) c.replay_with.result (sym c.in-Some.ensures)
-    (sym (all_texts (found_of c.args.matches.now) (codes "args")) ∙ sym c.in-Some-get_strs.ensures) c.replay_with.ensures.fault
-
-pub returns-in-None-clause-fault : goal.returns-in-None-clause-fault
-returns-in-None-clause-fault c said gives =
-    replay_none said (rows_of (found_of c.args.matches.now)) gives (sym (all_texts (found_of c.args.matches.now) (codes "args")) ∙ sym c.in-None.ensures)
+pub returns-in-Err-clause-fault : goal.returns-in-Err-clause-fault
+returns-in-Err-clause-fault c said gives =
+    of_two_refused (replayed (is_some (value_given option.Trace said.options))) (two_files said.plain said.options) c.in-Err.fault
+    (c.in-Err.ensures.fault command.Replay said gives)
