@@ -1,312 +1,26 @@
--- When each status comes of the report of a source or a log.
-use Rattle.std.proofs.Common.{◌≡◌, ◌≢◌, ℕ, ◌≤◌, List, length, ◌⊎◌, inl, inr, sym, ◌∙◌, ap, subst, refl, arith}
-use Rattle.chi_code.specs.declared.code.Code.{Code}
-use Rattle.chi_code.specs.Codes.{Codes}
+-- When each status comes of a call, by the report that it met: that of a source, or of a log of old.
+use Rattle.std.proofs.Common.{◌≡◌, ◌≢◌, ℕ, List, ◌⊎◌, inl, inr, sym, ◌∙◌, refl, arith}
 use Rattle.chi_io.specs.Shelf.{Files}
-use Rattle.chi_lex.specs.declared.lexer.TheConstants.{MOST_BYTES}
 use Rattle.chi_core.specs.declared.program.Core.{Core}
-use Rattle.chi_core.specs.declared.verdict.Verdict.{Verdict}
-use Rattle.chi_core.specs.declared.verdict.Verdict.TheVariants as verdict
-use Rattle.chi_sched.specs.Policies.{listed}
 use Rattle.chi_value.specs.declared.value.Value.{Value}
 use Rattle.chi_tool.specs.Arguments.{Means}
 use Rattle.chi_tool.specs.Call.{Call}
-use Rattle.chi_tool.specs.Headline.{IsReportedOrLost, AsksFor, AsksForDone, AsksForLog, ComesUp, HasMisfit, HasLexicalFault, HasSyntaxFault, IsMistyped, IsTooLong, IsAskedSource, held, beside, made, EndsAs, IsRunAsked, Ends, IsDone, IsExit, IsFault, HasUnfitArguments, HasMispick, MayHold, Headline, GoesWell, IsExactly, IsExactlyIn, IsExactlyOf}
+use Rattle.chi_tool.specs.Headline.{IsReportedOrLost, AsksFor, AsksForDone, AsksForLog, ComesUp, HasMisfit, IsAskedSource, IsRunAsked, IsDone, Headline, GoesWell, IsExactly, IsExactlyIn, IsExactlyOf}
 use Rattle.chi_tool.specs.Refusals as refusal
 use Rattle.chi_tool.specs.Refusals.{Report}
-use Rattle.chi_tool.specs.Report.{IsReportOfSource, refused, program, IsReportOfProgram, IsReportOfLayout, faulty, laid_out, too_long, IsReportFor, IsReportOfLog, IsReport}
+use Rattle.chi_tool.specs.Report.{IsReportOfLog, IsReport}
 use Rattle.chi_tool.specs.Report as report
-use Rattle.chi_tool.specs.Running.{Course, IsRunOf, IsRunReport, run_report}
-use Rattle.chi_tool.specs.Settings.{Wanted, Unpicked, picked_by, ProgramAim, simulates, replays, checks, lists, Aim, of_program, lays_out, settings_with}
-use Rattle.chi_tool.specs.Sources.{IsUnparsed, by_lexer, by_parser, unparsed, by_checker, ComesTo}
+use Rattle.chi_tool.specs.Running.{Course, IsRunOf, run_report}
+use Rattle.chi_tool.specs.Settings.{Wanted, Aim, settings_with}
+use Rattle.chi_tool.specs.Sources.{ComesTo}
 use Rattle.chi_tool.specs.Statuses.{status_of}
 use Rattle.chi_tool.proofs.Cases.{CaseOf, asks_nothing, is_missing, is_long, of_log, of_source, case_of, asked_report, asked_log_report}
-use Rattle.chi_tool.proofs.Contents.{status_ap, ran_bound, source_program, refused_bound, source_bound, simulated_bound, layout_bound, aim_bound, log_bound}
+use Rattle.chi_tool.proofs.Contents.{status_ap, aim_bound, log_bound}
 use Rattle.chi_tool.proofs.LawClauses.{CodeLaw, ReportLaw}
 use Rattle.chi_tool.proofs.Promises.{MetOne, met_of, met_status}
-use Rattle.chi_tool.proofs.Verdicts.{status_bound, completed_by, exit_by, deadlock_by, fault_by, out_of_steps_by, stopped_by}
+use Rattle.chi_tool.proofs.StatusCauses.{StatusOf, asked_listable, ran_report, done_status}
 
-no_program : (n : ℕ) → (20 ≤ n) × (n ≤ 22) → (core : Core) (aim : ProgramAim) (r : Report) → IsReportOfProgram core aim r → r.status ≡ n → ⊥
-no_program n between core aim r is e = let b = source_program core aim r is in let low = between.0 in let high = between.1 in grind arith
-
--- what is to be listed is there: the code of the program that a source comes to
-abbrev pub IsListable : Aim → List ℕ → Type 0
-IsListable (of_program (simulates w)) source = Unit {0}
-IsListable (of_program (replays u text)) source = Unit {0}
-IsListable (of_program checks) source = Unit {0}
-IsListable lays_out source = Unit {0}
-IsListable (of_program lists) source = (core : Core) → ComesTo source core → (code : Code) × Codes core code
-
-listable : CodeLaw → (source : List ℕ) → length source ≤ MOST_BYTES → (aim : Aim) → IsListable aim source
-listable coded source within (of_program (simulates w)) = tt
-listable coded source within (of_program (replays u text)) = tt
-listable coded source within (of_program checks) = tt
-listable coded source within lays_out = tt
-listable coded source within (of_program lists) = λ core comes. coded.some source core within comes
-
-asked_listable : CodeLaw → (call : Call) (files : Files) (aim : Aim) (source : List ℕ) → IsAskedSource call files aim source → IsListable aim source
-asked_listable coded call files aim source (held name purpose asked there within same) = listable coded source within aim
-asked_listable coded call files aim source (beside pair text asked there within also short same) = listable coded source within aim
-asked_listable coded call files aim source (made size asked same plainly) = subst (λ (a : Aim). IsListable a source) (sym plainly) tt
-
--- a status that a source's report has exactly for one cause, and that no other refusal has
-pub record StatusOf (n : ℕ) (P : Aim → List ℕ → Type 0) : Type 0 where
-  pub other : (n ≢ 3) × (n ≢ 4) × (n ≢ 6)
-  pub to : (aim : Aim) (source : List ℕ) (r : Report) → IsReportFor aim source r → r.status ≡ n → P aim source
-  pub from : (aim : Aim) (source : List ℕ) → IsListable aim source → P aim source → (r : Report) × IsReportFor aim source r × (r.status ≡ n)
-
--- the statuses of runs
-
--- a run that is asked for has its report
-ran_report : (aim : Aim) (w : Wanted) → IsRunAsked aim w → (source : List ℕ) (core : Core) → ComesTo source core → (arguments : List Value) → Means core w.texts arguments
-    → (course : Course) → IsRunOf core (settings_with w arguments) course → IsReportFor aim source (run_report core course)
-ran_report (of_program (simulates v)) w is source core comes arguments means course run =
-    subst (λ (x : Wanted). IsReportOfSource source (simulates x) (run_report core course)) is
-    (program core comes (report.fit arguments means (record { course = course; run = run; is = refl })))
-ran_report (of_program (replays u text)) w is source core comes arguments means course run =
-    let at : Wanted → Type 0 = λ x. Means core x.texts arguments × IsRunOf core (settings_with x arguments) course in
-    let both = subst at is.2 (means, run) in
-    program core comes (report.fit arguments both.0 (report.replayed is.0 is.1 (record { course = course; run = both.1; is = refl })))
-ran_report (of_program checks) w is source core comes arguments means course run = absurd is
-ran_report (of_program lists) w is source core comes arguments means course run = absurd is
-ran_report lays_out w is source core comes arguments means course run = absurd is
-
-module _ (n : ℕ) (Q : Verdict → Type 0) (low : (n ≡ 0) ⊎ ((10 ≤ n) × (n ≤ 14))) (to : (v : Verdict) → status_of v ≡ n → Q v)
-    (from : (v : Verdict) → Q v → status_of v ≡ n) where
-  no_refusal : (m : ℕ) → (m ≡ 3) ⊎ ((m ≡ 4) ⊎ ((m ≡ 6) ⊎ (20 ≤ m))) → n ≢ m
-  no_refusal m (inl a) e = let l = low in grind arith
-  no_refusal m (inr (inl a)) e = let l = low in grind arith
-  no_refusal m (inr (inr (inl a))) e = let l = low in grind arith
-  no_refusal m (inr (inr (inr a))) e = let l = low in grind arith
-
-  ends_as : (w : Wanted) (source : List ℕ) (core : Core) (r : Report) → ComesTo source core → (values : List Value) → Means core w.texts values
-      → IsRunReport core (settings_with w values) r → r.status ≡ n → EndsAs Q w source
-  ends_as w source core r comes values means of is = record {
-    core = core;
-    program = comes;
-    arguments = values;
-    fit = means;
-    course = of.course;
-    run = of.run;
-    ends = to of.course.told.ending.verdict (sym (status_ap r _ of.is) ∙ is);
-  }
-
-  run_ends : (w : Wanted) (source : List ℕ) (core : Core) (r : Report) → ComesTo source core → IsReportOfProgram core (simulates w) r → r.status ≡ n
-      → Ends Q (of_program (simulates w)) source
-  run_ends w source core r comes (report.unfit wanted fault misfits e) is = absurd (no_refusal 23 (inr (inr (inr (omega arith)))) (sym is ∙ status_ap r _ e))
-  run_ends w source core r comes (report.fit values means of) is = (w, refl, ends_as w source core r comes values means of is)
-
-  replay_ends : (u : Unpicked) (text source : List ℕ) (core : Core) (r : Report) → ComesTo source core → IsReportOfProgram core (replays u text) r → r.status ≡ n
-      → Ends Q (of_program (replays u text)) source
-  replay_ends u text source core r comes (report.unfit wanted fault misfits e) is = absurd (no_refusal 23 (inr (inr (inr (omega arith)))) (sym is ∙ status_ap r _ e))
-  replay_ends u text source core r comes (report.fit values means (report.mispicked k misfits e)) is =
-      absurd (no_refusal 26 (inr (inr (inr (omega arith)))) (sym is ∙ status_ap r _ e))
-  replay_ends u text source core r comes (report.fit values means (report.replayed numbers has of)) is =
-      let w = picked_by (listed numbers) u in (w, (numbers, has, refl), ends_as w source core r comes values means of is)
-
-  ends_run : (aim : Aim) (source : List ℕ) → Ends Q aim source → (r : Report) × IsReportFor aim source r × (r.status ≡ n)
-  ends_run aim source p =
-      let e = p.2 in
-      (run_report e.core e.course, ran_report aim p.0 p.1 source e.core e.program e.arguments e.fit e.course e.run, from e.course.told.ending.verdict e.ends)
-
-  -- a source's report with such a status is that of a program
-  no_source_refusal : (m : ℕ) (r : Report) → 20 ≤ m → r.status ≡ m → r.status ≡ n → ⊥
-  no_source_refusal m r high is e = no_refusal m (inr (inr (inr high))) (sym e ∙ is)
-
-  module _ (positive : 10 ≤ n) where
-    ends : (aim : Aim) (source : List ℕ) (r : Report) → IsReportFor aim source r → r.status ≡ n → Ends Q aim source
-    ends (of_program aim) source r (refused (unparsed (by_lexer fault has e))) is = absurd (no_source_refusal 20 r (omega arith) (status_ap r _ e) is)
-    ends (of_program aim) source r (refused (unparsed (by_parser tokens fault has e))) is = absurd (no_source_refusal 21 r (omega arith) (status_ap r _ e) is)
-    ends (of_program aim) source r (refused (by_checker fault has e)) is = absurd (no_source_refusal 22 r (omega arith) (status_ap r _ e) is)
-    ends (of_program (simulates w)) source r (program core comes of) is = run_ends w source core r comes of is
-    ends (of_program (replays u text)) source r (program core comes of) is = replay_ends u text source core r comes of is
-    ends (of_program checks) source r (program core comes of) is = let none = status_ap r _ of in let some = positive in absurd (omega arith)
-    ends (of_program lists) source r (program core comes of) is = let none = status_ap r _ of.listed in let some = positive in absurd (omega arith)
-    ends lays_out source r of is = let b = layout_bound source r of in let l = low in let some = positive in absurd (grind arith)
-
-    run_status : StatusOf n (Ends Q)
-    run_status = record {
-      other = (no_refusal 3 (inl refl), no_refusal 4 (inr (inl refl)), no_refusal 6 (inr (inr (inl refl))));
-      to = ends;
-      from = λ aim source may p. ends_run aim source p;
-    }
-
-done_of : (aim : Aim) (source : List ℕ) (r : Report) → IsReportFor aim source r → r.status ≡ 0 → IsDone aim source
-done_of (of_program aim) source r (refused (unparsed (by_lexer fault has e))) is = let h = status_ap r _ e in absurd (omega arith)
-done_of (of_program aim) source r (refused (unparsed (by_parser tokens fault has e))) is = let h = status_ap r _ e in absurd (omega arith)
-done_of (of_program aim) source r (refused (by_checker fault has e)) is = let h = status_ap r _ e in absurd (omega arith)
-done_of (of_program (simulates w)) source r (program core comes of) is =
-    inl (run_ends 0 (λ v. v ≡ verdict.Completed) (inl refl) completed_by (λ v e. ap status_of e) w source core r comes of is)
-done_of (of_program (replays u text)) source r (program core comes of) is =
-    inl (replay_ends 0 (λ v. v ≡ verdict.Completed) (inl refl) completed_by (λ v e. ap status_of e) u text source core r comes of is)
-done_of (of_program checks) source r (program core comes of) is = inr (core, comes)
-done_of (of_program lists) source r (program core comes of) is = inr (core, comes)
-done_of lays_out source r (faulty (by_lexer fault has e)) is = let h = status_ap r _ e in absurd (omega arith)
-done_of lays_out source r (faulty (by_parser tokens fault has e)) is = let h = status_ap r _ e in absurd (omega arith)
-done_of lays_out source r (laid_out text has within e) is = inr (text, has, within)
-done_of lays_out source r (too_long text has above e) is = let h = status_ap r _ e in absurd (omega arith)
-
-of_done : (aim : Aim) (source : List ℕ) → IsListable aim source → IsDone aim source → (r : Report) × IsReportFor aim source r × (r.status ≡ 0)
-of_done aim source may (inl p) = ends_run 0 (λ v. v ≡ verdict.Completed) (inl refl) completed_by (λ v e. ap status_of e) aim source p
-of_done (of_program (simulates w)) source may (inr p) = absurd p
-of_done (of_program (replays u text)) source may (inr p) = absurd p
-of_done (of_program checks) source may (inr p) = (refusal.accepted, program p.0 p.1 refl, refl)
-of_done (of_program lists) source may (inr p) =
-    let there = may p.0 p.1 in (refusal.listed there.0, program p.0 p.1 (record { code = there.0; is = there.1; listed = refl }), refl)
-of_done lays_out source may (inr p) = (refusal.laid_out p.0, laid_out p.0 p.1 p.2 refl, refl)
-
-pub done_status : StatusOf 0 IsDone
-done_status = record { other = (λ e. omega arith, λ e. omega arith, λ e. omega arith); to = done_of; from = of_done }
-
-pub exit_status : StatusOf 10 (Ends IsExit)
-exit_status = run_status 10 IsExit (inr (omega arith, omega arith)) exit_by (λ v e. ap status_of e.1) (omega arith)
-
-pub deadlock_status : StatusOf 11 (Ends (λ v. v ≡ verdict.Deadlock))
-deadlock_status = run_status 11 (λ v. v ≡ verdict.Deadlock) (inr (omega arith, omega arith)) deadlock_by (λ v e. ap status_of e) (omega arith)
-
-pub fault_status : StatusOf 12 (Ends IsFault)
-fault_status = run_status 12 IsFault (inr (omega arith, omega arith)) fault_by (λ v e. ap status_of e.3) (omega arith)
-
-pub out_of_steps_status : StatusOf 13 (Ends (λ v. v ≡ verdict.OutOfSteps))
-out_of_steps_status = run_status 13 (λ v. v ≡ verdict.OutOfSteps) (inr (omega arith, omega arith)) out_of_steps_by (λ v e. ap status_of e) (omega arith)
-
-pub stopped_status : StatusOf 14 (Ends (λ v. v ≡ verdict.Stopped))
-stopped_status = run_status 14 (λ v. v ≡ verdict.Stopped) (inr (omega arith, omega arith)) stopped_by (λ v e. ap status_of e) (omega arith)
-
--- the statuses of refusals
-
-of_unparsed : (aim : Aim) (source : List ℕ) (r : Report) → IsUnparsed source r → IsReportFor aim source r
-of_unparsed (of_program aim) source r is = refused (unparsed is)
-of_unparsed lays_out source r is = faulty is
-
-lexical_of : (aim : Aim) (source : List ℕ) (r : Report) → IsReportFor aim source r → r.status ≡ 20 → HasLexicalFault source
-lexical_of (of_program aim) source r (refused (unparsed (by_lexer fault has e))) is = (fault, has)
-lexical_of (of_program aim) source r (refused (unparsed (by_parser tokens fault has e))) is = let h = status_ap r _ e in absurd (omega arith)
-lexical_of (of_program aim) source r (refused (by_checker fault has e)) is = let h = status_ap r _ e in absurd (omega arith)
-lexical_of (of_program aim) source r (program core comes of) is = absurd (no_program 20 (omega arith, omega arith) core aim r of is)
-lexical_of lays_out source r (faulty (by_lexer fault has e)) is = (fault, has)
-lexical_of lays_out source r (faulty (by_parser tokens fault has e)) is = let h = status_ap r _ e in absurd (omega arith)
-lexical_of lays_out source r (laid_out text has within e) is = let h = status_ap r _ e in absurd (omega arith)
-lexical_of lays_out source r (too_long text has above e) is = let h = status_ap r _ e in absurd (omega arith)
-
-pub lexical_status : StatusOf 20 (λ aim. HasLexicalFault)
-lexical_status = record {
-  other = (λ e. omega arith, λ e. omega arith, λ e. omega arith);
-  to = lexical_of;
-  from = λ aim source may p. (refusal.lexical p.0, of_unparsed aim source (refusal.lexical p.0) (by_lexer p.0 p.1 refl), refl);
-}
-
-syntax_of : (aim : Aim) (source : List ℕ) (r : Report) → IsReportFor aim source r → r.status ≡ 21 → HasSyntaxFault source
-syntax_of (of_program aim) source r (refused (unparsed (by_lexer fault has e))) is = let h = status_ap r _ e in absurd (omega arith)
-syntax_of (of_program aim) source r (refused (unparsed (by_parser tokens fault has e))) is = (tokens, fault, has)
-syntax_of (of_program aim) source r (refused (by_checker fault has e)) is = let h = status_ap r _ e in absurd (omega arith)
-syntax_of (of_program aim) source r (program core comes of) is = absurd (no_program 21 (omega arith, omega arith) core aim r of is)
-syntax_of lays_out source r (faulty (by_lexer fault has e)) is = let h = status_ap r _ e in absurd (omega arith)
-syntax_of lays_out source r (faulty (by_parser tokens fault has e)) is = (tokens, fault, has)
-syntax_of lays_out source r (laid_out text has within e) is = let h = status_ap r _ e in absurd (omega arith)
-syntax_of lays_out source r (too_long text has above e) is = let h = status_ap r _ e in absurd (omega arith)
-
-pub syntax_status : StatusOf 21 (λ aim. HasSyntaxFault)
-syntax_status = record {
-  other = (λ e. omega arith, λ e. omega arith, λ e. omega arith);
-  to = syntax_of;
-  from = λ aim source may p. (refusal.syntax source p.0 p.1, of_unparsed aim source (refusal.syntax source p.0 p.1) (by_parser p.0 p.1 p.2 refl), refl);
-}
-
-mistyped_of : (aim : Aim) (source : List ℕ) (r : Report) → IsReportFor aim source r → r.status ≡ 22 → IsMistyped aim source
-mistyped_of (of_program aim) source r (refused (unparsed (by_lexer fault has e))) is = let h = status_ap r _ e in absurd (omega arith)
-mistyped_of (of_program aim) source r (refused (unparsed (by_parser tokens fault has e))) is = let h = status_ap r _ e in absurd (omega arith)
-mistyped_of (of_program aim) source r (refused (by_checker fault has e)) is = (fault, has)
-mistyped_of (of_program aim) source r (program core comes of) is = absurd (no_program 22 (omega arith, omega arith) core aim r of is)
-mistyped_of lays_out source r of is = let b = layout_bound source r of in absurd (grind arith)
-
-of_mistyped : (aim : Aim) (source : List ℕ) → IsListable aim source → IsMistyped aim source → (r : Report) × IsReportFor aim source r × (r.status ≡ 22)
-of_mistyped (of_program aim) source may p = (refusal.typing p.0, refused (by_checker p.0 p.1 refl), refl)
-of_mistyped lays_out source may p = absurd p
-
-pub mistyped_status : StatusOf 22 IsMistyped
-mistyped_status = record {
-  other = (λ e. omega arith, λ e. omega arith, λ e. omega arith);
-  to = mistyped_of;
-  from = of_mistyped;
-}
-
-unfit_run : (w : Wanted) (source : List ℕ) (core : Core) (r : Report) → ComesTo source core → IsReportOfProgram core (simulates w) r → r.status ≡ 23 → HasUnfitArguments (of_program (simulates w)) source
-unfit_run w source core r comes (report.unfit wanted fault misfits e) is =
-    record { core = core; program = comes; wanted = wanted; fault = fault; misfits = misfits }
-unfit_run w source core r comes (report.fit values means of) is =
-    let h : r.status ≡ status_of of.course.told.ending.verdict = status_ap r _ of.is in let b = status_bound of.course.told.ending.verdict in absurd (grind arith)
-
-unfit_replay : (u : Unpicked) (text source : List ℕ) (core : Core) (r : Report) → ComesTo source core → IsReportOfProgram core (replays u text) r → r.status ≡ 23
-    → HasUnfitArguments (of_program (replays u text)) source
-unfit_replay u text source core r comes (report.unfit wanted fault misfits e) is =
-    record { core = core; program = comes; wanted = wanted; fault = fault; misfits = misfits }
-unfit_replay u text source core r comes (report.fit values means (report.mispicked k misfits e)) is = let h = status_ap r _ e in absurd (omega arith)
-unfit_replay u text source core r comes (report.fit values means (report.replayed numbers has of)) is = let b = ran_bound core of.course r of.is in absurd (grind arith)
-
-unfit_of : (aim : Aim) (source : List ℕ) (r : Report) → IsReportFor aim source r → r.status ≡ 23 → HasUnfitArguments aim source
-unfit_of (of_program aim) source r (refused (unparsed (by_lexer fault has e))) is = let h = status_ap r _ e in absurd (omega arith)
-unfit_of (of_program aim) source r (refused (unparsed (by_parser tokens fault has e))) is = let h = status_ap r _ e in absurd (omega arith)
-unfit_of (of_program aim) source r (refused (by_checker fault has e)) is = let h = status_ap r _ e in absurd (omega arith)
-unfit_of (of_program (simulates w)) source r (program core comes of) is = unfit_run w source core r comes of is
-unfit_of (of_program (replays u text)) source r (program core comes of) is = unfit_replay u text source core r comes of is
-unfit_of (of_program checks) source r (program core comes of) is = let h = status_ap r _ of in absurd (omega arith)
-unfit_of (of_program lists) source r (program core comes of) is = let h = status_ap r _ of.listed in absurd (omega arith)
-unfit_of lays_out source r of is = let b = layout_bound source r of in absurd (grind arith)
-
-of_unfit : (aim : Aim) (source : List ℕ) → IsListable aim source → HasUnfitArguments aim source → (r : Report) × IsReportFor aim source r × (r.status ≡ 23)
-of_unfit (of_program (simulates w)) source may p =
-    (refusal.unfit_arguments p.wanted _ p.fault, program p.core p.program (report.unfit p.wanted p.fault p.misfits refl), refl)
-of_unfit (of_program (replays u text)) source may p =
-    (refusal.unfit_arguments p.wanted _ p.fault, program p.core p.program (report.unfit p.wanted p.fault p.misfits refl), refl)
-of_unfit (of_program checks) source may p = absurd p
-of_unfit (of_program lists) source may p = absurd p
-of_unfit lays_out source may p = absurd p
-
-pub unfit_status : StatusOf 23 HasUnfitArguments
-unfit_status = record { other = (λ e. omega arith, λ e. omega arith, λ e. omega arith); to = unfit_of; from = of_unfit }
-
-mispicked_run : (u : Unpicked) (text source : List ℕ) (core : Core) (r : Report) → ComesTo source core → IsReportOfProgram core (replays u text) r → r.status ≡ 26
-    → HasMispick (of_program (replays u text)) source
-mispicked_run u text source core r comes (report.unfit wanted fault misfits e) is = let h = status_ap r _ e in absurd (omega arith)
-mispicked_run u text source core r comes (report.fit values means (report.mispicked k misfits e)) is =
-    record { core = core; program = comes; arguments = values; fit = means; k = k; misfits = misfits }
-mispicked_run u text source core r comes (report.fit values means (report.replayed numbers has of)) is = let b = ran_bound core of.course r of.is in absurd (grind arith)
-
-mispicked_of : (aim : Aim) (source : List ℕ) (r : Report) → IsReportFor aim source r → r.status ≡ 26 → HasMispick aim source
-mispicked_of (of_program aim) source r (refused refusal_is) is = let b = refused_bound source r refusal_is in let high = b.1 in absurd (omega arith)
-mispicked_of (of_program (simulates w)) source r (program core comes of) is = let b = simulated_bound source w r (program core comes of) in absurd (grind arith)
-mispicked_of (of_program (replays u text)) source r (program core comes of) is = mispicked_run u text source core r comes of is
-mispicked_of (of_program checks) source r (program core comes of) is = let h = status_ap r _ of in absurd (omega arith)
-mispicked_of (of_program lists) source r (program core comes of) is = let h = status_ap r _ of.listed in absurd (omega arith)
-mispicked_of lays_out source r of is = let b = layout_bound source r of in absurd (grind arith)
-
-of_mispicked : (aim : Aim) (source : List ℕ) → IsListable aim source → HasMispick aim source → (r : Report) × IsReportFor aim source r × (r.status ≡ 26)
-of_mispicked (of_program (simulates w)) source may p = absurd p
-of_mispicked (of_program (replays u text)) source may p =
-    (refusal.mispicked p.k, program p.core p.program (report.fit p.arguments p.fit (report.mispicked p.k p.misfits refl)), refl)
-of_mispicked (of_program checks) source may p = absurd p
-of_mispicked (of_program lists) source may p = absurd p
-of_mispicked lays_out source may p = absurd p
-
-pub mispicked_status : StatusOf 26 HasMispick
-mispicked_status = record { other = (λ e. omega arith, λ e. omega arith, λ e. omega arith); to = mispicked_of; from = of_mispicked }
-
-too_long_of : (aim : Aim) (source : List ℕ) (r : Report) → IsReportFor aim source r → r.status ≡ 27 → IsTooLong aim source
-too_long_of (of_program aim) source r of is = let b = source_bound source aim r of in absurd (grind arith)
-too_long_of lays_out source r (faulty (by_lexer fault has e)) is = let h = status_ap r _ e in absurd (omega arith)
-too_long_of lays_out source r (faulty (by_parser tokens fault has e)) is = let h = status_ap r _ e in absurd (omega arith)
-too_long_of lays_out source r (laid_out text has within e) is = let h = status_ap r _ e in absurd (omega arith)
-too_long_of lays_out source r (too_long text has above e) is = (text, has, above)
-
-of_too_long : (aim : Aim) (source : List ℕ) → IsListable aim source → IsTooLong aim source → (r : Report) × IsReportFor aim source r × (r.status ≡ 27)
-of_too_long (of_program aim) source may p = absurd p
-of_too_long lays_out source may p = (refusal.layout_too_long, too_long p.0 p.1 p.2 refl, refl)
-
-pub too_long_status : StatusOf 27 IsTooLong
-too_long_status = record { other = (λ e. omega arith, λ e. omega arith, λ e. omega arith); to = too_long_of; from = of_too_long }
-
--- the statuses of logs
+-- the statuses of logs of old
 
 up_of : (text : List ℕ) (r : Report) → IsReportOfLog text r → r.status ≡ 0 → ComesUp text
 up_of text r (report.up log has e) is = (log, has)
@@ -327,8 +41,8 @@ exactly r call n cause above (inr met) to from = ((λ is. to (sym met.status ∙
 
 module _ (call : Call) (files : Files) (r : Report) where
   module _ (n : ℕ) (P : Aim → List ℕ → Type 0) (status : StatusOf n P) (no_log : (n ≢ 0) × (n ≢ 24)) where
-    no_log_status : (text : List ℕ) → IsReportOfLog text r → r.status ≡ n → ⊥
-    no_log_status text of is = by (log_bound text r of)
+    not_of_log : (text : List ℕ) → IsReportOfLog text r → r.status ≡ n → ⊥
+    not_of_log text of is = by (log_bound text r of)
       where
         by : (r.status ≡ 0) ⊎ (r.status ≡ 24) → ⊥
         by (inl z) = no_log.0 (sym is ∙ z)
@@ -338,7 +52,7 @@ module _ (call : Call) (files : Files) (r : Report) where
     asks (asks_nothing asked e) is = absurd (status.other.0 (sym is ∙ status_ap r _ e))
     asks (is_missing e) is = absurd (status.other.1 (sym is ∙ status_ap r _ e))
     asks (is_long e) is = absurd (status.other.1 (sym is ∙ status_ap r _ e))
-    asks (of_log text asked of) is = absurd (no_log_status text of is)
+    asks (of_log text asked of) is = absurd (not_of_log text of is)
     asks (of_source aim source asked of) is = (aim, source, asked, status.to aim source r of is)
 
   -- what is done: with a source, or with a log
@@ -347,7 +61,7 @@ module _ (call : Call) (files : Files) (r : Report) where
   asks_done (is_missing e) is = let h = status_ap r _ e in absurd (omega arith)
   asks_done (is_long e) is = let h = status_ap r _ e in absurd (omega arith)
   asks_done (of_log text asked of) is = inr (text, asked, up_of text r of is)
-  asks_done (of_source aim source asked of) is = inl (aim, source, asked, done_of aim source r of is)
+  asks_done (of_source aim source asked of) is = inl (aim, source, asked, done_status.to aim source r of is)
 
   -- a line of a log doesn't fit
   asks_misfit : CaseOf call files r → r.status ≡ 24 → AsksForLog call files HasMisfit

@@ -7,6 +7,8 @@ use Rattle.chi_io.specs.Shelf.{Files}
 use Rattle.chi_lex.specs.declared.lexer.TheConstants.{MOST_BYTES}
 use Rattle.chi_trace.specs.declared.log.TheConstants.{MOST_LOG_BYTES}
 use Rattle.chi_value.specs.declared.value.Value.{Value}
+use Rattle.chi_tool.specs.declared.task.LogPurpose.{LogPurpose}
+use Rattle.chi_tool.specs.declared.task.LogPurpose.TheVariants.{Judge, Picks}
 use Rattle.chi_tool.specs.declared.task.Purpose.{Purpose}
 use Rattle.chi_tool.specs.declared.task.Task.{Task}
 use Rattle.chi_tool.specs.declared.task.Task.TheVariants.{OfFile, OfLog}
@@ -14,9 +16,9 @@ use Rattle.chi_tool.specs.Call.{ShelfUse}
 use Rattle.chi_tool.specs.Headline.{IsUnread, CannotBeRead}
 use Rattle.chi_tool.specs.Refusals as refusal
 use Rattle.chi_tool.specs.Refusals.{Report}
-use Rattle.chi_tool.specs.Report.{IsReportWith, unfit, fit, IsReportByPicks, mispicked, replayed, IsReportOfProgram, IsReportOfSource, refused, program, IsReportOfLayout, faulty, laid_out, too_long, IsReportOfLog, up, misfit, IsReportOfFile, IsReportFor, IsReportOfTask}
+use Rattle.chi_tool.specs.Report.{IsReportWith, unfit, fit, IsReportByPicks, mispicked, replayed, IsReportOfReplay, IsReportOnLog, yes, no, IsReportOfJudging, IsReportOfProgram, IsReportOfSource, refused, program, IsReportOfLayout, faulty, laid_out, too_long, IsReportOfLog, up, misfit, IsReportOfFile, IsReportFor, IsReportOfTask}
 use Rattle.chi_tool.specs.Running.{Course, IsRunReport, run_report}
-use Rattle.chi_tool.specs.Settings.{Wanted, Unpicked, ProgramAim, simulates, replays, checks, lists, Aim, of_program, lays_out, aim_of, settings_with}
+use Rattle.chi_tool.specs.Settings.{Wanted, Unpicked, ProgramAim, simulates, replays, judges, checks, lists, Aim, of_program, lays_out, aim_of, settings_with}
 use Rattle.chi_tool.specs.Sources.{IsRefused, by_lexer, by_parser, unparsed, by_checker}
 use Rattle.chi_tool.specs.Words.{of_task, NamesNoFile}
 use Rattle.chi_tool.proofs.Verdicts.{status_bound}
@@ -30,6 +32,8 @@ data ProgramCase (core : Core) (r : Report) : Type 0 where
   is_listed : (code : Code) → r ≡ refusal.listed code → ProgramCase core r
   is_unfit : (wanted given : ℕ) (fault : ArgFault) → r ≡ refusal.unfit_arguments wanted given fault → ProgramCase core r
   is_mispicked : (k : ℕ) → r ≡ refusal.mispicked k → ProgramCase core r
+  is_judged : (purpose : LogPurpose) (output numbers : List ℕ) → r ≡ refusal.is_log purpose output numbers → ProgramCase core r
+  is_no_log : (k : ℕ) → r ≡ refusal.no_log k → ProgramCase core r
   is_run : (course : Course) → r ≡ run_report core course → ProgramCase core r
 
 with_case : (core : Core) (texts : List (List ℕ)) (P : List Value → Report → Type 0) (r : Report) → ((values : List Value) → P values r → ProgramCase core r)
@@ -41,11 +45,16 @@ picks_case : (core : Core) (u : Unpicked) (text : List ℕ) (values : List Value
 picks_case core u text values r (mispicked k misfits is) = is_mispicked k is
 picks_case core u text values r (replayed numbers has of) = is_run of.course of.is
 
+log_case : (core : Core) (purpose : LogPurpose) (u : Unpicked) (text : List ℕ) (values : List Value) (r : Report) → IsReportOnLog core purpose u text values r → ProgramCase core r
+log_case core purpose u text values r (yes output numbers log is) = is_judged purpose output numbers is
+log_case core purpose u text values r (no k refuses is) = is_no_log k is
+
 program_case : (core : Core) (aim : ProgramAim) (r : Report) → IsReportOfProgram core aim r → ProgramCase core r
 program_case core checks r is = is_accepted is
 program_case core lists r is = is_listed is.code is.listed
 program_case core (simulates w) r is = with_case core w.texts (λ values. IsRunReport core (settings_with w values)) r (λ values of. is_run of.course of.is) is
 program_case core (replays u text) r is = with_case core u.texts (IsReportByPicks core u text) r (λ values of. picks_case core u text values r of) is
+program_case core (judges purpose u text) r is = with_case core u.texts (IsReportOnLog core purpose u text) r (λ values of. log_case core purpose u text values r of) is
 
 -- which statuses a run's report has
 pub ran_bound : (core : Core) (course : Course) (r : Report) → r ≡ run_report core course → (r.status ≡ 0) ⊎ ((10 ≤ r.status) × (r.status ≤ 14))
@@ -55,15 +64,39 @@ ran_bound core course r e = by (status_bound course.told.ending.verdict) (status
     by (inl z) is = inl (is ∙ z)
     by (inr b) is = inr (let low = b.0 in let high = b.1 in (omega arith, omega arith))
 
+-- which that of a run by picks has
+pub replayed_bound : (core : Core) (u : Unpicked) (text : List ℕ) (r : Report) → IsReportOfReplay core u text r
+    → (r.status ≡ 0) ⊎ (((10 ≤ r.status) × (r.status ≤ 14)) ⊎ ((r.status ≡ 23) ⊎ (r.status ≡ 26)))
+replayed_bound core u text r (unfit wanted fault misfits e) = inr (inr (inl (status_ap r _ e)))
+replayed_bound core u text r (fit values means (mispicked k misfits e)) = inr (inr (inr (status_ap r _ e)))
+replayed_bound core u text r (fit values means (replayed numbers has of)) = by (ran_bound core of.course r of.is)
+  where
+    by : (r.status ≡ 0) ⊎ ((10 ≤ r.status) × (r.status ≤ 14)) → (r.status ≡ 0) ⊎ (((10 ≤ r.status) × (r.status ≤ 14)) ⊎ ((r.status ≡ 23) ⊎ (r.status ≡ 26)))
+    by (inl z) = inl z
+    by (inr b) = inr (inl b)
+
+-- which that of a log has
+pub is_log_status : (purpose : LogPurpose) (output numbers : List ℕ) → (refusal.is_log purpose output numbers).status ≡ 0
+is_log_status Judge output numbers = refl
+is_log_status Picks output numbers = refl
+
+pub judging_bound : (core : Core) (purpose : LogPurpose) (u : Unpicked) (text : List ℕ) (r : Report) → IsReportOfJudging core purpose u text r
+    → (r.status ≡ 0) ⊎ ((r.status ≡ 23) ⊎ (r.status ≡ 25))
+judging_bound core purpose u text r (unfit wanted fault misfits e) = inr (inl (status_ap r _ e))
+judging_bound core purpose u text r (fit values means (yes output numbers log e)) = inl (status_ap r _ e ∙ is_log_status purpose output numbers)
+judging_bound core purpose u text r (fit values means (no k refuses e)) = inr (inr (status_ap r _ e))
+
 -- which a program's report has
 abbrev pub OfProgramStatus : ℕ → Type 0
-OfProgramStatus n = (n ≡ 0) ⊎ (((10 ≤ n) × (n ≤ 14)) ⊎ ((n ≡ 23) ⊎ (n ≡ 26)))
+OfProgramStatus n = (n ≡ 0) ⊎ (((10 ≤ n) × (n ≤ 14)) ⊎ ((n ≡ 23) ⊎ ((25 ≤ n) × (n ≤ 26))))
 
 program_status : (core : Core) (r : Report) → ProgramCase core r → OfProgramStatus r.status
 program_status core r (is_accepted e) = inl (status_ap r _ e)
 program_status core r (is_listed code e) = inl (status_ap r _ e)
 program_status core r (is_unfit wanted given fault e) = inr (inr (inl (status_ap r _ e)))
-program_status core r (is_mispicked k e) = inr (inr (inr (status_ap r _ e)))
+program_status core r (is_mispicked k e) = let is = status_ap r _ e in inr (inr (inr (omega arith, omega arith)))
+program_status core r (is_judged purpose output numbers e) = inl (status_ap r _ e ∙ is_log_status purpose output numbers)
+program_status core r (is_no_log k e) = let is = status_ap r _ e in inr (inr (inr (omega arith, omega arith)))
 program_status core r (is_run course e) = by (ran_bound core course r e)
   where
     by : (r.status ≡ 0) ⊎ ((10 ≤ r.status) × (r.status ≤ 14)) → OfProgramStatus r.status
@@ -81,7 +114,7 @@ refused_bound source r (by_checker fault has e) = let is = status_ap r _ e in (o
 
 -- and which a source's report has
 abbrev pub OfSourceStatus : ℕ → Type 0
-OfSourceStatus n = (n ≡ 0) ⊎ (((10 ≤ n) × (n ≤ 23)) ⊎ (n ≡ 26))
+OfSourceStatus n = (n ≡ 0) ⊎ (((10 ≤ n) × (n ≤ 23)) ⊎ ((25 ≤ n) × (n ≤ 26)))
 
 pub source_bound : (source : List ℕ) (aim : ProgramAim) (r : Report) → IsReportOfSource source aim r → OfSourceStatus r.status
 source_bound source aim r (refused is) = let b = refused_bound source r is in let low = b.0 in let high = b.1 in inr (inl (omega arith, omega arith))
@@ -112,7 +145,7 @@ layout_bound source r (too_long text has above e) = inr (inr (inr (status_ap r _
 
 -- which it has, whatever is done with it
 abbrev pub OfAimStatus : ℕ → Type 0
-OfAimStatus n = (n ≡ 0) ⊎ (((10 ≤ n) × (n ≤ 23)) ⊎ ((n ≡ 26) ⊎ (n ≡ 27)))
+OfAimStatus n = (n ≡ 0) ⊎ (((10 ≤ n) × (n ≤ 23)) ⊎ ((25 ≤ n) × (n ≤ 27)))
 
 pub aim_bound : (aim : Aim) (source : List ℕ) (r : Report) → IsReportFor aim source r → OfAimStatus r.status
 aim_bound (of_program aim) source r of = widened (source_bound source aim r of)
@@ -120,16 +153,16 @@ aim_bound (of_program aim) source r of = widened (source_bound source aim r of)
     widened : OfSourceStatus r.status → OfAimStatus r.status
     widened (inl z) = inl z
     widened (inr (inl b)) = inr (inl b)
-    widened (inr (inr e)) = inr (inr (inl e))
+    widened (inr (inr b)) = let high = b.1 in inr (inr (b.0, omega arith))
 aim_bound lays_out source r of = widened (layout_bound source r of)
   where
     widened : (r.status ≡ 0) ⊎ ((r.status ≡ 20) ⊎ ((r.status ≡ 21) ⊎ (r.status ≡ 27))) → OfAimStatus r.status
     widened (inl z) = inl z
     widened (inr (inl e)) = inr (inl (omega arith, omega arith))
     widened (inr (inr (inl e))) = inr (inl (omega arith, omega arith))
-    widened (inr (inr (inr e))) = inr (inr (inr e))
+    widened (inr (inr (inr e))) = inr (inr (omega arith, omega arith))
 
--- and which a log's has
+-- and which that of a log of old has
 pub log_bound : (text : List ℕ) (r : Report) → IsReportOfLog text r → (r.status ≡ 0) ⊎ (r.status ≡ 24)
 log_bound text r (up log is e) = inl (status_ap r _ e)
 log_bound text r (misfit k is e) = inr (status_ap r _ e)
@@ -150,8 +183,7 @@ aim_status aim source r of = of_content r.status (low (aim_bound aim source r of
     low : OfAimStatus r.status → (r.status ≡ 0) ⊎ (10 ≤ r.status)
     low (inl z) = inl z
     low (inr (inl b)) = inr b.0
-    low (inr (inr (inl e))) = inr (omega arith)
-    low (inr (inr (inr e))) = inr (omega arith)
+    low (inr (inr b)) = let above = b.0 in inr (omega arith)
 
 pub source_status : (source : List ℕ) (aim : ProgramAim) (r : Report) → IsReportOfSource source aim r → IsOfContent r.status
 source_status source aim r of = aim_status (of_program aim) source r of

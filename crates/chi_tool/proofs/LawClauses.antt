@@ -20,6 +20,7 @@ use Rattle.chi_lex.specs.declared.lexer.TheConstants.{MOST_BYTES}
 use Rattle.chi_lex.specs.Reading.{Reads}
 use Rattle.chi_check.specs.Programs.{checked, Answers}
 use Rattle.chi_check_laws.specs.Laws.{IsWhole}
+use Rattle.chi_log.specs.Laws.{EachIsJudged, OneFirstWrong, OneLog}
 use Rattle.chi_picks.specs.Lists as picks
 use Rattle.chi_trace.specs.Logs as logs
 use Rattle.chi_trace.specs.Logs.{IsUp}
@@ -29,7 +30,7 @@ use Rattle.chi_value.specs.declared.value.Value.{Value}
 use Rattle.chi_tool.specs.Refusals.{Report}
 use Rattle.chi_tool.specs.Report.{IsReportFor, IsReport}
 use Rattle.chi_tool.specs.Running.{Course, IsRunOf, MayHave}
-use Rattle.chi_tool.specs.Settings.{Aim, MayBeAimed, Settings}
+use Rattle.chi_tool.specs.Settings.{Aim, IsShortFor, MayBeAimed, Settings}
 use Rattle.chi_tool.specs.Simulations.{AreOwnPicks, IsDerived}
 use Rattle.chi_tool.specs.Sources.{ComesTo}
 
@@ -90,10 +91,16 @@ pub record PicksLaw : Type 0 where
   pub one_line : (text : List ℕ) (j k : ℕ) → picks.Misfits text j → picks.Misfits text k → j ≡ k
   pub apart : (text numbers : List ℕ) (k : ℕ) → picks.Has text numbers → picks.Misfits text k → ⊥
 
+-- a text is the log of one run of a program, or has one first wrong line
+pub record JudgeLaw : Type 0 where
+  pub some : EachIsJudged
+  pub one_log : OneLog
+  pub one_line : OneFirstWrong
+
 -- a source within the limit has one report
 pub record SourceLaw : Type 0 where
   pub some : (source : List ℕ) (aim : Aim) → length source ≤ MOST_BYTES → MayBeAimed aim → (r : Report) × IsReportFor aim source r
-  pub one : (source : List ℕ) (aim : Aim) (r other : Report) → IsReportFor aim source r → IsReportFor aim source other → r ≡ other
+  pub one : (source : List ℕ) (aim : Aim) → IsShortFor aim source → (r other : Report) → IsReportFor aim source r → IsReportFor aim source other → r ≡ other
 
 -- words and files have one report
 pub record ReportLaw : Type 0 where

@@ -4,8 +4,6 @@ pub mod Sinks
 pub mod LawClauses
 pub mod Sources
 pub mod Layouts
-pub mod Logged
-pub mod Showing
 pub mod Runs
 pub mod Wishes
 pub mod Reports
@@ -14,12 +12,12 @@ pub mod Contents
 pub mod Endings
 pub mod Promises
 pub mod Cases
+pub mod StatusCauses
 pub mod Causes
 pub mod TwoFiles
 pub mod Served
 pub mod Factories
 pub mod Simulations
 pub mod Replays
+pub mod OnLogs
 pub mod Readings
-pub mod Turns
-pub mod RunEnds

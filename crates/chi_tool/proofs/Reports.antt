@@ -8,7 +8,12 @@ use Rattle.chi_load.specs.Factory.{factory_source}
 use Rattle.chi_lex.specs.declared.lexer.TheConstants.{MOST_BYTES}
 use Rattle.chi_core.specs.declared.program.Core.{Core}
 use Rattle.chi_core.specs.declared.program.ProcDef.{ProcDef}
+use Rattle.chi_core.specs.Beginning.{start}
+use Rattle.chi_core.specs.Picks.{picks_of}
+use Rattle.chi_core.specs.Runs.{Told}
 use Rattle.chi_core.specs.Sound.{Sound}
+use Rattle.chi_core_runs.specs.Picked.{IsBeginning}
+use Rattle.chi_log.specs.Allowed.{IsAllowed}
 use Rattle.chi_trace.specs.declared.log.TheConstants.{MOST_LOG_BYTES}
 use Rattle.chi_trace.specs.Logs as logs
 use Rattle.chi_trace.specs.Logs.{IsUp}
@@ -17,18 +22,20 @@ use Rattle.chi_tool.specs.declared.task.Purpose.TheVariants.{OfProgram}
 use Rattle.chi_tool.specs.declared.task.ProgramPurpose.TheVariants.{Simulate}
 use Rattle.chi_picks.specs.Lists as picks
 use Rattle.chi_sched.specs.Policies.{listed}
+use Rattle.chi_tool.specs.declared.task.LogPurpose.{LogPurpose}
 use Rattle.chi_tool.specs.declared.task.TheConstants.{MOST_BESIDE}
 use Rattle.chi_tool.specs.declared.task.Task.TheVariants.{OfFile, OfPair, OfLog, OfFactory}
 use Rattle.chi_tool.specs.Arguments.{Means, Misfits}
 use Rattle.chi_tool.specs.Refusals as refusal
 use Rattle.chi_tool.specs.Refusals.{Report, usage, no_such_file, file_too_long, unfit_arguments, brought_up, accepted}
-use Rattle.chi_tool.specs.Report.{IsReportWith, unfit, fit, IsReportByPicks, mispicked, replayed, IsReportOfProgram, IsReportOfSource, refused, program, IsReportOfLog, up, misfit, IsReportFor, IsReportOfFile, missing, long, fetched, IsReportOfWish, IsReport}
+use Rattle.chi_tool.specs.Report.{IsReportWith, unfit, fit, IsReportByPicks, mispicked, replayed, IsReportOnLog, yes, no, IsReportOfProgram, IsReportOfSource, refused, program, IsReportOfLog, up, misfit, IsReportFor, IsReportOfFile, missing, long, fetched, IsReportOfWish, IsReport}
+use Rattle.chi_tool.specs.OnLogs.{IsNoLogWith}
 use Rattle.chi_tool.specs.Running.{IsRunReport, run_report}
-use Rattle.chi_tool.specs.Settings.{Settings, Wanted, Unpicked, picked_by, ProgramAim, simulates, replays, checks, lists, Aim, of_program, lays_out, wanted_of, aim_of, pair_aim, MayBeAimedAt, MayBeAimed, plain, settings_with}
+use Rattle.chi_tool.specs.Settings.{Settings, Wanted, Unpicked, picked_by, ProgramAim, simulates, replays, judges, checks, lists, Aim, of_program, lays_out, wanted_of, aim_of, pair_aim, IsShortFor, MayBeAimedAt, MayBeAimed, plain, settings_with}
 use Rattle.chi_tool.specs.Sources.{ComesTo}
 use Rattle.chi_tool.specs.Words.{Wish, nothing, of_task, wish_of}
 use Rattle.chi_tool.proofs.Layouts.{layout_some, layout_one}
-use Rattle.chi_tool.proofs.LawClauses.{AnswerLaw, RunLaw, CodeLaw, CheckLaw, comes_sound, ValuesLaw, RangeLaw, LogLaw, PicksLaw}
+use Rattle.chi_tool.proofs.LawClauses.{AnswerLaw, RunLaw, CodeLaw, CheckLaw, JudgeLaw, comes_sound, ValuesLaw, RangeLaw, LogLaw, PicksLaw}
 use Rattle.chi_tool.proofs.Runs.{may_be_aimed, pair_may_be_aimed, listed_lawful, asked_settings}
 use Rattle.chi_tool.proofs.Sources.{Comes, source_comes, one_refusal, refused_or_comes, one_core}
 use Rattle.chi_tool.proofs.Wishes.{IsBoundedWish, bounded_wish, factory_within}
@@ -44,7 +51,7 @@ module _ (most : ℕ) (P : List ℕ → Report → Type 0) where
       by_length (inl above) = (file_too_long, long content refl above refl)
       by_length (inr within) = let p = some content within in (p.0, fetched content refl within p.1)
 
-  file_one : ((content : List ℕ) (r s : Report) → P content r → P content s → r ≡ s) → (o : Option (List ℕ)) (r s : Report)
+  file_one : ((content : List ℕ) → length content ≤ most → (r s : Report) → P content r → P content s → r ≡ s) → (o : Option (List ℕ)) (r s : Report)
       → IsReportOfFile most P o r → IsReportOfFile most P o s → r ≡ s
   file_one one o r s (missing p a) (missing q b) = a ∙ sym b
   file_one one o r s (missing p a) (long y q m b) = absurd (cc)
@@ -54,7 +61,7 @@ module _ (most : ℕ) (P : List ℕ → Report → Type 0) where
   file_one one o r s (long x p l a) (fetched y q m b) = let same : x ≡ y = cc in let far : most < length y = subst (λ z. most < length z) same l in absurd (omega arith)
   file_one one o r s (fetched x p l a) (missing q b) = absurd (cc)
   file_one one o r s (fetched x p l a) (long y q m b) = let same : y ≡ x = cc in let far : most < length x = subst (λ z. most < length z) same m in absurd (omega arith)
-  file_one one o r s (fetched x p l a) (fetched y q m b) = let same : y ≡ x = cc in one x r s a (subst (λ z. P z s) same b)
+  file_one one o r s (fetched x p l a) (fetched y q m b) = let same : y ≡ x = cc in one x l r s a (subst (λ z. P z s) same b)
 
 -- a log has one report
 
@@ -72,7 +79,21 @@ module _ (law : LogLaw) where
   log_one text r s (misfit k p a) (up log q b) = absurd (law.apart text log k q p)
   log_one text r s (misfit j p a) (misfit k q b) = a ∙ ap refusal.misfit (law.one_line text j k p q) ∙ sym b
 
-module _ (answers : AnswerLaw) (runs : RunLaw) (coded : CodeLaw) (check : CheckLaw) (values_law : ValuesLaw) (picks_law : PicksLaw) where
+module _ (answers : AnswerLaw) (runs : RunLaw) (coded : CodeLaw) (check : CheckLaw) (values_law : ValuesLaw) (picks_law : PicksLaw)
+    (judging : JudgeLaw) where
+  -- a run of the program that is asked for with these arguments begins so
+  begins_so : (core : Core) (u : Unpicked) (values : List Value) (d : ProcDef) → slice_get core.procs core.model ≡ Some d → values_of d.params u.texts ≡ Ok values
+      → IsBeginning core (start core values u.seed u.until)
+  begins_so core u values d is read = record {
+    model = d;
+    is = is;
+    arguments = values;
+    fit = values_law core.names.kinds d.params u.texts values read;
+    seed = u.seed;
+    until = u.until;
+    begins = refl;
+  }
+
   -- there is one
 
   module _ (core : Core) (texts : List (List ℕ)) (P : List Value → Report → Type 0) (d : ProcDef) (is : slice_get core.procs core.model ≡ Some d) where
@@ -100,6 +121,20 @@ module _ (answers : AnswerLaw) (runs : RunLaw) (coded : CodeLaw) (check : CheckL
         by (inl (numbers, has)) = let p = run_some (picked_by (listed numbers) u) (bounded, listed_lawful numbers) values read in (p.0, replayed numbers has p.1)
         by (inr (k, misfits)) = (refusal.mispicked k, mispicked k misfits refl)
 
+    on_log_some : (purpose : LogPurpose) (u : Unpicked) (text : List ℕ) → (values : List Value) → values_of d.params u.texts ≡ Ok values
+        → (r : Report) × IsReportOnLog core purpose u text values r
+    on_log_some purpose u text values read =
+        by (judging.some core (comes_sound check source core within comes) (start core values u.seed u.until) (begins_so core u values d is read) u.bound text)
+      where
+        by : IsAllowed core (start core values u.seed u.until) u.bound text ⊎ ((k : ℕ) × IsNoLogWith core u values text k)
+            → (r : Report) × IsReportOnLog core purpose u text values r
+        by (inl (told, log)) =
+            let numbers = picks_of core (start core values u.seed u.until) u.bound told in (
+              refusal.is_log purpose told.output numbers,
+              yes told.output numbers (record { told = told; log_of = log; output_is = refl; picks_are = refl }) refl,
+            )
+        by (inr (k, refuses)) = (refusal.no_log k, no k refuses refl)
+
   program_some : (aim : ProgramAim) → MayBeAimedAt aim → (source : List ℕ) (core : Core) → length source ≤ MOST_BYTES → ComesTo source core → (r : Report) × IsReportOfProgram core aim r
   program_some (simulates w) bounded source core within comes =
       let m = (comes_sound check source core within comes).model in
@@ -107,6 +142,9 @@ module _ (answers : AnswerLaw) (runs : RunLaw) (coded : CodeLaw) (check : CheckL
   program_some (replays u text) bounded source core within comes =
       let m = (comes_sound check source core within comes).model in
       with_some core u.texts (IsReportByPicks core u text) m.0 m.1 (by_picks_some source core within comes m.0 m.1 u text bounded)
+  program_some (judges purpose u text) bounded source core within comes =
+      let m = (comes_sound check source core within comes).model in
+      with_some core u.texts (IsReportOnLog core purpose u text) m.0 m.1 (on_log_some source core within comes m.0 m.1 purpose u text)
   program_some checks bounded source core within comes = (accepted, refl)
   program_some lists bounded source core within comes =
       let there = coded.some source core within comes in (refusal.listed there.0, record { code = there.0; is = there.1; listed = refl })
@@ -142,7 +180,7 @@ module _ (answers : AnswerLaw) (runs : RunLaw) (coded : CodeLaw) (check : CheckL
       let both : ◌≡◌ {A = Result (List Value) ArgFault} (Ok values) (Err fault) = sym there ∙ q.read in
       cc
 
-  with_one : (core : Core) (texts : List (List ℕ)) (P : List Value → Report → Type 0) → ((values : List Value) (r s : Report) → P values r → P values s → r ≡ s)
+  with_one : (core : Core) (texts : List (List ℕ)) (P : List Value → Report → Type 0) → ((values : List Value) → Means core texts values → (r s : Report) → P values r → P values s → r ≡ s)
       → (r s : Report) → IsReportWith core texts P r → IsReportWith core texts P s → r ≡ s
   with_one core texts P one r s (unfit wanted fault p e) (unfit counted other q f) =
       let same : p.model ≡ q.model = cc (p.is, q.is) in
@@ -158,7 +196,7 @@ module _ (answers : AnswerLaw) (runs : RunLaw) (coded : CodeLaw) (check : CheckL
       let there : values_of q.model.params texts ≡ Ok values = subst (λ (d : ProcDef). values_of d.params texts ≡ Ok values) same p.read in
       let both : ◌≡◌ {A = Result (List Value) ArgFault} (Ok values) (Ok given) = sym there ∙ q.read in
       let same_values : given ≡ values = cc in
-      one values r s of (subst (λ (xs : List Value). P xs s) same_values also)
+      one values p r s of (subst (λ (xs : List Value). P xs s) same_values also)
 
   run_one : (core : Core) (s : Settings) (r t : Report) → IsRunReport core s r → IsRunReport core s t → r ≡ t
   run_one core s r t of also = of.is ∙ ap (run_report core) (runs.one core s of.course also.course of.run also.run) ∙ sym also.is
@@ -172,33 +210,62 @@ module _ (answers : AnswerLaw) (runs : RunLaw) (coded : CodeLaw) (check : CheckL
       run_one core (settings_with (picked_by (listed numbers) u) values) r s of
       (subst (λ (ns : List ℕ). IsRunReport core (settings_with (picked_by (listed ns) u) values) s) same also)
 
-  program_one : (core : Core) (aim : ProgramAim) (r s : Report) → IsReportOfProgram core aim r → IsReportOfProgram core aim s → r ≡ s
-  program_one core (simulates w) r s p q =
-      with_one core w.texts (λ values. IsRunReport core (settings_with w values)) (λ values. run_one core (settings_with w values)) r s p q
-  program_one core (replays u text) r s p q = with_one core u.texts (IsReportByPicks core u text) (by_picks_one core u text) r s p q
-  program_one core checks r s p q = p ∙ sym q
-  program_one core lists r s p q = p.listed ∙ ap refusal.listed (coded.one core p.code q.code p.is q.is) ∙ sym q.listed
+  -- a text is the log of one run of a sound program, or has one first wrong line
+  on_log_one : (core : Core) → Sound core → (purpose : LogPurpose) (u : Unpicked) (text : List ℕ) (values : List Value) → Means core u.texts values
+      → (r s : Report) → IsReportOnLog core purpose u text values r → IsReportOnLog core purpose u text values s → r ≡ s
+  on_log_one core sound purpose u text values means r s (yes output numbers p e) (yes others nots q f) =
+      let told : p.told ≡ q.told =
+      judging.one_log core sound (start core values u.seed u.until) (begins_so core u values means.model means.is means.read) u.bound p.told q.told text p.log_of q.log_of in
+      let outputs : output ≡ others = p.output_is ∙ ap (λ (t : Told). t.output) told ∙ sym q.output_is in
+      let picked : numbers ≡ nots = p.picks_are ∙ ap (picks_of core (start core values u.seed u.until) u.bound) told ∙ sym q.picks_are in
+      e ∙ (λ i. refusal.is_log purpose (outputs i) (picked i)) ∙ sym f
+  on_log_one core sound purpose u text values means r s (yes output numbers p e) (no k q f) = absurd (q.not_allowed (p.told, p.log_of))
+  on_log_one core sound purpose u text values means r s (no k p e) (yes output numbers q f) = absurd (p.not_allowed (q.told, q.log_of))
+  on_log_one core sound purpose u text values means r s (no j p e) (no k q f) =
+      e ∙ ap refusal.no_log (judging.one_line core (start core values u.seed u.until) u.bound text j k p.first_wrong q.first_wrong) ∙ sym f
 
-  checked_one : (source : List ℕ) (aim : ProgramAim) (r s : Report) → IsReportOfSource source aim r → IsReportOfSource source aim s → r ≡ s
-  checked_one source aim r s (refused p) (refused q) = one_refusal answers source r s p q
-  checked_one source aim r s (refused p) (program core q b) = absurd (refused_or_comes answers source r core p q)
-  checked_one source aim r s (program core p a) (refused q) = absurd (refused_or_comes answers source s core q p)
-  checked_one source aim r s (program core p a) (program other q b) =
-      program_one core aim r s a (subst (λ c. IsReportOfProgram c aim s) (one_core answers source other core q p) b)
+  program_one : (source : List ℕ) (core : Core) (aim : ProgramAim) → ComesTo source core → IsShortFor (of_program aim) source
+      → (r s : Report) → IsReportOfProgram core aim r → IsReportOfProgram core aim s → r ≡ s
+  program_one source core (simulates w) comes short r s p q =
+      with_one core w.texts (λ values. IsRunReport core (settings_with w values)) (λ values means. run_one core (settings_with w values)) r s p q
+  program_one source core (replays u text) comes short r s p q =
+      with_one core u.texts (IsReportByPicks core u text) (λ values means. by_picks_one core u text values) r s p q
+  program_one source core (judges purpose u text) comes short r s p q =
+      with_one core u.texts (IsReportOnLog core purpose u text) (on_log_one core (comes_sound check source core short comes) purpose u text) r s p q
+  program_one source core checks comes short r s p q = p ∙ sym q
+  program_one source core lists comes short r s p q = p.listed ∙ ap refusal.listed (coded.one core p.code q.code p.is q.is) ∙ sym q.listed
 
-  pub source_one : (source : List ℕ) (aim : Aim) (r s : Report) → IsReportFor aim source r → IsReportFor aim source s → r ≡ s
-  source_one source (of_program aim) r s p q = checked_one source aim r s p q
-  source_one source lays_out r s p q = layout_one answers source r s p q
+  checked_one : (source : List ℕ) (aim : ProgramAim) → IsShortFor (of_program aim) source → (r s : Report) → IsReportOfSource source aim r → IsReportOfSource source aim s → r ≡ s
+  checked_one source aim short r s (refused p) (refused q) = one_refusal answers source r s p q
+  checked_one source aim short r s (refused p) (program core q b) = absurd (refused_or_comes answers source r core p q)
+  checked_one source aim short r s (program core p a) (refused q) = absurd (refused_or_comes answers source s core q p)
+  checked_one source aim short r s (program core p a) (program other q b) =
+      program_one source core aim p short r s a (subst (λ c. IsReportOfProgram c aim s) (one_core answers source other core q p) b)
+
+  pub source_one : (source : List ℕ) (aim : Aim) → IsShortFor aim source → (r s : Report) → IsReportFor aim source r → IsReportFor aim source s → r ≡ s
+  source_one source (of_program aim) short r s p q = checked_one source aim short r s p q
+  source_one source lays_out short r s p q = layout_one answers source r s p q
+
+  -- a source within the limit is short for all that may be done with it
+  short_for : (aim : Aim) (source : List ℕ) → length source ≤ MOST_BYTES → IsShortFor aim source
+  short_for (of_program (simulates w)) source within = tt
+  short_for (of_program (replays u text)) source within = tt
+  short_for (of_program (judges purpose u text)) source within = within
+  short_for (of_program checks) source within = tt
+  short_for (of_program lists) source within = tt
+  short_for lays_out source within = tt
 
   wish_one : LogLaw → (w : Wish) (files : Files) (r s : Report) → IsReportOfWish w files r → IsReportOfWish w files s → r ≡ s
   wish_one log_law nothing files r s p q = p ∙ sym q
-  wish_one log_law (of_task (OfFile name purpose)) files r s p q = file_one MOST_BYTES (IsReportFor (aim_of purpose)) (λ source. source_one source (aim_of purpose)) (files name) r s p q
+  wish_one log_law (of_task (OfFile name purpose)) files r s p q = file_one MOST_BYTES (IsReportFor (aim_of purpose))
+      (λ source within. source_one source (aim_of purpose) (short_for (aim_of purpose) source within)) (files name) r s p q
   wish_one log_law (of_task (OfPair pair)) files r s p q =
       file_one MOST_BYTES (λ source. IsReportOfFile MOST_BESIDE (λ text. IsReportOfSource source (pair_aim pair.purpose text)) (files pair.beside))
-      (λ source. file_one MOST_BESIDE (λ text. IsReportOfSource source (pair_aim pair.purpose text)) (λ text. checked_one source (pair_aim pair.purpose text)) (files pair.beside))
+      (λ source within. file_one MOST_BESIDE (λ text. IsReportOfSource source (pair_aim pair.purpose text))
+      (λ text also. checked_one source (pair_aim pair.purpose text) (short_for (of_program (pair_aim pair.purpose text)) source within)) (files pair.beside))
       (files pair.file) r s p q
-  wish_one log_law (of_task (OfLog name)) files r s p q = file_one MOST_LOG_BYTES IsReportOfLog (log_one log_law) (files name) r s p q
-  wish_one log_law (of_task (OfFactory size)) files r s p q = source_one (factory_source size) (of_program (simulates (wanted_of plain))) r s p q
+  wish_one log_law (of_task (OfLog name)) files r s p q = file_one MOST_LOG_BYTES IsReportOfLog (λ text within. log_one log_law text) (files name) r s p q
+  wish_one log_law (of_task (OfFactory size)) files r s p q = source_one (factory_source size) (of_program (simulates (wanted_of plain))) tt r s p q
 
   pub report_one : LogLaw → (words : List (List ℕ)) (files : Files) (r s : Report) → IsReport words files r → IsReport words files s → r ≡ s
   report_one log_law words files r s p q = wish_one log_law (wish_of words) files r s p q

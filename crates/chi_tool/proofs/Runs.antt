@@ -18,9 +18,12 @@ use Rattle.chi_core.specs.Of.{at_start, AreOf}
 use Rattle.chi_core.specs.Picks.{Pick, IsLawful}
 use Rattle.chi_core.specs.Runs.{Told, Derivation}
 use Rattle.chi_core.specs.Sound.{Sound}
+use Rattle.chi_core.specs.VerdictLine.{MayTell}
 use Rattle.chi_trace.specs.declared.filter.Filter.{Filter}
 use Rattle.chi_trace_events.specs.Laws.{EachHasATrace, OneTrace}
-use Rattle.chi_plain.specs.Stage.{Stage, Begun}
+use Rattle.chi_core_runs.specs.Endings.{EachEndingIsTold}
+use Rattle.chi_machine_traces.specs.declared.run.Ran.{Ran}
+use Rattle.chi_machine_traces.specs.Told.{IsTold, told_with}
 use Rattle.chi_core_runs.specs.Picked.{IsBeginning, PickedIsDerived, PickedOnce, PickedAlways}
 use Rattle.chi_picks.specs.Lists as picks
 use Rattle.chi_sched.specs.Formulas.{listed_below}
@@ -28,7 +31,7 @@ use Rattle.chi_sched.specs.Policies.{Answers, listed}
 use Rattle.chi_tool.specs.declared.report.Reported.{Reported}
 use Rattle.chi_tool.specs.declared.task.Asked.{Asked}
 use Rattle.chi_tool.specs.declared.task.PairPurpose.{PairPurpose}
-use Rattle.chi_tool.specs.declared.task.PairPurpose.TheVariants.{Replay}
+use Rattle.chi_tool.specs.declared.task.PairPurpose.TheVariants.{Replay, OnLog}
 use Rattle.chi_tool.specs.declared.task.Purpose.{Purpose}
 use Rattle.chi_tool.specs.declared.task.Purpose.TheVariants.{OfProgram, LayOut}
 use Rattle.chi_tool.specs.declared.task.ProgramPurpose.{ProgramPurpose}
@@ -39,11 +42,10 @@ use Rattle.chi_tool.specs.Refusals.{Report, unfit_arguments}
 use Rattle.chi_tool.specs.Refusals as refusal
 use Rattle.chi_tool.specs.Report.{IsReportOfRun, fit, IsReportByPicks, mispicked, replayed, IsReportOfProgram, IsReportOfSource, program}
 use Rattle.chi_tool.specs.Reported.{report_in}
-use Rattle.chi_tool.specs.Running.{Course, IsRunOf, IsRunReport, MayHave}
+use Rattle.chi_tool.specs.Running.{Course, IsRunOf, IsRunReport, MayHave, run_report}
 use Rattle.chi_trace_events.specs.Traces.{IsLogged}
-use Rattle.chi_tool.specs.Settings.{Settings, Wanted, Unpicked, ProgramAim, simulates, replays, checks, lists, Aim, of_program, lays_out, wanted_of, program_aim, aim_of, pair_aim, IsBoundedFor, IsBoundedPair, IsBounded, MayBeAimedAt, MayBeAimed, policy_of, settings_with}
+use Rattle.chi_tool.specs.Settings.{Settings, Wanted, Unpicked, ProgramAim, simulates, replays, judges, checks, lists, Aim, of_program, lays_out, wanted_of, program_aim, aim_of, pair_aim, IsBoundedFor, IsBoundedPair, IsBounded, MayBeAimedAt, MayBeAimed, policy_of, settings_with}
 use Rattle.chi_tool.specs.Sources.{ComesTo}
-use Rattle.chi_tool.specs.Turns.{RunsTo}
 use Rattle.chi_tool.proofs.LawClauses.{CheckLaw, ValuesLaw, comes_sound}
 
 -- what the three formulas pick is one of the choices
@@ -72,11 +74,13 @@ listed_lawful numbers question count early some few = listed_below numbers quest
 
 pub pair_may_be_aimed : (purpose : PairPurpose) (text : List ℕ) → IsBoundedPair purpose → MayBeAimedAt (pair_aim purpose text)
 pair_may_be_aimed (Replay a) text bounded = bounded
+pair_may_be_aimed (OnLog purpose a) text bounded = tt
 
 -- and so is each run that is asked for
 pub run_may_be_asked : (aim : Aim) (w : Wanted) → IsRunAsked aim w → MayBeAimed aim → MayBeAimedAt (simulates w)
 run_may_be_asked (of_program (simulates v)) w is may = subst (λ (x : Wanted). MayBeAimedAt (simulates x)) (sym is) may
 run_may_be_asked (of_program (replays u text)) w is may = subst (λ (x : Wanted). MayBeAimedAt (simulates x)) (sym is.2) (may, listed_lawful is.0)
+run_may_be_asked (of_program (judges purpose u text)) w is may = absurd is
 run_may_be_asked (of_program checks) w is may = absurd is
 run_may_be_asked (of_program lists) w is may = absurd is
 run_may_be_asked lays_out w is may = absurd is
@@ -130,17 +134,37 @@ run_one once one core s course other p q =
     let log : course.log ≡ other.log = one_log one s.trace core begun s.bound other.told course.log other.log here q.logged in
     λ i. record { told = told i; log = log i }
 
--- a run from its beginning is the run of the program with its settings
-pub begun_ran : (core : Core) (seed bound : ℕ) (arguments : List Value) (until : Option ℤ) (trace : Option Filter) (stage : Stage) (gives : ℕ → ℕ → ℕ → Type 0) (result : Result Reported NoMemory)
-    → Begun (start core arguments seed until) stage
-    → IfOk result (λ r. (beginning : Beginning) → Begun beginning stage → (pick : Pick) → Answers gives pick → RunsTo trace core beginning pick bound (report_in r))
+-- a run of a sound program, with arguments of its model, begins so
+pub run_begins : (core : Core) → Sound core → (arguments : List Value)
+    → ((d : ProcDef) → slice_get core.procs core.model ≡ Some d → AreOf (at_start core.names.kinds) arguments (kinds_of d.params))
+    → (seed : ℕ) (until : Option ℤ) → IsBeginning core (start core arguments seed until)
+run_begins core sound arguments takes seed until = record {
+  model = sound.model.0;
+  is = sound.model.1;
+  arguments = arguments;
+  fit = takes sound.model.0 sound.model.1;
+  seed = seed;
+  until = until;
+  begins = refl;
+}
+
+-- the verdict of a run that is told can be told
+pub verdict_may : PickedIsDerived → EachEndingIsTold → (core : Core) → Sound core → (start' : Beginning) → IsBeginning core start'
+    → (trace : Option Filter) (pick : Pick) (bound : ℕ) (ran : Ran) → IsTold trace core start' pick bound ran → MayTell core ran.ending.verdict
+verdict_may derived tells core sound start' is trace pick bound ran t =
+    tells core sound start' is bound (told_with t.labels ran) (derived core start' pick bound (told_with t.labels ran) t.picked)
+
+-- the report of a run that is told is that of the program's run with its settings
+pub told_reported : (core : Core) (seed bound : ℕ) (arguments : List Value) (until : Option ℤ) (trace : Option Filter) (gives : ℕ → ℕ → ℕ → Type 0) (ran : Ran) (result : Result Reported NoMemory)
+    → ((pick : Pick) → Answers gives pick → IsTold trace core (start core arguments seed until) pick bound ran)
+    → IfOk result (λ r. report_in r ≡ run_report core (record { told = told_with [] ran; log = ran.told.log.items }))
     → IfOk result (λ r. (pick : Pick) → Answers gives pick
     → IsRunReport core (record { seed = seed; bound = bound; pick = pick; arguments = arguments; until = until; trace = trace }) (report_in r))
-begun_ran core seed bound arguments until trace stage gives (Ok r) begun ran =
+told_reported core seed bound arguments until trace gives ran (Ok r) told is =
     λ pick answers.
-    let told = ran (start core arguments seed until) begun pick answers in
-    record { course = told.0; run = told.1; is = told.2 }
-begun_ran core seed bound arguments until trace stage gives (Err lost) begun ran = tt
+    let t = told pick answers in
+    record { course = record { told = told_with t.labels ran; log = ran.told.log.items }; run = record { picked = t.picked; logged = t.logged }; is = is }
+told_reported core seed bound arguments until trace gives ran (Err lost) told is = tt
 
 -- what follows of a result, where there is one
 pub if_ok : {P Q : Reported → Type 0} (result : Result Reported NoMemory) → ((r : Reported) → P r → Q r) → IfOk result P → IfOk result Q

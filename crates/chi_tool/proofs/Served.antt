@@ -11,14 +11,15 @@ use Rattle.chi_tool.specs.declared.task.Purpose.TheVariants.{OfProgram}
 use Rattle.chi_tool.specs.declared.task.ProgramPurpose.TheVariants.{Simulate}
 use Rattle.chi_tool.specs.declared.task.Task.{Task}
 use Rattle.chi_tool.specs.declared.task.Task.TheVariants.{OfPair}
-use Rattle.chi_tool.specs.Headline.{Headline, IsAskedSource, held, beside, made, HasLexicalFault, HasSyntaxFault, IsMistyped, Ends, IsExit, IsFault, HasUnfitArguments, HasMispick, IsTooLong, IsUnread, CannotBeRead, IsExactly, IsExactlyOf, Causes, IsComplete}
+use Rattle.chi_tool.specs.Headline.{Headline, IsAskedSource, held, beside, made, HasLexicalFault, HasSyntaxFault, IsMistyped, Ends, IsExit, IsFault, HasUnfitArguments, HasMispick, HasNoLog, IsTooLong, IsUnread, CannotBeRead, IsExactly, IsExactlyOf, Causes, IsComplete}
 use Rattle.chi_tool.specs.Refusals.{Report, usage}
 use Rattle.chi_tool.specs.Settings.{Aim, MayBeAimed, plain, settings_with}
 use Rattle.chi_tool.specs.Words.{Wish, nothing, of_task, wish_of}
-use Rattle.chi_tool.proofs.Causes.{StatusOf, exit_status, deadlock_status, fault_status, out_of_steps_status, stopped_status, lexical_status, syntax_status, mistyped_status, unfit_status, mispicked_status, too_long_status, of_source_status, of_done_status, of_misfit_status, ends_complete}
+use Rattle.chi_tool.proofs.Causes.{of_source_status, of_done_status, of_misfit_status, ends_complete}
 use Rattle.chi_tool.proofs.Contents.{IsOfFile}
 use Rattle.chi_tool.proofs.Endings.{goes_stopped, Breaks, Ended, ended_for, delivered_ended, silent_ended, tells_ended, refuses_ended}
 use Rattle.chi_tool.proofs.LawClauses.{RunLaw, CodeLaw, ReportLaw, ValuesLaw, RangeLaw}
+use Rattle.chi_tool.proofs.StatusCauses.{StatusOf, exit_status, deadlock_status, fault_status, out_of_steps_status, stopped_status, lexical_status, syntax_status, mistyped_status, unfit_status, mispicked_status, no_log_status, too_long_status}
 use Rattle.chi_tool.proofs.TwoFiles.{names_pair, pair_one, pair_ended}
 use Rattle.chi_tool.proofs.Promises.{IsLost, met_of, asks_something, names_file, served_one, named-headline, usage-headline, lost-headline}
 use Rattle.chi_tool.proofs.Runs.{may_be_aimed, pair_may_be_aimed, run_may_be_asked, asked_settings}
@@ -59,6 +60,7 @@ module _ (law : ReportLaw) (coded : CodeLaw) (call : Call) (head : Headline call
     typing = of_source 22 IsMistyped mistyped_status (λ e. omega arith) (λ e. omega arith, λ e. omega arith);
     arguments = of_source 23 HasUnfitArguments unfit_status (λ e. omega arith) (λ e. omega arith, λ e. omega arith);
     mispicked = of_source 26 HasMispick mispicked_status (λ e. omega arith) (λ e. omega arith, λ e. omega arith);
+    no_log = of_source 25 HasNoLog no_log_status (λ e. omega arith) (λ e. omega arith, λ e. omega arith);
     layout_too_long = of_source 27 IsTooLong too_long_status (λ e. omega arith) (λ e. omega arith, λ e. omega arith);
     misfit = of_misfit_status law coded call head;
     no_request = request;

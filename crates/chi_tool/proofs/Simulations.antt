@@ -20,11 +20,12 @@ use Rattle.chi_tool.specs.Settings.{Wanted, simulates, Aim, of_program, MayBeAim
 use Rattle.chi_tool.specs.Simulations.{Simulation, as_call, SimulationHeadline, ComesOf, IsExactlyFor, SimulationCauses, IsReplayed, IsSimulatedToItsEnd}
 use Rattle.chi_tool.specs.Sources.{ComesTo}
 use Rattle.chi_tool.specs.Statuses.{status_of}
-use Rattle.chi_tool.proofs.Causes.{StatusOf, exactly, done_status, exit_status, deadlock_status, fault_status, out_of_steps_status, stopped_status, lexical_status, syntax_status, mistyped_status, unfit_status}
+use Rattle.chi_tool.proofs.Causes.{exactly}
 use Rattle.chi_tool.proofs.Contents.{status_ap, simulated_bound, IsOfContent, source_status}
 use Rattle.chi_tool.proofs.Endings.{Ended, tells_ended, delivered_status}
 use Rattle.chi_tool.proofs.LawClauses.{RunLaw, ValuesLaw, SourceLaw, OwnLaw}
 use Rattle.chi_tool.proofs.Promises.{alone-whole}
+use Rattle.chi_tool.proofs.StatusCauses.{StatusOf, done_status, exit_status, deadlock_status, fault_status, out_of_steps_status, stopped_status, lexical_status, syntax_status, mistyped_status, unfit_status}
 use Rattle.chi_tool.proofs.Runs.{asked_settings}
 
 -- a policy that picks among the choices, within the bound
@@ -57,7 +58,7 @@ module _ (law : SourceLaw) (s : Simulation) where
   run_met (r, is, met) core its_core arguments means course run out log =
       let its : IsReportOfSource s.source (simulates s.wanted) (run_report core course) =
       program core its_core (report.fit arguments means (record { course = course; run = run; is = refl })) in
-      let one : r ≡ run_report core course = law.one s.source (of_program (simulates s.wanted)) r (run_report core course) is its in
+      let one : r ≡ run_report core course = law.one s.source (of_program (simulates s.wanted)) tt r (run_report core course) is its in
       subst (λ (x : Report). IsReportedOrLost x (as_call s)) one (alone-whole r (as_call s) met out log)
 
   -- and so that of a derivation whose own numbers the policy has
@@ -100,7 +101,7 @@ module _ (law : SourceLaw) (s : Simulation) (within : length s.source ≤ MOST_B
     causing : (r : Report) → IsReportOfSource s.source (simulates s.wanted) r → P (of_program (simulates s.wanted)) s.source → r.status ≡ n
     causing r is h =
         let p = status.from (of_program (simulates s.wanted)) s.source tt h in
-        status_ap r p.0 (law.one s.source (of_program (simulates s.wanted)) r p.0 is p.1) ∙ p.2
+        status_ap r p.0 (law.one s.source (of_program (simulates s.wanted)) tt r p.0 is p.1) ∙ p.2
 
     exactly_by : (cause : Type 0) → (P (of_program (simulates s.wanted)) s.source → cause) → (cause → P (of_program (simulates s.wanted)) s.source) → Met s → IsExactlyFor s n cause
     exactly_by cause to from (r, is, met) out log =
@@ -137,6 +138,7 @@ module _ (law : SourceLaw) (s : Simulation) (within : length s.source ≤ MOST_B
     not_read = ended.unread;
     misfit = above_by 24 (omega arith) tells;
     mispicked = above_by 26 (omega arith) tells;
+    no_log = above_by 25 (omega arith) tells;
     layout_too_long = above_by 27 (omega arith) tells;
     not_written = (ended.breaks.stops, ended.breaks.tells);
     out_failed = ended.breaks.out_failed;

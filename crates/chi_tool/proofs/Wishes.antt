@@ -36,6 +36,8 @@ by_reading law words (Ok (request.Code file)) is = tt
 by_reading law words (Ok (request.Fmt file)) is = tt
 by_reading law words (Ok (request.Load n)) is = law words _ is
 by_reading law words (Ok (request.Replay file picks texts seed bound until trace)) is = counted bound (law words _ is).1
+by_reading law words (Ok (request.Judge file log texts seed bound until)) is = tt
+by_reading law words (Ok (request.Picks file log texts seed bound until)) is = tt
 by_reading law words (Ok (request.TraceUp file)) is = tt
 
 -- the source of a factory is within the limit

@@ -27,8 +27,9 @@ use Rattle.chi_tool.specs.Arguments.{Means, Misfits}
 use Rattle.chi_tool.specs.Layouts.{HasLayout}
 use Rattle.chi_tool.specs.Refusals.{Report, no_such_file, file_too_long}
 use Rattle.chi_tool.specs.Report.{IsReport}
+use Rattle.chi_tool.specs.OnLogs.{IsLogWith, IsNoLogWith}
 use Rattle.chi_tool.specs.Running.{Course, IsRunOf}
-use Rattle.chi_tool.specs.Settings.{Wanted, picked_by, simulates, replays, checks, lists, Aim, of_program, lays_out, wanted_of, aim_of, pair_aim, settings_with, plain}
+use Rattle.chi_tool.specs.Settings.{Wanted, Unpicked, picked_by, simulates, replays, judges, checks, lists, Aim, of_program, lays_out, wanted_of, aim_of, pair_aim, settings_with, plain}
 use Rattle.chi_tool.specs.Sources.{IsNoProgram, BreaksRule, ComesTo}
 use Rattle.chi_tool.specs.Statuses as statuses
 use Rattle.chi_tool.specs.Statuses.{status_of}
@@ -163,6 +164,7 @@ pub record EndsAs (P : Verdict → Type 0) (w : Wanted) (source : List ℕ) : Ty
 abbrev pub IsRunAsked : Aim → Wanted → Type 0
 IsRunAsked (of_program (simulates v)) w = w ≡ v
 IsRunAsked (of_program (replays u text)) w = (numbers : List ℕ) × picks.Has text numbers × (w ≡ picked_by (listed numbers) u)
+IsRunAsked (of_program (judges purpose u text)) w = ⊥
 IsRunAsked (of_program checks) w = ⊥
 IsRunAsked (of_program lists) w = ⊥
 IsRunAsked lays_out w = ⊥
@@ -171,15 +173,27 @@ IsRunAsked lays_out w = ⊥
 abbrev pub Ends : (Verdict → Type 0) → Aim → List ℕ → Type 0
 Ends P aim source = (w : Wanted) × IsRunAsked aim w × EndsAs P w source
 
--- a check or a listing is asked for, and the source comes to a program; or its layout is, which is within the limit
+-- it comes to a program that can give this text as a log, with the arguments that are given
+pub record GivesLog (u : Unpicked) (text source : List ℕ) : Type 0 where
+  pub core : Core
+  pub program : ComesTo source core
+  pub arguments : List Value
+  pub fit : Means core u.texts arguments
+  pub output : List ℕ
+  pub numbers : List ℕ
+  pub is : IsLogWith core u arguments text output numbers
+
+-- a check or a listing is asked for, and the source comes to a program; or that is asked of a log, which it can give; or the layout of
+-- the source is asked for, which is within the limit
 abbrev pub IsAccepted : Aim → List ℕ → Type 0
 IsAccepted (of_program (simulates w)) source = ⊥
 IsAccepted (of_program (replays u text)) source = ⊥
+IsAccepted (of_program (judges purpose u text)) source = GivesLog u text source
 IsAccepted (of_program checks) source = (core : Core) × ComesTo source core
 IsAccepted (of_program lists) source = (core : Core) × ComesTo source core
 IsAccepted lays_out source = (text : List ℕ) × HasLayout source text × (length text ≤ MOST_BYTES)
 
--- a run has completed, or a source is accepted, to be checked, listed or laid out
+-- a run has completed, or a source is accepted, to be checked, listed or laid out, or with a log that its program can give
 abbrev pub IsDone : Aim → List ℕ → Type 0
 IsDone aim source = Ends (λ v. v ≡ verdict.Completed) aim source ⊎ IsAccepted aim source
 
@@ -191,10 +205,11 @@ pub record IsUnfit (texts : List (List ℕ)) (source : List ℕ) : Type 0 where
   pub fault : ArgFault
   pub misfits : Misfits core texts wanted fault
 
--- a run is asked for, with such arguments
+-- a run is asked for, or something of a log, with such arguments
 abbrev pub HasUnfitArguments : Aim → List ℕ → Type 0
 HasUnfitArguments (of_program (simulates w)) source = IsUnfit w.texts source
 HasUnfitArguments (of_program (replays u text)) source = IsUnfit u.texts source
+HasUnfitArguments (of_program (judges purpose u text)) source = IsUnfit u.texts source
 HasUnfitArguments (of_program checks) source = ⊥
 HasUnfitArguments (of_program lists) source = ⊥
 HasUnfitArguments lays_out source = ⊥
@@ -212,9 +227,28 @@ pub record IsMispicked (texts : List (List ℕ)) (text : List ℕ) (source : Lis
 abbrev pub HasMispick : Aim → List ℕ → Type 0
 HasMispick (of_program (simulates w)) source = ⊥
 HasMispick (of_program (replays u text)) source = IsMispicked u.texts text source
+HasMispick (of_program (judges purpose u text)) source = ⊥
 HasMispick (of_program checks) source = ⊥
 HasMispick (of_program lists) source = ⊥
 HasMispick lays_out source = ⊥
+
+-- it comes to a program whose parameters the arguments fit, which can't give this text as a log: line k is the first wrong one
+pub record GivesNoLog (u : Unpicked) (text source : List ℕ) : Type 0 where
+  pub core : Core
+  pub program : ComesTo source core
+  pub arguments : List Value
+  pub fit : Means core u.texts arguments
+  pub k : ℕ
+  pub refuses : IsNoLogWith core u arguments text k
+
+-- something is asked of such a log
+abbrev pub HasNoLog : Aim → List ℕ → Type 0
+HasNoLog (of_program (simulates w)) source = ⊥
+HasNoLog (of_program (replays u text)) source = ⊥
+HasNoLog (of_program (judges purpose u text)) source = GivesNoLog u text source
+HasNoLog (of_program checks) source = ⊥
+HasNoLog (of_program lists) source = ⊥
+HasNoLog lays_out source = ⊥
 
 -- a layout is asked for, which has more bytes than a source may have
 abbrev pub IsTooLong : Aim → List ℕ → Type 0
@@ -262,7 +296,7 @@ pub record IsExactlyIn (call : Call) (n : ℕ) (P : Files → Type 0) : Type 0 w
 abbrev pub IsExactlyOf : Call → ℕ → (Aim → List ℕ → Type 0) → Type 0
 IsExactlyOf call n P = IsExactlyIn call n (λ files. AsksFor call files P)
 
--- a run has completed, a program is accepted, listed or laid out, or a log is brought up
+-- a run has completed, a program is accepted, listed, laid out or can give a log, or a log of old is brought up
 abbrev pub AsksForDone : Call → Files → Type 0
 AsksForDone call files = AsksFor call files IsDone ⊎ AsksForLog call files ComesUp
 
@@ -283,6 +317,7 @@ pub record Causes (call : Call) : Type 0 where
   pub typing : IsExactlyOf call statuses.typing IsMistyped
   pub arguments : IsExactlyOf call statuses.arguments HasUnfitArguments
   pub mispicked : IsExactlyOf call statuses.mispicked HasMispick
+  pub no_log : IsExactlyOf call statuses.no_log HasNoLog
   pub layout_too_long : IsExactlyOf call statuses.layout_too_long IsTooLong
   pub misfit : IsExactlyIn call statuses.misfit (λ files. AsksForLog call files HasMisfit)
   pub no_request : call.out.stopped ≡ false → call.log.stopped ≡ false → IsExactly call statuses.no_request (wish_of call.words ≡ nothing)

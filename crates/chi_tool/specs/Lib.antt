@@ -7,6 +7,7 @@ pub mod Refusals
 pub mod Sources
 pub mod Layouts
 pub mod Running
+pub mod OnLogs
 pub mod Report
 pub mod Reported
 pub mod Readings
@@ -15,5 +16,4 @@ pub mod Delivery
 pub mod Headline
 pub mod Simulations
 pub mod Serving
-pub mod Turns
 pub mod Limits

@@ -10,6 +10,9 @@ use Rattle.chi_lex.specs.declared.fault.LexFault.{LexFault}
 use Rattle.chi_lex.specs.declared.fault.LexFault.TheVariants as fault
 use Rattle.chi_grammar.specs.declared.fault.ParseFault.{ParseFault}
 use Rattle.chi_check_types.specs.declared.fault.Fault.{Fault}
+use Rattle.chi_picks.specs.Lists.{spelled}
+use Rattle.chi_tool.specs.declared.task.LogPurpose.{LogPurpose}
+use Rattle.chi_tool.specs.declared.task.LogPurpose.TheVariants.{Judge, Picks}
 use Rattle.chi_tool.specs.Statuses as statuses
 use Rattle.chi_tool.specs.Syntax.{placed, syntax_text}
 
@@ -66,7 +69,16 @@ unfit_arguments wanted given fault = refused statuses.arguments (arguments_text 
 abbrev pub mispicked : ℕ → Report
 mispicked k = refused statuses.mispicked (codes "picks line " ++ decimal k)
 
--- line k of a log, counted from 1, is the first that doesn't fit
+-- line k of a text, counted from 1, is the first wrong one: it is no log that a program can give
+abbrev pub no_log : ℕ → Report
+no_log k = refused statuses.no_log (codes "no at line " ++ decimal k)
+
+-- no refusal: it is the log of a run, whose output is written, or its picks
+abbrev pub is_log : LogPurpose → List ℕ → List ℕ → Report
+is_log Judge output picks = record { status = statuses.judged; out = output; log = line (codes "yes") }
+is_log Picks output picks = record { status = statuses.picks_told; out = spelled picks; log = [] }
+
+-- line k of a log of old, counted from 1, is the first that doesn't fit
 abbrev pub misfit : ℕ → Report
 misfit k = refused statuses.misfit (codes "line " ++ decimal k ++ codes ": trace form")
 

@@ -13,6 +13,7 @@ use Rattle.chi_value.specs.declared.value.Value.{Value}
 use Rattle.chi_picks.specs.Lists as picks
 use Rattle.chi_sched.specs.Policies.{listed}
 use Rattle.chi_tool.specs.declared.task.TheConstants.{MOST_BESIDE}
+use Rattle.chi_tool.specs.declared.task.LogPurpose.{LogPurpose}
 use Rattle.chi_tool.specs.declared.task.Pair.{Pair}
 use Rattle.chi_tool.specs.declared.task.Task.{Task}
 use Rattle.chi_tool.specs.declared.task.Task.TheVariants.{OfFile, OfPair, OfLog, OfFactory}
@@ -20,8 +21,9 @@ use Rattle.chi_tool.specs.Arguments.{Means, Misfits}
 use Rattle.chi_tool.specs.Refusals as refusal
 use Rattle.chi_tool.specs.Layouts.{HasLayout}
 use Rattle.chi_tool.specs.Refusals.{Report, usage, no_such_file, file_too_long, unfit_arguments, brought_up, accepted}
+use Rattle.chi_tool.specs.OnLogs.{IsLogWith, IsNoLogWith}
 use Rattle.chi_tool.specs.Running.{IsRunReport}
-use Rattle.chi_tool.specs.Settings.{Wanted, Unpicked, picked_by, ProgramAim, simulates, replays, checks, lists, Aim, of_program, lays_out, wanted_of, aim_of, pair_aim, settings_with, plain}
+use Rattle.chi_tool.specs.Settings.{Wanted, Unpicked, picked_by, ProgramAim, simulates, replays, judges, checks, lists, Aim, of_program, lays_out, wanted_of, aim_of, pair_aim, settings_with, plain}
 use Rattle.chi_tool.specs.Sources.{IsUnparsed, IsRefused, ComesTo}
 use Rattle.chi_tool.specs.Words.{Wish, nothing, of_task, wish_of}
 
@@ -43,6 +45,15 @@ pub data IsReportByPicks (core : Core) (u : Unpicked) (text : List ℕ) (values 
 abbrev pub IsReportOfReplay : Core → Unpicked → List ℕ → Report → Type 0
 IsReportOfReplay core u text r = IsReportWith core u.texts (IsReportByPicks core u text) r
 
+-- a program that is asked with arguments of a text: the text is a log that it can give, or isn't, with its first wrong line
+pub data IsReportOnLog (core : Core) (purpose : LogPurpose) (u : Unpicked) (text : List ℕ) (values : List Value) (r : Report) : Type 0 where
+  yes : (output numbers : List ℕ) → IsLogWith core u values text output numbers → r ≡ refusal.is_log purpose output numbers
+      → IsReportOnLog core purpose u text values r
+  no : (k : ℕ) → IsNoLogWith core u values text k → r ≡ refusal.no_log k → IsReportOnLog core purpose u text values r
+
+abbrev pub IsReportOfJudging : Core → LogPurpose → Unpicked → List ℕ → Report → Type 0
+IsReportOfJudging core purpose u text r = IsReportWith core u.texts (IsReportOnLog core purpose u text) r
+
 -- a program whose code is to be listed: the listing of what is its code, by the layout of code
 pub record IsReportOfCode (core : Core) (r : Report) : Type 0 where
   pub code : Code
@@ -53,6 +64,7 @@ pub record IsReportOfCode (core : Core) (r : Report) : Type 0 where
 abbrev pub IsReportOfProgram : Core → ProgramAim → Report → Type 0
 IsReportOfProgram core (simulates w) r = IsReportOfRun core w r
 IsReportOfProgram core (replays u text) r = IsReportOfReplay core u text r
+IsReportOfProgram core (judges purpose u text) r = IsReportOfJudging core purpose u text r
 IsReportOfProgram core checks r = r ≡ accepted
 IsReportOfProgram core lists r = IsReportOfCode core r
 
@@ -99,8 +111,8 @@ abbrev pub IsReportOfWish : Wish → Files → Report → Type 0
 IsReportOfWish nothing files r = r ≡ usage
 IsReportOfWish (of_task t) files r = IsReportOfTask t files r
 
--- r is the report of these words and files: the first refusal among words, files, bytes, tokens, program, arguments and picks,
--- or what was asked for: the output, trace and verdict of the run, that the program is accepted, the listing of its code,
--- the layout of the source, or what the log is brought up to
+-- r is the report of these words and files: the first refusal among words, files, bytes, tokens, program, arguments, and picks or log,
+-- or what was asked for: the output, trace and verdict of the run, that a text is a log that the program can give, with its run's output
+-- or its picks, that the program is accepted, the listing of its code, the layout of the source, or what the log of old is brought up to
 abbrev pub IsReport : List (List ℕ) → Files → Report → Type 0
 IsReport words files r = IsReportOfWish (wish_of words) files r

@@ -1,16 +1,18 @@
 -- What a run is asked for with, beside its program.
-use Rattle.std.specs.Prelude.{ℕ, ◌^◌, ◌<◌, ℤ, Bool, true, false, List, [], Option, Some, None}
+use Rattle.std.specs.Prelude.{ℕ, ◌^◌, ◌<◌, ◌≤◌, ℤ, Bool, true, false, List, [], length, Option, Some, None}
 use Rattle.chi_cli.specs.declared.request.Pick as words
 use Rattle.chi_cli.specs.declared.request.Pick.TheVariants as pick
 use Rattle.chi_cli.specs.declared.words.TheConstants.{STEPS}
+use Rattle.chi_lex.specs.declared.lexer.TheConstants.{MOST_BYTES}
 use Rattle.chi_trace.specs.declared.filter.Filter.{Filter}
 use Rattle.chi_value.specs.declared.value.Value.{Value}
 use Rattle.chi_core.specs.Picks.{Pick, IsLawful}
 use Rattle.chi_sched.specs.Policies.{first, last, spread}
 use Rattle.chi_tool.specs.declared.task.Asked.{Asked}
 use Rattle.chi_tool.specs.declared.settings.ByPicks.{ByPicks}
+use Rattle.chi_tool.specs.declared.task.LogPurpose.{LogPurpose}
 use Rattle.chi_tool.specs.declared.task.PairPurpose.{PairPurpose}
-use Rattle.chi_tool.specs.declared.task.PairPurpose.TheVariants.{Replay}
+use Rattle.chi_tool.specs.declared.task.PairPurpose.TheVariants.{Replay, OnLog}
 use Rattle.chi_tool.specs.declared.task.Purpose.{Purpose}
 use Rattle.chi_tool.specs.declared.task.Purpose.TheVariants.{OfProgram, LayOut}
 use Rattle.chi_tool.specs.declared.task.ProgramPurpose.{ProgramPurpose}
@@ -48,10 +50,11 @@ pub record Unpicked : Type 0 where
 abbrev pub picked_by : Pick → Unpicked → Wanted
 picked_by pick u = record { seed = u.seed; bound = u.bound; pick = pick; texts = u.texts; until = u.until; trace = u.trace }
 
--- what is done with a program: it is run, is run by the picks of a text, is only checked, or has its code listed
+-- what is done with a program: it is run, is run by the picks of a text, is asked of a text as its log, is only checked, or has its code listed
 pub data ProgramAim : Type 0 where
   simulates : Wanted → ProgramAim
   replays : Unpicked → List ℕ → ProgramAim
+  judges : LogPurpose → Unpicked → List ℕ → ProgramAim
   checks : ProgramAim
   lists : ProgramAim
 
@@ -90,6 +93,7 @@ aim_of LayOut = lays_out
 -- what is done with a program by the text of a second file
 abbrev pub pair_aim : PairPurpose → List ℕ → ProgramAim
 pair_aim (Replay a) text = replays (unpicked_of a) text
+pair_aim (OnLog purpose a) text = judges purpose (unpicked_of a) text
 
 -- with the arguments that the texts mean
 abbrev pub settings_with : Wanted → List Value → Settings
@@ -107,6 +111,7 @@ IsBoundedFor ListCode = Unit {0}
 
 abbrev pub IsBoundedPair : PairPurpose → Type 0
 IsBoundedPair (Replay a) = a.terms.bound < 2 ^ 63
+IsBoundedPair (OnLog purpose a) = Unit {0}
 
 abbrev pub IsBounded : Purpose → Type 0
 IsBounded (OfProgram p) = IsBoundedFor p
@@ -116,9 +121,15 @@ IsBounded LayOut = Unit {0}
 abbrev pub MayBeAimedAt : ProgramAim → Type 0
 MayBeAimedAt (simulates w) = (w.bound < 2 ^ 63) × IsLawful w.pick
 MayBeAimedAt (replays u text) = u.bound < 2 ^ 63
+MayBeAimedAt (judges purpose u text) = Unit {0}
 MayBeAimedAt checks = Unit {0}
 MayBeAimedAt lists = Unit {0}
 
 abbrev pub MayBeAimed : Aim → Type 0
 MayBeAimed (of_program a) = MayBeAimedAt a
 MayBeAimed lays_out = Unit {0}
+
+-- a source whose program is asked of a log is within the limit
+abbrev pub IsShortFor : Aim → List ℕ → Type 0
+IsShortFor (of_program (judges purpose u text)) source = length source ≤ MOST_BYTES
+IsShortFor _ source = Unit {0}

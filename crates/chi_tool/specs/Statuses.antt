@@ -87,6 +87,17 @@ arguments = 23
 abbrev pub mispicked : ℕ
 mispicked = 26
 
+-- a text is a log that a program can give, and it is judged, or its picks are told; or the program can't give it
+
+abbrev pub judged : ℕ
+judged = 0
+
+abbrev pub picks_told : ℕ
+picks_told = 0
+
+abbrev pub no_log : ℕ
+no_log = 25
+
 -- a log that is to be brought up is, or one of its lines doesn't fit
 
 abbrev pub brought_up : ℕ

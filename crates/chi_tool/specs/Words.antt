@@ -1,19 +1,29 @@
 -- What words ask for.
-use Rattle.std.specs.Prelude.{ℕ, Bool, true, false, List, Result, Ok, Err}
+use Rattle.std.specs.Prelude.{ℕ, ℤ, Bool, true, false, List, Option, None, Result, Ok, Err}
 use Rattle.chi_cli.specs.declared.fault.CliFault.{CliFault}
 use Rattle.chi_cli.specs.declared.fault.CliFault.TheVariants as fault
 use Rattle.chi_cli.specs.declared.request.Request.{Request}
 use Rattle.chi_cli.specs.declared.request.Request.TheVariants as request
 use Rattle.chi_cli.specs.Requests.{request_of}
+use Rattle.chi_trace.specs.declared.filter.Filter.{Filter}
 use Rattle.chi_trace.specs.declared.filter.Filter.TheVariants.{All}
 use Rattle.chi_tool.specs.Settings.{trace_by}
+use Rattle.chi_tool.specs.declared.settings.ByPicks.{ByPicks}
+use Rattle.chi_tool.specs.declared.task.Asked.{Asked}
+use Rattle.chi_tool.specs.declared.task.LogPurpose.TheVariants.{Judge, Picks}
 use Rattle.chi_tool.specs.declared.task.Task.{Task}
 use Rattle.chi_tool.specs.declared.task.Task.TheVariants as task
-use Rattle.chi_tool.specs.declared.task.PairPurpose.TheVariants.{Replay}
+use Rattle.chi_tool.specs.declared.task.PairPurpose.TheVariants.{Replay, OnLog}
 use Rattle.chi_tool.specs.declared.task.Purpose.TheVariants.{OfProgram, LayOut}
 use Rattle.chi_tool.specs.declared.task.ProgramPurpose.TheVariants.{Simulate, Check, ListCode}
 
--- a run, a run by picks, a check, a listing of code, a layout, a run of a factory, or a log of old that is to be brought up
+-- what a program is asked for with where its picks come from the second file
+abbrev pub unpicked : List (List ℕ) → ℕ → ℕ → Option ℤ → Option Filter → Asked ByPicks
+unpicked texts seed bound until trace =
+    record { terms = record { seed = seed; bound = bound; policy = record {}; until = until; trace = trace }; texts = texts }
+
+-- a run, a run by picks, the judgement on a log or its picks, a check, a listing of code, a layout, a run of a factory, or a log of old that is to
+-- be brought up
 abbrev pub task_of : Request → Task
 task_of (request.Sim file texts seed bound until pick trace probe) =
     task.OfFile file (OfProgram (Simulate (record { terms = record { seed = seed; bound = bound; policy = pick; until = until; trace = trace_by trace probe }; texts = texts })))
@@ -22,11 +32,11 @@ task_of (request.Code file) = task.OfFile file (OfProgram ListCode)
 task_of (request.Fmt file) = task.OfFile file LayOut
 task_of (request.Load n) = task.OfFactory n
 task_of (request.Replay file picks texts seed bound until trace) =
-    task.OfPair (record {
-      file = file;
-      beside = picks;
-      purpose = Replay (record { terms = record { seed = seed; bound = bound; policy = record {}; until = until; trace = trace_by trace All }; texts = texts });
-    })
+    task.OfPair (record { file = file; beside = picks; purpose = Replay (unpicked texts seed bound until (trace_by trace All)) })
+task_of (request.Judge file log texts seed bound until) =
+    task.OfPair (record { file = file; beside = log; purpose = OnLog Judge (unpicked texts seed bound until None) })
+task_of (request.Picks file log texts seed bound until) =
+    task.OfPair (record { file = file; beside = log; purpose = OnLog Picks (unpicked texts seed bound until None) })
 task_of (request.TraceUp file) = task.OfLog file
 
 -- nothing, since the words are no request; or a task

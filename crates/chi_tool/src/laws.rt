@@ -17,7 +17,7 @@ ghost use Rattle.chi_tool.specs.Limits.{LimitsAre};
 ghost use Rattle.chi_tool.specs.Refusals.{Report};
 ghost use Rattle.chi_tool.specs.Report.{IsReport, IsReportFor};
 ghost use Rattle.chi_tool.specs.Running.{Course, IsRunOf, MayHave};
-ghost use Rattle.chi_tool.specs.Settings.{Aim, MayBeAimed, Settings};
+ghost use Rattle.chi_tool.specs.Settings.{Aim, IsShortFor, MayBeAimed, Settings};
 ghost use Rattle.chi_tool.specs.Simulations.{AreOwnPicks, IsDerived};
 ghost use Rattle.chi_tool.specs.Sources.{ComesTo, IsWritten};
 ghost use Rattle.chi_tree.specs.declared.definition.Program.{Program};
@@ -29,6 +29,7 @@ use chi_cli::{numbers_are_in_range, values_are_of_parameters};
 use chi_code::code_is_unique;
 use chi_core_runs::{own_numbers_law, picked_law};
 use chi_gen_laws::sound_programs_have_one_code;
+use chi_log::{judging_law, one_log_law};
 use chi_picks::picks_law;
 use chi_trace::logs_law;
 use chi_trace_events::trace_law;
@@ -65,7 +66,7 @@ pub fn one_code_law()
 /// A source within the limit has exactly one report, for each aim that may be had with it.
 pub fn source_law()
     ensures some { (source : List ℕ) (aim : Aim) → length source ≤ MOST_BYTES → MayBeAimed aim → (r : Report) × IsReportFor aim source r }
-    ensures one { (source : List ℕ) (aim : Aim) (r other : Report) → IsReportFor aim source r → IsReportFor aim source other → r ≡ other }
+    ensures one { (source : List ℕ) (aim : Aim) → IsShortFor aim source → (r other : Report) → IsReportFor aim source r → IsReportFor aim source other → r ≡ other }
 {
     answer_law();
     parsed_programs_are_sound();
@@ -73,6 +74,8 @@ pub fn source_law()
     one_code_law();
     values_are_of_parameters();
     picks_law();
+    judging_law();
+    one_log_law();
 }
 
 /// Words and files have exactly one report.
@@ -89,6 +92,8 @@ pub fn report_law()
     values_are_of_parameters();
     logs_law();
     picks_law();
+    judging_law();
+    one_log_law();
 }
 
 /// The layout of a source is its own layout, and what it is read as is the program of the source, but for places, and with those

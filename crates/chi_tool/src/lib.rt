@@ -10,12 +10,12 @@ mod laws;
 mod layout;
 mod library;
 mod logs;
+mod on_log;
 mod pairs;
 mod program;
 mod refusal;
 mod report;
 mod run;
-mod run_end;
 mod serve;
 mod settings;
 mod source;
@@ -23,7 +23,6 @@ mod status;
 mod syntax;
 mod task;
 mod top;
-mod tracing;
 mod words;
 
 pub use laws::{

@@ -11,6 +11,7 @@ ghost use Rattle.chi_tool.specs.Settings.{IsBoundedPair, pair_aim};
 use crate::by_picks::report_of_replay;
 use crate::deliver::deliver;
 use crate::fetching::fetched;
+use crate::on_log::report_on_log;
 use crate::report::Reported;
 use crate::source::{Source, read};
 use crate::status::NO_MEMORY;
@@ -29,11 +30,13 @@ fn report_by(
     purpose: &PairPurpose,
 ) -> Result<Reported, NoMemory>
     requires sound { Sound core.now }
+    requires short { length text.now ≤ MOST_BESIDE }
     requires bounded { IsBoundedPair purpose.now }
     ensures { IfOk result (λ r. IsReportOfProgram core.now (pair_aim purpose.now text.now) (report_in r)) }
 {
     match purpose {
         PairPurpose::Replay(asked) => report_of_replay(alloc, core, asked, text),
+        PairPurpose::OnLog(wanted, asked) => report_on_log(alloc, core, *wanted, asked, text),
     }
 }
 
@@ -45,6 +48,7 @@ fn report_of_pair(
     purpose: &PairPurpose,
 ) -> Result<Reported, NoMemory>
     requires within { length source.now ≤ MOST_BYTES }
+    requires short { length text.now ≤ MOST_BESIDE }
     requires bounded { IsBoundedPair purpose.now }
     ensures { IfOk result (λ r. IsReportOfSource source.now (pair_aim purpose.now text.now) (report_in r)) }
 {
@@ -66,6 +70,7 @@ fn tell_pair<O: Sink, L: Sink>(
     requires out_goes { O.stopped out.old ≡ false }
     requires log_goes { L.stopped log.old ≡ false }
     requires within { length source.now ≤ MOST_BYTES }
+    requires short { length text.now ≤ MOST_BESIDE }
     requires bounded { IsBoundedPair purpose.now }
     ensures { Tells (IsReportOfSource source.now (pair_aim purpose.now text.now)) result
         (sink_use O.taken O.faults O.stopped out.old out.new) (sink_use L.taken L.faults L.stopped log.old log.new) }

@@ -15,6 +15,15 @@ pub const LISTED: u8 = 0;
 /// The picks of a run don't fit.
 pub const MISPICKED: u8 = 26;
 
+/// A log is one that a program can give.
+pub const JUDGED: u8 = 0;
+
+/// The picks of such a log are told.
+pub const PICKS_TOLD: u8 = 0;
+
+/// A text is no log that a program can give.
+pub const NO_LOG: u8 = 25;
+
 /// A source is laid out.
 pub const LAID_OUT: u8 = 0;
 

@@ -54,11 +54,22 @@ pub enum Purpose {
     LayOut,
 }
 
+/// What is told of a text that is a log of a program.
+#[derive(Clone, Copy, Debug)]
+pub enum LogPurpose {
+    /// That it is, and what its run wrote.
+    Judge,
+    /// The picks of its run.
+    Picks,
+}
+
 /// What is done with a source and the text of a second file.
 #[derive(Debug, Drop)]
 pub enum PairPurpose {
     /// Its program is run by the picks of the text.
     Replay(Asked<ByPicks>),
+    /// It is told whether the text is a log that its program can give, whatever the policy.
+    OnLog(LogPurpose, Asked<ByPicks>),
 }
 
 /// Two files, and what is done with what they hold.

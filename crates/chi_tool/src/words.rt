@@ -1,9 +1,12 @@
 ghost use Rattle.std.specs.Prelude.{◌≡◌};
-ghost use Rattle.chi_tool.specs.Words.{is_refusal, task_of};
+ghost use Rattle.chi_tool.specs.Words.{is_refusal, task_of, unpicked};
 
 use crate::settings::{ByPicks, Terms, trace_by};
-use crate::task::{Asked, Pair, PairPurpose, ProgramPurpose, Purpose, Task};
+use crate::task::{Asked, LogPurpose, Pair, PairPurpose, ProgramPurpose, Purpose, Task};
+use chi_base::Items;
 use chi_cli::{CliFault, Request};
+use chi_num::Real;
+use chi_token::Bytes;
 use chi_trace::Filter;
 
 /// What a request wants to be done.
@@ -56,22 +59,65 @@ pub fn task_of(request: Request) -> Task
             until,
             trace,
         } => {
-            let terms = Terms {
-                seed,
-                bound,
-                policy: ByPicks,
-                until,
-                trace: trace_by(trace, Filter::All),
-            };
-            let asked = Asked { terms, texts: args };
+            let trace = trace_by(trace, Filter::All);
             Task::OfPair(Pair {
                 file,
                 beside: picks,
-                purpose: PairPurpose::Replay(asked),
+                purpose: PairPurpose::Replay(unpicked(args, seed, bound, until, trace)),
             })
         }
+        Request::Judge {
+            file,
+            trace,
+            args,
+            seed,
+            bound,
+            until,
+        } => Task::OfPair(Pair {
+            file,
+            beside: trace,
+            purpose: PairPurpose::OnLog(
+                LogPurpose::Judge,
+                unpicked(args, seed, bound, until, None),
+            ),
+        }),
+        Request::Picks {
+            file,
+            trace,
+            args,
+            seed,
+            bound,
+            until,
+        } => Task::OfPair(Pair {
+            file,
+            beside: trace,
+            purpose: PairPurpose::OnLog(
+                LogPurpose::Picks,
+                unpicked(args, seed, bound, until, None),
+            ),
+        }),
         Request::TraceUp { file } => Task::OfLog { file },
     }
+}
+
+/// What a program is asked for with where its picks come from the second file.
+fn unpicked(
+    texts: Items<Bytes>,
+    seed: u64,
+    bound: u64,
+    until: Option<Real>,
+    trace: Option<Filter>,
+) -> Asked<ByPicks>
+    ensures { result ≡ unpicked texts seed bound until trace }
+{
+    let terms = Terms {
+        seed,
+        bound,
+        policy: ByPicks,
+        until,
+        trace,
+    };
+    Asked { terms, texts }
 }
 
 /// Whether words are refused, where there was memory to read them.

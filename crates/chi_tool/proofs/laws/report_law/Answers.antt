@@ -1,4 +1,4 @@
-use Rattle.chi_tool.proofs.LawClauses.{AnswerLaw, RunLaw, CodeLaw, CheckLaw, LogLaw, PicksLaw}
+use Rattle.chi_tool.proofs.LawClauses.{AnswerLaw, RunLaw, CodeLaw, CheckLaw, JudgeLaw, LogLaw, PicksLaw}
 use Rattle.chi_tool.proofs.Reports.{report_some, report_one}
 use Rattle.chi_tool.proofs.laws.report_law.Goals as goal
 
@@ -10,7 +10,8 @@ returns c =
     let check : CheckLaw = record { whole = c.parsed_programs_are_sound.ensures.whole; sound = c.parsed_programs_are_sound.ensures.sound } in
     let log_law : LogLaw = record { some = c.logs_law.ensures.some; one_log = c.logs_law.ensures.one_log; one_line = c.logs_law.ensures.one_line; apart = c.logs_law.ensures.apart } in
     let picks : PicksLaw = record { some = c.picks_law.ensures.some; one_list = c.picks_law.ensures.one_list; one_line = c.picks_law.ensures.one_line; apart = c.picks_law.ensures.apart } in
+    let judging : JudgeLaw = record { some = c.judging_law.ensures; one_log = c.one_log_law.ensures.one_log; one_line = c.one_log_law.ensures.one_line } in
     record {
-      some = report_some answers runs coded check c.values_are_of_parameters.ensures picks log_law c.numbers_are_in_range.ensures;
-      one = report_one answers runs coded check c.values_are_of_parameters.ensures picks log_law;
+      some = report_some answers runs coded check c.values_are_of_parameters.ensures picks judging log_law c.numbers_are_in_range.ensures;
+      one = report_one answers runs coded check c.values_are_of_parameters.ensures picks judging log_law;
     }
