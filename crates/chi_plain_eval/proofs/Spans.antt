@@ -93,7 +93,7 @@ taken count (Some g) f e = by_test (nat_eq count g.arity) e
     by_test true e = e
     by_test false e = absurd (cc)
 
-pub body_within : (functions : List FuncDef) (k count : ℕ) (f : FuncDef) → callee functions k count ≡ Some f → (4 * most span f.body) + 9 < reach functions
+pub body_within : (functions : List FuncDef) (k count : ℕ) (f : FuncDef) → callee functions k count ≡ Some f → (5 * most span f.body) + 10 < reach functions
 unfolding reach
 body_within functions k count f e = omega (arith, body_in functions k f (taken count (slice_get functions k) f e))
 
@@ -126,10 +126,10 @@ module _ (x : CStat) where
 
 -- the measure of a body that is called
 pub body_falls : (functions : List FuncDef) (k n more : ℕ) (f : FuncDef) (body : List CStat) → 0 < more → callee functions k n ≡ Some f → body ≡ f.body
-    → ((more - 1) * reach functions) + (4 * most span body) + 9 < more * reach functions
+    → ((more - 1) * reach functions) + (5 * most span body) + 10 < more * reach functions
 body_falls functions k n more f body h found b =
-    let within : (4 * most span body) + 9 < reach functions = omega (arith, body_within functions k n f found, ap (most span) b) in
-    omega (arith, call_falls more (reach functions) ((4 * most span body) + 9) h within)
+    let within : (5 * most span body) + 10 < reach functions = omega (arith, body_within functions k n f found, ap (most span) b) in
+    omega (arith, call_falls more (reach functions) ((5 * most span body) + 10) h within)
 
 -- what is left after an item is no larger than what was
 

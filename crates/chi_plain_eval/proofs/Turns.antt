@@ -16,7 +16,7 @@ use Rattle.chi_plain_eval.specs.declared.calls.Calls.{Calls}
 use Rattle.chi_plain_eval.specs.declared.calls.Calls.TheVariants.{Never, Within}
 use Rattle.chi_core_frame.specs.declared.stop.Stop.{Stop}
 use Rattle.chi_plain_eval.specs.declared.surroundings.Surroundings.{Surroundings}
-use Rattle.chi_plain_eval.specs.Calls.{run_by}
+use Rattle.chi_plain_eval.specs.Calls.{run_of}
 use Rattle.chi_core_frame.specs.Stops.{Stops}
 use Rattle.chi_plain_eval.specs.Surroundings.{scene_in}
 use Rattle.chi_core_frame.specs.Terms.{first_of}
@@ -24,32 +24,33 @@ use Rattle.chi_plain_eval.specs.Terms.{act_first, came_to}
 use Rattle.chi_core_frame.proofs.Stopping.{then_stops, then_there}
 
 module _ (calls : Calls) (s : Surroundings) (k : ℕ) (arguments : List Value) (view : View) where
-  pub never_called : calls ≡ Never → run_by calls s k arguments view ≢ Amiss → ⊥
-  unfolding run_by
-  never_called e h = h (ap (λ c. run_by c s k arguments view) e)
+  pub never_called : calls ≡ Never → run_of calls s k arguments view ≢ Amiss → ⊥
+  unfolding run_of
+  never_called e h = h (ap (λ c. run_of c s k arguments view) e)
 
-  pub too_deep : (more : ℕ) → calls ≡ Within more → more ≡ 0 → run_by calls s k arguments view ≡ Fails CallDepth
-  unfolding run_by
-  too_deep more e z = ap (λ c. run_by c s k arguments view) e ∙ run_none s.functions.now (scene_in s) k arguments view more z
+  pub too_deep : (more : ℕ) → calls ≡ Within more → more ≡ 0 → run_of calls s k arguments view ≡ Fails CallDepth
+  unfolding run_of
+  too_deep more e z = ap (λ c. run_of c s k arguments view) e ∙ run_none s.functions.now (scene_in s) k arguments view more z
 
-  by_functions : (more : ℕ) → calls ≡ Within more → run_by calls s k arguments view ≡ run_at more s.functions.now (scene_in s) k arguments view
-  unfolding run_by
-  by_functions more e = ap (λ c. run_by c s k arguments view) e
+  by_functions : (more : ℕ) → calls ≡ Within more → run_of calls s k arguments view ≡ run_at more s.functions.now (scene_in s) k arguments view
+  unfolding run_of
+  by_functions more e = ap (λ c. run_of c s k arguments view) e
 
-  lost_or : (more : ℕ) → 0 < more → (o : Option FuncDef) → callee s.functions.now k (length arguments) ≡ o → calls ≡ Within more → run_by calls s k arguments view ≢ Amiss → o ≢ None
+  lost_or : (more : ℕ) → 0 < more → (o : Option FuncDef) → callee s.functions.now k (length arguments) ≡ o → calls ≡ Within more → run_of calls s k arguments view ≢ Amiss → o ≢ None
   lost_or more h o is e there none = there (by_functions more e ∙ run_lost s.functions.now (scene_in s) k arguments view more h (is ∙ none))
 
-  pub there_is : (more n : ℕ) → calls ≡ Within more → 0 < more → n ≡ length arguments → run_by calls s k arguments view ≢ Amiss → callee s.functions.now k n ≢ None
+  pub there_is : (more n : ℕ) → calls ≡ Within more → 0 < more → n ≡ length arguments → run_of calls s k arguments view ≢ Amiss → callee s.functions.now k n ≢ None
   there_is more n e h count there none = lost_or more h (callee s.functions.now k (length arguments)) refl e there (ap (callee s.functions.now k) (sym count) ∙ none)
 
-  pub body_is : (more less n : ℕ) (f : FuncDef) (variables : Variables) (body : List CStat) → calls ≡ Within more → 0 < more → less ≡ more - 1
+  pub body_is : (more less n : ℕ) (f : FuncDef) (variables : Variables) (body : List CStat) → calls ≡ Within more → 0 < more → (next : Calls) → next ≡ Within less → less ≡ more - 1
       → n ≡ length arguments → callee s.functions.now k n ≡ Some f → variables ≡ variables_of (length f.slots) arguments → body ≡ f.body
-      → run_by calls s k arguments view ≡ exec view.left (run_by (Within less) s) (scene_in s) variables (map Do body) view
-  unfolding run_by
-  body_is more less n f variables body e h l count found vs b =
+      → run_of calls s k arguments view ≡ exec view.left (run_of next s) (scene_in s) variables (map Do body) view
+  unfolding run_of
+  body_is more less n f variables body e h next is l count found vs b =
       by_functions more e
       ∙ run_found s.functions.now (scene_in s) k arguments view more f h (ap (callee s.functions.now k) (sym count) ∙ found)
       ∙ (λ i. exec view.left (run_at (sym l i) s.functions.now (scene_in s)) (scene_in s) (sym vs i) (map Do (sym b i)) view)
+      ∙ ap (λ c. exec view.left (run_of c s) (scene_in s) variables (map Do body) view) (sym is)
 
 -- the first item, which there is
 pub act_is : (value_of : Evaluates) (variables : Variables) (term : Term) (i : Item) (view : View) → first_of term ≡ Some i

@@ -7,21 +7,28 @@ use Rattle.chi_core.specs.Evaluation.{Run, Evaluates, eval}
 use Rattle.chi_core.specs.Functions.{run_at}
 use Rattle.chi_core.specs.Beginning.{no_call}
 use Rattle.chi_plain_eval.specs.declared.calls.Calls.{Calls}
+use Rattle.chi_plain_eval.specs.declared.calls.Headroom.{Headroom}
 use Rattle.chi_plain_eval.specs.declared.calls.Calls.TheVariants.{Never, Within}
 use Rattle.chi_plain_eval.specs.declared.surroundings.Surroundings.{Surroundings}
 use Rattle.chi_plain_eval.specs.Surroundings.{scene_in}
 
-unfoldable pub run_by : Calls → Surroundings → Run
-run_by Never s = no_call
-run_by (Within more) s = run_at more s.functions.now (scene_in s)
+unfoldable pub run_of : Calls → Surroundings → Run
+run_of Never s = no_call
+run_of (Within more) s = run_at more s.functions.now (scene_in s)
 
-abbrev pub meaning : Calls → Surroundings → Variables → Evaluates
-meaning calls s variables = eval (run_by calls s) (scene_in s) variables
+abbrev pub run_by : Headroom → Surroundings → Run
+run_by room s = run_of room.calls s
+
+abbrev pub meaning : Headroom → Surroundings → Variables → Evaluates
+meaning room s variables = eval (run_by room s) (scene_in s) variables
 
 -- whether a function says that an element stands before another
 abbrev pub before_by : Run → ℕ → Value → Value → Does Value
 before_by run function x y = run function (x ∷ y ∷ [])
 
-abbrev pub more_of : Calls → ℕ
-more_of Never = 0
-more_of (Within more) = more
+abbrev pub more_in : Calls → ℕ
+more_in Never = 0
+more_in (Within more) = more
+
+abbrev pub more_of : Headroom → ℕ
+more_of room = more_in room.calls

@@ -53,4 +53,4 @@ body_span f = most span f.body
 
 -- more than anything in the functions
 unfoldable pub reach : List FuncDef → ℕ
-reach functions = (5 * most body_span functions) + 20
+reach functions = (6 * most body_span functions) + 20

@@ -8,7 +8,7 @@ ghost use Rattle.chi_plain_eval.specs.Calls.{meaning, run_by};
 ghost use Rattle.chi_core_frame.specs.Stops.{Stops};
 ghost use Rattle.chi_plain_eval.specs.Surroundings.{scene_in};
 
-use crate::calls::Calls;
+use crate::calls::{Calls, Headroom};
 use crate::expressions::eval_all;
 use crate::items::act;
 use crate::surroundings::{Surroundings, function};
@@ -24,17 +24,17 @@ pub fn call_with(
     parts: &[CExpr],
     alloc: Global,
     s: &Surroundings<'_>,
-    calls: Calls,
+    room: Headroom,
     number: u32,
     variables: &Variables,
     view: &mut View,
 ) -> Result<Value, Stop>
-    requires { then_do (in_turn (map (meaning calls s.now variables.now) parts.now) view.old) (run_by calls s.now number) ≢ Amiss }
-    ensures value { IfOk result (λ v. then_do (in_turn (map (meaning calls s.now variables.now) parts.now) view.old) (run_by calls s.now number) ≡ Gives v view.new) }
-    ensures stops { IfErr result (λ stop. Stops stop (then_do (in_turn (map (meaning calls s.now variables.now) parts.now) view.old) (run_by calls s.now number))) }
+    requires { then_do (in_turn (map (meaning room s.now variables.now) parts.now) view.old) (run_by room s.now number) ≢ Amiss }
+    ensures value { IfOk result (λ v. then_do (in_turn (map (meaning room s.now variables.now) parts.now) view.old) (run_by room s.now number) ≡ Gives v view.new) }
+    ensures stops { IfErr result (λ stop. Stops stop (then_do (in_turn (map (meaning room s.now variables.now) parts.now) view.old) (run_by room s.now number))) }
 {
-    let arguments = eval_all(parts, alloc, s, calls, variables, view)?;
-    call(number, arguments, alloc, s, calls, view)
+    let arguments = eval_all(parts, alloc, s, room, variables, view)?;
+    call(number, arguments, alloc, s, room, view)
 }
 
 /// A call of a function.
@@ -45,14 +45,14 @@ pub fn call(
     arguments: Vec<Value>,
     alloc: Global,
     s: &Surroundings<'_>,
-    calls: Calls,
+    room: Headroom,
     view: &mut View,
 ) -> Result<Value, Stop>
-    requires { run_by calls s.now number arguments.items view.old ≢ Amiss }
-    ensures value { IfOk result (λ v. run_by calls s.now number arguments.items view.old ≡ Gives v view.new) }
-    ensures stops { IfErr result (λ stop. Stops stop (run_by calls s.now number arguments.items view.old)) }
+    requires { run_by room s.now number arguments.items view.old ≢ Amiss }
+    ensures value { IfOk result (λ v. run_by room s.now number arguments.items view.old ≡ Gives v view.new) }
+    ensures stops { IfErr result (λ stop. Stops stop (run_by room s.now number arguments.items view.old)) }
 {
-    match calls {
+    match room.calls {
         Calls::Never => unreachable!(),
         Calls::Within(more) => {
             if more == 0 {
@@ -61,14 +61,8 @@ pub fn call(
             let f = function(s, number, arguments.len());
             let mut variables = Variables::new(alloc, f.slots.as_slice().len(), arguments)?;
             let body = f.body.as_slice();
-            run_body(
-                body,
-                alloc,
-                s,
-                Calls::Within(more - 1),
-                &mut variables,
-                view,
-            )
+            let inner = room.within(Calls::Within(more - 1));
+            run_body(body, alloc, s, inner, &mut variables, view)
         }
     }
 }
@@ -80,13 +74,13 @@ fn run_body(
     body: &[CStat],
     alloc: Global,
     s: &Surroundings<'_>,
-    calls: Calls,
+    room: Headroom,
     variables: &mut Variables,
     view: &mut View,
 ) -> Result<Value, Stop>
-    requires { exec view.old.left (run_by calls s.now) (scene_in s.now) variables.old (map Do body.now) view.old ≢ Amiss }
-    ensures value { IfOk result (λ v. exec view.old.left (run_by calls s.now) (scene_in s.now) variables.old (map Do body.now) view.old ≡ Gives v view.new) }
-    ensures stops { IfErr result (λ stop. Stops stop (exec view.old.left (run_by calls s.now) (scene_in s.now) variables.old (map Do body.now) view.old)) }
+    requires { exec view.old.left (run_by room s.now) (scene_in s.now) variables.old (map Do body.now) view.old ≢ Amiss }
+    ensures value { IfOk result (λ v. exec view.old.left (run_by room s.now) (scene_in s.now) variables.old (map Do body.now) view.old ≡ Gives v view.new) }
+    ensures stops { IfErr result (λ stop. Stops stop (exec view.old.left (run_by room s.now) (scene_in s.now) variables.old (map Do body.now) view.old)) }
 {
     let mut term = Term::new(alloc, body)?;
     for turn in 0..view.left {
@@ -97,7 +91,7 @@ fn run_body(
             return Err(Stop::Spent);
         }
         view.left -= 1;
-        match act(&mut term, alloc, s, calls, variables, view)? {
+        match act(&mut term, alloc, s, room, variables, view)? {
             Some(value) => return Ok(value),
             None => {}
         }

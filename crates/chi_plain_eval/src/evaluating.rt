@@ -9,7 +9,7 @@ ghost use Rattle.chi_core_frame.specs.Stops.{Stops};
 ghost use Rattle.chi_plain_eval.specs.Surroundings.{value_in, constant_in};
 ghost use Rattle.chi_plain_eval.specs.Terms.{act_first, came_to};
 
-use crate::calls::{CALLS, Calls};
+use crate::calls::{CONSTANT, OUTSIDE};
 use crate::expressions::{eval, eval_all};
 use crate::items;
 use crate::places::path_of;
@@ -20,7 +20,7 @@ use chi_value::Value;
 use std::alloc::Global;
 
 /// The value of an expression.
-#[tactic(auto, unfolding(crate::specs::Calls::run_by))]
+#[tactic(auto, unfolding(crate::specs::Calls::run_of))]
 pub fn value_of(
     alloc: Global,
     surroundings: &Surroundings<'_>,
@@ -32,11 +32,11 @@ pub fn value_of(
     ensures value { IfOk result (λ v. value_in surroundings.now variables.now e.now view.old ≡ Gives v view.new) }
     ensures stops { IfErr result (λ stop. Stops stop (value_in surroundings.now variables.now e.now view.old)) }
 {
-    Ok(eval(e, alloc, surroundings, CALLS, variables, view)?)
+    Ok(eval(e, alloc, surroundings, OUTSIDE, variables, view)?)
 }
 
 /// The values of expressions, from left to right.
-#[tactic(auto, unfolding(crate::specs::Calls::run_by))]
+#[tactic(auto, unfolding(crate::specs::Calls::run_of))]
 pub fn values_of(
     alloc: Global,
     surroundings: &Surroundings<'_>,
@@ -48,11 +48,11 @@ pub fn values_of(
     ensures values { IfOk result (λ vs. in_turn (map (value_in surroundings.now variables.now) es.now) view.old ≡ Gives vs.items view.new) }
     ensures stops { IfErr result (λ stop. Stops stop (in_turn (map (value_in surroundings.now variables.now) es.now) view.old)) }
 {
-    Ok(eval_all(es, alloc, surroundings, CALLS, variables, view)?)
+    Ok(eval_all(es, alloc, surroundings, OUTSIDE, variables, view)?)
 }
 
 /// The value of a constant's expression, which calls no function.
-#[tactic(auto, unfolding(crate::specs::Calls::run_by))]
+#[tactic(auto, unfolding(crate::specs::Calls::run_of))]
 pub fn constant_value(
     alloc: Global,
     surroundings: &Surroundings<'_>,
@@ -64,11 +64,11 @@ pub fn constant_value(
     ensures stops { IfErr result (λ stop. Stops stop (constant_in surroundings.now e.now view.old)) }
 {
     let variables = Variables::new(alloc, 0, Vec::new(alloc))?;
-    Ok(eval(e, alloc, surroundings, Calls::Never, &variables, view)?)
+    Ok(eval(e, alloc, surroundings, CONSTANT, &variables, view)?)
 }
 
 /// The spot of a target: its indexes are evaluated from left to right.
-#[tactic(auto, using(crate::proofs::Spotting::places, chi_core_frame::proofs::Stopping::stopping), unfolding(crate::specs::Calls::run_by))]
+#[tactic(auto, using(crate::proofs::Spotting::places, chi_core_frame::proofs::Stopping::stopping), unfolding(crate::specs::Calls::run_of))]
 pub fn spot_of(
     alloc: Global,
     surroundings: &Surroundings<'_>,
@@ -81,14 +81,14 @@ pub fn spot_of(
     ensures stops { IfErr result (λ stop. Stops stop (spot_of (value_in surroundings.now variables.now) target.now view.old)) }
 {
     let steps = target.steps.as_slice();
-    let path = path_of(steps, alloc, surroundings, CALLS, variables, view)?;
+    let path = path_of(steps, alloc, surroundings, OUTSIDE, variables, view)?;
     let slot = target.slot;
     Ok(Spot { slot, path })
 }
 
 /// Does the first item of a term, which is one that functions and processes share. Where a function
 /// returns, its value is the answer. What costs too much leaves the variables and the term as they were.
-#[tactic(auto, unfolding(crate::specs::Calls::run_by))]
+#[tactic(auto, unfolding(crate::specs::Calls::run_of))]
 pub fn act<'a>(
     alloc: Global,
     surroundings: &Surroundings<'_>,
@@ -101,5 +101,5 @@ pub fn act<'a>(
     ensures stops { IfErr result (λ stop. Stops stop (act_first (value_in surroundings.now variables.old) variables.old term.old view.old)) }
     ensures kept { result ≡ Err Stop.Spent → (variables.new ≡ variables.old) × (term.new ≡ term.old) }
 {
-    Ok(items::act(term, alloc, surroundings, CALLS, variables, view)?)
+    Ok(items::act(term, alloc, surroundings, OUTSIDE, variables, view)?)
 }

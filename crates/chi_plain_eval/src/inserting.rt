@@ -11,7 +11,7 @@ ghost use Rattle.chi_core_frame.specs.Alike.{AreAlikeBut};
 ghost use Rattle.chi_core_frame.specs.Stops.{Stops};
 
 use crate::bodies::call;
-use crate::calls::Calls;
+use crate::calls::Headroom;
 use crate::expressions::eval;
 use crate::reading::{list_in, truth_of};
 use crate::surroundings::Surroundings;
@@ -36,19 +36,19 @@ fn insertion_in(
     a: &CExpr,
     alloc: Global,
     s: &Surroundings<'_>,
-    calls: Calls,
+    room: Headroom,
     b: &CExpr,
     number: u32,
     variables: &Variables,
     view: &mut View,
 ) -> Result<Insertion, Stop>
-    requires { inserted_by (meaning calls s.now variables.now) (run_by calls s.now) number a.now b.now view.old ≢ Amiss }
-    ensures value { IfOk result (λ it. inserted_by (meaning calls s.now variables.now) (run_by calls s.now) number a.now b.now view.old ≡ done (insert_at it.list it.place it.element) view.new) }
-    ensures stops { IfErr result (λ stop. Stops stop (inserted_by (meaning calls s.now variables.now) (run_by calls s.now) number a.now b.now view.old)) }
+    requires { inserted_by (meaning room s.now variables.now) (run_by room s.now) number a.now b.now view.old ≢ Amiss }
+    ensures value { IfOk result (λ it. inserted_by (meaning room s.now variables.now) (run_by room s.now) number a.now b.now view.old ≡ done (insert_at it.list it.place it.element) view.new) }
+    ensures stops { IfErr result (λ stop. Stops stop (inserted_by (meaning room s.now variables.now) (run_by room s.now) number a.now b.now view.old)) }
 {
-    let list = eval(a, alloc, s, calls, variables, view)?;
-    let element = eval(b, alloc, s, calls, variables, view)?;
-    let place = place_before(list_in(&list), alloc, s, calls, number, &element, view)?;
+    let list = eval(a, alloc, s, room, variables, view)?;
+    let element = eval(b, alloc, s, room, variables, view)?;
+    let place = place_before(list_in(&list), alloc, s, room, number, &element, view)?;
     Ok(Insertion {
         list,
         element,
@@ -63,21 +63,21 @@ pub fn insert_by(
     a: &CExpr,
     alloc: Global,
     s: &Surroundings<'_>,
-    calls: Calls,
+    room: Headroom,
     b: &CExpr,
     number: u32,
     variables: &Variables,
     view: &mut View,
 ) -> Result<Value, Stop>
-    requires { inserted_by (meaning calls s.now variables.now) (run_by calls s.now) number a.now b.now view.old ≢ Amiss }
-    ensures value { IfOk result (λ v. inserted_by (meaning calls s.now variables.now) (run_by calls s.now) number a.now b.now view.old ≡ Gives v view.new) }
-    ensures stops { IfErr result (λ stop. Stops stop (inserted_by (meaning calls s.now variables.now) (run_by calls s.now) number a.now b.now view.old)) }
+    requires { inserted_by (meaning room s.now variables.now) (run_by room s.now) number a.now b.now view.old ≢ Amiss }
+    ensures value { IfOk result (λ v. inserted_by (meaning room s.now variables.now) (run_by room s.now) number a.now b.now view.old ≡ Gives v view.new) }
+    ensures stops { IfErr result (λ stop. Stops stop (inserted_by (meaning room s.now variables.now) (run_by room s.now) number a.now b.now view.old)) }
 {
     let Insertion {
         list,
         element,
         place,
-    } = insertion_in(a, alloc, s, calls, b, number, variables, view)?;
+    } = insertion_in(a, alloc, s, room, b, number, variables, view)?;
     insertion_of(alloc, list, place, element, view)
 }
 
@@ -89,16 +89,16 @@ pub fn insert_off(
     a: &CExpr,
     alloc: Global,
     s: &Surroundings<'_>,
-    calls: Calls,
+    room: Headroom,
     b: &CExpr,
     number: u32,
     slot: u32,
     variables: &mut Variables,
     view: &mut View,
 ) -> Result<Value, Stop>
-    requires { inserted_by (meaning calls s.now variables.old) (run_by calls s.now) number a.now b.now view.old ≢ Amiss }
-    ensures value { IfOk result (λ v. inserted_by (meaning calls s.now variables.old) (run_by calls s.now) number a.now b.now view.old ≡ Gives v view.new) }
-    ensures stops { IfErr result (λ stop. Stops stop (inserted_by (meaning calls s.now variables.old) (run_by calls s.now) number a.now b.now view.old)) }
+    requires { inserted_by (meaning room s.now variables.old) (run_by room s.now) number a.now b.now view.old ≢ Amiss }
+    ensures value { IfOk result (λ v. inserted_by (meaning room s.now variables.old) (run_by room s.now) number a.now b.now view.old ≡ Gives v view.new) }
+    ensures stops { IfErr result (λ stop. Stops stop (inserted_by (meaning room s.now variables.old) (run_by room s.now) number a.now b.now view.old)) }
     ensures alike { OnOk result (AreAlikeBut slot variables.old variables.new) }
     ensures kept { result ≡ Err Stop.Spent → variables.new ≡ variables.old }
 {
@@ -106,7 +106,7 @@ pub fn insert_off(
         list,
         element,
         place,
-    } = insertion_in(a, alloc, s, calls, b, number, variables, view)?;
+    } = insertion_in(a, alloc, s, room, b, number, variables, view)?;
     variables.unset(slot);
     insertion_of(alloc, list, place, element, view)
 }
@@ -118,21 +118,21 @@ fn place_before(
     items: &Row,
     alloc: Global,
     s: &Surroundings<'_>,
-    calls: Calls,
+    room: Headroom,
     number: u32,
     x: &Value,
     view: &mut View,
 ) -> Result<usize, Stop>
-    requires { place_before (before_by (run_by calls s.now) number x.now) items.now view.old ≢ Amiss }
-    ensures place { IfOk result (λ n. place_before (before_by (run_by calls s.now) number x.now) items.now view.old ≡ Gives n view.new) }
-    ensures stops { IfErr result (λ stop. Stops stop (place_before (before_by (run_by calls s.now) number x.now) items.now view.old)) }
+    requires { place_before (before_by (run_by room s.now) number x.now) items.now view.old ≢ Amiss }
+    ensures place { IfOk result (λ n. place_before (before_by (run_by room s.now) number x.now) items.now view.old ≡ Gives n view.new) }
+    ensures stops { IfErr result (λ stop. Stops stop (place_before (before_by (run_by room s.now) number x.now) items.now view.old)) }
 {
     for place in 0..items.len() {
         let Some(y) = items.get(place) else {
             unreachable!();
         };
         let pair = two_copies(alloc, x, y)?;
-        let holds = call(number, pair, alloc, s, calls, view)?;
+        let holds = call(number, pair, alloc, s, room, view)?;
         if truth_of(holds) {
             return Ok(place);
         }

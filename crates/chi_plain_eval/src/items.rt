@@ -8,7 +8,7 @@ ghost use Rattle.chi_plain_eval.specs.Calls.{meaning};
 ghost use Rattle.chi_core_frame.specs.Stops.{Stops};
 ghost use Rattle.chi_plain_eval.specs.Terms.{act_first, came_to};
 
-use crate::calls::Calls;
+use crate::calls::Headroom;
 use crate::expressions::{eval, eval_all};
 use crate::places::spots_of;
 use crate::reading::truth_of;
@@ -26,19 +26,19 @@ pub fn act<'a>(
     term: &mut Term<'a>,
     alloc: Global,
     s: &Surroundings<'_>,
-    calls: Calls,
+    room: Headroom,
     variables: &mut Variables,
     view: &mut View,
 ) -> Result<Option<Value>, Stop>
-    requires { act_first (meaning calls s.now variables.old) variables.old term.old view.old ≢ Amiss }
-    ensures value { IfOk result (λ r. act_first (meaning calls s.now variables.old) variables.old term.old view.old ≡ Gives (came_to r variables.new term.new) view.new) }
-    ensures stops { IfErr result (λ stop. Stops stop (act_first (meaning calls s.now variables.old) variables.old term.old view.old)) }
+    requires { act_first (meaning room s.now variables.old) variables.old term.old view.old ≢ Amiss }
+    ensures value { IfOk result (λ r. act_first (meaning room s.now variables.old) variables.old term.old view.old ≡ Gives (came_to r variables.new term.new) view.new) }
+    ensures stops { IfErr result (λ stop. Stops stop (act_first (meaning room s.now variables.old) variables.old term.old view.old)) }
     ensures kept { result ≡ Err Stop.Spent → (variables.new ≡ variables.old) × (term.new ≡ term.old) }
 {
     match term.head() {
-        Head::Do(statement) => act_on(statement, alloc, s, calls, term, variables, view),
+        Head::Do(statement) => act_on(statement, alloc, s, room, term, variables, view),
         Head::Loop(line, test, block) => {
-            test_loop(test, alloc, s, calls, line, block, term, variables, view)
+            test_loop(test, alloc, s, room, line, block, term, variables, view)
         }
         Head::Walk => {
             term.walk(alloc, variables)?;
@@ -55,38 +55,36 @@ fn act_on<'a>(
     statement: &'a CStat,
     alloc: Global,
     s: &Surroundings<'_>,
-    calls: Calls,
+    room: Headroom,
     term: &mut Term<'a>,
     variables: &mut Variables,
     view: &mut View,
 ) -> Result<Option<Value>, Stop>
-    requires { act_stat (meaning calls s.now variables.old) variables.old (out-CStat statement.now) (drop 1 term.old) view.old ≢ Amiss }
-    ensures value { IfOk result (λ r. act_stat (meaning calls s.now variables.old) variables.old (out-CStat statement.now) (drop 1 term.old) view.old ≡ Gives (came_to r variables.new term.new) view.new) }
-    ensures stops { IfErr result (λ stop. Stops stop (act_stat (meaning calls s.now variables.old) variables.old (out-CStat statement.now) (drop 1 term.old) view.old)) }
+    requires { act_stat (meaning room s.now variables.old) variables.old (out-CStat statement.now) (drop 1 term.old) view.old ≢ Amiss }
+    ensures value { IfOk result (λ r. act_stat (meaning room s.now variables.old) variables.old (out-CStat statement.now) (drop 1 term.old) view.old ≡ Gives (came_to r variables.new term.new) view.new) }
+    ensures stops { IfErr result (λ stop. Stops stop (act_stat (meaning room s.now variables.old) variables.old (out-CStat statement.now) (drop 1 term.old) view.old)) }
     ensures kept { result ≡ Err Stop.Spent → (variables.new ≡ variables.old) × (term.new ≡ term.old) }
 {
     match statement {
-        CStat::Declare(_, slot, e) => { declare(e, alloc, s, calls, *slot, term, variables, view) }
+        CStat::Declare(_, slot, e) => { declare(e, alloc, s, room, *slot, term, variables, view) }
         CStat::Assign(_, targets, values) => {
             let places = targets.as_slice();
             let expressions = values.as_slice();
-            assign(expressions, alloc, s, calls, places, term, variables, view)
+            assign(expressions, alloc, s, room, places, term, variables, view)
         }
         CStat::If(_, branches, otherwise) => {
             let tests = branches.as_slice();
             let last = otherwise.as_slice();
-            choose(tests, alloc, s, calls, last, term, variables, view)
+            choose(tests, alloc, s, room, last, term, variables, view)
         }
         CStat::While(line, test, block) => {
             let turn = block.as_slice();
-            test_loop(test, alloc, s, calls, *line, turn, term, variables, view)
+            test_loop(test, alloc, s, room, *line, turn, term, variables, view)
         }
         CStat::For(line, slots, e, block) => {
             let names = slots.as_slice();
             let turn = block.as_slice();
-            begin_walk(
-                e, alloc, s, calls, *line, names, turn, term, variables, view,
-            )
+            begin_walk(e, alloc, s, room, *line, names, turn, term, variables, view)
         }
         CStat::Break(_) => {
             term.drop_first();
@@ -102,7 +100,7 @@ fn act_on<'a>(
             term.drop_first();
             Ok(None)
         }
-        CStat::Return(_, e) => Ok(Some(eval(e, alloc, s, calls, variables, view)?)),
+        CStat::Return(_, e) => Ok(Some(eval(e, alloc, s, room, variables, view)?)),
         CStat::Exit(_, _) => unreachable!(),
         CStat::Write(_, _, _) => unreachable!(),
         CStat::Select(_, _) => unreachable!(),
@@ -119,18 +117,18 @@ fn declare(
     e: &CExpr,
     alloc: Global,
     s: &Surroundings<'_>,
-    calls: Calls,
+    room: Headroom,
     slot: u32,
     term: &mut Term<'_>,
     variables: &mut Variables,
     view: &mut View,
 ) -> Result<Option<Value>, Stop>
-    requires { declared (meaning calls s.now variables.old) variables.old slot e.now (drop 1 term.old) view.old ≢ Amiss }
-    ensures value { IfOk result (λ r. declared (meaning calls s.now variables.old) variables.old slot e.now (drop 1 term.old) view.old ≡ Gives (came_to r variables.new term.new) view.new) }
-    ensures stops { IfErr result (λ stop. Stops stop (declared (meaning calls s.now variables.old) variables.old slot e.now (drop 1 term.old) view.old)) }
+    requires { declared (meaning room s.now variables.old) variables.old slot e.now (drop 1 term.old) view.old ≢ Amiss }
+    ensures value { IfOk result (λ r. declared (meaning room s.now variables.old) variables.old slot e.now (drop 1 term.old) view.old ≡ Gives (came_to r variables.new term.new) view.new) }
+    ensures stops { IfErr result (λ stop. Stops stop (declared (meaning room s.now variables.old) variables.old slot e.now (drop 1 term.old) view.old)) }
     ensures kept { result ≡ Err Stop.Spent → (variables.new ≡ variables.old) × (term.new ≡ term.old) }
 {
-    set_to(e, alloc, s, calls, slot, variables, view)?;
+    set_to(e, alloc, s, room, slot, variables, view)?;
     term.drop_first();
     Ok(None)
 }
@@ -142,7 +140,7 @@ fn begin_walk<'a>(
     e: &CExpr,
     alloc: Global,
     s: &Surroundings<'_>,
-    calls: Calls,
+    room: Headroom,
     line: u32,
     slots: &'a [u32],
     block: &'a [CStat],
@@ -150,12 +148,12 @@ fn begin_walk<'a>(
     variables: &Variables,
     view: &mut View,
 ) -> Result<Option<Value>, Stop>
-    requires { walking (meaning calls s.now variables.now) variables.now line slots.now e.now block.now (drop 1 term.old) view.old ≢ Amiss }
-    ensures value { IfOk result (λ r. walking (meaning calls s.now variables.now) variables.now line slots.now e.now block.now (drop 1 term.old) view.old ≡ Gives (came_to r variables.now term.new) view.new) }
-    ensures stops { IfErr result (λ stop. Stops stop (walking (meaning calls s.now variables.now) variables.now line slots.now e.now block.now (drop 1 term.old) view.old)) }
+    requires { walking (meaning room s.now variables.now) variables.now line slots.now e.now block.now (drop 1 term.old) view.old ≢ Amiss }
+    ensures value { IfOk result (λ r. walking (meaning room s.now variables.now) variables.now line slots.now e.now block.now (drop 1 term.old) view.old ≡ Gives (came_to r variables.now term.new) view.new) }
+    ensures stops { IfErr result (λ stop. Stops stop (walking (meaning room s.now variables.now) variables.now line slots.now e.now block.now (drop 1 term.old) view.old)) }
     ensures kept { result ≡ Err Stop.Spent → term.new ≡ term.old }
 {
-    let container = eval(e, alloc, s, calls, variables, view)?;
+    let container = eval(e, alloc, s, room, variables, view)?;
     term.drop_first();
     term.put_walk(line, slots, Elements::of(container), block)?;
     Ok(None)
@@ -168,19 +166,19 @@ fn test_loop<'a>(
     test: &'a CExpr,
     alloc: Global,
     s: &Surroundings<'_>,
-    calls: Calls,
+    room: Headroom,
     line: u32,
     block: &'a [CStat],
     term: &mut Term<'a>,
     variables: &Variables,
     view: &mut View,
 ) -> Result<Option<Value>, Stop>
-    requires { tested (meaning calls s.now variables.now) variables.now line test.now block.now (drop 1 term.old) view.old ≢ Amiss }
-    ensures value { IfOk result (λ r. tested (meaning calls s.now variables.now) variables.now line test.now block.now (drop 1 term.old) view.old ≡ Gives (came_to r variables.now term.new) view.new) }
-    ensures stops { IfErr result (λ stop. Stops stop (tested (meaning calls s.now variables.now) variables.now line test.now block.now (drop 1 term.old) view.old)) }
+    requires { tested (meaning room s.now variables.now) variables.now line test.now block.now (drop 1 term.old) view.old ≢ Amiss }
+    ensures value { IfOk result (λ r. tested (meaning room s.now variables.now) variables.now line test.now block.now (drop 1 term.old) view.old ≡ Gives (came_to r variables.now term.new) view.new) }
+    ensures stops { IfErr result (λ stop. Stops stop (tested (meaning room s.now variables.now) variables.now line test.now block.now (drop 1 term.old) view.old)) }
     ensures kept { result ≡ Err Stop.Spent → term.new ≡ term.old }
 {
-    let value = eval(test, alloc, s, calls, variables, view)?;
+    let value = eval(test, alloc, s, room, variables, view)?;
     term.drop_first();
     if truth_of(value) {
         term.put_loop(line, test, block)?;
@@ -198,19 +196,19 @@ fn choose<'a>(
     branches: &'a [Branch],
     alloc: Global,
     s: &Surroundings<'_>,
-    calls: Calls,
+    room: Headroom,
     otherwise: &'a [CStat],
     term: &mut Term<'a>,
     variables: &Variables,
     view: &mut View,
 ) -> Result<Option<Value>, Stop>
-    requires { chosen (meaning calls s.now variables.now) variables.now branches.now otherwise.now (drop 1 term.old) view.old ≢ Amiss }
-    ensures value { IfOk result (λ r. chosen (meaning calls s.now variables.now) variables.now branches.now otherwise.now (drop 1 term.old) view.old ≡ Gives (came_to r variables.now term.new) view.new) }
-    ensures stops { IfErr result (λ stop. Stops stop (chosen (meaning calls s.now variables.now) variables.now branches.now otherwise.now (drop 1 term.old) view.old)) }
+    requires { chosen (meaning room s.now variables.now) variables.now branches.now otherwise.now (drop 1 term.old) view.old ≢ Amiss }
+    ensures value { IfOk result (λ r. chosen (meaning room s.now variables.now) variables.now branches.now otherwise.now (drop 1 term.old) view.old ≡ Gives (came_to r variables.now term.new) view.new) }
+    ensures stops { IfErr result (λ stop. Stops stop (chosen (meaning room s.now variables.now) variables.now branches.now otherwise.now (drop 1 term.old) view.old)) }
     ensures kept { result ≡ Err Stop.Spent → term.new ≡ term.old }
 {
     for branch in branches {
-        let holds = eval(&branch.test, alloc, s, calls, variables, view)?;
+        let holds = eval(&branch.test, alloc, s, room, variables, view)?;
         if truth_of(holds) {
             term.drop_first();
             term.put_first(branch.block.as_slice())?;
@@ -230,24 +228,24 @@ fn assign(
     values: &[CExpr],
     alloc: Global,
     s: &Surroundings<'_>,
-    calls: Calls,
+    room: Headroom,
     targets: &[CTarget],
     term: &mut Term<'_>,
     variables: &mut Variables,
     view: &mut View,
 ) -> Result<Option<Value>, Stop>
-    requires { assigned (meaning calls s.now variables.old) variables.old targets.now values.now (drop 1 term.old) view.old ≢ Amiss }
-    ensures value { IfOk result (λ r. assigned (meaning calls s.now variables.old) variables.old targets.now values.now (drop 1 term.old) view.old ≡ Gives (came_to r variables.new term.new) view.new) }
-    ensures stops { IfErr result (λ stop. Stops stop (assigned (meaning calls s.now variables.old) variables.old targets.now values.now (drop 1 term.old) view.old)) }
+    requires { assigned (meaning room s.now variables.old) variables.old targets.now values.now (drop 1 term.old) view.old ≢ Amiss }
+    ensures value { IfOk result (λ r. assigned (meaning room s.now variables.old) variables.old targets.now values.now (drop 1 term.old) view.old ≡ Gives (came_to r variables.new term.new) view.new) }
+    ensures stops { IfErr result (λ stop. Stops stop (assigned (meaning room s.now variables.old) variables.old targets.now values.now (drop 1 term.old) view.old)) }
     ensures kept { result ≡ Err Stop.Spent → (variables.new ≡ variables.old) × (term.new ≡ term.old) }
 {
     match whole_of(targets, values) {
         Some((slot, e)) => {
-            set_to(e, alloc, s, calls, slot, variables, view)?;
+            set_to(e, alloc, s, room, slot, variables, view)?;
             term.drop_first();
             Ok(None)
         }
-        None => assign_several(values, alloc, s, calls, targets, term, variables, view),
+        None => assign_several(values, alloc, s, room, targets, term, variables, view),
     }
 }
 
@@ -258,24 +256,24 @@ fn assign_several(
     values: &[CExpr],
     alloc: Global,
     s: &Surroundings<'_>,
-    calls: Calls,
+    room: Headroom,
     targets: &[CTarget],
     term: &mut Term<'_>,
     variables: &mut Variables,
     view: &mut View,
 ) -> Result<Option<Value>, Stop>
-    requires { assigned (meaning calls s.now variables.old) variables.old targets.now values.now (drop 1 term.old) view.old ≢ Amiss }
-    ensures value { IfOk result (λ r. assigned (meaning calls s.now variables.old) variables.old targets.now values.now (drop 1 term.old) view.old ≡ Gives (came_to r variables.new term.new) view.new) }
-    ensures stops { IfErr result (λ stop. Stops stop (assigned (meaning calls s.now variables.old) variables.old targets.now values.now (drop 1 term.old) view.old)) }
+    requires { assigned (meaning room s.now variables.old) variables.old targets.now values.now (drop 1 term.old) view.old ≢ Amiss }
+    ensures value { IfOk result (λ r. assigned (meaning room s.now variables.old) variables.old targets.now values.now (drop 1 term.old) view.old ≡ Gives (came_to r variables.new term.new) view.new) }
+    ensures stops { IfErr result (λ stop. Stops stop (assigned (meaning room s.now variables.old) variables.old targets.now values.now (drop 1 term.old) view.old)) }
     ensures kept { result ≡ Err Stop.Spent → (variables.new ≡ variables.old) × (term.new ≡ term.old) }
 {
     match parted_of(targets, values) {
         Some((slot, e)) => {
-            set_each(e, alloc, s, calls, slot, targets, variables, view)?;
+            set_each(e, alloc, s, room, slot, targets, variables, view)?;
             term.drop_first();
             Ok(None)
         }
-        None => assign_all(values, alloc, s, calls, targets, term, variables, view),
+        None => assign_all(values, alloc, s, room, targets, term, variables, view),
     }
 }
 
@@ -286,20 +284,20 @@ fn assign_all(
     values: &[CExpr],
     alloc: Global,
     s: &Surroundings<'_>,
-    calls: Calls,
+    room: Headroom,
     targets: &[CTarget],
     term: &mut Term<'_>,
     variables: &mut Variables,
     view: &mut View,
 ) -> Result<Option<Value>, Stop>
-    requires { assigned (meaning calls s.now variables.old) variables.old targets.now values.now (drop 1 term.old) view.old ≢ Amiss }
-    ensures value { IfOk result (λ r. assigned (meaning calls s.now variables.old) variables.old targets.now values.now (drop 1 term.old) view.old ≡ Gives (came_to r variables.new term.new) view.new) }
-    ensures stops { IfErr result (λ stop. Stops stop (assigned (meaning calls s.now variables.old) variables.old targets.now values.now (drop 1 term.old) view.old)) }
+    requires { assigned (meaning room s.now variables.old) variables.old targets.now values.now (drop 1 term.old) view.old ≢ Amiss }
+    ensures value { IfOk result (λ r. assigned (meaning room s.now variables.old) variables.old targets.now values.now (drop 1 term.old) view.old ≡ Gives (came_to r variables.new term.new) view.new) }
+    ensures stops { IfErr result (λ stop. Stops stop (assigned (meaning room s.now variables.old) variables.old targets.now values.now (drop 1 term.old) view.old)) }
     ensures kept { result ≡ Err Stop.Spent → (variables.new ≡ variables.old) × (term.new ≡ term.old) }
 {
-    let given = eval_all(values, alloc, s, calls, variables, view)?;
+    let given = eval_all(values, alloc, s, room, variables, view)?;
     let each = spread(alloc, targets, given)?;
-    let spots = spots_of(targets, alloc, s, calls, variables, view)?;
+    let spots = spots_of(targets, alloc, s, room, variables, view)?;
     store_each(alloc, spots, each, variables, view)?;
     term.drop_first();
     Ok(None)

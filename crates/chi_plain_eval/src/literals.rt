@@ -8,7 +8,7 @@ ghost use Rattle.chi_plain_eval.specs.Calls.{meaning};
 ghost use Rattle.chi_plain_eval.specs.Kinds.{repeated_each};
 ghost use Rattle.chi_core_frame.specs.Stops.{Stops};
 
-use crate::calls::Calls;
+use crate::calls::Headroom;
 use crate::expressions::{eval, eval_all};
 use crate::reading::times_of;
 use crate::surroundings::Surroundings;
@@ -24,16 +24,16 @@ pub fn build(
     parts: &[CExpr],
     alloc: Global,
     s: &Surroundings<'_>,
-    calls: Calls,
+    room: Headroom,
     kind: Kind,
     variables: &Variables,
     view: &mut View,
 ) -> Result<Value, Stop>
-    requires { then_do (in_turn (map (meaning calls s.now variables.now) parts.now) view.old) (λ values. done (built kind values)) ≢ Amiss }
-    ensures value { IfOk result (λ v. then_do (in_turn (map (meaning calls s.now variables.now) parts.now) view.old) (λ values. done (built kind values)) ≡ Gives v view.new) }
-    ensures stops { IfErr result (λ stop. Stops stop (then_do (in_turn (map (meaning calls s.now variables.now) parts.now) view.old) (λ values. done (built kind values)))) }
+    requires { then_do (in_turn (map (meaning room s.now variables.now) parts.now) view.old) (λ values. done (built kind values)) ≢ Amiss }
+    ensures value { IfOk result (λ v. then_do (in_turn (map (meaning room s.now variables.now) parts.now) view.old) (λ values. done (built kind values)) ≡ Gives v view.new) }
+    ensures stops { IfErr result (λ stop. Stops stop (then_do (in_turn (map (meaning room s.now variables.now) parts.now) view.old) (λ values. done (built kind values)))) }
 {
-    let values = eval_all(parts, alloc, s, calls, variables, view)?;
+    let values = eval_all(parts, alloc, s, room, variables, view)?;
     literal_of(alloc, kind, values, view)
 }
 
@@ -44,19 +44,19 @@ pub fn repeat_each(
     count: &CExpr,
     alloc: Global,
     s: &Surroundings<'_>,
-    calls: Calls,
+    room: Headroom,
     each: &CExpr,
     variables: &Variables,
     view: &mut View,
 ) -> Result<Value, Stop>
-    requires { repeated_each (meaning calls s.now variables.now) count.now each.now view.old ≢ Amiss }
-    ensures value { IfOk result (λ v. repeated_each (meaning calls s.now variables.now) count.now each.now view.old ≡ Gives v view.new) }
-    ensures stops { IfErr result (λ stop. Stops stop (repeated_each (meaning calls s.now variables.now) count.now each.now view.old)) }
+    requires { repeated_each (meaning room s.now variables.now) count.now each.now view.old ≢ Amiss }
+    ensures value { IfOk result (λ v. repeated_each (meaning room s.now variables.now) count.now each.now view.old ≡ Gives v view.new) }
+    ensures stops { IfErr result (λ stop. Stops stop (repeated_each (meaning room s.now variables.now) count.now each.now view.old)) }
 {
-    let n = eval(count, alloc, s, calls, variables, view)?;
+    let n = eval(count, alloc, s, room, variables, view)?;
     match times_of(n) {
         Some(times) => {
-            let values = repeat(each, alloc, s, calls, times, variables, view)?;
+            let values = repeat(each, alloc, s, room, times, variables, view)?;
             list_of(alloc, values)
         }
         None => Err(Stop::Fault(FaultKind::TooLarge)),
@@ -70,18 +70,18 @@ fn repeat(
     each: &CExpr,
     alloc: Global,
     s: &Surroundings<'_>,
-    calls: Calls,
+    room: Headroom,
     count: u32,
     variables: &Variables,
     view: &mut View,
 ) -> Result<Vec<Value>, Stop>
-    requires { times count (meaning calls s.now variables.now each.now) view.old ≢ Amiss }
-    ensures values { IfOk result (λ vs. times count (meaning calls s.now variables.now each.now) view.old ≡ Gives vs.items view.new) }
-    ensures stops { IfErr result (λ stop. Stops stop (times count (meaning calls s.now variables.now each.now) view.old)) }
+    requires { times count (meaning room s.now variables.now each.now) view.old ≢ Amiss }
+    ensures values { IfOk result (λ vs. times count (meaning room s.now variables.now each.now) view.old ≡ Gives vs.items view.new) }
+    ensures stops { IfErr result (λ stop. Stops stop (times count (meaning room s.now variables.now each.now) view.old)) }
 {
     let mut values = Vec::new(alloc);
     for turn in 0..count {
-        let value = eval(each, alloc, s, calls, variables, view)?;
+        let value = eval(each, alloc, s, room, variables, view)?;
         values.push(value)?;
     }
     Ok(values)

@@ -10,7 +10,7 @@ ghost use Rattle.chi_plain_eval.specs.Kinds.{second_where, taken_part};
 ghost use Rattle.chi_core_frame.specs.Stops.{Stops};
 ghost use Rattle.chi_plain_eval.specs.Surroundings.{scene_in};
 
-use crate::calls::Calls;
+use crate::calls::Headroom;
 use crate::expressions::{eval, eval_all};
 use crate::surroundings::{Surroundings, scenery};
 use chi_core::{CExpr, OpName, View};
@@ -26,22 +26,22 @@ fn operands_of(
     parts: &[CExpr],
     alloc: Global,
     s: &Surroundings<'_>,
-    calls: Calls,
+    room: Headroom,
     variables: &Variables,
     view: &mut View,
 ) -> Result<Operands, Stop>
-    requires { in_turn (map (meaning calls s.now variables.now) parts.now) view.old ≢ Amiss }
-    ensures value { IfOk result (λ operands. in_turn (map (meaning calls s.now variables.now) parts.now) view.old ≡ Gives (listed operands) view.new) }
-    ensures stops { IfErr result (λ stop. Stops stop (in_turn (map (meaning calls s.now variables.now) parts.now) view.old)) }
+    requires { in_turn (map (meaning room s.now variables.now) parts.now) view.old ≢ Amiss }
+    ensures value { IfOk result (λ operands. in_turn (map (meaning room s.now variables.now) parts.now) view.old ≡ Gives (listed operands) view.new) }
+    ensures stops { IfErr result (λ stop. Stops stop (in_turn (map (meaning room s.now variables.now) parts.now) view.old)) }
 {
     match parts {
-        [a] => Ok(Operands::One(eval(a, alloc, s, calls, variables, view)?)),
+        [a] => Ok(Operands::One(eval(a, alloc, s, room, variables, view)?)),
         [a, b] => {
-            let first = eval(a, alloc, s, calls, variables, view)?;
-            let second = eval(b, alloc, s, calls, variables, view)?;
+            let first = eval(a, alloc, s, room, variables, view)?;
+            let second = eval(b, alloc, s, room, variables, view)?;
             Ok(Operands::Two(first, second))
         }
-        _ => Ok(Operands::Any(eval_all(parts, alloc, s, calls, variables, view)?)),
+        _ => Ok(Operands::Any(eval_all(parts, alloc, s, room, variables, view)?)),
     }
 }
 
@@ -52,16 +52,16 @@ pub fn operate(
     parts: &[CExpr],
     alloc: Global,
     s: &Surroundings<'_>,
-    calls: Calls,
+    room: Headroom,
     name: OpName,
     variables: &Variables,
     view: &mut View,
 ) -> Result<Value, Stop>
-    requires { then_do (in_turn (map (meaning calls s.now variables.now) parts.now) view.old) (applied (scene_in s.now) name) ≢ Amiss }
-    ensures value { IfOk result (λ v. then_do (in_turn (map (meaning calls s.now variables.now) parts.now) view.old) (applied (scene_in s.now) name) ≡ Gives v view.new) }
-    ensures stops { IfErr result (λ stop. Stops stop (then_do (in_turn (map (meaning calls s.now variables.now) parts.now) view.old) (applied (scene_in s.now) name))) }
+    requires { then_do (in_turn (map (meaning room s.now variables.now) parts.now) view.old) (applied (scene_in s.now) name) ≢ Amiss }
+    ensures value { IfOk result (λ v. then_do (in_turn (map (meaning room s.now variables.now) parts.now) view.old) (applied (scene_in s.now) name) ≡ Gives v view.new) }
+    ensures stops { IfErr result (λ stop. Stops stop (then_do (in_turn (map (meaning room s.now variables.now) parts.now) view.old) (applied (scene_in s.now) name))) }
 {
-    let operands = operands_of(parts, alloc, s, calls, variables, view)?;
+    let operands = operands_of(parts, alloc, s, room, variables, view)?;
     operator_of(alloc, &scenery(s), name, operands, view)
 }
 
@@ -73,19 +73,19 @@ pub fn operate_off(
     parts: &[CExpr],
     alloc: Global,
     s: &Surroundings<'_>,
-    calls: Calls,
+    room: Headroom,
     name: OpName,
     slot: u32,
     variables: &mut Variables,
     view: &mut View,
 ) -> Result<Value, Stop>
-    requires { then_do (in_turn (map (meaning calls s.now variables.old) parts.now) view.old) (applied (scene_in s.now) name) ≢ Amiss }
-    ensures value { IfOk result (λ v. then_do (in_turn (map (meaning calls s.now variables.old) parts.now) view.old) (applied (scene_in s.now) name) ≡ Gives v view.new) }
-    ensures stops { IfErr result (λ stop. Stops stop (then_do (in_turn (map (meaning calls s.now variables.old) parts.now) view.old) (applied (scene_in s.now) name))) }
+    requires { then_do (in_turn (map (meaning room s.now variables.old) parts.now) view.old) (applied (scene_in s.now) name) ≢ Amiss }
+    ensures value { IfOk result (λ v. then_do (in_turn (map (meaning room s.now variables.old) parts.now) view.old) (applied (scene_in s.now) name) ≡ Gives v view.new) }
+    ensures stops { IfErr result (λ stop. Stops stop (then_do (in_turn (map (meaning room s.now variables.old) parts.now) view.old) (applied (scene_in s.now) name))) }
     ensures alike { OnOk result (AreAlikeBut slot variables.old variables.new) }
     ensures kept { result ≡ Err Stop.Spent → variables.new ≡ variables.old }
 {
-    let operands = operands_of(parts, alloc, s, calls, variables, view)?;
+    let operands = operands_of(parts, alloc, s, room, variables, view)?;
     variables.unset(slot);
     operator_of(alloc, &scenery(s), name, operands, view)
 }
@@ -97,19 +97,19 @@ pub fn second_where(
     a: &CExpr,
     alloc: Global,
     s: &Surroundings<'_>,
-    calls: Calls,
+    room: Headroom,
     b: &CExpr,
     truth: bool,
     variables: &Variables,
     view: &mut View,
 ) -> Result<Value, Stop>
-    requires { second_where (meaning calls s.now variables.now) truth a.now b.now view.old ≢ Amiss }
-    ensures value { IfOk result (λ v. second_where (meaning calls s.now variables.now) truth a.now b.now view.old ≡ Gives v view.new) }
-    ensures stops { IfErr result (λ stop. Stops stop (second_where (meaning calls s.now variables.now) truth a.now b.now view.old)) }
+    requires { second_where (meaning room s.now variables.now) truth a.now b.now view.old ≢ Amiss }
+    ensures value { IfOk result (λ v. second_where (meaning room s.now variables.now) truth a.now b.now view.old ≡ Gives v view.new) }
+    ensures stops { IfErr result (λ stop. Stops stop (second_where (meaning room s.now variables.now) truth a.now b.now view.old)) }
 {
-    let first = eval(a, alloc, s, calls, variables, view)?;
+    let first = eval(a, alloc, s, room, variables, view)?;
     if truth_in(&first) == truth {
-        eval(b, alloc, s, calls, variables, view)
+        eval(b, alloc, s, room, variables, view)
     } else {
         Ok(first)
     }
@@ -122,15 +122,15 @@ pub fn part(
     a: &CExpr,
     alloc: Global,
     s: &Surroundings<'_>,
-    calls: Calls,
+    room: Headroom,
     number: u32,
     variables: &Variables,
     view: &mut View,
 ) -> Result<Value, Stop>
-    requires { taken_part (meaning calls s.now variables.now) a.now number view.old ≢ Amiss }
-    ensures value { IfOk result (λ v. taken_part (meaning calls s.now variables.now) a.now number view.old ≡ Gives v view.new) }
-    ensures stops { IfErr result (λ stop. Stops stop (taken_part (meaning calls s.now variables.now) a.now number view.old)) }
+    requires { taken_part (meaning room s.now variables.now) a.now number view.old ≢ Amiss }
+    ensures value { IfOk result (λ v. taken_part (meaning room s.now variables.now) a.now number view.old ≡ Gives v view.new) }
+    ensures stops { IfErr result (λ stop. Stops stop (taken_part (meaning room s.now variables.now) a.now number view.old)) }
 {
-    let whole = eval(a, alloc, s, calls, variables, view)?;
+    let whole = eval(a, alloc, s, room, variables, view)?;
     part_of(alloc, whole, number, view)
 }

@@ -8,7 +8,7 @@ ghost use Rattle.chi_plain_eval.specs.Calls.{meaning};
 ghost use Rattle.chi_core_frame.specs.Spots.{spot_in};
 ghost use Rattle.chi_core_frame.specs.Stops.{Stops};
 
-use crate::calls::Calls;
+use crate::calls::Headroom;
 use crate::expressions::eval;
 use crate::surroundings::Surroundings;
 use chi_core::{CStep, CTarget, View};
@@ -25,17 +25,17 @@ pub fn path_of(
     steps: &[CStep],
     alloc: Global,
     s: &Surroundings<'_>,
-    calls: Calls,
+    room: Headroom,
     variables: &Variables,
     view: &mut View,
 ) -> Result<Vec<Path>, Stop>
-    requires { in_turn (map (step_at (meaning calls s.now variables.now)) steps.now) view.old ≢ Amiss }
-    ensures path { IfOk result (λ path. in_turn (map (step_at (meaning calls s.now variables.now)) steps.now) view.old ≡ Gives (steps_of path.items) view.new) }
-    ensures stops { IfErr result (λ stop. Stops stop (in_turn (map (step_at (meaning calls s.now variables.now)) steps.now) view.old)) }
+    requires { in_turn (map (step_at (meaning room s.now variables.now)) steps.now) view.old ≢ Amiss }
+    ensures path { IfOk result (λ path. in_turn (map (step_at (meaning room s.now variables.now)) steps.now) view.old ≡ Gives (steps_of path.items) view.new) }
+    ensures stops { IfErr result (λ stop. Stops stop (in_turn (map (step_at (meaning room s.now variables.now)) steps.now) view.old)) }
 {
     let mut path = Vec::new(alloc);
     for step in steps {
-        let next = step_on(step, alloc, s, calls, variables, view)?;
+        let next = step_on(step, alloc, s, room, variables, view)?;
         path.push(next)?;
     }
     Ok(path)
@@ -48,16 +48,16 @@ fn step_on(
     step: &CStep,
     alloc: Global,
     s: &Surroundings<'_>,
-    calls: Calls,
+    room: Headroom,
     variables: &Variables,
     view: &mut View,
 ) -> Result<Path, Stop>
-    requires { step_at (meaning calls s.now variables.now) step.now view.old ≢ Amiss }
-    ensures step { IfOk result (λ path. step_at (meaning calls s.now variables.now) step.now view.old ≡ Gives (step_of path) view.new) }
-    ensures stops { IfErr result (λ stop. Stops stop (step_at (meaning calls s.now variables.now) step.now view.old)) }
+    requires { step_at (meaning room s.now variables.now) step.now view.old ≢ Amiss }
+    ensures step { IfOk result (λ path. step_at (meaning room s.now variables.now) step.now view.old ≡ Gives (step_of path) view.new) }
+    ensures stops { IfErr result (λ stop. Stops stop (step_at (meaning room s.now variables.now) step.now view.old)) }
 {
     match step {
-        CStep::Index(e) => Ok(Path::Key(eval(e, alloc, s, calls, variables, view)?)),
+        CStep::Index(e) => Ok(Path::Key(eval(e, alloc, s, room, variables, view)?)),
         CStep::Part(number) => Ok(Path::Part(*number)),
     }
 }
@@ -69,17 +69,17 @@ pub fn spots_of(
     targets: &[CTarget],
     alloc: Global,
     s: &Surroundings<'_>,
-    calls: Calls,
+    room: Headroom,
     variables: &Variables,
     view: &mut View,
 ) -> Result<Vec<Spot>, Stop>
-    requires { in_turn (map (spot_of (meaning calls s.now variables.now)) targets.now) view.old ≢ Amiss }
-    ensures spots { IfOk result (λ spots. in_turn (map (spot_of (meaning calls s.now variables.now)) targets.now) view.old ≡ Gives (map spot_in spots.items) view.new) }
-    ensures stops { IfErr result (λ stop. Stops stop (in_turn (map (spot_of (meaning calls s.now variables.now)) targets.now) view.old)) }
+    requires { in_turn (map (spot_of (meaning room s.now variables.now)) targets.now) view.old ≢ Amiss }
+    ensures spots { IfOk result (λ spots. in_turn (map (spot_of (meaning room s.now variables.now)) targets.now) view.old ≡ Gives (map spot_in spots.items) view.new) }
+    ensures stops { IfErr result (λ stop. Stops stop (in_turn (map (spot_of (meaning room s.now variables.now)) targets.now) view.old)) }
 {
     let mut spots = Vec::new(alloc);
     for target in targets {
-        let path = path_of(target.steps.as_slice(), alloc, s, calls, variables, view)?;
+        let path = path_of(target.steps.as_slice(), alloc, s, room, variables, view)?;
         let slot = target.slot;
         spots.push(Spot { slot, path })?;
     }
