@@ -7,9 +7,13 @@ use Rattle.chi_lex.specs.Gaps.{space}
 use Rattle.chi_lex.specs.Places.{is_line_feed}
 use Rattle.chi_explain.specs.declared.excerpts.TheConstants.{MOST_SHOWN, MOST_BEFORE}
 
--- the line of a place, without its line feed: nothing where the source has no such line
+-- the line of a number, without its line feed: nothing where the source has no such line
+abbrev pub numbered_line : List ℕ → ℕ → List ℕ
+numbered_line source number = slice_index_or (slice_split is_line_feed source) (number - 1) []
+
+-- the line of a place
 abbrev pub line_at : List ℕ → Place → List ℕ
-line_at source place = slice_index_or (slice_split is_line_feed source) (place.line - 1) []
+line_at source place = numbered_line source place.line
 
 -- the bytes from a place on, to the end of its line
 abbrev pub from_place : List ℕ → Place → List ℕ
@@ -63,3 +67,7 @@ excerpt_of line at first = ended (margin ++ shown_line line first (first + MOST_
 abbrev pub excerpt : List ℕ → Place → List ℕ
 excerpt source place =
     excerpt_of (line_at source place) (place.column - 1) (first_shown (length (line_at source place)) (place.column - 1))
+
+-- the line of a number alone, from its first byte
+abbrev pub line_alone : List ℕ → ℕ → List ℕ
+line_alone source number = ended (margin ++ shown_line (numbered_line source number) 0 MOST_SHOWN)

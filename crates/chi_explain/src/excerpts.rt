@@ -1,7 +1,7 @@
 ghost use Rattle.std.specs.Prelude.{◌≡◌, ◌≤◌, ◌++◌, List, ℕ, drop, map, slice_range, OnOk};
 ghost use Rattle.std.specs.List.{before_first};
 ghost use Rattle.chi_lex.specs.Places.{is_line_feed, place_of};
-ghost use Rattle.chi_explain.specs.Excerpts.{below, caret_line, cut, excerpt, first_shown, from_place, line_at, shown, shown_line};
+ghost use Rattle.chi_explain.specs.Excerpts.{below, caret_line, cut, excerpt, first_shown, from_place, line_alone, line_at, numbered_line, shown, shown_line};
 
 use chi_base::NoMemory;
 use chi_token::Place;
@@ -12,16 +12,23 @@ pub const MOST_SHOWN: usize = 120;
 /// How many of them stand before the place, where the line is longer and goes on far enough on both sides.
 pub const MOST_BEFORE: usize = 60;
 
-/// The line of a place, without its line feed: nothing where the source has no such line.
-pub fn line_at(source: &[u8], place: Place) -> &[u8]
-    ensures { result.now ≡ line_at source.now place }
+/// The line of a number, without its line feed: nothing where the source has no such line.
+fn numbered_line(source: &[u8], number: u32) -> &[u8]
+    ensures { result.now ≡ numbered_line source.now number }
 {
-    let number = place.line.saturating_sub(1) as usize;
+    let before = number.saturating_sub(1) as usize;
     let mut lines = source.split(|byte| *byte == b'\n');
-    match lines.nth(number) {
+    match lines.nth(before) {
         Some(line) => line,
         None => &[],
     }
+}
+
+/// The line of a place, without its line feed.
+fn line_at(source: &[u8], place: Place) -> &[u8]
+    ensures { result.now ≡ line_at source.now place }
+{
+    numbered_line(source, place.line)
 }
 
 /// A byte as it is shown.
@@ -136,6 +143,17 @@ pub fn excerpt(source: &[u8], place: Place, out: &mut Vec<u8>) -> Result<(), NoM
     out.push(b'\n')?;
     out.extend_from_slice(b"    ")?;
     put_caret(line, first, at, out)?;
+    out.push(b'\n')?;
+    Ok(())
+}
+
+/// Appends the line of a number as it is shown, from its first byte, without a caret.
+#[tactic(auto)]
+pub fn line_alone(source: &[u8], number: u32, out: &mut Vec<u8>) -> Result<(), NoMemory>
+    ensures { OnOk result (out.new.items ≡ out.old.items ++ line_alone source.now number) }
+{
+    out.extend_from_slice(b"    ")?;
+    put_shown(numbered_line(source, number), 0, MOST_SHOWN, out)?;
     out.push(b'\n')?;
     Ok(())
 }

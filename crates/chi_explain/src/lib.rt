@@ -5,8 +5,8 @@ mod excerpts;
 mod explanations;
 mod lexical;
 
-pub use excerpts::{MOST_BEFORE, MOST_SHOWN, excerpt, place_law};
-pub use explanations::explained;
+pub use excerpts::{MOST_BEFORE, MOST_SHOWN, excerpt, line_alone, place_law};
+pub use explanations::{explained, put_number};
 pub use lexical::explain_lexical;
 
 #[cfg(test)]
