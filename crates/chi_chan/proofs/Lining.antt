@@ -1,12 +1,15 @@
 -- Ascending parties: places, one more, those of an instance, and those of others.
 use Rattle.std.proofs.Common.{◌≡◌, ◌≢◌, ℕ, zero, suc, ◌+◌, ◌-◌, ◌*◌, ◌<◌, ◌≤◌, List, [], ◌∷◌, ◌++◌, Some, Bool, true, false, cond, length, get_or, ◌⊎◌, inl, inr, sym, ◌∙◌, ap, subst, refl, arith}
-use Rattle.std.specs.Prelude.{nat_eq}
+use Rattle.std.specs.Prelude.{nat_eq, nat_lt}
 use Rattle.std.specs.List.{slice_get, insert, remove_range}
 use Rattle.chi_chan.specs.declared.offers.Party.{Party}
 use Rattle.chi_chan.specs.Lined.{code, IsParty, Ascends, Has, IsPlace, without, nobody_here, line}
 
 pub eq-true : (x y : ℕ) → nat_eq x y ≡ true → x ≡ y
 eq-true x y e = grind arith
+
+pub less-true : (x y : ℕ) → nat_lt x y ≡ true → x < y
+less-true x y e = grind arith
 
 pub eq-false : (x y : ℕ) → nat_eq x y ≡ false → x ≢ y
 eq-false x y e = grind arith
@@ -88,7 +91,18 @@ places n (x ∷ xs) up low high zero a h p q = omega arith
 places n (x ∷ xs) up low high (suc f) zero h p q = absurd (let l = p.0 in omega (arith, l, q, h))
 places n (x ∷ xs) up low high (suc f) (suc a) h p q = let r = places (suc (code x)) xs up.2 low high f a h p.1 q.1 in omega (arith, r)
 
+-- all are before a number where the last is
+pub placed-last : (xs : List Party) (key : ℕ) → Ascends 0 xs → (0 < length xs → code (get_or xs (length xs - 1) nobody_here) < key) → IsPlace xs key (length xs)
+placed-last xs key up last =
+    placed xs key (length xs) (omega arith)
+    (λ i l. let h = last (omega (arith, l)) in let o = ascends-order 0 xs up i (length xs - 1) (omega (arith, l)) (omega (arith, l)) in omega (arith, h, o))
+    (λ i g l. absurd (omega (arith, g, l)))
+
 -- one more
+
+pub insert-last : (xs : List Party) (p : Party) → xs ++ p ∷ [] ≡ insert xs (length xs) p
+insert-last [] p = refl
+insert-last (x ∷ xs) p = ap (λ (l : List Party). x ∷ l) (insert-last xs p)
 
 pub insert-ascends : (n : ℕ) (xs : List Party) (r : ℕ) (p : Party) → Ascends n xs → IsParty p → n ≤ code p → IsPlace xs (code p) r
     → (r < length xs → code (get_or xs r nobody_here) ≢ code p) → Ascends n (insert xs r p)

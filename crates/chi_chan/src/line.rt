@@ -1,6 +1,6 @@
-ghost use Rattle.std.specs.Prelude.{◌≡◌, ◌≢◌, ◌⊎◌, ℕ, ◌+◌, ◌*◌, ◌^◌, ◌<◌, ◌≤◌, [], length, slice_get, get_or, true, false, Some, OnOk, OnErr};
+ghost use Rattle.std.specs.Prelude.{◌≡◌, ◌≢◌, ◌⊎◌, ℕ, ◌+◌, ◌*◌, ◌^◌, ◌<◌, ◌≤◌, [], length, slice_get, get_or, if◌then◌else◌, is_ok, IsTrue, true, false, Some, OnOk, OnErr};
 ghost use Rattle.chi_chan.specs.declared.offers.Party.{Party};
-ghost use Rattle.std.specs.List.{remove_range};
+ghost use Rattle.std.specs.List.{insert, remove_range};
 ghost use Rattle.chi_chan.specs.Lined.{code, without, Ascends, Has, IsParty, IsPlace, nobody_here};
 
 use crate::offers::Party;
@@ -51,6 +51,19 @@ fn party_at(parties: &Vec<Party>, i: usize) -> Party
     parties[i]
 }
 
+/// Whether all parties are before a number.
+#[inline(always)]
+fn are_before(parties: &Vec<Party>, key: u64) -> bool
+    requires { Ascends 0 parties.now.items }
+    ensures { IsTrue result → IsPlace parties.now.items key (length parties.now.items) }
+{
+    let count = size(parties);
+    if count == 0 {
+        return true;
+    }
+    code(party_at(parties, count - 1)) < key
+}
+
 /// How many parties are before a number.
 #[inline(always)]
 fn place_of(parties: &Vec<Party>, key: u64) -> usize
@@ -58,6 +71,9 @@ fn place_of(parties: &Vec<Party>, key: u64) -> usize
     ensures place { IsPlace parties.now.items key result }
     ensures within { result ≤ length parties.now.items }
 {
+    if are_before(parties, key) {
+        return size(parties);
+    }
     let mut low = 0;
     let mut high = size(parties);
     while low < high {
@@ -82,6 +98,20 @@ fn stands(parties: &Vec<Party>, place: usize, key: u64) -> bool
     } else {
         false
     }
+}
+
+/// A party comes to stand in a place: at once where it is the last, and there is room.
+#[inline(always)]
+fn put(parties: &mut Vec<Party>, place: usize, party: Party) -> Result<(), NoMemory>
+    requires { place ≤ length parties.old.items }
+    ensures { parties.new.items ≡ (if is_ok result then insert parties.old.items place party else parties.old.items) }
+{
+    if place == size(parties) && place < parties.capacity() {
+        parties.push_reserved(party);
+    } else {
+        parties.insert(place, party)?;
+    }
+    Ok(())
 }
 
 /// How many parties of other instances stand in a line of one party.
@@ -173,7 +203,7 @@ impl Line {
         if stands(&self.parties, place, code(party)) {
             return Ok(());
         }
-        self.parties.insert(place, party)?;
+        put(&mut self.parties, place, party)?;
         Ok(())
     }
 

@@ -74,6 +74,31 @@ impl Waiting {
         go(&mut self.seats, &mut self.senders, &mut self.receivers, pid);
     }
 
+    /// How many options instance `pid` has, which waits with these offers.
+    #[inline(always)]
+    pub fn count_with(&self, pid: u32, clock: i64, offers: &[Offer]) -> u64
+        requires { held self.now pid ≡ Some offers.now }
+        ensures { result ≡ length (options self.now clock pid) }
+    {
+        self.receivers.ascending();
+        count_among(&self.receivers, pid, clock, offers)
+    }
+
+    /// Instance `pid`, which waits with these offers, doesn't wait any more.
+    #[inline(always)]
+    pub fn withdraw_with(&mut self, pid: u32, offers: &[Offer])
+        requires { held self.old pid ≡ Some offers.now }
+        ensures { Updates self.old self.new pid None }
+    {
+        go_with(
+            &mut self.seats,
+            &mut self.senders,
+            &mut self.receivers,
+            pid,
+            offers,
+        );
+    }
+
     /// The offers of instance `pid`, if it waits.
     #[inline(always)]
     pub fn offers_of(&self, pid: u32) -> Option<&[Offer]>
@@ -163,5 +188,23 @@ fn go(seats: &mut Seats, senders: &mut Lines, receivers: &mut Lines, pid: u32)
         Some(offers) => unlist(senders, receivers, pid, offers),
         None => unreachable!(),
     }
+    seats.rise(pid);
+}
+
+/// An instance that waits with these offers doesn't wait any more.
+#[inline(always)]
+fn go_with(
+    seats: &mut Seats,
+    senders: &mut Lines,
+    receivers: &mut Lines,
+    pid: u32,
+    offers: &[Offer],
+)
+    requires waiting { IsWaiting seats.old senders.old receivers.old }
+    requires waits { held seats.old pid ≡ Some offers.now }
+    ensures waiting { IsWaiting seats.new senders.new receivers.new }
+    ensures gone { Updates seats.old seats.new pid None }
+{
+    unlist(senders, receivers, pid, offers);
     seats.rise(pid);
 }

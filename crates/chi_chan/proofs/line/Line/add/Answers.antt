@@ -23,23 +23,23 @@ invariant_of-self-2 c =
     let place = c.place_of-place.result in
     let no = c.stands.ensures.no c.if-stands.false in
     let at = subst (λ (n : ℕ). IsPlace xs n place) c.code.ensures c.place_of-place.ensures.place in
-    either-line xs (insert xs place c.args.party) c.insert.new.self.items (is_ok c.insert.result) c.insert.ensures.items c.self.invariant
+    either-line xs (insert xs place c.args.party) c.put.new.parties.items (is_ok c.put.result) c.put.ensures c.self.invariant
     (insert-ascends 0 xs place c.args.party c.self.invariant c.requires (omega arith) at (λ h e. no h (e ∙ sym c.code-2.ensures)))
 
 pub returns-clause-there : goal.returns-clause-there
 returns-clause-there c =
-    subst (λ (l : List Party). Has l c.args.party) (sym c.in_ok-insert.ensures.items)
+    subst (λ (l : List Party). Has l c.args.party) (sym c.in_ok-put.ensures)
     (insert-there c.self.inside.parties.items c.place_of-place.result c.args.party c.place_of-place.ensures.within)
 
 pub returns-clause-stays : goal.returns-clause-stays
 returns-clause-stays c x h =
-    subst (λ (l : List Party). Has l x) (sym c.in_ok-insert.ensures.items)
+    subst (λ (l : List Party). Has l x) (sym c.in_ok-put.ensures)
     (insert-stays c.self.inside.parties.items c.place_of-place.result c.args.party x (subst (λ (l : List Party). Has l x) (sym c.self.view_is) h))
 
 pub returns-clause-only : goal.returns-clause-only
 returns-clause-only c x h =
     subst (λ (l : List Party). Has l x ⊎ (x ≡ c.args.party)) c.self.view_is
-    (insert-only c.self.inside.parties.items c.place_of-place.result c.args.party x c.place_of-place.ensures.within (subst (λ (l : List Party). Has l x) c.in_ok-insert.ensures.items h))
+    (insert-only c.self.inside.parties.items c.place_of-place.result c.args.party x c.place_of-place.ensures.within (subst (λ (l : List Party). Has l x) c.in_ok-put.ensures h))
 
 pub returns-clause-ascends : goal.returns-clause-ascends
 returns-clause-ascends c =
@@ -47,5 +47,5 @@ returns-clause-ascends c =
     let place = c.place_of-place.result in
     let no = c.stands.ensures.no c.if-stands.false in
     let at = subst (λ (n : ℕ). IsPlace xs n place) c.code.ensures c.place_of-place.ensures.place in
-    either-line xs (insert xs place c.args.party) c.insert.new.self.items (is_ok c.insert.result) c.insert.ensures.items c.self.invariant
+    either-line xs (insert xs place c.args.party) c.put.new.parties.items (is_ok c.put.result) c.put.ensures c.self.invariant
     (insert-ascends 0 xs place c.args.party c.self.invariant c.requires (omega arith) at (λ h e. no h (e ∙ sym c.code-2.ensures)))
