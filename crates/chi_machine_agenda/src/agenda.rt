@@ -79,6 +79,7 @@ impl Agenda {
     }
 
     /// Instance `pid`, which runs, waits with these offers.
+    #[inline(always)]
     pub fn wait(&mut self, pid: u32, offers: &[Offer]) -> Result<(), NoMemory>
         requires runs { slice_get self.old.phases pid ≡ Some phase.Running }
         requires few { length offers.now ≤ MOST_OFFERS }
@@ -98,6 +99,7 @@ impl Agenda {
     }
 
     /// Instance `pid`, which waits with these offers, goes on: it runs.
+    #[inline(always)]
     pub fn go_on(&mut self, pid: u32, offers: &[Offer])
         requires { slice_get self.old.phases pid ≡ Some (phase.Waiting offers.now) }
         ensures { self.new ≡ with_phase self.old pid phase.Running }

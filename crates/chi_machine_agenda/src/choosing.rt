@@ -55,6 +55,7 @@ fn label_of(pid: u32, choice: Choice) -> Label
 
 impl Agenda {
     /// The time.
+    #[inline(always)]
     pub fn clock(&self) -> i64
         ensures { result ≡ self.now.clock }
     {
@@ -69,6 +70,7 @@ impl Agenda {
     }
 
     /// For each instance, whether it has finished.
+    #[inline(always)]
     pub fn finished(&self) -> &[bool]
         ensures { result.now ≡ are_over self.now.phases }
     {

@@ -1,6 +1,7 @@
 //! Which instances are ready: those that may act.
 
-ghost use Rattle.std.specs.Prelude.{◌≡◌, ◌<◌, true, length, slice_set};
+ghost use Rattle.std.specs.Prelude.{◌≡◌, ◌<◌, true, Some, length, slice_set};
+ghost use Rattle.chi_chan.specs.Held.{held};
 ghost use Rattle.chi_machine_agenda.specs.Asking.{asks, told_all, told_by, told_for, AreWithin, AllWithin};
 
 use chi_chan::{Offer, Party, Waiting};
@@ -21,10 +22,19 @@ pub(crate) fn tell(ready: &mut Ranks, pid: u32, is_ready: bool)
 
 /// Whether an instance that waits has an option.
 #[inline(always)]
-pub(crate) fn asks(waiting: &Waiting, clock: i64, pid: u32) -> bool
+fn asks(waiting: &Waiting, clock: i64, pid: u32) -> bool
     ensures { result ≡ asks waiting.now clock pid }
 {
     waiting.option_count(pid, clock) > 0
+}
+
+/// Whether an instance that waits with these offers has an option.
+#[inline(always)]
+pub(crate) fn asks_with(waiting: &Waiting, clock: i64, pid: u32, offers: &[Offer]) -> bool
+    requires { held waiting.now pid ≡ Some offers.now }
+    ensures { result ≡ asks waiting.now clock pid }
+{
+    waiting.count_with(pid, clock, offers) > 0
 }
 
 /// The instances of these parties are ready.

@@ -1,33 +1,24 @@
-use Rattle.std.proofs.Common.{ℤ, None, Bool, true, List, length, sym, ◌∙◌, ap, subst, refl, arith}
+use Rattle.std.proofs.Common.{ℤ, List, Some, sym, ◌∙◌, ap, subst}
 use Rattle.std.proofs.lemmas.Int.{to_z-of_z}
-use Rattle.std.specs.Prelude.{slice_set, IsSome}
 use mir.Val.{to_z, of_z}
 use mir.Syntax.{w64}
-use Rattle.chi_machine_agenda.specs.Asking.{asks, told_for}
-use Rattle.chi_machine_agenda.proofs.Telling.{told_for-length}
-use Rattle.chi_machine_agenda.proofs.Seats.{seats-within}
+use Rattle.chi_chan.specs.declared.offers.Offer.{Offer}
+use Rattle.chi_machine_agenda.specs.Meeting.{Goes}
 use Rattle.chi_machine_agenda.proofs.meeting.go.Goals as goal
 
-pub withdraw-requires : goal.withdraw-requires
-withdraw-requires c = subst IsSome (sym c.requires.waits) refl
+pub go_alone-requires-clause-waits : goal.go_alone-requires-clause-waits
+go_alone-requires-clause-waits c = c.requires.waits ∙ ap Some c.in-Some.ensures
 
-pub ask_for-requires : goal.ask_for-requires
-ask_for-requires c = seats-within c.args.pid c.args.waiting.now c.withdraw.new.self c.args.ready.now c.args.dues.now None c.requires.seats c.withdraw.ensures
-
-pub insert-requires : goal.insert-requires
-insert-requires c =
-    let h = c.requires.seats.ready in
-    let l = ap length c.ask_for.ensures ∙ told_for-length (asks c.withdraw.new.self (to_z w64 (of_z w64 c.args.clock))) c.withdraw.new.self c.args.offers.now c.args.ready.now in
-    omega (arith, h, l)
-
-pub returns : goal.returns
-returns c =
+pub returns-in-Some : goal.returns-in-Some
+returns-in-Some c =
     let k = to_z-of_z w64 c.args.clock c.ranges.clock in
-    let new = c.withdraw.new.self in
-    let offers = c.args.offers.now in
-    let pid = c.args.pid in
-    record {
-      waits = c.withdraw.ensures;
-      ready = c.insert.ensures ∙ ap (λ (m : List Bool). slice_set m pid true) c.ask_for.ensures ∙ ap (λ (t : ℤ). slice_set (told_for (asks new t) new offers c.args.ready.now) pid true) k;
-      due = c.undate.ensures;
-    }
+    let new = c.go_alone.new in
+    subst (λ (t : ℤ). Goes t c.args.pid c.args.offers.now c.args.waiting.now c.args.ready.now c.args.dues.now new.waiting new.ready new.dues) k
+    (subst (λ (os : List Offer). Goes (to_z w64 (of_z w64 c.args.clock)) c.args.pid os c.args.waiting.now c.args.ready.now c.args.dues.now new.waiting new.ready new.dues)
+    (sym c.in-Some.ensures) c.go_alone.ensures)
+
+pub returns-in-None : goal.returns-in-None
+returns-in-None c =
+    let k = to_z-of_z w64 c.args.clock c.ranges.clock in
+    let new = c.go_with.new in
+    subst (λ (t : ℤ). Goes t c.args.pid c.args.offers.now c.args.waiting.now c.args.ready.now c.args.dues.now new.waiting new.ready new.dues) k c.go_with.ensures
