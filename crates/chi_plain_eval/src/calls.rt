@@ -3,8 +3,8 @@ ghost use Rattle.std.specs.Prelude.{◌≡◌, IfSome};
 use chi_core::MOST_CALLS;
 
 /// How many expressions deep an evaluation may go, each within the one before, those of the functions that it calls counted
-/// with it. A level takes some 560 bytes of stack, and a call three times as much: so all of it stays below 8 MiB.
-pub const MOST_LEVELS: u32 = 10_000;
+/// with it. A level takes some 600 bytes of stack, and a call three times as much: so all of it stays below 8 MiB.
+pub const MOST_LEVELS: u32 = 9_000;
 
 /// Which calls of functions there may be.
 #[derive(Clone, Copy, Debug)]

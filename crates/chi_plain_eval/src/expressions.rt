@@ -39,6 +39,7 @@ pub fn eval(
 
 // The same, with the headroom of the expressions within it.
 #[cycle(eval)]
+#[inline(always)]
 #[tactic(auto, using(crate::proofs::Standing::standing), unfolding(chi_core::specs::Evaluation::eval))]
 fn eval_within(
     e: &CExpr,
