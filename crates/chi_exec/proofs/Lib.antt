@@ -6,6 +6,7 @@ pub mod Counts
 pub mod Aims
 pub mod Hints
 pub mod Fusing
+pub mod Popped
 pub mod Loops
 pub mod Walks
 pub mod Answers

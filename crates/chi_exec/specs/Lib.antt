@@ -7,5 +7,6 @@ pub mod Extents
 pub mod Fused
 pub mod Hints
 pub mod Keyed
+pub mod Popped
 pub mod Views
 pub mod Walks

@@ -14,6 +14,7 @@ mod ints;
 mod machinery;
 mod making;
 mod operating;
+mod popping;
 mod repeating;
 mod running;
 mod scalars;
