@@ -23,6 +23,20 @@ new_of process at room = record { process = process; at = at; room = Some room }
 pub room_for : (c : Crowd) → IsCrowd c → length c.instances.items < MOST_INSTANCES → length c.agenda.phases < MOST_INSTANCES
 room_for c kept room = let many = as_many c kept in omega (arith, many, room)
 
+-- nothing is added
+pub none_added : (c : Crowd) (code : Code) (made : List Made) → made ≡ [] → Becomes c c (instances_of c ++ map (held_in code) made)
+none_added c code made e = record {
+  clock = refl;
+  until = refl;
+  held = sym (append-nil (instances_of c)) ∙ ap (λ l. instances_of c ++ map (held_in code) l) (sym e);
+}
+
+pub nothing_more : (out text : List ℕ) → text ≡ [] → out ≡ out ++ text
+nothing_more out text e = sym (append-nil out) ∙ ap (λ l. out ++ l) (sym e)
+
+pub none_first : (c : Crowd) → FirstStay c c
+none_first c = record { instances = λ q h. refl; phases = λ q h. refl }
+
 module _ (old mid : Crowd) (kept : IsCrowd old) (room : length old.instances.items < MOST_INSTANCES) (process place : ℕ) (its : Room) (at : mid.instances.items ≡ old.instances.items ++ new_of process place its ∷ [])
     (known : mid.agenda ≡ with_more old.agenda) (p : ℕ) (is : p ≡ length old.instances.items) where
   pub more_kept : IsCrowd mid

@@ -1,6 +1,6 @@
 //! The step of one instance.
 
-ghost use Rattle.std.specs.Prelude.{◌≡◌, ◌≢◌, ℕ, suc, List, ◌+◌, ◌++◌, ◌≤◌, length, map, slice_get, slice_set, IfOk, OnErr, OnOk, Some};
+ghost use Rattle.std.specs.Prelude.{◌≡◌, ◌≢◌, ℕ, suc, List, ◌+◌, ◌++◌, ◌≤◌, [], length, map, slice_get, slice_set, IfOk, IsTrue, OnErr, OnOk, Some};
 ghost use Rattle.chi_code.specs.declared.instr.Instr.TheVariants as i;
 ghost use Rattle.chi_core.specs.declared.fault.FaultKind.{FaultKind};
 ghost use Rattle.chi_core.specs.declared.label.Label.TheVariants.{Local};
@@ -22,7 +22,7 @@ use chi_base::NoMemory;
 use chi_code::{Code, Instr};
 use chi_core::{FaultKind, Verdict};
 use chi_core_frame::Stop;
-use chi_machine_runs::Doing;
+use chi_machine_runs::{Doing, Made};
 use chi_token::Bytes;
 use std::mem;
 
@@ -35,6 +35,35 @@ fn line_at(code: &Code, at: usize) -> u32
         Some(Instr::Mark(line)) => *line,
         _ => unreachable!(),
     }
+}
+
+// Whether no instances were made.
+#[inline(always)]
+fn is_none(made: &Vec<Made>) -> bool
+    ensures { IsTrue result → made.now.items ≡ [] }
+{
+    made.is_empty()
+}
+
+// Whether nothing was written.
+#[inline(always)]
+fn is_blank(text: &Vec<u8>) -> bool
+    ensures { IsTrue result → text.now.items ≡ [] }
+{
+    text.is_empty()
+}
+
+// A text goes to the end of the output.
+#[inline(always)]
+fn append(text: &Vec<u8>, out: &mut Vec<u8>) -> Result<(), NoMemory>
+    ensures text { OnOk result (out.new.items ≡ out.old.items ++ text.now.items) }
+    ensures kept { OnErr result (out.new.items ≡ out.old.items) }
+{
+    if is_blank(text) {
+        return Ok(());
+    }
+    out.extend_from_slice(text.as_slice())?;
+    Ok(())
 }
 
 impl World {
@@ -50,6 +79,9 @@ impl World {
         ensures joins { self.new.brought.joins.items ≡ self.old.brought.joins.items }
         ensures rest { self.new ≡ record self.old { crowd = self.new.crowd; brought = self.new.brought } }
     {
+        if is_none(&self.brought.made) {
+            return Ok(());
+        }
         let made = mem::replace(&mut self.brought.made, Vec::new(self.alloc));
         self.crowd.add_all(code, made, &mut self.brought.spare)
     }
@@ -61,7 +93,7 @@ impl World {
         ensures text { OnOk result (out.new.items ≡ out.old.items ++ self.now.brought.text.items) }
         ensures kept { OnErr result (out.new.items ≡ out.old.items) }
     {
-        out.extend_from_slice(self.brought.text.as_slice())?;
+        append(&self.brought.text, out)?;
         Ok(Taken::On(self.exec.view.left))
     }
 
