@@ -1,19 +1,17 @@
 -- A run of a program's code begins.
-use Rattle.std.proofs.Common.{◌≡◌, ℕ, ◌<◌, ◌^◌, ℤ, List, [], Option, Some, None, refl, sym, subst, ◌∙◌, arith}
+use Rattle.std.proofs.Common.{◌≡◌, ℕ, ◌<◌, ◌^◌, ℤ, List, [], Option, sym, subst, arith}
 use Rattle.chi_value.specs.declared.value.Value.{Value}
 use Rattle.chi_core.specs.declared.program.Core.{Core}
 use Rattle.chi_core.specs.Beginning.{Beginning, Begins, Breaks, start}
 use Rattle.chi_core.specs.Beginning as beginning
 use Rattle.chi_core.specs.Options.{Ending}
 use Rattle.chi_core.specs.Picks.{Pick}
-use Rattle.chi_core.specs.Runs.{Told}
 use Rattle.chi_core.specs.Sound.{Sound}
 use Rattle.chi_core_kinds.specs.Keeps.{BeginsAlways, BeginsKinded}
 use Rattle.chi_core_runs.specs.Turns.{UnderWay, WayBegins}
 use Rattle.chi_code.specs.declared.code.Code.{Code}
 use Rattle.chi_machine_laws.specs.Beginning.{BeginsAlike, Broken, Ready}
 use Rattle.chi_machine_laws.specs.Beginning as law
-use Rattle.chi_machine_laws.specs.Instances.{Whole}
 use Rattle.chi_machine_laws.specs.Laws.{BeginningsAreRight}
 use Rattle.chi_machine_laws.specs.Stands.{Stands}
 use Rattle.chi_machine.specs.declared.course.Course.{Course}
@@ -28,7 +26,7 @@ use Rattle.chi_machine_traces.proofs.Logged.{TraceLaw, log_begins, log_of_none}
 module _ (traces : TraceLaw) (trace : Option Filter) (core : Core) (code : Code) (pick : Pick) (bound : ℕ) (told : Telling) (silent : told.out.items ≡ []) (fresh : told.log.items ≡ first_log trace) where
   -- it is under way, where the machine is ready
   ready_at : WayBegins → (arguments : List Value) → RunsCode core code arguments → bound < 2 ^ 63 → (c : Course) → c.turn ≡ 0 → c.left ≡ bound
-      → (b : Beginning) → BeginsKinded core b → BeginsAlike core code (λ u. Ready (whole_of c.world) ≡ u) b → IsUnderWay trace core code b pick bound c told
+      → (b : Beginning) → BeginsKinded core b → BeginsAlike core code (λ u. Ready (whole_of c.world) ≡ u) b → IsUnderWay trace core code b pick bound [] c told
   ready_at ways arguments runs few c first all (Begins config) kinded alike =
       let same : alike.0 ≡ whole_of c.world = (let e = alike.1 in cc) in
       record {
@@ -47,7 +45,7 @@ module _ (traces : TraceLaw) (trace : Option Filter) (core : Core) (code : Code)
   ready_at ways arguments runs few c first all beginning.Amiss kinded alike = absurd kinded
 
   -- a fault in a constant has ended it
-  broken_at : (end : Ending) (b : Beginning) → BeginsKinded core b → BeginsAlike core code (λ u. Broken end ≡ u) b → IsTold trace core b pick bound (record { ending = end; told = told })
+  broken_at : (end : Ending) (b : Beginning) → BeginsKinded core b → BeginsAlike core code (λ u. Broken end ≡ u) b → IsTold trace core b pick bound [] (record { ending = end; told = told })
   broken_at end (Begins config) kinded alike = let e : Broken end ≡ Ready alike.0 = alike.1 in absurd (cc)
   broken_at end (Breaks other) kinded alike =
       let same : other ≡ end = cc in
@@ -63,9 +61,9 @@ module _ (traces : TraceLaw) (trace : Option Filter) (core : Core) (code : Code)
     kinded = let m = runs.sound.model in always core runs.sound m.0 m.1 arguments (runs.model_takes m.0 m.1) seed until
 
     pub begins_going : WayBegins → bound < 2 ^ 63 → (c : Course) → c.turn ≡ 0 → c.left ≡ bound → law.Begins code arguments seed until 0 [] (Ready (whole_of c.world))
-        → IsUnderWay trace core code (start core arguments seed until) pick bound c told
+        → IsUnderWay trace core code (start core arguments seed until) pick bound [] c told
     begins_going ways few c first all b =
         ready_at ways arguments runs few c first all (start core arguments seed until) kinded (exact core code runs.codes arguments seed until (Ready (whole_of c.world)) b)
 
-    pub begins_ended : (end : Ending) → law.Begins code arguments seed until 0 [] (Broken end) → IsTold trace core (start core arguments seed until) pick bound (record { ending = end; told = told })
+    pub begins_ended : (end : Ending) → law.Begins code arguments seed until 0 [] (Broken end) → IsTold trace core (start core arguments seed until) pick bound [] (record { ending = end; told = told })
     begins_ended end b = broken_at end (start core arguments seed until) kinded (exact core code runs.codes arguments seed until (Broken end) b)

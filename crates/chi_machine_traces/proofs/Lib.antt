@@ -3,5 +3,6 @@ mod Showing
 mod Logged
 mod Steps
 mod Turns
+mod Fronts
 mod Running
 mod Begins

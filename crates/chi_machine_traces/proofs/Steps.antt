@@ -1,5 +1,5 @@
 -- What a picked label leads to in the configuration for which the machine stands.
-use Rattle.std.proofs.Common.{◌≡◌, ℕ, suc, ◌<◌, List, Some, None, refl, sym, subst, ◌∙◌}
+use Rattle.std.proofs.Common.{◌≡◌, ℕ, suc, ◌<◌, List, Some, refl, sym, subst, ◌∙◌}
 use Rattle.chi_core.specs.declared.label.Label.{Label}
 use Rattle.chi_core.specs.declared.program.Core.{Core}
 use Rattle.chi_core.specs.declared.verdict.Verdict.{Verdict}

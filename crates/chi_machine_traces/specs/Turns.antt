@@ -20,7 +20,9 @@ use Rattle.chi_trace.specs.declared.event.Event.{Event}
 use Rattle.chi_trace.specs.declared.filter.Filter.{Filter}
 use Rattle.chi_trace_events.specs.Traces.{event_at, lines_of}
 use Rattle.chi_trace_events.specs.Tracing.{TracedSoFar, shown_line}
+use Rattle.chi_sched.specs.Policies.{Answers}
 use Rattle.chi_machine_traces.specs.declared.run.Telling.{Telling}
+use Rattle.chi_machine_traces.specs.Passing.{OfRun}
 use Rattle.chi_machine_traces.specs.Told.{IsTold}
 
 -- what is logged before anything happens: the first line of the trace, where that is wanted
@@ -56,8 +58,8 @@ LoggedSoFar None core beginning bound labels log config left = log ≡ []
 LoggedSoFar (Some probe) core beginning bound labels log config left = TracedSoFar probe core beginning bound labels log config left
 
 -- The run of a sound program's code that the policy picks is under way: after these labels, of which so much is told, the
--- machine stands for the configuration to which they led.
-pub record IsUnderWay (trace : Option Filter) (core : Core) (code : Code) (beginning : Beginning) (pick : Pick) (bound : ℕ) (course : Course) (told : Telling) : Type 0 where
+-- machine stands for the configuration to which they led. Of its output this was passed on before, and the rest is kept.
+pub record IsUnderWay (trace : Option Filter) (core : Core) (code : Code) (beginning : Beginning) (pick : Pick) (bound : ℕ) (passed : List ℕ) (course : Course) (told : Telling) : Type 0 where
   pub codes : Codes core code
   pub sound : Sound core
   pub config : Config
@@ -65,10 +67,16 @@ pub record IsUnderWay (trace : Option Filter) (core : Core) (code : Code) (begin
   pub within : InBound core course.turn config course.left
   pub labels : List Label
   pub counted : length labels ≡ course.turn
-  pub way : UnderWay core beginning pick bound labels told.out.items config course.left
+  pub way : UnderWay core beginning pick bound labels (passed ++ told.out.items) config course.left
   pub logged : LoggedSoFar trace core beginning bound labels told.log.items config course.left
 
 -- what a turn of it comes to: it is under way still, or it has ended
-abbrev pub ComesTo : Option Filter → Core → Code → Beginning → Pick → ℕ → Option Ending → Course → Telling → Type 0
-ComesTo trace core code beginning pick bound None course told = IsUnderWay trace core code beginning pick bound course told
-ComesTo trace core code beginning pick bound (Some end) course told = IsTold trace core beginning pick bound (record { ending = end; told = told })
+abbrev pub ComesTo : Option Filter → Core → Code → Beginning → Pick → ℕ → List ℕ → Option Ending → Course → Telling → Type 0
+ComesTo trace core code beginning pick bound passed None course told = IsUnderWay trace core code beginning pick bound passed course told
+ComesTo trace core code beginning pick bound passed (Some end) course told = IsTold trace core beginning pick bound passed (record { ending = end; told = told })
+
+-- P holds of whichever run was under way so, by whichever function tells what the policy answers, with nothing passed on yet
+abbrev pub OfWay : (ℕ → ℕ → ℕ → Type 0) → Option Filter → Code → Course → Telling → OfRun → Type 0
+OfWay gives trace code course told P =
+    (core : Core) (beginning : Beginning) (pick : Pick) (bound : ℕ) → Answers gives pick → IsUnderWay trace core code beginning pick bound [] course told
+    → P core beginning pick bound

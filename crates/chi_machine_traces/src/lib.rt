@@ -1,9 +1,11 @@
-//! A run of a program's code to its end, told with what a probe shows of its trace.
+//! A run of a program's code to its end, told with what a probe shows of its trace. Its output is passed on as it goes.
 #![tactic(auto)]
 
 mod lines;
+mod passing;
 mod run;
 mod turn;
 
-pub use run::{Ran, Start, Telling, run_told};
+pub use passing::{PASSED_FROM, PassFault};
+pub use run::{Guide, Ran, Start, Telling, run_told};
 pub use turn::turn_told;

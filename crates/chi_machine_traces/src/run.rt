@@ -1,35 +1,37 @@
 //! A run of a program's code to its end.
 
-ghost use Rattle.std.specs.Prelude.{◌≡◌, ℕ, [], IfOk, option_map};
-ghost use Rattle.chi_sched.specs.Policies.{Answers};
-ghost use Rattle.chi_core.specs.declared.program.Core.{Core};
-ghost use Rattle.chi_core.specs.Beginning as beginnings;
-ghost use Rattle.chi_core.specs.Beginning.{Beginning};
-ghost use Rattle.chi_core.specs.Picks.{Pick};
+ghost use Rattle.std.specs.Prelude.{◌≡◌, ◌≤◌, [], false, IfOk, option_map};
+ghost use Rattle.chi_io.specs.Counts.{Rose};
+ghost use Rattle.chi_io.specs.Sink.{Grew};
 ghost use Rattle.chi_machine.specs.Calls.{MayBegin};
 ghost use Rattle.chi_machine.specs.Courses.{IsCourse};
-ghost use Rattle.chi_machine_traces.specs.Told.{IsTold, RunsCode};
-ghost use Rattle.chi_machine_traces.specs.Turns.{IsUnderWay, first_log};
+ghost use Rattle.chi_machine_traces.specs.Passing.{OfEach, Passes};
+ghost use Rattle.chi_machine_traces.specs.Told.{IsTold};
+ghost use Rattle.chi_machine_traces.specs.Turns.{OfWay, first_log};
 
 use crate::lines::first_log;
+use crate::passing::{PassFault, pass_enough};
 use crate::turn::turn_told;
 use chi_base::NoMemory;
 use chi_code::Code;
 use chi_core_kinds::kinded_law;
-use chi_core_runs::turn_law;
+use chi_core_runs::{picked_law, run_law, time_law, turn_law};
+use chi_io::Sink;
 use chi_machine::{Course, Machine};
 use chi_machine_agenda::Ending;
-use chi_machine_laws::start_law;
+use chi_machine_laws::{safe_law, start_law};
 use chi_sched::Chooser;
 use chi_trace::Sieve;
 use chi_trace_events::tracing_law;
 use chi_value::Value;
 use std::alloc::Global;
 
-/// What a run has written, and what is logged of it before its verdict.
+/// What is told of a run.
 #[derive(Debug, Drop)]
 pub struct Telling {
+    /// What it has written and is kept, after what was passed on of it before.
     pub out: Vec<u8>,
+    /// What is logged of it before its verdict.
     pub log: Vec<u8>,
 }
 
@@ -44,6 +46,15 @@ pub struct Start {
     pub until: Option<i64>,
     /// What its labels may cost together.
     pub bound: u64,
+}
+
+/// What a run is given along with its arguments by whoever starts it.
+#[derive(Debug, Drop)]
+pub struct Guide<C, S> {
+    /// What picks among the labels that may come.
+    pub chooser: C,
+    /// What tells which events of its trace are logged, where that is wanted.
+    pub trace: Option<S>,
 }
 
 /// A run that has ended.
@@ -63,69 +74,83 @@ fn first_told<S: Sieve>(alloc: Global, trace: &Option<S>) -> Result<Telling, NoM
     Ok(Telling { out, log })
 }
 
-// Turns, one after another, until the run has ended.
-fn run_on<C: Chooser, S: Sieve>(
+// Turns, one after another, until the run has ended. Output is passed on where enough is kept of it.
+fn run_on<C: Chooser, S: Sieve, O: Sink>(
     alloc: Global,
     code: &Code,
     course: &mut Course,
-    chooser: &C,
-    trace: &Option<S>,
+    guide: &Guide<C, S>,
     told: &mut Telling,
-) -> Result<Ending, NoMemory>
-    requires { IsCourse code.now course.old }
-    ensures { IfOk result (λ end. (core : Core) (beginning : Beginning) (pick : Pick) (bound : ℕ) → Answers (C.gives chooser.now) pick
-        → IsUnderWay (option_map S.keeps_to trace.now) core code.now beginning pick bound course.old told.old
-        → IsTold (option_map S.keeps_to trace.now) core beginning pick bound (record { ending = end; told = told.new })) }
+    out: &mut O,
+) -> Result<Ending, PassFault>
+    requires course { IsCourse code.now course.old }
+    requires out_goes { O.stopped out.old ≡ false }
+    ensures passes { Passes (OfWay (C.gives guide.now.chooser) (option_map S.keeps_to guide.now.trace) code.now course.old told.old)
+        (λ passed end core beginning pick bound. IsTold (option_map S.keeps_to guide.now.trace) core beginning pick bound passed (record { ending = end; told = told.new }))
+        (Grew (O.taken out.old) (O.taken out.new)) (Rose (O.faults out.old) (O.faults out.new)) (O.stopped out.new) result }
+    ensures count { O.faults out.old ≤ O.faults out.new }
 {
+    safe_law();
+    time_law();
+    run_law();
+    picked_law();
     'turn: loop {
-        match turn_told(alloc, code, course, chooser, trace, told)? {
-            None => {}
-            Some(ending) => return Ok(ending),
+        match turn_told(alloc, code, course, &guide.chooser, &guide.trace, told) {
+            Ok(None) => {}
+            Ok(Some(ending)) => return Ok(ending),
+            Err(_) => return Err(PassFault::NoMemory),
         }
+        pass_enough(out, &mut told.out)?;
     }
 }
 
 // The run from its beginning on.
-fn run_from<C: Chooser, S: Sieve>(
+fn run_from<C: Chooser, S: Sieve, O: Sink>(
     alloc: Global,
     code: &Code,
     course: Course,
-    chooser: &C,
-    trace: &Option<S>,
+    guide: &Guide<C, S>,
     told: Telling,
-) -> Result<Ran, NoMemory>
-    requires { IsCourse code.now course }
-    ensures { IfOk result (λ ran. (core : Core) (beginning : Beginning) (pick : Pick) (bound : ℕ) → Answers (C.gives chooser.now) pick
-        → IsUnderWay (option_map S.keeps_to trace.now) core code.now beginning pick bound course told
-        → IsTold (option_map S.keeps_to trace.now) core beginning pick bound ran) }
+    out: &mut O,
+) -> Result<Ran, PassFault>
+    requires course { IsCourse code.now course }
+    requires out_goes { O.stopped out.old ≡ false }
+    ensures passes { Passes (OfWay (C.gives guide.now.chooser) (option_map S.keeps_to guide.now.trace) code.now course told)
+        (λ passed ran core beginning pick bound. IsTold (option_map S.keeps_to guide.now.trace) core beginning pick bound passed ran)
+        (Grew (O.taken out.old) (O.taken out.new)) (Rose (O.faults out.old) (O.faults out.new)) (O.stopped out.new) result }
+    ensures count { O.faults out.old ≤ O.faults out.new }
 {
     let mut course = course;
     let mut told = told;
-    let ended = run_on(alloc, code, &mut course, chooser, trace, &mut told);
+    let ended = run_on(alloc, code, &mut course, guide, &mut told, out);
     drop(course);
     let ending = ended?;
     Ok(Ran { ending, told })
 }
 
-/// The run of a program's code to its end, by a policy, with what a trace shows of it.
-pub fn run_told<C: Chooser, S: Sieve>(
+/// The run of a program's code to its end, by a policy, with what a trace shows of it. Its output is passed on as it goes,
+/// but for what is kept at the end.
+pub fn run_told<C: Chooser, S: Sieve, O: Sink>(
     alloc: Global,
     code: &Code,
     start: Start,
-    chooser: &C,
-    trace: &Option<S>,
-) -> Result<Ran, NoMemory>
-    requires { MayBegin code.now start.arguments.items start.bound }
-    ensures { IfOk result (λ ran. (core : Core) → RunsCode core code.now start.arguments.items → (pick : Pick) → Answers (C.gives chooser.now) pick
-        → IsTold (option_map S.keeps_to trace.now) core (beginnings.start core start.arguments.items start.seed start.until) pick start.bound ran) }
+    guide: &Guide<C, S>,
+    out: &mut O,
+) -> Result<Ran, PassFault>
+    requires begins { MayBegin code.now start.arguments.items start.bound }
+    requires out_goes { O.stopped out.old ≡ false }
+    ensures passes { Passes (OfEach (C.gives guide.now.chooser) code.now start)
+        (λ passed ran core beginning pick bound. IsTold (option_map S.keeps_to guide.now.trace) core beginning pick bound passed ran)
+        (Grew (O.taken out.old) (O.taken out.new)) (Rose (O.faults out.old) (O.faults out.new)) (O.stopped out.new) result }
+    ensures count { O.faults out.old ≤ O.faults out.new }
 {
     start_law();
     kinded_law();
     turn_law();
     tracing_law();
-    let Ok(told) = first_told(alloc, trace) else {
+    let Ok(told) = first_told(alloc, &guide.trace) else {
         drop(start);
-        return Err(NoMemory);
+        return Err(PassFault::NoMemory);
     };
     let Start {
         arguments,
@@ -134,7 +159,7 @@ pub fn run_told<C: Chooser, S: Sieve>(
         bound,
     } = start;
     match Machine::begin(alloc, code, arguments, seed, until, bound)? {
-        Machine::Going(course) => run_from(alloc, code, course, chooser, trace, told),
+        Machine::Going(course) => run_from(alloc, code, course, guide, told, out),
         Machine::Ended(ending) => Ok(Ran { ending, told }),
         Machine::Lost => unreachable!(),
     }

@@ -87,7 +87,8 @@ fn take_told<S: Sieve>(
 }
 
 /// A turn of a run: the label that the policy picks is taken, and told; or the run has ended. Whatever program's run it is
-/// that is under way, the turn leads it on, with less left of the bound, or to its end.
+/// that is under way, and whatever of its output was passed on before, the turn leads it on, with less left of the bound,
+/// or to its end.
 #[inline(always)]
 pub fn turn_told<C: Chooser, S: Sieve>(
     alloc: Global,
@@ -99,9 +100,9 @@ pub fn turn_told<C: Chooser, S: Sieve>(
 ) -> Result<Option<Ending>, NoMemory>
     requires { IsCourse code.now course.old }
     ensures on { IfOk result (λ end. end ≡ None → IsCourse code.now course.new × (course.new.left < course.old.left)) }
-    ensures told { IfOk result (λ end. (core : Core) (beginning : Beginning) (pick : Pick) (bound : ℕ) → Answers (C.gives chooser.now) pick
-        → IsUnderWay (option_map S.keeps_to trace.now) core code.now beginning pick bound course.old told.old
-        → ComesTo (option_map S.keeps_to trace.now) core code.now beginning pick bound end course.new told.new) }
+    ensures told { IfOk result (λ end. (core : Core) (beginning : Beginning) (pick : Pick) (bound : ℕ) (passed : List ℕ) → Answers (C.gives chooser.now) pick
+        → IsUnderWay (option_map S.keeps_to trace.now) core code.now beginning pick bound passed course.old told.old
+        → ComesTo (option_map S.keeps_to trace.now) core code.now beginning pick bound passed end course.new told.new) }
 {
     safe_law();
     step_law();

@@ -6,7 +6,7 @@ use Rattle.chi_tool.specs.Call.{SinkUse, ShelfUse, Took}
 use Rattle.chi_tool.specs.Delivery.{Delivers, whole, out_broke, log_broke}
 use Rattle.chi_tool.specs.Headline.{IsNoContent, IsUnread, StoppedByFailure}
 use Rattle.chi_tool.specs.Refusals.{Report}
-use Rattle.chi_tool.specs.Serving.{Tells, told, untold, Refuses, missing, long, failed, lost, Serves, served, refused}
+use Rattle.chi_tool.specs.Serving.{Tells, told, cut_short, untold, Refuses, missing, long, failed, lost, Serves, served, refused}
 use Rattle.chi_tool.proofs.Contents.{IsOfContent}
 
 pub goes_stopped : (sink : SinkUse) → sink.stopped ≡ false → sink.stopped ≡ true → ⊥
@@ -85,7 +85,7 @@ delivered_ended Refused Unread status output lines result out log three four oth
     own (out_broke s o l) n five is = absurd (five (sym is ∙ s))
     own (log_broke s o l) n five is = absurd (five (sym is ∙ s))
 
--- nothing was written, and the status tells why
+-- nothing was logged, and the status tells why
 pub silent_ended : (Refused Unread : Type 0) (result : ℕ) (out log : SinkUse) → (result ≡ 3 → Refused) → (result ≡ 4 → Unread) → result ≢ 5 → out.stopped ≡ false
     → log.stopped ≡ false → Took log [] → Ended Refused Unread result out log
 silent_ended Refused Unread result out log three four other o l took =
@@ -97,6 +97,8 @@ pub tells_ended : (Refused Unread : Type 0) (P : Report → Type 0) (result : �
 tells_ended Refused Unread P result out log own (told r is d) =
     let content = own r is in
     delivered_ended Refused Unread r.status r.out r.log result out log (λ e. absurd (content.is_request e)) (λ e. absurd (content.is_read e)) content.is_written d
+tells_ended Refused Unread P result out log own (cut_short r is status part l) =
+    silent_ended Refused Unread result out log (λ e. absurd (omega arith)) (λ e. absurd (omega arith)) (λ e. omega arith) part.goes l.goes l.took
 tells_ended Refused Unread P result out log own (untold status o l) =
     silent_ended Refused Unread result out log (λ is. absurd (omega arith)) (λ is. absurd (omega arith)) (λ is. omega arith) o.goes l.goes l.took
 

@@ -5,6 +5,7 @@ pub mod LawClauses
 pub mod Sources
 pub mod Layouts
 pub mod Runs
+pub mod Made
 pub mod Wishes
 pub mod Reports
 pub mod Verdicts

@@ -11,8 +11,8 @@ use Rattle.chi_tool.specs.Report.{IsReportOfFile, IsReportOfWish, IsReport}
 use Rattle.chi_tool.specs.Call.{Call, SinkUse, Took, TookFront, TookSome, SinkStood, ShelfRose}
 use Rattle.chi_tool.specs.Delivery.{TookWhole, Delivers, whole, out_broke, log_broke, DeliversReport}
 use Rattle.chi_tool.specs.Headline.{NothingFailed, IsReported, IsReportedOrLost, IsReportedInFront, IsRefusedByFault, MeetsAlone, delivered, wanting, Meets, alone, not_there, too_long, unread, MayHold, Headline, Follows, GoesWell, with_files, by_words}
-use Rattle.chi_tool.specs.Serving.{Tells, told, untold, Refuses, missing, long, failed, lost, Serves, served, refused}
-use Rattle.chi_tool.proofs.Sinks.{whole_front, none_front, broken_front, none_some, none_whole}
+use Rattle.chi_tool.specs.Serving.{Tells, told, cut_short, untold, Refuses, missing, long, failed, lost, Serves, served, refused}
+use Rattle.chi_tool.proofs.Sinks.{whole_front, none_front, none_part, broken_front, none_some, none_whole}
 use Rattle.chi_tool.proofs.Contents.{IsOfFile}
 use Rattle.chi_tool.proofs.Endings.{goes_stopped, delivered_stopped}
 use Rattle.chi_tool.proofs.LawClauses.{ReportLaw}
@@ -29,7 +29,7 @@ delivered_whole r call out_stood log_stood (log_broke status out log) = absurd (
 
 pub alone-whole : (r : Report) (call : Call) → MeetsAlone r call → SinkStood call.out → SinkStood call.log → IsReportedOrLost r call
 alone-whole r call (delivered d) out log = inr (delivered_whole r call out log d)
-alone-whole r call (wanting status none_out none_log) out log = inl status
+alone-whole r call (wanting status part none) out log = inl status
 
 meets-whole : (r : Report) (call : Call) → Meets r call → NothingFailed call → IsReportedOrLost r call
 meets-whole r call (alone m) none = alone-whole r call m none.out none.log
@@ -78,7 +78,7 @@ delivered-front r call (log_broke status out log) = record { out = whole_front c
 meets-fronts : (r : Report) (call : Call) → Meets r call → IsReportedInFront r call ⊎ IsRefusedByFault call
 meets-fronts r call (alone (delivered d)) = inl (delivered-front r call d)
 meets-fronts r call (alone (wanting status out log)) =
-    inl (record { out = none_front call.out r.out out.took; log = none_front call.log r.log log.took })
+    inl (record { out = out.took; log = none_front call.log r.log log.took })
 meets-fronts r call (not_there rose d) = inr (not_there-fault call rose d)
 meets-fronts r call (too_long rose d) = inr (too_long-fault call rose d)
 meets-fronts r call (unread rose status out log) =
@@ -160,7 +160,8 @@ module _ (law : ReportLaw) (call : Call) where
   -- a report was told
   pub told_one : (P : Report → Type 0) → Holds call.shelf.files (λ files. (r : Report) → P r → IsReport call.words files r) → Tells P call.status call.out call.log → MeetsOne call
   told_one P held (told r is d) = (held.0, held.1, r, held.2 r is, alone (delivered d))
-  told_one P held (untold status out log) = by_any law call (λ r. alone (wanting status out log))
+  told_one P held (cut_short r is status part log) = (held.0, held.1, r, held.2 r is, alone (wanting status part log))
+  told_one P held (untold status out log) = by_any law call (λ r. alone (wanting status (none_part call.out r.out out) log))
 
   -- a file was refused, of files of which Of holds
   module _ (most : ℕ) (name : List ℕ) (Of : Files → Type 0) (is_missing : (files : Files) → Of files → files name ≡ None → IsReport call.words files no_such_file)
@@ -180,7 +181,7 @@ module _ (law : ReportLaw) (call : Call) where
         by_file files may of None there e = absurd e
         by_file files may of (Some content) there e = (files, may, file_too_long, is_long files of content there e, alone (delivered d))
     refused_one of (failed rose status out log) = by_any law call (λ r. unread rose status out log)
-    refused_one of (lost status out log) = by_any law call (λ r. alone (wanting status out log))
+    refused_one of (lost status out log) = by_any law call (λ r. alone (wanting status (none_part call.out r.out out) log))
 
 module _ (t : Task) (name : List ℕ) (most : ℕ) (P : List ℕ → Report → Type 0) (of : IsOfFile t name most P) (call : Call)
     (asked : wish_of call.words ≡ of_task t) where
@@ -217,7 +218,7 @@ pub record IsLost (call : Call) : Type 0 where
   pub log : TookWhole call.log []
 
 pub met_lost : (r : Report) (call : Call) → IsLost call → MeetsAlone r call
-met_lost r call l = wanting l.status l.out l.log
+met_lost r call l = wanting l.status (none_part call.out r.out l.out) l.log
 
 -- what a call met by its words
 abbrev pub MeetsOneAlone : Call → Files → Type 0

@@ -53,7 +53,7 @@ use Rattle.chi_tool.proofs.LawClauses.{CheckLaw, ValuesLaw, comes_sound}
 last_below : (count : ℕ) → 0 < count → count - 1 < count
 last_below count some = omega arith
 
-named_lawful : (p : words.Pick) → IsLawful (policy_of p)
+pub named_lawful : (p : words.Pick) → IsLawful (policy_of p)
 named_lawful pick.First question count early some few = some
 named_lawful pick.Last question count early some few = last_below count some
 named_lawful (pick.Spread salt) question count early some few = mod-lt _ some
@@ -108,9 +108,8 @@ one_log : OneTrace → (trace : Option Filter) (core : Core) (start' : Beginning
 one_log one None core start' bound told log other l m = l ∙ sym m
 one_log one (Some probe) core start' bound told log other l m = one probe core start' bound told log other l m
 
-pub run_some : PickedAlways → PickedIsDerived → EachHasATrace → CheckLaw → (source : List ℕ) (core : Core) → length source ≤ MOST_BYTES → ComesTo source core
-    → (s : Settings) → MayHave core s → (course : Course) × IsRunOf core s course
-run_some always derived traces check source core within comes s may =
+pub sound_run : PickedAlways → PickedIsDerived → EachHasATrace → (core : Core) → Sound core → (s : Settings) → MayHave core s → (course : Course) × IsRunOf core s course
+sound_run always derived traces core sound s may =
     let begun = start core s.arguments s.seed s.until in
     let is : IsBeginning core begun = record {
       model = may.model;
@@ -121,10 +120,13 @@ run_some always derived traces check source core within comes s may =
       until = s.until;
       begins = refl;
     } in
-    let sound = comes_sound check source core within comes in
     let p = always core sound begun is s.pick may.lawful s.bound may.bound in
     let log = some_log traces s.trace core sound begun is s.bound p.0 (derived core begun s.pick s.bound p.0 p.1.0) in
     (record { told = p.0; log = log.0 }, record { picked = p.1.0; logged = log.1 })
+
+pub run_some : PickedAlways → PickedIsDerived → EachHasATrace → CheckLaw → (source : List ℕ) (core : Core) → length source ≤ MOST_BYTES → ComesTo source core
+    → (s : Settings) → MayHave core s → (course : Course) × IsRunOf core s course
+run_some always derived traces check source core within comes s may = sound_run always derived traces core (comes_sound check source core within comes) s may
 
 pub run_one : PickedOnce → OneTrace → (core : Core) (s : Settings) (course other : Course) → IsRunOf core s course → IsRunOf core s other → course ≡ other
 run_one once one core s course other p q =
@@ -150,21 +152,9 @@ run_begins core sound arguments takes seed until = record {
 
 -- the verdict of a run that is told can be told
 pub verdict_may : PickedIsDerived → EachEndingIsTold → (core : Core) → Sound core → (start' : Beginning) → IsBeginning core start'
-    → (trace : Option Filter) (pick : Pick) (bound : ℕ) (ran : Ran) → IsTold trace core start' pick bound ran → MayTell core ran.ending.verdict
-verdict_may derived tells core sound start' is trace pick bound ran t =
-    tells core sound start' is bound (told_with t.labels ran) (derived core start' pick bound (told_with t.labels ran) t.picked)
-
--- the report of a run that is told is that of the program's run with its settings
-pub told_reported : (core : Core) (seed bound : ℕ) (arguments : List Value) (until : Option ℤ) (trace : Option Filter) (gives : ℕ → ℕ → ℕ → Type 0) (ran : Ran) (result : Result Reported NoMemory)
-    → ((pick : Pick) → Answers gives pick → IsTold trace core (start core arguments seed until) pick bound ran)
-    → IfOk result (λ r. report_in r ≡ run_report core (record { told = told_with [] ran; log = ran.told.log.items }))
-    → IfOk result (λ r. (pick : Pick) → Answers gives pick
-    → IsRunReport core (record { seed = seed; bound = bound; pick = pick; arguments = arguments; until = until; trace = trace }) (report_in r))
-told_reported core seed bound arguments until trace gives ran (Ok r) told is =
-    λ pick answers.
-    let t = told pick answers in
-    record { course = record { told = told_with t.labels ran; log = ran.told.log.items }; run = record { picked = t.picked; logged = t.logged }; is = is }
-told_reported core seed bound arguments until trace gives ran (Err lost) told is = tt
+    → (trace : Option Filter) (pick : Pick) (bound : ℕ) (passed : List ℕ) (ran : Ran) → IsTold trace core start' pick bound passed ran → MayTell core ran.ending.verdict
+verdict_may derived tells core sound start' is trace pick bound passed ran t =
+    tells core sound start' is bound (told_with t.labels passed ran) (derived core start' pick bound (told_with t.labels passed ran) t.picked)
 
 -- what follows of a result, where there is one
 pub if_ok : {P Q : Reported → Type 0} (result : Result Reported NoMemory) → ((r : Reported) → P r → Q r) → IfOk result P → IfOk result Q
@@ -176,51 +166,9 @@ pub formula_given : (pick : Pick) → IsLawful pick → Answers (λ question cou
 formula_given pick lawful question count asked = (lawful question count asked.numbered asked.some asked.counted, ∣ refl ∣₁)
 
 -- a filter keeps to itself
-itself : (trace : Option Filter) → option_map (λ (filter : Filter). filter) trace ≡ trace
+pub itself : (trace : Option Filter) → option_map (λ (filter : Filter). filter) trace ≡ trace
 itself None = refl
 itself (Some filter) = refl
-
--- the report of a run by a list of numbers
-pub listed_ran : (core : Core) (u : Unpicked) (values : List Value) (text numbers : List ℕ) (result : Result Reported NoMemory) → picks.Has text numbers
-    → IfOk result (λ r. (pick : Pick) → Answers (λ question count answer. answer ≡ listed numbers question count) pick
-    → IsRunReport core (record { seed = u.seed; bound = u.bound; pick = pick; arguments = values; until = u.until; trace = option_map (λ (filter : Filter). filter) u.trace }) (report_in r))
-    → IfOk result (λ r. IsReportByPicks core u text values (report_in r))
-listed_ran core u values text numbers (Ok r) has is =
-    let at : Option Filter → Type 0 = λ trace.
-    IsRunReport core (record { seed = u.seed; bound = u.bound; pick = listed numbers; arguments = values; until = u.until; trace = trace }) (report_in r) in
-    replayed numbers has (subst at (itself u.trace) (is (listed numbers) (formula_given (listed numbers) (listed_lawful numbers))))
-listed_ran core u values text numbers (Err lost) has is = tt
-
--- the refusal of picks
-pub mispicked_told : (core : Core) (u : Unpicked) (values : List Value) (text : List ℕ) (k : ℕ) (result : Result Reported NoMemory) → picks.Misfits text k
-    → IfOk result (λ r. report_in r ≡ refusal.mispicked k) → IfOk result (λ r. IsReportByPicks core u text values (report_in r))
-mispicked_told core u values text k result misfits told = if_ok result (λ r is. mispicked k misfits is) told
-
--- the report of a run with the formula that words ask for as its policy
-pub formula_ran : (p : words.Pick) (core : Core) (a : Asked words.Pick) (result : Result Reported NoMemory) → a.terms.policy ≡ p
-    → IfOk result (λ r. (pick : Pick) → Answers (λ question count answer. answer ≡ policy_of p question count) pick
-    → IsReportOfRun core (record { seed = a.terms.seed; bound = a.terms.bound; pick = pick; texts = a.texts; until = a.terms.until; trace = option_map (λ (filter : Filter). filter) a.terms.trace }) (report_in r))
-    → IfOk result (λ r. IsReportOfRun core (wanted_of a) (report_in r))
-formula_ran p core a (Ok r) same is =
-    let at : words.Pick → Option Filter → Type 0 = λ q trace.
-    IsReportOfRun core (record { seed = a.terms.seed; bound = a.terms.bound; pick = policy_of q; texts = a.texts; until = a.terms.until; trace = trace }) (report_in r) in
-    subst (λ q. at q a.terms.trace) (sym same)
-    (subst (at p) (itself a.terms.trace) (is (policy_of p) (formula_given (policy_of p) (named_lawful p))))
-formula_ran p core a (Err lost) same is = tt
-
--- the report of a source that comes to a program
-pub program_reported : (source : List ℕ) (core : Core) (aim : ProgramAim) (result : Result Reported NoMemory) → ComesTo source core
-    → IfOk result (λ r. IsReportOfProgram core aim (report_in r)) → IfOk result (λ r. IsReportOfSource source aim (report_in r))
-program_reported source core aim result comes is = if_ok result (λ r of. program core comes of) is
-
--- the same, whatever the policy picks
-pub terms_reported : (gives : ℕ → ℕ → ℕ → Type 0) (source : List ℕ) (core : Core) (seed bound : ℕ) (texts : List (List ℕ)) (until : Option ℤ) (trace : Option Filter) (result : Result Reported NoMemory)
-    → ComesTo source core
-    → IfOk result (λ r. (pick : Pick) → Answers gives pick
-    → IsReportOfRun core (record { seed = seed; bound = bound; pick = pick; texts = texts; until = until; trace = trace }) (report_in r))
-    → IfOk result (λ r. (pick : Pick) → Answers gives pick
-    → IsReportOfSource source (simulates (record { seed = seed; bound = bound; pick = pick; texts = texts; until = until; trace = trace })) (report_in r))
-terms_reported gives source core seed bound texts until trace result comes is = if_ok result (λ r of pick answers. program core comes (of pick answers)) is
 
 -- the arguments that were read, or the refusal of these
 
@@ -243,12 +191,3 @@ module _ (core : Core) (texts : List (List ℕ)) (d : ProcDef) (is : slice_get c
   arguments_refused (arg.Kind k) other refused r told = misread (arg.Kind k) refused r told
   arguments_refused (arg.Text k) other refused r told = misread (arg.Text k) refused r told
   arguments_refused arg.NoMemory other refused r told = absurd (cc)
-
--- the report of a run with such arguments, whatever the policy picks
-pub model_ran : (gives : ℕ → ℕ → ℕ → Type 0) (core : Core) (seed bound : ℕ) (texts : List (List ℕ)) (until : Option ℤ) (trace : Option Filter) (result : Result Reported NoMemory)
-    (values : List Value) → Means core texts values
-    → IfOk result (λ r. (pick : Pick) → Answers gives pick
-    → IsRunReport core (record { seed = seed; bound = bound; pick = pick; arguments = values; until = until; trace = trace }) (report_in r))
-    → IfOk result (λ r. (pick : Pick) → Answers gives pick
-    → IsReportOfRun core (record { seed = seed; bound = bound; pick = pick; texts = texts; until = until; trace = trace }) (report_in r))
-model_ran gives core seed bound texts until trace result values means ran = if_ok result (λ r of pick answers. fit values means (of pick answers)) ran

@@ -15,7 +15,7 @@ use Rattle.chi_tool.specs.Refusals.{Report}
 use Rattle.chi_tool.specs.Report as report
 use Rattle.chi_tool.specs.Report.{IsReportOfSource, program}
 use Rattle.chi_tool.specs.Running.{Course, IsRunOf, run_report}
-use Rattle.chi_tool.specs.Serving.{Tells, told, untold}
+use Rattle.chi_tool.specs.Serving.{Tells, told, cut_short, untold}
 use Rattle.chi_tool.specs.Settings.{Wanted, simulates, Aim, of_program, MayBeAimed, settings_with, trace_by}
 use Rattle.chi_tool.specs.Simulations.{Simulation, as_call, SimulationHeadline, ComesOf, IsExactlyFor, SimulationCauses, IsReplayed, IsSimulatedToItsEnd}
 use Rattle.chi_tool.specs.Sources.{ComesTo}
@@ -27,6 +27,7 @@ use Rattle.chi_tool.proofs.LawClauses.{RunLaw, ValuesLaw, SourceLaw, OwnLaw}
 use Rattle.chi_tool.proofs.Promises.{alone-whole}
 use Rattle.chi_tool.proofs.StatusCauses.{StatusOf, done_status, exit_status, deadlock_status, fault_status, out_of_steps_status, stopped_status, lexical_status, syntax_status, mistyped_status, unfit_status}
 use Rattle.chi_tool.proofs.Runs.{asked_settings}
+use Rattle.chi_tool.proofs.Sinks.{none_part}
 
 -- a policy that picks among the choices, within the bound
 pub may_be_simulated : (gives : ℕ → ℕ → ℕ → Type 0) (w : Wanted) → w.bound ≤ MOST_STEPS → Answers gives w.pick → MayBeAimed (of_program (simulates w))
@@ -85,15 +86,17 @@ module _ (law : SourceLaw) (s : Simulation) (within : length s.source ≤ MOST_B
 
   met_by : Telling → Met s
   met_by (told r is d) = (r, is, delivered d)
+  met_by (cut_short r is status part log) = (r, is, wanting status part log)
   met_by (untold status out log) =
       let p = law.some s.source (of_program (simulates s.wanted)) within may in
-      (p.0, p.1, wanting status out log)
+      (p.0, p.1, wanting status (none_part s.out p.0.out out) log)
 
   pub simulation-headline : SimulationHeadline s
   simulation-headline = record { report = met_by tells; out_stopped = ended.stopped }
 
   above_by : (n : ℕ) → 24 ≤ n → Telling → s.status ≢ n
   above_by n high (told r is d) e = delivered_status _ n _ _ _ s.out s.log (above n high r is) (λ h. omega arith) d e
+  above_by n high (cut_short r is status part log) e = omega arith
   above_by n high (untold status out log) e = omega arith
 
   -- a status comes exactly of its cause

@@ -1,13 +1,18 @@
--- How the delivery of a report ends: its output is put, and then its log, until a sink fails.
+-- How the delivery of a report ends: its output is put, that of a run as it goes, and then its log, until a sink fails.
 use Rattle.std.specs.Prelude.{◌≡◌, ℕ, true, false, List, []}
 use Rattle.chi_io.specs.Sink.{GrewByProperFront}
 use Rattle.chi_tool.specs.Refusals.{Report}
 use Rattle.chi_tool.specs.Statuses as statuses
-use Rattle.chi_tool.specs.Call.{SinkUse, Took, SinkRose}
+use Rattle.chi_tool.specs.Call.{SinkUse, Took, TookFront, SinkRose}
 
 -- the sink took all of the bytes, and goes on
 pub record TookWhole (sink : SinkUse) (bytes : List ℕ) : Type 0 where
   pub took : Took sink bytes
+  pub goes : sink.stopped ≡ false
+
+-- it took a front of them, and goes on
+pub record TookPart (sink : SinkUse) (bytes : List ℕ) : Type 0 where
+  pub took : TookFront sink bytes
   pub goes : sink.stopped ≡ false
 
 -- it failed, and took less than all of them

@@ -34,7 +34,7 @@ use Rattle.chi_tool.specs.Sources.{IsNoProgram, BreaksRule, ComesTo}
 use Rattle.chi_tool.specs.Statuses as statuses
 use Rattle.chi_tool.specs.Statuses.{status_of}
 use Rattle.chi_tool.specs.Call.{Call, SinkUse, ShelfUse, Took, TookFront, TookSome, SinkRose, SinkStood, ShelfRose, ShelfStood}
-use Rattle.chi_tool.specs.Delivery.{TookWhole, DeliversReport}
+use Rattle.chi_tool.specs.Delivery.{TookWhole, TookPart, DeliversReport}
 
 -- no object that was handed in failed
 pub record NothingFailed (call : Call) : Type 0 where
@@ -52,10 +52,10 @@ pub record IsReported (r : Report) (call : Call) : Type 0 where
 abbrev pub IsReportedOrLost : Report → Call → Type 0
 IsReportedOrLost r call = (call.status ≡ statuses.no_memory) ⊎ IsReported r call
 
--- the report is delivered, as far as no sink fails; or memory was wanting, and nothing is written
+-- the report is delivered, as far as no sink fails; or memory was wanting, a front of its output is written, and nothing is logged
 pub data MeetsAlone (r : Report) (call : Call) : Type 0 where
   delivered : DeliversReport r call.status call.out call.log → MeetsAlone r call
-  wanting : call.status ≡ statuses.no_memory → TookWhole call.out [] → TookWhole call.log [] → MeetsAlone r call
+  wanting : call.status ≡ statuses.no_memory → TookPart call.out r.out → TookWhole call.log [] → MeetsAlone r call
 
 -- Or the shelf failed, and in place of the report it is delivered that the file isn't there, or that it is too long; or
 -- nothing is written, and the status says that the file can't be read.

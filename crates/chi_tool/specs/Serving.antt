@@ -1,19 +1,36 @@
--- Private to proofs: the ways in which a report is told, and in which a file is served.
-use Rattle.std.specs.Prelude.{◌≡◌, ◌≢◌, ℕ, ◌≤◌, ◌<◌, ◌⊎◌, List, [], length, Option, Some, None, IfSome, IsSomeAnd}
+-- Private to proofs: the ways in which a report is made and told, and in which a file is served.
+use Rattle.std.specs.Prelude.{◌≡◌, ◌≢◌, ℕ, ◌≤◌, ◌<◌, ◌⊎◌, List, [], length, Option, Some, None, IfSome, IsSomeAnd, Result, Ok, Err}
 use Rattle.chi_io.specs.Shelf.{Files}
 use Rattle.chi_lex.specs.declared.lexer.TheConstants.{MOST_BYTES}
+use Rattle.chi_machine_traces.specs.declared.passing.PassFault.{PassFault}
+use Rattle.chi_machine_traces.specs.declared.passing.PassFault.TheVariants.{Stopped, NoMemory}
+use Rattle.chi_tool.specs.declared.report.Reported.{Reported}
 use Rattle.chi_tool.specs.declared.task.TheConstants.{MOST_BESIDE}
 use Rattle.chi_tool.specs.declared.task.Pair.{Pair}
 use Rattle.chi_tool.specs.Refusals.{Report, no_such_file, file_too_long}
 use Rattle.chi_tool.specs.Report.{IsReportOfSource}
+use Rattle.chi_tool.specs.Reported.{report_after}
 use Rattle.chi_tool.specs.Settings.{pair_aim}
 use Rattle.chi_tool.specs.Statuses as statuses
 use Rattle.chi_tool.specs.Call.{SinkUse, ShelfUse, ShelfRose}
-use Rattle.chi_tool.specs.Delivery.{TookWhole, DeliversReport}
+use Rattle.chi_tool.specs.Delivery.{TookWhole, TookPart, BrokeOff, DeliversReport}
 
--- a report of which P holds is delivered, or memory is wanting
+-- A report of which P holds is made: the sink took a part of its output, and the rest of the report is held; or the sink broke off, or
+-- memory was wanting, before the sink took anything or after it took a front of the output.
+abbrev pub Makes : (Report → Type 0) → SinkUse → Result Reported PassFault → Type 0
+Makes P out (Ok r) = (passed : List ℕ) × TookWhole out passed × (out.faults_before ≤ out.faults_after) × P (report_after passed r)
+Makes P out (Err Stopped) = (r : Report) × P r × BrokeOff out r.out
+Makes P out (Err NoMemory) = TookWhole out [] ⊎ ((r : Report) × P r × TookPart out r.out)
+
+-- the status where no report is made
+abbrev pub status_without : PassFault → ℕ
+status_without Stopped = statuses.not_written
+status_without NoMemory = statuses.no_memory
+
+-- a report of which P holds is delivered; or memory is wanting, and a front of its output is written, or nothing
 pub data Tells (P : Report → Type 0) (result : ℕ) (out log : SinkUse) : Type 0 where
   told : (r : Report) → P r → DeliversReport r result out log → Tells P result out log
+  cut_short : (r : Report) → P r → result ≡ statuses.no_memory → TookPart out r.out → TookWhole log [] → Tells P result out log
   untold : result ≡ statuses.no_memory → TookWhole out [] → TookWhole log [] → Tells P result out log
 
 -- this is the content of a file of this name, within a limit, where the shelf tells its files

@@ -1,13 +1,12 @@
 //! The library calls: a source is simulated, with whichever policy, and with whichever probe of its trace; or by a list of picks.
 
-ghost use Rattle.std.specs.Prelude.{◌≡◌, ◌≤◌, ◌<◌, ◌^◌, false, IfOk, length, option_map};
+ghost use Rattle.std.specs.Prelude.{◌≡◌, ◌≤◌, ◌<◌, ◌^◌, false, length, option_map};
 ghost use Rattle.chi_core.specs.Picks as picks;
 ghost use Rattle.chi_sched.specs.Policies.{Answers, listed};
 ghost use Rattle.chi_trace.specs.declared.filter.Filter.TheVariants.{All};
 ghost use Rattle.chi_tool.specs.Call.{sink_use};
-ghost use Rattle.chi_tool.specs.Serving.{Tells};
+ghost use Rattle.chi_tool.specs.Serving.{Makes, Tells};
 ghost use Rattle.chi_tool.specs.Report.{IsReportOfSource};
-ghost use Rattle.chi_tool.specs.Reported.{report_in};
 ghost use Rattle.chi_tool.specs.Settings.{simulates, trace_by};
 ghost use Rattle.chi_tool.specs.Simulations.{SimulationHeadline, SimulationCauses, IsReplayed, IsSimulatedToItsEnd};
 
@@ -17,32 +16,35 @@ use crate::program::report_of_run;
 use crate::report::Reported;
 use crate::settings::{Terms, trace_by};
 use crate::source::{Source, read};
-use crate::status::NO_MEMORY;
-use chi_base::NoMemory;
+use crate::status::{NO_MEMORY, status_without};
 use chi_cli::{MOST_STEPS, values_are_of_parameters};
 use chi_io::Sink;
 use chi_lex::MOST_BYTES;
+use chi_machine_traces::PassFault;
 use chi_num::Real;
-use chi_sched::{Chooser, Listed};
+use chi_sched::{Chooser, Listed, chooser_law};
 use chi_token::Bytes;
 use chi_trace::{Filter, Sieve};
 use std::alloc::Global;
 
 /// The report of a source that is to be simulated on these terms.
-fn report_of_terms<P: Chooser + Drop, S: Sieve + Drop>(
+fn report_of_terms<P: Chooser + Drop, S: Sieve + Drop, O: Sink>(
     alloc: Global,
     source: &[u8],
     texts: &[Bytes],
     terms: Terms<P, S>,
-) -> Result<Reported, NoMemory>
+    out: &mut O,
+) -> Result<Reported, PassFault>
     requires within { length source.now ≤ MOST_BYTES }
     requires bound { terms.bound < 2 ^ 63 }
-    ensures { IfOk result (λ r. (pick : picks.Pick) → Answers (P.gives terms.policy) pick
-        → IsReportOfSource source.now (simulates (record { seed = terms.seed; bound = terms.bound; pick = pick; texts = texts.now; until = terms.until; trace = option_map S.keeps_to terms.trace })) (report_in r)) }
+    requires out_goes { O.stopped out.old ≡ false }
+    ensures { (pick : picks.Pick) → Answers (P.gives terms.policy) pick
+        → Makes (IsReportOfSource source.now (simulates (record { seed = terms.seed; bound = terms.bound; pick = pick; texts = texts.now; until = terms.until; trace = option_map S.keeps_to terms.trace })))
+        (sink_use O.taken O.faults O.stopped out.old out.new) result }
 {
     match read(alloc, source)? {
         Source::Refused(refusal) => Ok(refusal),
-        Source::Program(core) => report_of_run(alloc, &core, texts, terms),
+        Source::Program(core) => report_of_run(alloc, &core, texts, terms, out),
     }
 }
 
@@ -63,9 +65,10 @@ fn tell_terms<P: Chooser + Drop, S: Sieve + Drop, O: Sink, L: Sink>(
         → Tells (IsReportOfSource source.now (simulates (record { seed = terms.seed; bound = terms.bound; pick = pick; texts = texts.now; until = terms.until; trace = option_map S.keeps_to terms.trace }))) result
         (sink_use O.taken O.faults O.stopped out.old out.new) (sink_use L.taken L.faults L.stopped log.old log.new) }
 {
-    match report_of_terms(alloc, source, texts, terms) {
+    chooser_law(&terms.policy);
+    match report_of_terms(alloc, source, texts, terms, out) {
         Ok(report) => deliver(report.status, out, &report.out, log, &report.log),
-        Err(_) => NO_MEMORY,
+        Err(fault) => status_without(fault),
     }
 }
 

@@ -9,7 +9,7 @@ ghost use Rattle.chi_tool.specs.Reported.{report_in};
 
 use crate::deliver::deliver;
 use crate::fetching::fetched;
-use crate::refusal::one_line;
+use crate::refusal::{numbered, one_line};
 use crate::report::Reported;
 use crate::status::{BROUGHT_UP, MISFIT, NO_MEMORY};
 use chi_base::NoMemory;
@@ -21,9 +21,7 @@ use std::alloc::Global;
 fn misfit(alloc: Global, number: u64) -> Result<Reported, NoMemory>
     ensures { IfOk result (λ r. report_in r ≡ misfit number) }
 {
-    let mut text = Vec::from_slice(alloc, b"line ")?;
-    let digits = format!(in alloc; "{number}")?;
-    text.extend_from_slice(digits.as_bytes())?;
+    let mut text = numbered(alloc, b"line ", number)?;
     text.extend_from_slice(b": trace form")?;
     one_line(alloc, MISFIT, &text)
 }

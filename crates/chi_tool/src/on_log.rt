@@ -11,7 +11,7 @@ ghost use Rattle.chi_tool.specs.Reported.{report_in};
 ghost use Rattle.chi_tool.specs.Settings.{unpicked_of};
 
 use crate::arguments::{Arguments, arguments_of};
-use crate::refusal::one_line;
+use crate::refusal::{numbered, one_line};
 use crate::report::Reported;
 use crate::run::units_of;
 use crate::settings::ByPicks;
@@ -28,9 +28,7 @@ use std::alloc::Global;
 fn no_log(alloc: Global, line: u32) -> Result<Reported, NoMemory>
     ensures { IfOk result (λ r. report_in r ≡ no_log line) }
 {
-    let mut text = Vec::from_slice(alloc, b"no at line ")?;
-    let digits = format!(in alloc; "{line}")?;
-    text.extend_from_slice(digits.as_bytes())?;
+    let text = numbered(alloc, b"no at line ", u64::from(line))?;
     one_line(alloc, NO_LOG, &text)
 }
 

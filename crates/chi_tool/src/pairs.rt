@@ -1,60 +1,65 @@
 //! What is done with a source and the text of a second file.
 
-ghost use Rattle.std.specs.Prelude.{◌≡◌, ◌≤◌, false, IfOk, length};
+ghost use Rattle.std.specs.Prelude.{◌≡◌, ◌≤◌, false, length};
 ghost use Rattle.chi_tool.specs.Call.{sink_use, shelf_use};
 ghost use Rattle.chi_core.specs.Sound.{Sound};
 ghost use Rattle.chi_tool.specs.Report.{IsReportOfProgram, IsReportOfSource};
-ghost use Rattle.chi_tool.specs.Reported.{report_in};
-ghost use Rattle.chi_tool.specs.Serving.{ServesBeside, ServesPair, Tells};
+ghost use Rattle.chi_tool.specs.Serving.{Makes, ServesBeside, ServesPair, Tells};
 ghost use Rattle.chi_tool.specs.Settings.{IsBoundedPair, pair_aim};
 
 use crate::by_picks::report_of_replay;
 use crate::deliver::deliver;
 use crate::fetching::fetched;
 use crate::on_log::report_on_log;
-use crate::report::Reported;
+use crate::report::{Reported, unpassed};
 use crate::source::{Source, read};
-use crate::status::NO_MEMORY;
+use crate::status::status_without;
 use crate::task::{MOST_BESIDE, Pair, PairPurpose};
-use chi_base::NoMemory;
 use chi_core::Core;
 use chi_io::{Shelf, Sink};
 use chi_lex::MOST_BYTES;
+use chi_machine_traces::PassFault;
 use std::alloc::Global;
 
 /// The report of a program and a text.
-fn report_by(
+fn report_by<O: Sink>(
     alloc: Global,
     core: &Core,
     text: &[u8],
     purpose: &PairPurpose,
-) -> Result<Reported, NoMemory>
+    out: &mut O,
+) -> Result<Reported, PassFault>
     requires sound { Sound core.now }
     requires short { length text.now ≤ MOST_BESIDE }
     requires bounded { IsBoundedPair purpose.now }
-    ensures { IfOk result (λ r. IsReportOfProgram core.now (pair_aim purpose.now text.now) (report_in r)) }
+    requires out_goes { O.stopped out.old ≡ false }
+    ensures { Makes (IsReportOfProgram core.now (pair_aim purpose.now text.now)) (sink_use O.taken O.faults O.stopped out.old out.new) result }
 {
     match purpose {
-        PairPurpose::Replay(asked) => report_of_replay(alloc, core, asked, text),
-        PairPurpose::OnLog(wanted, asked) => report_on_log(alloc, core, *wanted, asked, text),
+        PairPurpose::Replay(asked) => report_of_replay(alloc, core, asked, text, out),
+        PairPurpose::OnLog(wanted, asked) => {
+            unpassed(report_on_log(alloc, core, *wanted, asked, text))
+        }
     }
 }
 
 /// The report of a source and a text.
-fn report_of_pair(
+fn report_of_pair<O: Sink>(
     alloc: Global,
     source: &[u8],
     text: &[u8],
     purpose: &PairPurpose,
-) -> Result<Reported, NoMemory>
+    out: &mut O,
+) -> Result<Reported, PassFault>
     requires within { length source.now ≤ MOST_BYTES }
     requires short { length text.now ≤ MOST_BESIDE }
     requires bounded { IsBoundedPair purpose.now }
-    ensures { IfOk result (λ r. IsReportOfSource source.now (pair_aim purpose.now text.now) (report_in r)) }
+    requires out_goes { O.stopped out.old ≡ false }
+    ensures { Makes (IsReportOfSource source.now (pair_aim purpose.now text.now)) (sink_use O.taken O.faults O.stopped out.old out.new) result }
 {
     match read(alloc, source)? {
         Source::Refused(refusal) => Ok(refusal),
-        Source::Program(core) => report_by(alloc, &core, text, purpose),
+        Source::Program(core) => report_by(alloc, &core, text, purpose, out),
     }
 }
 
@@ -75,9 +80,9 @@ fn tell_pair<O: Sink, L: Sink>(
     ensures { Tells (IsReportOfSource source.now (pair_aim purpose.now text.now)) result
         (sink_use O.taken O.faults O.stopped out.old out.new) (sink_use L.taken L.faults L.stopped log.old log.new) }
 {
-    match report_of_pair(alloc, source, text, purpose) {
+    match report_of_pair(alloc, source, text, purpose, out) {
         Ok(report) => deliver(report.status, out, &report.out, log, &report.log),
-        Err(_) => NO_MEMORY,
+        Err(fault) => status_without(fault),
     }
 }
 

@@ -1,4 +1,5 @@
-ghost use Rattle.std.specs.Prelude.{◌≡◌, IfOk};
+ghost use Rattle.std.specs.Prelude.{◌≡◌, ◌++◌, IfOk};
+ghost use Rattle.std.specs.Fmt.{decimal};
 ghost use Rattle.chi_tool.specs.Syntax.{placed};
 ghost use Rattle.chi_tool.specs.Reported.{report_in};
 ghost use Rattle.chi_check_types.specs.Faults.{fault};
@@ -23,6 +24,16 @@ fn placed(alloc: Global, place: Place, what: &[u8]) -> Result<Vec<u8>, NoMemory>
     text.extend_from_slice(column.as_bytes())?;
     text.extend_from_slice(b": ")?;
     text.extend_from_slice(what)?;
+    Ok(text)
+}
+
+/// Some words, and then the number of a line.
+pub fn numbered(alloc: Global, words: &[u8], number: u64) -> Result<Vec<u8>, NoMemory>
+    ensures { IfOk result (λ text. text.items ≡ words.now ++ decimal number) }
+{
+    let mut text = Vec::from_slice(alloc, words)?;
+    let digits = format!(in alloc; "{number}")?;
+    text.extend_from_slice(digits.as_bytes())?;
     Ok(text)
 }
 

@@ -1,6 +1,6 @@
-//! The run of a program, by its code, and the report of it.
+//! The run of a program, by its code, and the report of it. Its output is passed on as the run goes.
 
-ghost use Rattle.std.specs.Prelude.{◌≡◌, ◌<◌, ◌^◌, [], Some, IfOk, option_map, slice_get};
+ghost use Rattle.std.specs.Prelude.{◌≡◌, ◌<◌, ◌^◌, [], false, Some, IfOk, option_map, slice_get};
 ghost use Rattle.chi_code.specs.Codes.{Codes};
 ghost use Rattle.chi_core.specs.declared.program.ProcDef.{ProcDef};
 ghost use Rattle.chi_core.specs.Kinds.{kinds_of};
@@ -9,10 +9,12 @@ ghost use Rattle.chi_core.specs.Picks.{Pick};
 ghost use Rattle.chi_core.specs.Sound.{Sound};
 ghost use Rattle.chi_core.specs.VerdictLine.{MayTell};
 ghost use Rattle.chi_sched.specs.Policies.{Answers};
+ghost use Rattle.chi_tool.specs.Call.{sink_use};
 ghost use Rattle.chi_tool.specs.Reported.{report_in};
 ghost use Rattle.chi_tool.specs.Running.{IsRunReport, run_report};
+ghost use Rattle.chi_tool.specs.Serving.{Makes};
 
-use crate::report::Reported;
+use crate::report::{Reported, unpassed};
 use crate::settings::Terms;
 use crate::status::status_of;
 use chi_base::NoMemory;
@@ -20,14 +22,16 @@ use chi_code::Code;
 use chi_core::{Core, verdict_line};
 use chi_core_runs::{endings_law, picked_law};
 use chi_gen::generate;
-use chi_machine_traces::{Ran, Start, Telling, run_told};
+use chi_io::Sink;
+use chi_machine_traces::{Guide, PassFault, Ran, Start, Telling, run_told};
 use chi_num::Real;
 use chi_sched::{Chooser, chooser_law};
 use chi_trace::Sieve;
+use chi_trace_events::trace_law;
 use chi_value::{TextFault, Value};
 use std::alloc::Global;
 
-/// The report of a run that has ended.
+/// The report of a run that has ended, but for what was passed on of its output.
 fn reported(alloc: Global, core: &Core, ran: Ran) -> Result<Reported, NoMemory>
     requires { MayTell core.now ran.ending.verdict }
     ensures { IfOk result (λ r. report_in r ≡ run_report core.now (record {
@@ -64,23 +68,27 @@ pub fn units_of(until: Option<Real>) -> Option<i64>
 }
 
 /// The report of a run of a program's code on these terms, with these arguments.
-fn run_code<P: Chooser + Drop, S: Sieve + Drop>(
+fn run_code<P: Chooser + Drop, S: Sieve + Drop, O: Sink>(
     alloc: Global,
     core: &Core,
     code: &Code,
     arguments: Vec<Value>,
     terms: Terms<P, S>,
-) -> Result<Reported, NoMemory>
+    out: &mut O,
+) -> Result<Reported, PassFault>
     requires sound { Sound core.now }
     requires codes { Codes core.now code.now }
     requires arguments { (d : ProcDef) → slice_get core.now.procs core.now.model ≡ Some d
         → AreOf (at_start core.now.names.kinds) arguments.items (kinds_of d.params) }
     requires bound { terms.bound < 2 ^ 63 }
-    ensures { IfOk result (λ r. (pick : Pick) → Answers (P.gives terms.policy) pick
-        → IsRunReport core.now (record { seed = terms.seed; bound = terms.bound; pick = pick; arguments = arguments.items; until = terms.until; trace = option_map S.keeps_to terms.trace }) (report_in r)) }
+    requires out_goes { O.stopped out.old ≡ false }
+    ensures { (pick : Pick) → Answers (P.gives terms.policy) pick
+        → Makes (IsRunReport core.now (record { seed = terms.seed; bound = terms.bound; pick = pick; arguments = arguments.items; until = terms.until; trace = option_map S.keeps_to terms.trace }))
+        (sink_use O.taken O.faults O.stopped out.old out.new) result }
 {
     endings_law();
     picked_law();
+    trace_law();
     let Terms {
         seed,
         bound,
@@ -96,26 +104,33 @@ fn run_code<P: Chooser + Drop, S: Sieve + Drop>(
         until,
         bound,
     };
-    let ran = run_told(alloc, code, start, &policy, &trace)?;
-    reported(alloc, core, ran)
+    let guide = Guide {
+        chooser: policy,
+        trace,
+    };
+    let ran = run_told(alloc, code, start, &guide, out)?;
+    unpassed(reported(alloc, core, ran))
 }
 
 /// The report of a program's run on these terms, with these arguments.
-pub fn run<P: Chooser + Drop, S: Sieve + Drop>(
+pub fn run<P: Chooser + Drop, S: Sieve + Drop, O: Sink>(
     alloc: Global,
     core: &Core,
     arguments: Vec<Value>,
     terms: Terms<P, S>,
-) -> Result<Reported, NoMemory>
+    out: &mut O,
+) -> Result<Reported, PassFault>
     requires sound { Sound core.now }
     requires arguments { (d : ProcDef) → slice_get core.now.procs core.now.model ≡ Some d
         → AreOf (at_start core.now.names.kinds) arguments.items (kinds_of d.params) }
     requires bound { terms.bound < 2 ^ 63 }
-    ensures { IfOk result (λ r. (pick : Pick) → Answers (P.gives terms.policy) pick
-        → IsRunReport core.now (record { seed = terms.seed; bound = terms.bound; pick = pick; arguments = arguments.items; until = terms.until; trace = option_map S.keeps_to terms.trace }) (report_in r)) }
+    requires out_goes { O.stopped out.old ≡ false }
+    ensures { (pick : Pick) → Answers (P.gives terms.policy) pick
+        → Makes (IsRunReport core.now (record { seed = terms.seed; bound = terms.bound; pick = pick; arguments = arguments.items; until = terms.until; trace = option_map S.keeps_to terms.trace }))
+        (sink_use O.taken O.faults O.stopped out.old out.new) result }
 {
     let code = generate(alloc, core)?;
-    let report = run_code(alloc, core, &code, arguments, terms);
+    let report = run_code(alloc, core, &code, arguments, terms, out);
     drop(code);
     report
 }

@@ -1,54 +1,61 @@
-ghost use Rattle.std.specs.Prelude.{◌≡◌, ◌≤◌, false, IfOk, length};
+ghost use Rattle.std.specs.Prelude.{◌≡◌, ◌≤◌, false, length};
 ghost use Rattle.chi_tool.specs.Call.{sink_use, shelf_use};
 ghost use Rattle.chi_load.specs.Factory.{factory_source};
-ghost use Rattle.chi_tool.specs.Serving.{Serves, Tells};
+ghost use Rattle.chi_tool.specs.Serving.{Makes, Serves, Tells};
 ghost use Rattle.chi_tool.specs.Report.{IsReportFor, IsReportOfSource};
-ghost use Rattle.chi_tool.specs.Reported.{report_in};
 ghost use Rattle.chi_tool.specs.Settings.{IsBounded, IsBoundedFor, aim_of, plain, program_aim, simulates, wanted_of};
 
 use crate::deliver::deliver;
 use crate::fetching::fetched;
 use crate::layout::report_of_layout;
 use crate::program::report_of_program;
-use crate::report::Reported;
+use crate::report::{Reported, unpassed};
 use crate::source::{Source, read};
-use crate::status::NO_MEMORY;
+use crate::status::{NO_MEMORY, status_without};
 use crate::task::{ProgramPurpose, Purpose, unasked};
-use chi_base::NoMemory;
 use chi_io::{Shelf, Sink};
 use chi_lex::MOST_BYTES;
 use chi_load::{MOST_MACHINES, factory};
+use chi_machine_traces::PassFault;
 use std::alloc::Global;
 
 /// The report of a source with whose program something is done: its refusal, or that of its program.
-fn report_of_source(
+fn report_of_source<O: Sink>(
     alloc: Global,
     source: &[u8],
     purpose: &ProgramPurpose,
-) -> Result<Reported, NoMemory>
+    out: &mut O,
+) -> Result<Reported, PassFault>
     requires within { length source.now ≤ MOST_BYTES }
     requires bounded { IsBoundedFor purpose.now }
-    ensures { IfOk result (λ r. IsReportOfSource source.now (program_aim purpose.now) (report_in r)) }
+    requires out_goes { O.stopped out.old ≡ false }
+    ensures { Makes (IsReportOfSource source.now (program_aim purpose.now)) (sink_use O.taken O.faults O.stopped out.old out.new) result }
 {
     match read(alloc, source)? {
         Source::Refused(refusal) => Ok(refusal),
-        Source::Program(core) => report_of_program(alloc, &core, purpose),
+        Source::Program(core) => report_of_program(alloc, &core, purpose, out),
     }
 }
 
 /// The report of a source.
-fn report_of(alloc: Global, source: &[u8], purpose: &Purpose) -> Result<Reported, NoMemory>
+fn report_of<O: Sink>(
+    alloc: Global,
+    source: &[u8],
+    purpose: &Purpose,
+    out: &mut O,
+) -> Result<Reported, PassFault>
     requires within { length source.now ≤ MOST_BYTES }
     requires bounded { IsBounded purpose.now }
-    ensures { IfOk result (λ r. IsReportFor (aim_of purpose.now) source.now (report_in r)) }
+    requires out_goes { O.stopped out.old ≡ false }
+    ensures { Makes (IsReportFor (aim_of purpose.now) source.now) (sink_use O.taken O.faults O.stopped out.old out.new) result }
 {
     match purpose {
-        Purpose::OfProgram(purpose) => report_of_source(alloc, source, purpose),
-        Purpose::LayOut => report_of_layout(alloc, source),
+        Purpose::OfProgram(purpose) => report_of_source(alloc, source, purpose, out),
+        Purpose::LayOut => unpassed(report_of_layout(alloc, source)),
     }
 }
 
-/// Delivers the report of a source.
+/// Delivers the report of a source, of whose output a part is passed on while it is made.
 fn tell<O: Sink, L: Sink>(
     alloc: Global,
     source: &[u8],
@@ -63,9 +70,9 @@ fn tell<O: Sink, L: Sink>(
     ensures { Tells (IsReportFor (aim_of purpose.now) source.now) result
         (sink_use O.taken O.faults O.stopped out.old out.new) (sink_use L.taken L.faults L.stopped log.old log.new) }
 {
-    match report_of(alloc, source, purpose) {
+    match report_of(alloc, source, purpose, out) {
         Ok(report) => deliver(report.status, out, &report.out, log, &report.log),
-        Err(_) => NO_MEMORY,
+        Err(fault) => status_without(fault),
     }
 }
 

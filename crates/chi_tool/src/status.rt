@@ -1,7 +1,9 @@
 ghost use Rattle.std.specs.Prelude.{◌≡◌};
+ghost use Rattle.chi_tool.specs.Serving.{status_without};
 ghost use Rattle.chi_tool.specs.Statuses.{status_of};
 
 use chi_core::Verdict;
+use chi_machine_traces::PassFault;
 
 /// The run completed.
 const COMPLETED: u8 = 0;
@@ -86,5 +88,15 @@ pub fn status_of(verdict: &Verdict) -> u8
         Verdict::Fault(_, _, _) => FAULTED,
         Verdict::OutOfSteps => OUT_OF_STEPS,
         Verdict::Stopped => STOPPED,
+    }
+}
+
+/// The status where no report is made.
+pub fn status_without(fault: PassFault) -> u8
+    ensures { result ≡ status_without fault }
+{
+    match fault {
+        PassFault::Stopped => NOT_WRITTEN,
+        PassFault::NoMemory => NO_MEMORY,
     }
 }

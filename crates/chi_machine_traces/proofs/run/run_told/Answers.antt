@@ -1,12 +1,19 @@
-use Rattle.std.proofs.Common.{option_map, sym, subst}
+use Rattle.std.proofs.Common.{[], refl, option_map, subst}
+use Rattle.chi_io.specs.Counts.{Rose}
+use Rattle.chi_io.specs.Sink.{Grew}
+use Rattle.chi_io.proofs.Passed.{Grew-nothing}
 use Rattle.chi_machine.specs.Calls.{StartsSo}
-use Rattle.chi_machine_traces.proofs.Answered.{if_ok}
+use Rattle.chi_machine_traces.specs.declared.passing.PassFault.TheVariants as fault
+use Rattle.chi_machine_traces.specs.Passing.{OfEach}
+use Rattle.chi_machine_traces.specs.Told.{IsTold}
+use Rattle.chi_machine_traces.specs.Turns.{OfWay}
 use Rattle.chi_machine_traces.proofs.Begins.{begins_going, begins_ended}
 use Rattle.chi_machine_traces.proofs.Logged.{TraceLaw}
+use Rattle.chi_machine_traces.proofs.Running.{passes_fault, passes_of}
 use Rattle.chi_machine_traces.proofs.run.run_told.Goals as goal
 
-pub run_from-requires : goal.run_from-requires
-run_from-requires g c =
+pub run_from-requires-clause-course : goal.run_from-requires-clause-course
+run_from-requires-clause-course g c =
     let start = c.args.start in
     let s = subst (StartsSo c.args.code.now start.arguments.items start.seed start.until start.bound) c.in-Going.is c.in_ok-course.ensures in s.3
 
@@ -15,9 +22,23 @@ unreachable-requires g c =
     let start = c.args.start in
     subst (StartsSo c.args.code.now start.arguments.items start.seed start.until start.bound) c.in-Lost.is c.in_ok-course.ensures
 
-pub returns-in-Going : goal.returns-in-Going
-returns-in-Going g c =
+-- nothing was passed on
+
+pub returns-in_default-clause-passes : goal.returns-in_default-clause-passes
+returns-in_default-clause-passes g c = (c.requires.out_goes, [], Grew-nothing (g.O.Sink.taken c.args.out.now), λ core runs pick answers whole is. (whole.output, refl))
+
+pub returns-in_err-course-clause-passes : goal.returns-in_err-course-clause-passes
+returns-in_err-course-clause-passes g c =
+    passes_fault (OfEach (g.C.Chooser.gives c.args.guide.now.chooser) c.args.code.now c.args.start)
+    (λ passed ran core beginning pick bound. IsTold (option_map g.S.Sieve.keeps_to c.args.guide.now.trace) core beginning pick bound passed ran) (Grew (g.O.Sink.taken c.args.out.now) (g.O.Sink.taken c.args.out.now))
+    (Rose (g.O.Sink.faults c.args.out.now) (g.O.Sink.faults c.args.out.now)) (g.O.Sink.stopped c.args.out.now) c.from_residual.result fault.NoMemory c.from_residual.ensures.1
+    (c.requires.out_goes, [], Grew-nothing (g.O.Sink.taken c.args.out.now), λ core runs pick answers whole is. (whole.output, refl))
+
+pub returns-in-Going-clause-passes : goal.returns-in-Going-clause-passes
+returns-in-Going-clause-passes g c =
     let start = c.args.start in
+    let gives = g.C.Chooser.gives c.args.guide.now.chooser in
+    let trace = option_map g.S.Sieve.keeps_to c.args.guide.now.trace in
     let traces : TraceLaw = record {
       begins = c.tracing_law.ensures.begins;
       on = c.tracing_law.ensures.on;
@@ -26,13 +47,16 @@ returns-in-Going g c =
       of_none = c.tracing_law.ensures.of_none;
     } in
     let s = subst (StartsSo c.args.code.now start.arguments.items start.seed start.until start.bound) c.in-Going.is c.in_ok-course.ensures in
-    if_ok c.run_from.result c.run_from.ensures (λ ran ends core runs pick answers.
-    ends core _ pick start.bound answers
-    (begins_going traces (option_map g.S.Sieve.keeps_to c.args.trace.now) core c.args.code.now pick start.bound c.in-Ok.told c.in-Ok.ensures.out c.in-Ok.ensures.log c.start_law.ensures.exact c.kinded_law.ensures.begins
-    start.arguments.items start.seed start.until runs c.turn_law.ensures.begins c.requires.bounded c.in-Going.course s.1 s.2 s.0))
+    passes_of (OfWay gives trace c.args.code.now c.in-Going.course c.in-Ok.told) (OfEach gives c.args.code.now start)
+    (λ passed ran core beginning pick bound. IsTold trace core beginning pick bound passed ran) (Grew (g.O.Sink.taken c.args.out.now) (g.O.Sink.taken c.run_from.new.out))
+    (Rose (g.O.Sink.faults c.args.out.now) (g.O.Sink.faults c.run_from.new.out)) (g.O.Sink.stopped c.run_from.new.out) c.run_from.result
+    (λ Q of core runs pick answers.
+    of core _ pick start.bound answers
+    (begins_going traces trace core c.args.code.now pick start.bound c.in-Ok.told c.in-Ok.ensures.out c.in-Ok.ensures.log c.start_law.ensures.exact c.kinded_law.ensures.begins
+    start.arguments.items start.seed start.until runs c.turn_law.ensures.begins c.requires.begins.bounded c.in-Going.course s.1 s.2 s.0)) c.run_from.ensures.passes
 
-pub returns-in-Ended : goal.returns-in-Ended
-returns-in-Ended g c =
+pub returns-in-Ended-clause-passes : goal.returns-in-Ended-clause-passes
+returns-in-Ended-clause-passes g c =
     let start = c.args.start in
     let traces : TraceLaw = record {
       begins = c.tracing_law.ensures.begins;
@@ -40,7 +64,11 @@ returns-in-Ended g c =
       over = c.tracing_law.ensures.over;
       whole = c.tracing_law.ensures.whole;
       of_none = c.tracing_law.ensures.of_none;
-    } in
-    λ core runs pick answers.
-    begins_ended traces (option_map g.S.Sieve.keeps_to c.args.trace.now) core c.args.code.now pick start.bound c.in-Ok.told c.in-Ok.ensures.out c.in-Ok.ensures.log c.start_law.ensures.exact c.kinded_law.ensures.begins
-    start.arguments.items start.seed start.until runs c.in-Ended.ending (subst (StartsSo c.args.code.now start.arguments.items start.seed start.until start.bound) c.in-Ended.is c.in_ok-course.ensures)
+    } in (
+      c.requires.out_goes,
+      [],
+      Grew-nothing (g.O.Sink.taken c.args.out.now),
+      λ core runs pick answers.
+          begins_ended traces (option_map g.S.Sieve.keeps_to c.args.guide.now.trace) core c.args.code.now pick start.bound c.in-Ok.told c.in-Ok.ensures.out c.in-Ok.ensures.log c.start_law.ensures.exact c.kinded_law.ensures.begins
+          start.arguments.items start.seed start.until runs c.in-Ended.ending (subst (StartsSo c.args.code.now start.arguments.items start.seed start.until start.bound) c.in-Ended.is c.in_ok-course.ensures),
+    )

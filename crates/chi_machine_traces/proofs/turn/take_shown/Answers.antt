@@ -1,5 +1,3 @@
-use Rattle.std.proofs.Common.{sym, subst}
-use Rattle.chi_trace.specs.Filters.{where_shown}
 use Rattle.chi_machine_traces.proofs.Steps.{can_tell}
 use Rattle.chi_machine_traces.proofs.Showing.{label_taken, label_logged}
 use Rattle.chi_machine_traces.proofs.turn.take_shown.Goals as goal

@@ -45,11 +45,11 @@ returns-in-Some-clause-told g c =
     } in
     let gives = g.C.Chooser.gives c.args.chooser.now in
     let trace = option_map g.S.Sieve.keeps_to c.args.trace.now in
-    if_both c.take_told.result c.take_told.ensures.taken c.take_told.ensures.logs (λ end t l core beginning pick bound answers u.
+    if_both c.take_told.result c.take_told.ensures.taken c.take_told.ensures.logs (λ end t l core beginning pick bound passed answers u.
     let lawful = is_lawful gives pick answers in
     let own = sym (c.in-Some.ensures pick answers) in
-    comes_to law c.options_law.ensures.ending way traces trace core c.args.code.now beginning pick lawful bound c.args.course.now c.args.told.now u c.in-Some.label own c.take_told.new.course c.take_told.new.told end t.0 t.1 t.2
-    (l core u.config (tells law c.options_law.ensures.ending way traces trace core c.args.code.now beginning pick lawful bound c.args.course.now c.args.told.now u c.in-Some.label own c.choice_law.ensures.may_come)))
+    comes_to law c.options_law.ensures.ending way traces trace core c.args.code.now beginning pick lawful bound passed c.args.course.now c.args.told.now u c.in-Some.label own c.take_told.new.course c.take_told.new.told end t.0 t.1 t.2
+    (l core u.config (tells law c.options_law.ensures.ending way traces trace core c.args.code.now beginning pick lawful bound passed c.args.course.now c.args.told.now u c.in-Some.label own c.choice_law.ensures.may_come)))
 
 pub returns-in-None-clause-on : goal.returns-in-None-clause-on
 returns-in-None-clause-on g c =
@@ -69,6 +69,6 @@ returns-in-None-clause-told g c =
       of_none = c.tracing_law.ensures.of_none;
     } in
     let gives = g.C.Chooser.gives c.args.chooser.now in
-    λ core beginning pick bound answers u.
-    rests law c.options_law.ensures.ending way traces (option_map g.S.Sieve.keeps_to c.args.trace.now) core c.args.code.now beginning pick (is_lawful gives pick answers) bound c.args.course.now c.args.told.now u
+    λ core beginning pick bound passed answers u.
+    rests law c.options_law.ensures.ending way traces (option_map g.S.Sieve.keeps_to c.args.trace.now) core c.args.code.now beginning pick (is_lawful gives pick answers) bound passed c.args.course.now c.args.told.now u
     c.ending.result c.ending.ensures (λ e. none_ends c.safe_law.ensures.safe c.args.code.now c.args.course.now c.requires gives c.in-None.ensures pick answers (sym c.ending.ensures ∙ e))

@@ -1,14 +1,16 @@
 use Rattle.std.proofs.Common.{sym, subst}
-use Rattle.std.specs.Prelude.{IfOk}
+use Rattle.chi_tool.specs.Call.{sink_use}
 use Rattle.chi_tool.specs.Report.{IsReportFor}
-use Rattle.chi_tool.specs.Reported.{report_in}
-use Rattle.chi_tool.specs.Settings.{aim_of}
+use Rattle.chi_tool.specs.Serving.{Makes}
+use Rattle.chi_tool.specs.Settings.{aim_of, lays_out}
+use Rattle.chi_tool.proofs.Made.{makes_apart}
 use Rattle.chi_tool.proofs.serve.report_of.Goals as goal
 
 pub returns-in-OfProgram : goal.returns-in-OfProgram
-returns-in-OfProgram c =
-    subst (λ p. IfOk c.report_of_source.result (λ r. IsReportFor (aim_of p) c.args.source.now (report_in r))) (sym c.in-OfProgram.is) c.report_of_source.ensures
+returns-in-OfProgram g c =
+    subst (λ p. Makes (IsReportFor (aim_of p) c.args.source.now) (sink_use g.O.Sink.taken g.O.Sink.faults g.O.Sink.stopped c.args.out.now c.report_of_source.new.out) c.report_of_source.result) (sym c.in-OfProgram.is) c.report_of_source.ensures
 
 pub returns-in-LayOut : goal.returns-in-LayOut
-returns-in-LayOut c =
-    subst (λ p. IfOk c.report_of_layout.result (λ r. IsReportFor (aim_of p) c.args.source.now (report_in r))) (sym c.in-LayOut.is) c.report_of_layout.ensures
+returns-in-LayOut g c =
+    subst (λ p. Makes (IsReportFor (aim_of p) c.args.source.now) (sink_use g.O.Sink.taken g.O.Sink.faults g.O.Sink.stopped c.args.out.now c.args.out.now) c.unpassed.result) (sym c.in-LayOut.is)
+    (makes_apart g.O.Sink.taken g.O.Sink.faults g.O.Sink.stopped c.args.out.now c.requires.out_goes (IsReportFor lays_out c.args.source.now) c.report_of_layout.result c.unpassed.result c.unpassed.ensures c.report_of_layout.ensures)
