@@ -7,6 +7,3 @@ mod faults;
 
 pub use endings::explain_ending;
 pub use faults::fault_words;
-
-#[cfg(test)]
-mod tests;

@@ -1,4 +1,4 @@
-use crate::{RULES, explain_typing};
+use crate::explain_typing;
 use chi_token::Place;
 use std::test::Fail;
 
@@ -28,13 +28,4 @@ fn a_broken_rule_is_explained(rt: HostRuntime) -> Result<(), Fail> {
         b"m.chi:1:1: rule 41\n    pass\n    ^\n".as_slice()
     );
     Ok(())
-}
-
-#[test]
-fn the_rules_are_numbered_from_1(rt: HostRuntime) {
-    let mut number = 0;
-    for row in &RULES {
-        number += 1;
-        assert_eq!(rt; row.0, number);
-    }
 }
