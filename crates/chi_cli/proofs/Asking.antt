@@ -10,7 +10,7 @@ use Rattle.chi_cli.specs.declared.request.Request.{Request}
 use Rattle.chi_cli.specs.declared.two_files.TwoFiles.{TwoFiles}
 use Rattle.chi_cli.specs.Commands.{Text, command_named}
 use Rattle.chi_cli.specs.Parsing.{EachGiven, Gives, first, fits, has_place, if_fits, rest, taken}
-use Rattle.chi_cli.specs.Requests.{IsRefused, asked, command_request, each_once, file_with, of_two, request_of, said_request, two_files}
+use Rattle.chi_cli.specs.Requests.{IsRefused, asked, command_request, each_once, file_with, of_two, said_request, two_files}
 use Rattle.chi_cli.specs.Splitting.{Said, split}
 
 -- what fits a command is asked
@@ -27,14 +27,14 @@ fits_asked c (Some other) said is = each (fits c other) refl is where
 taken_asked : (c : Command) (words : List Text) (said : Said) → taken c words ≡ Some said → said_request c (split c words) ≡ asked c said
 taken_asked c words said is = fits_asked c (split c words) said is
 
--- the request of all words
+-- the request of the words after a command's name
 
-request_is : (name : Text) (words : List Text) (c : Command) → command_named name ≡ Some c → request_of (name ∷ words) ≡ said_request c (split c words)
+request_is : (name : Text) (words : List Text) (c : Command) → command_named name ≡ Some c → command_request (command_named name) words ≡ said_request c (split c words)
 request_is name words c named = ap (λ (found : Option Command). command_request found words) named
 
 pub fault_read : (name : Text) (words : List Text) (c : Command) (rows : List Row) (said : Said) (answer : Result Request CliFault) → command_named name ≡ Some c
     → taken c words ≡ Some said → Gives c rows said → IfErr answer (λ fault. EachGiven c rows (λ s. IsRefused (asked c s) fault))
-    → IfErr answer (λ fault. IsRefused (request_of (name ∷ words)) fault)
+    → IfErr answer (λ fault. IsRefused (command_request (command_named name) words) fault)
 fault_read name words c rows said (Ok request) named is gives asks = tt
 fault_read name words c rows said (Err fault) named is gives asks =
     subst (λ (meant : Result Request CliFault). IsRefused meant fault) (sym (request_is name words c named ∙ taken_asked c words said is)) (asks said gives)

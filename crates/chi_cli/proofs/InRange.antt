@@ -20,6 +20,8 @@ use Rattle.chi_cli.specs.declared.request.Request.{Request}
 use Rattle.chi_cli.specs.declared.request.Request.TheVariants as request
 use Rattle.chi_cli.specs.declared.words.TheConstants.{STEPS, MOST_STEPS}
 use Rattle.chi_cli.specs.Commands.{Text, command_named}
+use Rattle.chi_cli_help.specs.declared.topic.Topic.{Topic}
+use Rattle.chi_cli_help.specs.Topics.{topic_named}
 use Rattle.chi_trace.specs.declared.filter.EventKind.{EventKind}
 use Rattle.chi_trace.specs.declared.filter.Filter.{Filter}
 use Rattle.chi_trace.specs.declared.filter.Filter.TheVariants as filter
@@ -27,7 +29,7 @@ use Rattle.chi_cli.specs.declared.two_files.TwoFiles.{TwoFiles}
 use Rattle.chi_cli.specs.Numbers.{is_numeral, number_in, number_or, number_sought, time_in, time_or_none, within}
 use Rattle.chi_cli.specs.Probes.{kind_named, probe_or_all, sought}
 use Rattle.chi_cli.specs.Ranges.{IsFilter, IsInRange, IsPick, IsTime}
-use Rattle.chi_cli.specs.Requests.{asked, command_request, each_once, load, load_of, of_file, judged, of_two, one_word, pick_of, picked, policy_or_first, replayed, request_of, run_asked, said_request, sim, sim_of_file, two_files, two_files_asked, value_given}
+use Rattle.chi_cli.specs.Requests.{asked, command_request, each_once, help, help_on, load, load_of, of_file, judged, of_two, one_word, pick_of, picked, policy_or_first, replayed, request_of, run_asked, said_request, sim, sim_of_file, two_files, two_files_asked, value_given}
 use Rattle.chi_cli.specs.Splitting.{Said, name_in, split, value_in}
 use Rattle.chi_load.specs.declared.source.TheConstants.{MOST_MACHINES}
 
@@ -238,9 +240,21 @@ command_in_range : (o : Option Command) (words : List Text) → IfOk (command_re
 command_in_range None words = tt
 command_in_range (Some c) words = said_in_range c (split c words)
 
+help_on_in_range : (o : Option Topic) → IfOk (help_on o) IsInRange
+help_on_in_range None = tt
+help_on_in_range (Some topic) = tt
+
+help_in_range : (words : List Text) → IfOk (help words) IsInRange
+help_in_range [] = tt
+help_in_range (word ∷ []) = help_on_in_range (topic_named word)
+help_in_range (word ∷ other ∷ words) = tt
+
 request_in_range : (words : List Text) → IfOk (request_of words) IsInRange
 request_in_range [] = tt
-request_in_range (name ∷ words) = command_in_range (command_named name) words
+request_in_range (name ∷ words) = each (bytes_eq name (codes "help")) where
+  each : (is : Bool) → IfOk (if is then help words else command_request (command_named name) words) IsInRange
+  each true = help_in_range words
+  each false = command_in_range (command_named name) words
 
 pub numbers_in_range : (words : List Text) (request : Request) → request_of words ≡ Ok request → IsInRange request
 numbers_in_range words request e = subst (λ (answer : Result Request CliFault). IfOk answer IsInRange) e (request_in_range words)

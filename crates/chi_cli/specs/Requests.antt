@@ -14,6 +14,9 @@ use Rattle.chi_cli.specs.declared.request.Request.{Request}
 use Rattle.chi_cli.specs.declared.request.Request.TheVariants as request
 use Rattle.chi_cli.specs.declared.two_files.TwoFiles.{TwoFiles}
 use Rattle.chi_cli.specs.declared.words.TheConstants.{STEPS, MOST_STEPS}
+use Rattle.chi_cli_help.specs.declared.topic.Topic.{Topic}
+use Rattle.chi_cli_help.specs.declared.topic.Topic.TheVariants.{AllCommands}
+use Rattle.chi_cli_help.specs.Topics.{topic_named}
 use Rattle.chi_cli.specs.Commands.{Text, command_named, option_text}
 use Rattle.chi_cli.specs.Numbers.{number_in, number_or, time_or_none}
 use Rattle.chi_cli.specs.Probes.{probe_or_all}
@@ -144,10 +147,20 @@ abbrev pub command_request : Option Command → List Text → Result Request Cli
 command_request None words = Err fault.Command
 command_request (Some command) words = said_request command (split command words)
 
+abbrev pub help_on : Option Topic → Result Request CliFault
+help_on None = Err fault.Command
+help_on (Some topic) = Ok (request.Help topic)
+
+-- `help`: on all commands, or on the one that a word names
+abbrev pub help : List Text → Result Request CliFault
+help [] = Ok (request.Help AllCommands)
+help (word ∷ []) = help_on (topic_named word)
+help _ = Err fault.Usage
+
 -- the request of words, or why they are none
 abbrev pub request_of : List Text → Result Request CliFault
 request_of [] = Err fault.Command
-request_of (name ∷ words) = command_request (command_named name) words
+request_of (name ∷ words) = if bytes_eq name (codes "help") then help words else command_request (command_named name) words
 
 -- what is refused, and why; want of memory is tied to nothing
 abbrev pub IsRefused : {A : Type 0} → Result A CliFault → CliFault → Type 0

@@ -1,4 +1,5 @@
 use chi_base::Items;
+use chi_cli_help::Topic;
 use chi_num::Real;
 use chi_token::Bytes;
 use chi_trace::Filter;
@@ -88,5 +89,9 @@ pub enum Request {
     /// To bring a log of traces in version 1 to version 2.
     TraceUp {
         file: Bytes,
+    },
+    /// To say what there is to ask for, or more of one command.
+    Help {
+        topic: Topic,
     },
 }

@@ -3,9 +3,9 @@ ghost use Rattle.clap.specs.Words.{all_of, first_of, found_of, one_of, rows_of};
 ghost use Rattle.chi_cli.specs.declared.command.Command.TheVariants as command;
 ghost use Rattle.chi_cli.specs.declared.command.OptionName.TheVariants as option;
 ghost use Rattle.chi_cli.specs.declared.request.Request.TheVariants as asked_for;
-ghost use Rattle.chi_cli.specs.Commands.{option_text};
+ghost use Rattle.chi_cli.specs.Commands.{command_named, option_text};
 ghost use Rattle.chi_cli.specs.Parsing.{EachGiven, rest, truth_text};
-ghost use Rattle.chi_cli.specs.Requests.{IsRefused, asked, judged, load, of_file, of_two, picked, replayed, request_of, sim, sim_of_file, two_files, value_given};
+ghost use Rattle.chi_cli.specs.Requests.{IsRefused, asked, command_request, help, judged, load, of_file, of_two, picked, replayed, request_of, sim, sim_of_file, two_files, value_given};
 ghost use Rattle.chi_cli.specs.Saying.{texts};
 
 use crate::command::{Command, OptionName};
@@ -17,6 +17,7 @@ use crate::probe::probe_or_all;
 use crate::request::Request;
 use crate::two_files::two_files;
 use chi_base::{Items, NoMemory};
+use chi_cli_help::Topic;
 use chi_load::MOST_MACHINES;
 use chi_token::Bytes;
 use chi_trace::Filter;
@@ -37,11 +38,42 @@ pub fn read_words(alloc: Global, words: &[&str]) -> Result<Request, CliFault>
     let Some((name, words)) = words.split_first() else {
         return Err(CliFault::Command);
     };
-    let Some(command) = Command::named(name.as_bytes()) else {
+    if name.as_bytes() == b"help".as_slice() {
+        help(words)
+    } else {
+        read_command(alloc, name.as_bytes(), words)
+    }
+}
+
+/// Reads the words after the name of a command.
+fn read_command(alloc: Global, name: &[u8], words: &[&str]) -> Result<Request, CliFault>
+    ensures request { IfOk result (λ request. command_request (command_named name.now) (texts words.now) ≡ Ok request) }
+    ensures fault { IfErr result (λ fault. IsRefused (command_request (command_named name.now) (texts words.now)) fault) }
+{
+    let Some(command) = Command::named(name) else {
         return Err(CliFault::Command);
     };
     let matches = matched(alloc, command, words)?;
     asked(alloc, command, &matches)
+}
+
+/// The request for help, by the words after its own.
+fn help(words: &[&str]) -> Result<Request, CliFault>
+    ensures request { IfOk result (λ request. help (texts words.now) ≡ Ok request) }
+    ensures fault { IfErr result (λ fault. IsRefused (help (texts words.now)) fault) }
+{
+    let Some((word, others)) = words.split_first() else {
+        return Ok(Request::Help {
+            topic: Topic::AllCommands,
+        });
+    };
+    if !others.is_empty() {
+        return Err(CliFault::Usage);
+    }
+    match Topic::named(word.as_bytes()) {
+        Some(topic) => Ok(Request::Help { topic }),
+        None => Err(CliFault::Command),
+    }
 }
 
 /// The request of a command's matches.

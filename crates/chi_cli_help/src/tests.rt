@@ -29,3 +29,10 @@ Example:
     );
     Ok(())
 }
+
+#[test]
+fn a_word_names_a_command(rt: HostRuntime) -> Result<(), Fail> {
+    assert_eq!(rt; Topic::named(b"trace-up"), Some(Topic::TraceUp));
+    assert_eq!(rt; Topic::named(b"helps"), None);
+    Ok(())
+}

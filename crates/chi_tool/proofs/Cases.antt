@@ -6,10 +6,10 @@ use Rattle.chi_lex.specs.declared.lexer.TheConstants.{MOST_BYTES}
 use Rattle.chi_trace.specs.declared.log.TheConstants.{MOST_LOG_BYTES}
 use Rattle.chi_tool.specs.declared.task.Task.{Task}
 use Rattle.chi_tool.specs.declared.task.TheConstants.{MOST_BESIDE}
-use Rattle.chi_tool.specs.declared.task.Task.TheVariants.{OfFile, OfPair, OfLog, OfFactory}
+use Rattle.chi_tool.specs.declared.task.Task.TheVariants.{OfFile, OfPair, OfLog, OfFactory, OfTopic}
 use Rattle.chi_tool.specs.Call.{Call}
-use Rattle.chi_tool.specs.Headline.{IsAskedSource, held, beside, made, IsAskedLog}
-use Rattle.chi_tool.specs.Refusals.{Report, usage, no_such_file, file_too_long}
+use Rattle.chi_tool.specs.Headline.{AsksForHelp, IsAskedSource, held, beside, made, IsAskedLog}
+use Rattle.chi_tool.specs.Refusals.{Report, usage, no_such_file, file_too_long, helped}
 use Rattle.chi_tool.specs.Report.{IsReportOfSource, IsReportOfPair, IsReportOfLog, IsReportFor, IsReportOfFile, missing, long, fetched, IsReportOfTask, IsReportOfWish, IsReport}
 use Rattle.chi_tool.specs.Settings.{simulates, Aim, of_program, wanted_of, aim_of, pair_aim, plain}
 use Rattle.chi_tool.specs.Words.{Wish, nothing, of_task, wish_of}
@@ -22,6 +22,7 @@ pub data CaseOf (call : Call) (files : Files) (r : Report) : Type 0 where
   is_missing : r ≡ no_such_file → CaseOf call files r
   is_long : r ≡ file_too_long → CaseOf call files r
   of_log : (text : List ℕ) → IsAskedLog call files text → IsReportOfLog text r → CaseOf call files r
+  of_help : (asked : AsksForHelp call) → r ≡ helped asked.0 → CaseOf call files r
   of_source : (aim : Aim) (source : List ℕ) → IsAskedSource call files aim source → IsReportFor aim source r → CaseOf call files r
 
 module _ (call : Call) (files : Files) (r : Report) where
@@ -43,6 +44,7 @@ module _ (call : Call) (files : Files) (r : Report) where
       file_case MOST_LOG_BYTES IsReportOfLog (files name)
       (λ text there within of. of_log text (record { name = name; asked = asked; there = there; within = within }) of) is
   task_case (OfFactory size) asked is = of_source (of_program (simulates (wanted_of plain))) (factory_source size) (made size asked refl refl) is
+  task_case (OfTopic topic) asked is = of_help (topic, asked) is
 
   wish_case : (w : Wish) → wish_of call.words ≡ w → IsReportOfWish w files r → CaseOf call files r
   wish_case nothing asked is = asks_nothing asked is
@@ -70,3 +72,8 @@ asked_report call files aim source r (made size asked same plainly) is =
 pub asked_log_report : (call : Call) (files : Files) (text : List ℕ) (r : Report) → IsAskedLog call files text → IsReportOfLog text r → IsReport call.words files r
 asked_log_report call files text r a is =
     is_report (OfLog a.name) a.name MOST_LOG_BYTES IsReportOfLog (log_of_file a.name) call a.asked files (Some text) r a.there (fetched text refl a.within is)
+
+pub asked_help_report : (call : Call) (files : Files) (asked : AsksForHelp call) → IsReport call.words files (helped asked.0)
+asked_help_report call files asked =
+    let at_wish : Wish → Type 0 = λ w. IsReportOfWish w files (helped asked.0) in
+    subst at_wish (sym asked.1) refl

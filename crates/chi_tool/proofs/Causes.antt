@@ -14,7 +14,7 @@ use Rattle.chi_tool.specs.Running.{Course, IsRunOf, run_report}
 use Rattle.chi_tool.specs.Settings.{Wanted, Aim, settings_with}
 use Rattle.chi_tool.specs.Sources.{ComesTo}
 use Rattle.chi_tool.specs.Statuses.{status_of}
-use Rattle.chi_tool.proofs.Cases.{CaseOf, asks_nothing, is_missing, is_long, of_log, of_source, case_of, asked_report, asked_log_report}
+use Rattle.chi_tool.proofs.Cases.{CaseOf, asks_nothing, is_missing, is_long, of_log, of_help, of_source, case_of, asked_report, asked_log_report, asked_help_report}
 use Rattle.chi_tool.proofs.Contents.{status_ap, aim_bound, log_bound}
 use Rattle.chi_tool.proofs.LawClauses.{CodeLaw, ReportLaw}
 use Rattle.chi_tool.proofs.Promises.{MetOne, met_of, met_status}
@@ -53,6 +53,7 @@ module _ (call : Call) (files : Files) (r : Report) where
     asks (is_missing e) is = absurd (status.other.1 (sym is ∙ status_ap r _ e))
     asks (is_long e) is = absurd (status.other.1 (sym is ∙ status_ap r _ e))
     asks (of_log text asked of) is = absurd (not_of_log text of is)
+    asks (of_help asked e) is = absurd (no_log.0 (sym is ∙ status_ap r _ e))
     asks (of_source aim source asked of) is = (aim, source, asked, status.to aim source r of is)
 
   -- what is done: with a source, or with a log
@@ -60,7 +61,8 @@ module _ (call : Call) (files : Files) (r : Report) where
   asks_done (asks_nothing asked e) is = let h = status_ap r _ e in absurd (omega arith)
   asks_done (is_missing e) is = let h = status_ap r _ e in absurd (omega arith)
   asks_done (is_long e) is = let h = status_ap r _ e in absurd (omega arith)
-  asks_done (of_log text asked of) is = inr (text, asked, up_of text r of is)
+  asks_done (of_log text asked of) is = inr (inl (text, asked, up_of text r of is))
+  asks_done (of_help asked e) is = inr (inr asked)
   asks_done (of_source aim source asked of) is = inl (aim, source, asked, done_status.to aim source r of is)
 
   -- a line of a log doesn't fit
@@ -69,6 +71,7 @@ module _ (call : Call) (files : Files) (r : Report) where
   asks_misfit (is_missing e) is = let h = status_ap r _ e in absurd (omega arith)
   asks_misfit (is_long e) is = let h = status_ap r _ e in absurd (omega arith)
   asks_misfit (of_log text asked of) is = (text, asked, misfit_of text r of is)
+  asks_misfit (of_help asked e) is = let h = status_ap r _ e in absurd (omega arith)
   asks_misfit (of_source aim source asked of) is = let b = aim_bound aim source r of in absurd (grind arith)
 
 module _ (law : ReportLaw) (coded : CodeLaw) (call : Call) (files : Files) (one : MetOne call files) where
@@ -83,7 +86,8 @@ module _ (law : ReportLaw) (coded : CodeLaw) (call : Call) (files : Files) (one 
 
   done_is : AsksForDone call files → one.0.status ≡ 0
   done_is (inl h) = asked_status 0 IsDone done_status h
-  done_is (inr h) =
+  done_is (inr (inr h)) = same_status (refusal.helped h.0) (asked_help_report call files h)
+  done_is (inr (inl h)) =
       same_status (refusal.brought_up h.2.0) (asked_log_report call files h.0 (refusal.brought_up h.2.0) h.1 (report.up h.2.0 h.2.1 refl))
 
   misfit_is : AsksForLog call files HasMisfit → one.0.status ≡ 24

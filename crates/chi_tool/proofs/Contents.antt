@@ -1,24 +1,26 @@
 -- Which statuses the report of a file's content has, and which tasks have to do with a file.
 use Rattle.std.proofs.Common.{◌≡◌, ◌≢◌, ℕ, ◌≤◌, List, ◌⊎◌, inl, inr, ◌∙◌, ap, refl, arith}
 use Rattle.chi_cli.specs.declared.args.ArgFault.{ArgFault}
+use Rattle.chi_cli_help.specs.declared.topic.Topic.{Topic}
 use Rattle.chi_code.specs.declared.code.Code.{Code}
 use Rattle.chi_core.specs.declared.program.Core.{Core}
 use Rattle.chi_io.specs.Shelf.{Files}
 use Rattle.chi_lex.specs.declared.lexer.TheConstants.{MOST_BYTES}
+use Rattle.chi_load.specs.Factory.{factory_source}
 use Rattle.chi_trace.specs.declared.log.TheConstants.{MOST_LOG_BYTES}
 use Rattle.chi_value.specs.declared.value.Value.{Value}
 use Rattle.chi_tool.specs.declared.task.LogPurpose.{LogPurpose}
 use Rattle.chi_tool.specs.declared.task.LogPurpose.TheVariants.{Judge, Picks}
 use Rattle.chi_tool.specs.declared.task.Purpose.{Purpose}
 use Rattle.chi_tool.specs.declared.task.Task.{Task}
-use Rattle.chi_tool.specs.declared.task.Task.TheVariants.{OfFile, OfLog}
+use Rattle.chi_tool.specs.declared.task.Task.TheVariants.{OfFile, OfLog, OfFactory, OfTopic}
 use Rattle.chi_tool.specs.Call.{ShelfUse}
 use Rattle.chi_tool.specs.Headline.{IsUnread, CannotBeRead}
 use Rattle.chi_tool.specs.Refusals as refusal
 use Rattle.chi_tool.specs.Refusals.{Report}
 use Rattle.chi_tool.specs.Report.{IsReportWith, unfit, fit, IsReportByPicks, mispicked, replayed, IsReportOfReplay, IsReportOnLog, yes, no, IsReportOfJudging, IsReportOfProgram, IsReportOfSource, refused, program, IsReportOfLayout, faulty, laid_out, too_long, IsReportOfLog, up, misfit, IsReportOfFile, IsReportFor, IsReportOfTask}
 use Rattle.chi_tool.specs.Running.{Course, IsRunReport, run_report}
-use Rattle.chi_tool.specs.Settings.{Wanted, Unpicked, ProgramAim, simulates, replays, judges, checks, lists, Aim, of_program, lays_out, aim_of, settings_with}
+use Rattle.chi_tool.specs.Settings.{Wanted, Unpicked, ProgramAim, simulates, replays, judges, checks, lists, Aim, of_program, lays_out, wanted_of, aim_of, settings_with, plain}
 use Rattle.chi_tool.specs.Sources.{IsRefused, by_lexer, by_parser, unparsed, by_checker}
 use Rattle.chi_tool.specs.Words.{of_task, NamesNoFile}
 use Rattle.chi_tool.proofs.Verdicts.{status_bound}
@@ -212,3 +214,22 @@ source_of_file name purpose = record {
 
 pub log_of_file : (name : List ℕ) → IsOfFile (OfLog name) name MOST_LOG_BYTES IsReportOfLog
 log_of_file name = record { reports = λ files r is. is; unread = λ shelf is. is; named = λ none. none; own = log_status }
+
+-- a task whose report is the same with whichever files: P says it
+pub record IsUnfiled (t : Task) (P : Report → Type 0) : Type 0 where
+  pub reports : (files : Files) (r : Report) → P r → IsReportOfTask t files r
+  pub own : (r : Report) → P r → IsOfContent r.status
+
+-- the reports of a factory, and of help
+
+abbrev pub IsOfFactory : ℕ → Report → Type 0
+IsOfFactory size = IsReportOfSource (factory_source size) (simulates (wanted_of plain))
+
+abbrev pub IsOfTopic : Topic → Report → Type 0
+IsOfTopic topic r = r ≡ refusal.helped topic
+
+pub of_factory : (size : ℕ) → IsUnfiled (OfFactory size) (IsOfFactory size)
+of_factory size = record { reports = λ files r is. is; own = source_status (factory_source size) (simulates (wanted_of plain)) }
+
+pub of_topic : (topic : Topic) → IsUnfiled (OfTopic topic) (IsOfTopic topic)
+of_topic topic = record { reports = λ files r is. is; own = λ r e. of_content r.status (inl (status_ap r _ e)) }

@@ -17,7 +17,7 @@ pub mod StatusCauses
 pub mod Causes
 pub mod TwoFiles
 pub mod Served
-pub mod Factories
+pub mod Unfiled
 pub mod Simulations
 pub mod Replays
 pub mod OnLogs

@@ -24,7 +24,7 @@ use Rattle.chi_picks.specs.Lists as picks
 use Rattle.chi_sched.specs.Policies.{listed}
 use Rattle.chi_tool.specs.declared.task.LogPurpose.{LogPurpose}
 use Rattle.chi_tool.specs.declared.task.TheConstants.{MOST_BESIDE}
-use Rattle.chi_tool.specs.declared.task.Task.TheVariants.{OfFile, OfPair, OfLog, OfFactory}
+use Rattle.chi_tool.specs.declared.task.Task.TheVariants.{OfFile, OfPair, OfLog, OfFactory, OfTopic}
 use Rattle.chi_tool.specs.Arguments.{Means, Misfits}
 use Rattle.chi_tool.specs.Refusals as refusal
 use Rattle.chi_tool.specs.Refusals.{Report, usage, no_such_file, file_too_long, unfit_arguments, brought_up, accepted}
@@ -167,6 +167,7 @@ module _ (answers : AnswerLaw) (runs : RunLaw) (coded : CodeLaw) (check : CheckL
       (λ text short. source_some (of_program (pair_aim pair.purpose text)) (pair_may_be_aimed pair.purpose text bounded) source within) (files pair.beside)) (files pair.file)
   wish_some log_law (of_task (OfLog name)) bounded files = file_some MOST_LOG_BYTES IsReportOfLog (λ text within. log_some log_law text) (files name)
   wish_some log_law (of_task (OfFactory size)) bounded files = source_some (of_program (simulates (wanted_of plain))) (may_be_aimed (OfProgram (Simulate plain)) (omega arith)) (factory_source size) (factory_within size bounded)
+  wish_some log_law (of_task (OfTopic topic)) bounded files = (refusal.helped topic, refl)
 
   pub report_some : LogLaw → RangeLaw → (words : List (List ℕ)) (files : Files) → (r : Report) × IsReport words files r
   report_some log_law bounds words files = wish_some log_law (wish_of words) (bounded_wish bounds words) files
@@ -266,6 +267,7 @@ module _ (answers : AnswerLaw) (runs : RunLaw) (coded : CodeLaw) (check : CheckL
       (files pair.file) r s p q
   wish_one log_law (of_task (OfLog name)) files r s p q = file_one MOST_LOG_BYTES IsReportOfLog (λ text within. log_one log_law text) (files name) r s p q
   wish_one log_law (of_task (OfFactory size)) files r s p q = source_one (factory_source size) (of_program (simulates (wanted_of plain))) tt r s p q
+  wish_one log_law (of_task (OfTopic topic)) files r s p q = p ∙ sym q
 
   pub report_one : LogLaw → (words : List (List ℕ)) (files : Files) (r s : Report) → IsReport words files r → IsReport words files s → r ≡ s
   report_one log_law words files r s p q = wish_one log_law (wish_of words) files r s p q

@@ -13,7 +13,7 @@ use Rattle.chi_load.specs.Factory.{factory_source}
 use Rattle.chi_load.proofs.Short.{source_short}
 use Rattle.chi_tool.specs.Settings.{IsBounded, IsBoundedPair}
 use Rattle.chi_tool.specs.declared.task.Task.{Task}
-use Rattle.chi_tool.specs.declared.task.Task.TheVariants.{OfFile, OfPair, OfLog, OfFactory}
+use Rattle.chi_tool.specs.declared.task.Task.TheVariants.{OfFile, OfPair, OfLog, OfFactory, OfTopic}
 use Rattle.chi_tool.specs.Words.{Wish, nothing, of_task, task_of, is_refusal, wish_by, wish_of}
 use Rattle.chi_tool.proofs.LawClauses.{RangeLaw}
 
@@ -24,6 +24,7 @@ IsBoundedWish (of_task (OfFile name purpose)) = IsBounded purpose
 IsBoundedWish (of_task (OfPair pair)) = IsBoundedPair pair.purpose
 IsBoundedWish (of_task (OfLog name)) = Unit {0}
 IsBoundedWish (of_task (OfFactory size)) = (1 ≤ size) × (size ≤ MOST_MACHINES)
+IsBoundedWish (of_task (OfTopic topic)) = Unit {0}
 
 counted : (bound : ℕ) → bound ≤ MOST_STEPS → bound < 2 ^ 63
 counted bound most = omega arith
@@ -39,6 +40,7 @@ by_reading law words (Ok (request.Replay file picks texts seed bound until trace
 by_reading law words (Ok (request.Judge file log texts seed bound until)) is = tt
 by_reading law words (Ok (request.Picks file log texts seed bound until)) is = tt
 by_reading law words (Ok (request.TraceUp file)) is = tt
+by_reading law words (Ok (request.Help topic)) is = tt
 
 -- the source of a factory is within the limit
 pub factory_within : (size : ℕ) → (1 ≤ size) × (size ≤ MOST_MACHINES) → length (factory_source size) ≤ MOST_BYTES

@@ -16,12 +16,13 @@ use Rattle.chi_trace.specs.declared.log.TheConstants.{MOST_LOG_BYTES}
 use Rattle.chi_trace.specs.Logs as logs
 use Rattle.chi_value.specs.declared.value.Value.{Value}
 use Rattle.chi_cli.specs.declared.args.ArgFault.{ArgFault}
+use Rattle.chi_cli_help.specs.declared.topic.Topic.{Topic}
 use Rattle.chi_picks.specs.Lists as picks
 use Rattle.chi_sched.specs.Policies.{listed}
 use Rattle.chi_tool.specs.declared.task.TheConstants.{MOST_BESIDE}
 use Rattle.chi_tool.specs.declared.task.Pair.{Pair}
 use Rattle.chi_tool.specs.declared.task.Purpose.{Purpose}
-use Rattle.chi_tool.specs.declared.task.Task.TheVariants.{OfFile, OfPair, OfLog, OfFactory}
+use Rattle.chi_tool.specs.declared.task.Task.TheVariants.{OfFile, OfPair, OfLog, OfFactory, OfTopic}
 use Rattle.chi_tool.specs.Words.{Wish, nothing, of_task, wish_of, NamesNoFile}
 use Rattle.chi_tool.specs.Arguments.{Means, Misfits}
 use Rattle.chi_tool.specs.Layouts.{HasLayout}
@@ -124,6 +125,10 @@ pub record IsAskedLog (call : Call) (files : Files) (text : List ℕ) : Type 0 w
 -- one of which P holds
 abbrev pub AsksForLog : Call → Files → (List ℕ → Type 0) → Type 0
 AsksForLog call files P = (text : List ℕ) × IsAskedLog call files text × P text
+
+-- the words ask for help
+abbrev pub AsksForHelp : Call → Type 0
+AsksForHelp call = (topic : Topic) × (wish_of call.words ≡ of_task (OfTopic topic))
 
 -- there is a log that it is brought up to
 abbrev pub ComesUp : List ℕ → Type 0
@@ -277,6 +282,7 @@ CannotBeRead shelf (of_task (OfFile file purpose)) = IsUnread MOST_BYTES file sh
 CannotBeRead shelf (of_task (OfPair pair)) = IsUnread MOST_BYTES pair.file shelf ⊎ IsUnread MOST_BESIDE pair.beside shelf
 CannotBeRead shelf (of_task (OfLog file)) = IsUnread MOST_LOG_BYTES file shelf
 CannotBeRead shelf (of_task (OfFactory size)) = ⊥
+CannotBeRead shelf (of_task (OfTopic topic)) = ⊥
 
 -- the status is this one exactly where the cause holds, unless memory is wanting
 abbrev pub IsExactly : Call → ℕ → Type 0 → Type 0
@@ -296,9 +302,9 @@ pub record IsExactlyIn (call : Call) (n : ℕ) (P : Files → Type 0) : Type 0 w
 abbrev pub IsExactlyOf : Call → ℕ → (Aim → List ℕ → Type 0) → Type 0
 IsExactlyOf call n P = IsExactlyIn call n (λ files. AsksFor call files P)
 
--- a run has completed, a program is accepted, listed, laid out or can give a log, or a log of old is brought up
+-- a run has completed, a program is accepted, listed, laid out or can give a log, a log of old is brought up, or help is told
 abbrev pub AsksForDone : Call → Files → Type 0
-AsksForDone call files = AsksFor call files IsDone ⊎ AsksForLog call files ComesUp
+AsksForDone call files = AsksFor call files IsDone ⊎ (AsksForLog call files ComesUp ⊎ AsksForHelp call)
 
 -- a sink that is stopped has failed
 abbrev pub StoppedByFailure : SinkUse → Type 0

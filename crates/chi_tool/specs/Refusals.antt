@@ -3,6 +3,8 @@ use Rattle.std.specs.Prelude.{ℕ, List, [], ◌∷◌, ◌++◌, codes}
 use Rattle.std.specs.Fmt.{decimal}
 use Rattle.chi_cli.specs.declared.args.ArgFault.{ArgFault}
 use Rattle.chi_cli.specs.declared.args.ArgFault.TheVariants as arg
+use Rattle.chi_cli_help.specs.declared.topic.Topic.{Topic}
+use Rattle.chi_cli_help.specs.Help.{help_text}
 use Rattle.chi_code.specs.declared.code.Code.{Code}
 use Rattle.chi_code_listing.specs.Listing.{listing_text}
 use Rattle.chi_token.specs.declared.place.Spanned.{Spanned}
@@ -100,3 +102,7 @@ laid_out text = record { status = statuses.laid_out; out = text; log = [] }
 
 abbrev pub layout_too_long : Report
 layout_too_long = refused statuses.layout_too_long (codes "formatted text too long")
+
+-- no refusal: help on a topic is written to the output
+abbrev pub helped : Topic → Report
+helped topic = record { status = statuses.helped; out = help_text topic; log = [] }

@@ -16,7 +16,7 @@ use Rattle.chi_tool.specs.declared.task.TheConstants.{MOST_BESIDE}
 use Rattle.chi_tool.specs.declared.task.LogPurpose.{LogPurpose}
 use Rattle.chi_tool.specs.declared.task.Pair.{Pair}
 use Rattle.chi_tool.specs.declared.task.Task.{Task}
-use Rattle.chi_tool.specs.declared.task.Task.TheVariants.{OfFile, OfPair, OfLog, OfFactory}
+use Rattle.chi_tool.specs.declared.task.Task.TheVariants.{OfFile, OfPair, OfLog, OfFactory, OfTopic}
 use Rattle.chi_tool.specs.Arguments.{Means, Misfits}
 use Rattle.chi_tool.specs.Refusals as refusal
 use Rattle.chi_tool.specs.Layouts.{HasLayout}
@@ -106,6 +106,7 @@ IsReportOfTask (OfFile file purpose) files r = IsReportOfFile MOST_BYTES (IsRepo
 IsReportOfTask (OfPair pair) files r = IsReportOfPair pair files r
 IsReportOfTask (OfLog file) files r = IsReportOfFile MOST_LOG_BYTES IsReportOfLog (files file) r
 IsReportOfTask (OfFactory size) files r = IsReportOfSource (factory_source size) (simulates (wanted_of plain)) r
+IsReportOfTask (OfTopic topic) files r = r ≡ refusal.helped topic
 
 abbrev pub IsReportOfWish : Wish → Files → Report → Type 0
 IsReportOfWish nothing files r = r ≡ usage
@@ -113,6 +114,7 @@ IsReportOfWish (of_task t) files r = IsReportOfTask t files r
 
 -- r is the report of these words and files: the first refusal among words, files, bytes, tokens, program, arguments, and picks or log,
 -- or what was asked for: the output, trace and verdict of the run, that a text is a log that the program can give, with its run's output
--- or its picks, that the program is accepted, the listing of its code, the layout of the source, or what the log of old is brought up to
+-- or its picks, that the program is accepted, the listing of its code, the layout of the source, what the log of old is brought up to, or
+-- the text of help
 abbrev pub IsReport : List (List ℕ) → Files → Report → Type 0
 IsReport words files r = IsReportOfWish (wish_of words) files r

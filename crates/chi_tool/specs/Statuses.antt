@@ -106,6 +106,11 @@ brought_up = 0
 abbrev pub misfit : ℕ
 misfit = 24
 
+-- help is told
+
+abbrev pub helped : ℕ
+helped = 0
+
 -- or the report isn't delivered: a sink failed
 
 abbrev pub not_written : ℕ

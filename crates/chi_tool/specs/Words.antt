@@ -22,8 +22,8 @@ abbrev pub unpicked : List (List ℕ) → ℕ → ℕ → Option ℤ → Option 
 unpicked texts seed bound until trace =
     record { terms = record { seed = seed; bound = bound; policy = record {}; until = until; trace = trace }; texts = texts }
 
--- a run, a run by picks, the judgement on a log or its picks, a check, a listing of code, a layout, a run of a factory, or a log of old that is to
--- be brought up
+-- a run, a run by picks, the judgement on a log or its picks, a check, a listing of code, a layout, a run of a factory, a log of old that is to
+-- be brought up, or help
 abbrev pub task_of : Request → Task
 task_of (request.Sim file texts seed bound until pick trace probe) =
     task.OfFile file (OfProgram (Simulate (record { terms = record { seed = seed; bound = bound; policy = pick; until = until; trace = trace_by trace probe }; texts = texts })))
@@ -38,6 +38,7 @@ task_of (request.Judge file log texts seed bound until) =
 task_of (request.Picks file log texts seed bound until) =
     task.OfPair (record { file = file; beside = log; purpose = OnLog Picks (unpicked texts seed bound until None) })
 task_of (request.TraceUp file) = task.OfLog file
+task_of (request.Help topic) = task.OfTopic topic
 
 -- nothing, since the words are no request; or a task
 pub data Wish : Type 0 where
@@ -58,6 +59,7 @@ NamesNoFile (of_task (task.OfFile file purpose)) = ⊥
 NamesNoFile (of_task (task.OfPair pair)) = ⊥
 NamesNoFile (of_task (task.OfLog file)) = ⊥
 NamesNoFile (of_task (task.OfFactory size)) = Unit {0}
+NamesNoFile (of_task (task.OfTopic topic)) = Unit {0}
 
 -- words are refused; want of memory is no refusal of theirs
 abbrev pub is_refusal : CliFault → Bool

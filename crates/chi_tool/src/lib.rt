@@ -6,6 +6,7 @@ mod by_picks;
 mod code;
 mod deliver;
 mod fetching;
+mod help;
 mod laws;
 mod layout;
 mod library;

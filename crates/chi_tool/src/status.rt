@@ -74,6 +74,9 @@ pub const ARGUMENTS: u8 = 23;
 /// A log is brought up.
 pub const BROUGHT_UP: u8 = 0;
 
+/// Help is told.
+pub const HELPED: u8 = 0;
+
 /// A line of a log that is to be brought up doesn't fit.
 pub const MISFIT: u8 = 24;
 

@@ -4,6 +4,7 @@ ghost use Rattle.chi_tool.specs.Settings.{plain};
 use crate::settings::{ByPicks, Terms};
 use chi_base::{Items, NoMemory};
 use chi_cli::{Pick, STEPS};
+use chi_cli_help::Topic;
 use chi_token::Bytes;
 use chi_trace::Filter;
 use std::alloc::Global;
@@ -92,4 +93,6 @@ pub enum Task {
     OfLog { file: Bytes },
     /// A factory of this size is run.
     OfFactory { size: u32 },
+    /// Help is told on a command, or on all.
+    OfTopic { topic: Topic },
 }

@@ -4,6 +4,7 @@ ghost use Rattle.chi_tool.specs.Call.{sink_use, shelf_use};
 ghost use Rattle.chi_tool.specs.Headline.{Headline, Causes, IsComplete};
 
 use crate::deliver::deliver;
+use crate::help::serve_help;
 use crate::laws::{one_code_law, one_run_law, report_law};
 use crate::logs::serve_log;
 use crate::pairs::serve_pair;
@@ -67,6 +68,7 @@ pub fn chi<H: Shelf, O: Sink, L: Sink>(
             Task::OfPair(pair) => serve_pair(alloc, &pair, shelf, out, log),
             Task::OfLog { file } => serve_log(alloc, file.as_slice(), shelf, out, log),
             Task::OfFactory { size } => serve_factory(alloc, size, out, log),
+            Task::OfTopic { topic } => serve_help(alloc, topic, out, log),
         },
         Err(fault) => {
             if !is_refusal(fault) {

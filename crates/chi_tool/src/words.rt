@@ -97,6 +97,7 @@ pub fn task_of(request: Request) -> Task
             ),
         }),
         Request::TraceUp { file } => Task::OfLog { file },
+        Request::Help { topic } => Task::OfTopic { topic },
     }
 }
 

@@ -2,17 +2,17 @@ use Rattle.std.proofs.Common.{◌≡◌, refl, sym, subst, ◌∙◌}
 use Rattle.chi_cli.specs.Saying.{texts}
 use Rattle.chi_lex.specs.declared.lexer.TheConstants.{MOST_BYTES}
 use Rattle.chi_trace.specs.declared.log.TheConstants.{MOST_LOG_BYTES}
-use Rattle.chi_tool.specs.declared.task.Task.TheVariants.{OfFile, OfPair, OfLog, OfFactory}
+use Rattle.chi_tool.specs.declared.task.Task.TheVariants.{OfFile, OfPair, OfLog, OfFactory, OfTopic}
 use Rattle.chi_tool.specs.Report.{IsReportOfLog, IsReportFor}
 use Rattle.chi_tool.specs.Settings.{aim_of}
 use Rattle.chi_tool.specs.Words.{task_of}
-use Rattle.chi_tool.proofs.Contents.{source_of_file, log_of_file}
-use Rattle.chi_tool.proofs.Factories.{factory-headline, factory-causes, factory-complete}
+use Rattle.chi_tool.proofs.Contents.{source_of_file, log_of_file, IsOfFactory, of_factory, IsOfTopic, of_topic}
 use Rattle.chi_tool.proofs.LawClauses.{RunLaw, CodeLaw, ReportLaw}
 use Rattle.chi_tool.proofs.TwoFiles.{names_pair}
 use Rattle.chi_tool.proofs.Promises.{names_file, usage-headline, lost-headline}
 use Rattle.chi_tool.proofs.Served.{served-headline, served-causes, served-complete, pair-headline, pair-causes, pair-complete, usage-causes, usage-complete, lost-causes, lost-complete}
 use Rattle.chi_tool.proofs.Sinks.{still}
+use Rattle.chi_tool.proofs.Unfiled.{unfiled-headline, unfiled-causes, unfiled-complete}
 use Rattle.chi_tool.proofs.Wishes.{IsBoundedWish, bounded_wish, wish_task, wish_nothing}
 use Rattle.chi_tool.proofs.top.chi.Goals as goal
 
@@ -144,17 +144,35 @@ serve_factory-requires-clause-most g c =
 pub returns-in-OfFactory-clause-headline : goal.returns-in-OfFactory-clause-headline
 returns-in-OfFactory-clause-headline g c =
     let law : ReportLaw = record { some = c.report_law.ensures.some; one = c.report_law.ensures.one } in
-    factory-headline _ c.in-OfFactory.size (wish_task (texts c.args.words.now) c.in-Ok.request (OfFactory c.in-OfFactory.size) c.in-Ok.ensures.request c.in-OfFactory.ensures) law c.serve_factory.ensures
+    unfiled-headline (OfFactory c.in-OfFactory.size) (IsOfFactory c.in-OfFactory.size) (of_factory c.in-OfFactory.size) _ (wish_task (texts c.args.words.now) c.in-Ok.request (OfFactory c.in-OfFactory.size) c.in-Ok.ensures.request c.in-OfFactory.ensures) law c.serve_factory.ensures
 
 pub returns-in-OfFactory-clause-causes : goal.returns-in-OfFactory-clause-causes
 returns-in-OfFactory-clause-causes g c =
     let law : ReportLaw = record { some = c.report_law.ensures.some; one = c.report_law.ensures.one } in
     let coded : CodeLaw = record { some = c.one_code_law.ensures.some; one = c.one_code_law.ensures.one } in
-    factory-causes _ c.in-OfFactory.size (wish_task (texts c.args.words.now) c.in-Ok.request (OfFactory c.in-OfFactory.size) c.in-Ok.ensures.request c.in-OfFactory.ensures) law coded c.serve_factory.ensures
+    unfiled-causes (OfFactory c.in-OfFactory.size) (IsOfFactory c.in-OfFactory.size) (of_factory c.in-OfFactory.size) _ (wish_task (texts c.args.words.now) c.in-Ok.request (OfFactory c.in-OfFactory.size) c.in-Ok.ensures.request c.in-OfFactory.ensures) law coded c.serve_factory.ensures
 
 pub returns-in-OfFactory-clause-complete : goal.returns-in-OfFactory-clause-complete
 returns-in-OfFactory-clause-complete g c =
     let law : ReportLaw = record { some = c.report_law.ensures.some; one = c.report_law.ensures.one } in
     let coded : CodeLaw = record { some = c.one_code_law.ensures.some; one = c.one_code_law.ensures.one } in
     let runs : RunLaw = record { some = c.one_run_law.ensures.some; one = c.one_run_law.ensures.one } in
-    factory-complete _ c.in-OfFactory.size (wish_task (texts c.args.words.now) c.in-Ok.request (OfFactory c.in-OfFactory.size) c.in-Ok.ensures.request c.in-OfFactory.ensures) runs c.values_are_of_parameters.ensures c.numbers_are_in_range.ensures law coded c.serve_factory.ensures
+    unfiled-complete (OfFactory c.in-OfFactory.size) (IsOfFactory c.in-OfFactory.size) (of_factory c.in-OfFactory.size) _ (wish_task (texts c.args.words.now) c.in-Ok.request (OfFactory c.in-OfFactory.size) c.in-Ok.ensures.request c.in-OfFactory.ensures) runs c.values_are_of_parameters.ensures c.numbers_are_in_range.ensures law coded c.serve_factory.ensures
+
+pub returns-in-OfTopic-clause-headline : goal.returns-in-OfTopic-clause-headline
+returns-in-OfTopic-clause-headline g c =
+    let law : ReportLaw = record { some = c.report_law.ensures.some; one = c.report_law.ensures.one } in
+    unfiled-headline (OfTopic c.in-OfTopic.topic) (IsOfTopic c.in-OfTopic.topic) (of_topic c.in-OfTopic.topic) _ (wish_task (texts c.args.words.now) c.in-Ok.request (OfTopic c.in-OfTopic.topic) c.in-Ok.ensures.request c.in-OfTopic.ensures) law c.serve_help.ensures
+
+pub returns-in-OfTopic-clause-causes : goal.returns-in-OfTopic-clause-causes
+returns-in-OfTopic-clause-causes g c =
+    let law : ReportLaw = record { some = c.report_law.ensures.some; one = c.report_law.ensures.one } in
+    let coded : CodeLaw = record { some = c.one_code_law.ensures.some; one = c.one_code_law.ensures.one } in
+    unfiled-causes (OfTopic c.in-OfTopic.topic) (IsOfTopic c.in-OfTopic.topic) (of_topic c.in-OfTopic.topic) _ (wish_task (texts c.args.words.now) c.in-Ok.request (OfTopic c.in-OfTopic.topic) c.in-Ok.ensures.request c.in-OfTopic.ensures) law coded c.serve_help.ensures
+
+pub returns-in-OfTopic-clause-complete : goal.returns-in-OfTopic-clause-complete
+returns-in-OfTopic-clause-complete g c =
+    let law : ReportLaw = record { some = c.report_law.ensures.some; one = c.report_law.ensures.one } in
+    let coded : CodeLaw = record { some = c.one_code_law.ensures.some; one = c.one_code_law.ensures.one } in
+    let runs : RunLaw = record { some = c.one_run_law.ensures.some; one = c.one_run_law.ensures.one } in
+    unfiled-complete (OfTopic c.in-OfTopic.topic) (IsOfTopic c.in-OfTopic.topic) (of_topic c.in-OfTopic.topic) _ (wish_task (texts c.args.words.now) c.in-Ok.request (OfTopic c.in-OfTopic.topic) c.in-Ok.ensures.request c.in-OfTopic.ensures) runs c.values_are_of_parameters.ensures c.numbers_are_in_range.ensures law coded c.serve_help.ensures
