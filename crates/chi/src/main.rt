@@ -1,6 +1,7 @@
 //! The program `chi`: the real files and streams, the words of the command line, and the top call.
 #![tactic(auto)]
 
+use chi_engine::Machines;
 use chi_io::{DiskShelf, StdSink};
 use chi_tool::chi;
 use std::alloc::AllocError;
@@ -39,7 +40,7 @@ fn run(rt: &HostRuntime) -> Result<u8, AllocError> {
     let mut shelf = DiskShelf::new(rt);
     let mut out = StdSink::new(rt.stdout());
     let mut log = StdSink::new(rt.stderr());
-    Ok(chi(alloc, &words, &mut shelf, &mut out, &mut log))
+    Ok(chi(alloc, &words, &mut shelf, &mut out, &mut log, &mut Machines))
 }
 
 fn main(rt: HostRuntime) -> ExitCode {

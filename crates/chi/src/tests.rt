@@ -6,6 +6,7 @@ mod requests;
 mod values;
 mod worked;
 
+use chi_engine::Machines;
 use chi_io::{MemShelf, MemSink};
 use chi_tool::chi;
 use std::alloc::{AllocError, Global};
@@ -60,7 +61,7 @@ fn expect(
     let mut shelf = shelf_of(alloc, source, Vec::new(alloc))?;
     let mut out = MemSink::new(alloc, 65_536, 65_536, Vec::new(alloc))?;
     let mut log = MemSink::new(alloc, 65_536, 65_536, Vec::new(alloc))?;
-    let status = chi(alloc, words, &mut shelf, &mut out, &mut log);
+    let status = chi(alloc, words, &mut shelf, &mut out, &mut log, &mut Machines);
     assert_eq!(rt; log.bytes(), wanted.log.as_bytes(), "the log of {about:?}");
     assert_eq!(rt;
         out.bytes(),
@@ -114,7 +115,14 @@ fn failures_end_the_writing(rt: HostRuntime) -> Result<(), Fail> {
         let mut shelf = shelf_of(alloc, source.as_bytes(), Vec::from_slice(alloc, fetch)?)?;
         let mut out = MemSink::new(alloc, 65_536, most, Vec::from_slice(alloc, out_put)?)?;
         let mut log = MemSink::new(alloc, 65_536, most, Vec::from_slice(alloc, log_put)?)?;
-        let status = chi(alloc, &[command, "m.chi"], &mut shelf, &mut out, &mut log);
+        let status = chi(
+            alloc,
+            &[command, "m.chi"],
+            &mut shelf,
+            &mut out,
+            &mut log,
+            &mut Machines,
+        );
         assert_eq!(rt; out.bytes(), wanted_out.as_bytes());
         assert_eq!(rt; log.bytes(), wanted_log.as_bytes());
         assert_eq!(rt; status, wanted);

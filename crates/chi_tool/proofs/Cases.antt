@@ -4,6 +4,7 @@ use Rattle.chi_io.specs.Shelf.{Files}
 use Rattle.chi_load.specs.Factory.{factory_source}
 use Rattle.chi_lex.specs.declared.lexer.TheConstants.{MOST_BYTES}
 use Rattle.chi_trace.specs.declared.log.TheConstants.{MOST_LOG_BYTES}
+use Rattle.chi_engine.specs.Courses.{Runs}
 use Rattle.chi_tool.specs.declared.task.Task.{Task}
 use Rattle.chi_tool.specs.declared.task.TheConstants.{MOST_BESIDE}
 use Rattle.chi_tool.specs.declared.task.Task.TheVariants.{OfFile, OfPair, OfLog, OfFactory, OfTopic}
@@ -17,28 +18,28 @@ use Rattle.chi_tool.proofs.Contents.{source_of_file, log_of_file}
 use Rattle.chi_tool.proofs.Promises.{is_report}
 
 -- what a report is of
-pub data CaseOf (call : Call) (files : Files) (r : Report) : Type 0 where
-  asks_nothing : wish_of call.words ≡ nothing → r ≡ usage → CaseOf call files r
-  is_missing : r ≡ no_such_file → CaseOf call files r
-  is_long : r ≡ file_too_long → CaseOf call files r
-  of_log : (text : List ℕ) → IsAskedLog call files text → IsReportOfLog text r → CaseOf call files r
-  of_help : (asked : AsksForHelp call) → r ≡ helped asked.0 → CaseOf call files r
-  of_source : (aim : Aim) (source : List ℕ) → IsAskedSource call files aim source → IsReportFor aim source r → CaseOf call files r
+pub data CaseOf (runs : Runs) (call : Call) (files : Files) (r : Report) : Type 0 where
+  asks_nothing : wish_of call.words ≡ nothing → r ≡ usage → CaseOf runs call files r
+  is_missing : r ≡ no_such_file → CaseOf runs call files r
+  is_long : r ≡ file_too_long → CaseOf runs call files r
+  of_log : (text : List ℕ) → IsAskedLog call files text → IsReportOfLog text r → CaseOf runs call files r
+  of_help : (asked : AsksForHelp call) → r ≡ helped asked.0 → CaseOf runs call files r
+  of_source : (aim : Aim) (source : List ℕ) → IsAskedSource call files aim source → IsReportFor runs aim source r → CaseOf runs call files r
 
-module _ (call : Call) (files : Files) (r : Report) where
+module _ (runs : Runs) (call : Call) (files : Files) (r : Report) where
   file_case : (most : ℕ) (P : List ℕ → Report → Type 0) (o : Option (List ℕ))
-      → ((content : List ℕ) → o ≡ Some content → length content ≤ most → P content r → CaseOf call files r) → IsReportOfFile most P o r → CaseOf call files r
+      → ((content : List ℕ) → o ≡ Some content → length content ≤ most → P content r → CaseOf runs call files r) → IsReportOfFile most P o r → CaseOf runs call files r
   file_case most P o fits (missing there is) = is_missing is
   file_case most P o fits (long content there above is) = is_long is
   file_case most P o fits (fetched content there within is) = fits content there within is
 
-  task_case : (t : Task) → wish_of call.words ≡ of_task t → IsReportOfTask t files r → CaseOf call files r
+  task_case : (t : Task) → wish_of call.words ≡ of_task t → IsReportOfTask runs t files r → CaseOf runs call files r
   task_case (OfFile name purpose) asked is =
-      file_case MOST_BYTES (IsReportFor (aim_of purpose)) (files name)
+      file_case MOST_BYTES (IsReportFor runs (aim_of purpose)) (files name)
       (λ source there within of. of_source (aim_of purpose) source (held name purpose asked there within refl) of) is
   task_case (OfPair pair) asked is =
-      file_case MOST_BYTES (λ source. IsReportOfFile MOST_BESIDE (λ text. IsReportOfSource source (pair_aim pair.purpose text)) (files pair.beside)) (files pair.file)
-      (λ source there within. file_case MOST_BESIDE (λ text. IsReportOfSource source (pair_aim pair.purpose text)) (files pair.beside)
+      file_case MOST_BYTES (λ source. IsReportOfFile MOST_BESIDE (λ text. IsReportOfSource runs source (pair_aim pair.purpose text)) (files pair.beside)) (files pair.file)
+      (λ source there within. file_case MOST_BESIDE (λ text. IsReportOfSource runs source (pair_aim pair.purpose text)) (files pair.beside)
       (λ text also short of. of_source (of_program (pair_aim pair.purpose text)) source (beside pair text asked there within also short refl) of)) is
   task_case (OfLog name) asked is =
       file_case MOST_LOG_BYTES IsReportOfLog (files name)
@@ -46,34 +47,34 @@ module _ (call : Call) (files : Files) (r : Report) where
   task_case (OfFactory size) asked is = of_source (of_program (simulates (wanted_of plain))) (factory_source size) (made size asked refl refl) is
   task_case (OfTopic topic) asked is = of_help (topic, asked) is
 
-  wish_case : (w : Wish) → wish_of call.words ≡ w → IsReportOfWish w files r → CaseOf call files r
+  wish_case : (w : Wish) → wish_of call.words ≡ w → IsReportOfWish runs w files r → CaseOf runs call files r
   wish_case nothing asked is = asks_nothing asked is
   wish_case (of_task t) asked is = task_case t asked is
 
-pub case_of : (call : Call) (files : Files) (r : Report) → IsReport call.words files r → CaseOf call files r
-case_of call files r is = wish_case call files r (wish_of call.words) refl is
+pub case_of : (runs : Runs) (call : Call) (files : Files) (r : Report) → IsReport runs call.words files r → CaseOf runs call files r
+case_of runs call files r is = wish_case runs call files r (wish_of call.words) refl is
 
 -- the other way round
-pub asked_report : (call : Call) (files : Files) (aim : Aim) (source : List ℕ) (r : Report) → IsAskedSource call files aim source
-    → IsReportFor aim source r → IsReport call.words files r
-asked_report call files aim source r (held name purpose asked there within same) is =
-    is_report (OfFile name purpose) name MOST_BYTES (IsReportFor (aim_of purpose)) (source_of_file name purpose) call asked files (Some source) r there
-    (fetched source refl within (subst (λ (a : Aim). IsReportFor a source r) same is))
-asked_report call files aim source r (beside pair text asked there within also short same) is =
-    let of_text : IsReportOfSource source (pair_aim pair.purpose text) r = subst (λ (a : Aim). IsReportFor a source r) same is in
-    let of_pair : IsReportOfPair pair files r = fetched source there within (fetched text also short of_text) in
-    let at_wish : Wish → Type 0 = λ w. IsReportOfWish w files r in
+pub asked_report : (runs : Runs) (call : Call) (files : Files) (aim : Aim) (source : List ℕ) (r : Report) → IsAskedSource call files aim source
+    → IsReportFor runs aim source r → IsReport runs call.words files r
+asked_report runs call files aim source r (held name purpose asked there within same) is =
+    is_report runs (OfFile name purpose) name MOST_BYTES (IsReportFor runs (aim_of purpose)) (source_of_file runs name purpose) call asked files (Some source) r there
+    (fetched source refl within (subst (λ (a : Aim). IsReportFor runs a source r) same is))
+asked_report runs call files aim source r (beside pair text asked there within also short same) is =
+    let of_text : IsReportOfSource runs source (pair_aim pair.purpose text) r = subst (λ (a : Aim). IsReportFor runs a source r) same is in
+    let of_pair : IsReportOfPair runs pair files r = fetched source there within (fetched text also short of_text) in
+    let at_wish : Wish → Type 0 = λ w. IsReportOfWish runs w files r in
     subst at_wish (sym asked) of_pair
-asked_report call files aim source r (made size asked same plainly) is =
-    let of_size : IsReportFor aim (factory_source size) r = subst (λ (s : List ℕ). IsReportFor aim s r) same is in
-    let at_wish : Wish → Type 0 = λ w. IsReportOfWish w files r in
-    subst at_wish (sym asked) (subst (λ (a : Aim). IsReportFor a (factory_source size) r) plainly of_size)
+asked_report runs call files aim source r (made size asked same plainly) is =
+    let of_size : IsReportFor runs aim (factory_source size) r = subst (λ (s : List ℕ). IsReportFor runs aim s r) same is in
+    let at_wish : Wish → Type 0 = λ w. IsReportOfWish runs w files r in
+    subst at_wish (sym asked) (subst (λ (a : Aim). IsReportFor runs a (factory_source size) r) plainly of_size)
 
-pub asked_log_report : (call : Call) (files : Files) (text : List ℕ) (r : Report) → IsAskedLog call files text → IsReportOfLog text r → IsReport call.words files r
-asked_log_report call files text r a is =
-    is_report (OfLog a.name) a.name MOST_LOG_BYTES IsReportOfLog (log_of_file a.name) call a.asked files (Some text) r a.there (fetched text refl a.within is)
+pub asked_log_report : (runs : Runs) (call : Call) (files : Files) (text : List ℕ) (r : Report) → IsAskedLog call files text → IsReportOfLog text r → IsReport runs call.words files r
+asked_log_report runs call files text r a is =
+    is_report runs (OfLog a.name) a.name MOST_LOG_BYTES IsReportOfLog (log_of_file runs a.name) call a.asked files (Some text) r a.there (fetched text refl a.within is)
 
-pub asked_help_report : (call : Call) (files : Files) (asked : AsksForHelp call) → IsReport call.words files (helped asked.0)
-asked_help_report call files asked =
-    let at_wish : Wish → Type 0 = λ w. IsReportOfWish w files (helped asked.0) in
+pub asked_help_report : (runs : Runs) (call : Call) (files : Files) (asked : AsksForHelp call) → IsReport runs call.words files (helped asked.0)
+asked_help_report runs call files asked =
+    let at_wish : Wish → Type 0 = λ w. IsReportOfWish runs w files (helped asked.0) in
     subst at_wish (sym asked.1) refl

@@ -9,6 +9,7 @@ use Rattle.chi_lex.specs.declared.lexer.TheConstants.{MOST_BYTES}
 use Rattle.chi_load.specs.Factory.{factory_source}
 use Rattle.chi_trace.specs.declared.log.TheConstants.{MOST_LOG_BYTES}
 use Rattle.chi_value.specs.declared.value.Value.{Value}
+use Rattle.chi_engine.specs.Courses.{Course, Runs}
 use Rattle.chi_tool.specs.declared.task.LogPurpose.{LogPurpose}
 use Rattle.chi_tool.specs.declared.task.LogPurpose.TheVariants.{Judge, Picks}
 use Rattle.chi_tool.specs.declared.task.Purpose.{Purpose}
@@ -19,7 +20,7 @@ use Rattle.chi_tool.specs.Headline.{IsUnread, CannotBeRead}
 use Rattle.chi_tool.specs.Refusals as refusal
 use Rattle.chi_tool.specs.Refusals.{Report}
 use Rattle.chi_tool.specs.Report.{IsReportWith, unfit, fit, IsReportByPicks, mispicked, replayed, IsReportOfReplay, IsReportOnLog, yes, no, IsReportOfJudging, IsReportOfProgram, IsReportOfSource, refused, program, IsReportOfLayout, faulty, laid_out, too_long, IsReportOfLog, up, misfit, IsReportOfFile, IsReportFor, IsReportOfTask}
-use Rattle.chi_tool.specs.Running.{Course, IsRunReport, run_report}
+use Rattle.chi_tool.specs.Running.{IsRunReport, run_report}
 use Rattle.chi_tool.specs.Settings.{Wanted, Unpicked, ProgramAim, simulates, replays, judges, checks, lists, Aim, of_program, lays_out, wanted_of, aim_of, settings_with, plain}
 use Rattle.chi_tool.specs.Sources.{IsRefused, by_lexer, by_parser, unparsed, by_checker}
 use Rattle.chi_tool.specs.Words.{of_task, NamesNoFile}
@@ -51,16 +52,16 @@ log_case : (core : Core) (purpose : LogPurpose) (u : Unpicked) (text : List ℕ)
 log_case core purpose u text values r (yes output numbers log is) = is_judged purpose output numbers is
 log_case core purpose u text values r (no k refuses is) = is_no_log k is
 
-program_case : (core : Core) (aim : ProgramAim) (r : Report) → IsReportOfProgram core aim r → ProgramCase core r
-program_case core checks r is = is_accepted is
-program_case core lists r is = is_listed is.code is.listed
-program_case core (simulates w) r is = with_case core w.texts (λ values. IsRunReport core (settings_with w values)) r (λ values of. is_run of.course of.is) is
-program_case core (replays u text) r is = with_case core u.texts (IsReportByPicks core u text) r (λ values of. picks_case core u text values r of) is
-program_case core (judges purpose u text) r is = with_case core u.texts (IsReportOnLog core purpose u text) r (λ values of. log_case core purpose u text values r of) is
+program_case : (runs : Runs) (core : Core) (aim : ProgramAim) (r : Report) → IsReportOfProgram runs core aim r → ProgramCase core r
+program_case runs core checks r is = is_accepted is
+program_case runs core lists r is = is_listed is.code is.listed
+program_case runs core (simulates w) r is = with_case core w.texts (λ values. IsRunReport runs core (settings_with w values)) r (λ values of. is_run of.course of.is) is
+program_case runs core (replays u text) r is = with_case core u.texts (IsReportByPicks core u text) r (λ values of. picks_case core u text values r of) is
+program_case runs core (judges purpose u text) r is = with_case core u.texts (IsReportOnLog core purpose u text) r (λ values of. log_case core purpose u text values r of) is
 
 -- which statuses a run's report has
 pub ran_bound : (core : Core) (course : Course) (r : Report) → r ≡ run_report core course → (r.status ≡ 0) ⊎ ((10 ≤ r.status) × (r.status ≤ 14))
-ran_bound core course r e = by (status_bound course.told.ending.verdict) (status_ap r _ e)
+ran_bound core course r e = by (status_bound course.ending.verdict) (status_ap r _ e)
   where
     by : {n : ℕ} → (n ≡ 0) ⊎ ((10 ≤ n) × (n ≤ 14)) → r.status ≡ n → (r.status ≡ 0) ⊎ ((10 ≤ r.status) × (r.status ≤ 14))
     by (inl z) is = inl (is ∙ z)
@@ -105,8 +106,8 @@ program_status core r (is_run course e) = by (ran_bound core course r e)
     by (inl z) = inl z
     by (inr b) = inr (inl b)
 
-pub source_program : (core : Core) (aim : ProgramAim) (r : Report) → IsReportOfProgram core aim r → OfProgramStatus r.status
-source_program core aim r is = program_status core r (program_case core aim r is)
+pub source_program : (runs : Runs) (core : Core) (aim : ProgramAim) (r : Report) → IsReportOfProgram runs core aim r → OfProgramStatus r.status
+source_program runs core aim r is = program_status core r (program_case runs core aim r is)
 
 -- which a source's refusal has
 pub refused_bound : (source : List ℕ) (r : Report) → IsRefused source r → (20 ≤ r.status) × (r.status ≤ 22)
@@ -118,9 +119,9 @@ refused_bound source r (by_checker fault has e) = let is = status_ap r _ e in (o
 abbrev pub OfSourceStatus : ℕ → Type 0
 OfSourceStatus n = (n ≡ 0) ⊎ (((10 ≤ n) × (n ≤ 23)) ⊎ ((25 ≤ n) × (n ≤ 26)))
 
-pub source_bound : (source : List ℕ) (aim : ProgramAim) (r : Report) → IsReportOfSource source aim r → OfSourceStatus r.status
-source_bound source aim r (refused is) = let b = refused_bound source r is in let low = b.0 in let high = b.1 in inr (inl (omega arith, omega arith))
-source_bound source aim r (program core comes of) = widened (source_program core aim r of)
+pub source_bound : (runs : Runs) (source : List ℕ) (aim : ProgramAim) (r : Report) → IsReportOfSource runs source aim r → OfSourceStatus r.status
+source_bound runs source aim r (refused is) = let b = refused_bound source r is in let low = b.0 in let high = b.1 in inr (inl (omega arith, omega arith))
+source_bound runs source aim r (program core comes of) = widened (source_program runs core aim r of)
   where
     widened : OfProgramStatus r.status → OfSourceStatus r.status
     widened (inl z) = inl z
@@ -129,10 +130,10 @@ source_bound source aim r (program core comes of) = widened (source_program core
     widened (inr (inr (inr e))) = inr (inr e)
 
 -- the same where its program is run by a policy
-pub simulated_bound : (source : List ℕ) (w : Wanted) (r : Report) → IsReportOfSource source (simulates w) r → (r.status ≡ 0) ⊎ ((10 ≤ r.status) × (r.status ≤ 23))
-simulated_bound source w r (refused is) = let b = refused_bound source r is in let low = b.0 in let high = b.1 in inr (omega arith, omega arith)
-simulated_bound source w r (program core comes (unfit wanted fault misfits e)) = let is = status_ap r _ e in inr (omega arith, omega arith)
-simulated_bound source w r (program core comes (fit values means of)) = by (ran_bound core of.course r of.is)
+pub simulated_bound : (runs : Runs) (source : List ℕ) (w : Wanted) (r : Report) → IsReportOfSource runs source (simulates w) r → (r.status ≡ 0) ⊎ ((10 ≤ r.status) × (r.status ≤ 23))
+simulated_bound runs source w r (refused is) = let b = refused_bound source r is in let low = b.0 in let high = b.1 in inr (omega arith, omega arith)
+simulated_bound runs source w r (program core comes (unfit wanted fault misfits e)) = let is = status_ap r _ e in inr (omega arith, omega arith)
+simulated_bound runs source w r (program core comes (fit values means of)) = by (ran_bound core of.course r of.is)
   where
     by : (r.status ≡ 0) ⊎ ((10 ≤ r.status) × (r.status ≤ 14)) → (r.status ≡ 0) ⊎ ((10 ≤ r.status) × (r.status ≤ 23))
     by (inl z) = inl z
@@ -149,14 +150,14 @@ layout_bound source r (too_long text has above e) = inr (inr (inr (status_ap r _
 abbrev pub OfAimStatus : ℕ → Type 0
 OfAimStatus n = (n ≡ 0) ⊎ (((10 ≤ n) × (n ≤ 23)) ⊎ ((25 ≤ n) × (n ≤ 27)))
 
-pub aim_bound : (aim : Aim) (source : List ℕ) (r : Report) → IsReportFor aim source r → OfAimStatus r.status
-aim_bound (of_program aim) source r of = widened (source_bound source aim r of)
+pub aim_bound : (runs : Runs) (aim : Aim) (source : List ℕ) (r : Report) → IsReportFor runs aim source r → OfAimStatus r.status
+aim_bound runs (of_program aim) source r of = widened (source_bound runs source aim r of)
   where
     widened : OfSourceStatus r.status → OfAimStatus r.status
     widened (inl z) = inl z
     widened (inr (inl b)) = inr (inl b)
     widened (inr (inr b)) = let high = b.1 in inr (inr (b.0, omega arith))
-aim_bound lays_out source r of = widened (layout_bound source r of)
+aim_bound runs lays_out source r of = widened (layout_bound source r of)
   where
     widened : (r.status ≡ 0) ⊎ ((r.status ≡ 20) ⊎ ((r.status ≡ 21) ⊎ (r.status ≡ 27))) → OfAimStatus r.status
     widened (inl z) = inl z
@@ -179,16 +180,16 @@ of_content : (n : ℕ) → (n ≡ 0) ⊎ (10 ≤ n) → IsOfContent n
 of_content n (inl z) = record { is_request = λ h. omega arith; is_read = λ h. omega arith; is_written = λ h. omega arith }
 of_content n (inr low) = record { is_request = λ h. omega arith; is_read = λ h. omega arith; is_written = λ h. omega arith }
 
-pub aim_status : (aim : Aim) (source : List ℕ) (r : Report) → IsReportFor aim source r → IsOfContent r.status
-aim_status aim source r of = of_content r.status (low (aim_bound aim source r of))
+pub aim_status : (runs : Runs) (aim : Aim) (source : List ℕ) (r : Report) → IsReportFor runs aim source r → IsOfContent r.status
+aim_status runs aim source r of = of_content r.status (low (aim_bound runs aim source r of))
   where
     low : OfAimStatus r.status → (r.status ≡ 0) ⊎ (10 ≤ r.status)
     low (inl z) = inl z
     low (inr (inl b)) = inr b.0
     low (inr (inr b)) = let above = b.0 in inr (omega arith)
 
-pub source_status : (source : List ℕ) (aim : ProgramAim) (r : Report) → IsReportOfSource source aim r → IsOfContent r.status
-source_status source aim r of = aim_status (of_program aim) source r of
+pub source_status : (runs : Runs) (source : List ℕ) (aim : ProgramAim) (r : Report) → IsReportOfSource runs source aim r → IsOfContent r.status
+source_status runs source aim r of = aim_status runs (of_program aim) source r of
 
 log_status : (text : List ℕ) (r : Report) → IsReportOfLog text r → IsOfContent r.status
 log_status text r of = of_content r.status (low (log_bound text r of))
@@ -198,38 +199,38 @@ log_status text r of = of_content r.status (low (log_bound text r of))
     low (inr e) = inr (omega arith)
 
 -- a task is done with the content of the file of this name, within a limit, and P says its report
-pub record IsOfFile (t : Task) (name : List ℕ) (most : ℕ) (P : List ℕ → Report → Type 0) : Type 0 where
-  pub reports : (files : Files) (r : Report) → IsReportOfFile most P (files name) r → IsReportOfTask t files r
+pub record IsOfFile (runs : Runs) (t : Task) (name : List ℕ) (most : ℕ) (P : List ℕ → Report → Type 0) : Type 0 where
+  pub reports : (files : Files) (r : Report) → IsReportOfFile most P (files name) r → IsReportOfTask runs t files r
   pub unread : (shelf : ShelfUse) → IsUnread most name shelf → CannotBeRead shelf (of_task t)
   pub named : NamesNoFile (of_task t) → ⊥
   pub own : (content : List ℕ) (r : Report) → P content r → IsOfContent r.status
 
-pub source_of_file : (name : List ℕ) (purpose : Purpose) → IsOfFile (OfFile name purpose) name MOST_BYTES (IsReportFor (aim_of purpose))
-source_of_file name purpose = record {
+pub source_of_file : (runs : Runs) (name : List ℕ) (purpose : Purpose) → IsOfFile runs (OfFile name purpose) name MOST_BYTES (IsReportFor runs (aim_of purpose))
+source_of_file runs name purpose = record {
   reports = λ files r is. is;
   unread = λ shelf is. is;
   named = λ none. none;
-  own = λ source r is. aim_status (aim_of purpose) source r is;
+  own = λ source r is. aim_status runs (aim_of purpose) source r is;
 }
 
-pub log_of_file : (name : List ℕ) → IsOfFile (OfLog name) name MOST_LOG_BYTES IsReportOfLog
-log_of_file name = record { reports = λ files r is. is; unread = λ shelf is. is; named = λ none. none; own = log_status }
+pub log_of_file : (runs : Runs) (name : List ℕ) → IsOfFile runs (OfLog name) name MOST_LOG_BYTES IsReportOfLog
+log_of_file runs name = record { reports = λ files r is. is; unread = λ shelf is. is; named = λ none. none; own = log_status }
 
 -- a task whose report is the same with whichever files: P says it
-pub record IsUnfiled (t : Task) (P : Report → Type 0) : Type 0 where
-  pub reports : (files : Files) (r : Report) → P r → IsReportOfTask t files r
+pub record IsUnfiled (runs : Runs) (t : Task) (P : Report → Type 0) : Type 0 where
+  pub reports : (files : Files) (r : Report) → P r → IsReportOfTask runs t files r
   pub own : (r : Report) → P r → IsOfContent r.status
 
 -- the reports of a factory, and of help
 
-abbrev pub IsOfFactory : ℕ → Report → Type 0
-IsOfFactory size = IsReportOfSource (factory_source size) (simulates (wanted_of plain))
+abbrev pub IsOfFactory : Runs → ℕ → Report → Type 0
+IsOfFactory runs size = IsReportOfSource runs (factory_source size) (simulates (wanted_of plain))
 
 abbrev pub IsOfTopic : Topic → Report → Type 0
 IsOfTopic topic r = r ≡ refusal.helped topic
 
-pub of_factory : (size : ℕ) → IsUnfiled (OfFactory size) (IsOfFactory size)
-of_factory size = record { reports = λ files r is. is; own = source_status (factory_source size) (simulates (wanted_of plain)) }
+pub of_factory : (runs : Runs) (size : ℕ) → IsUnfiled runs (OfFactory size) (IsOfFactory runs size)
+of_factory runs size = record { reports = λ files r is. is; own = source_status runs (factory_source size) (simulates (wanted_of plain)) }
 
-pub of_topic : (topic : Topic) → IsUnfiled (OfTopic topic) (IsOfTopic topic)
-of_topic topic = record { reports = λ files r is. is; own = λ r e. of_content r.status (inl (status_ap r _ e)) }
+pub of_topic : (runs : Runs) (topic : Topic) → IsUnfiled runs (OfTopic topic) (IsOfTopic topic)
+of_topic runs topic = record { reports = λ files r is. is; own = λ r e. of_content r.status (inl (status_ap r _ e)) }

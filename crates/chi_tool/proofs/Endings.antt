@@ -1,12 +1,12 @@
 -- How a call ends by which a report is told, or a file is refused.
-use Rattle.std.proofs.Common.{◌≡◌, ◌≢◌, ℕ, ◌<◌, ◌≤◌, true, false, List, [], Option, Some, None, length, ◌⊎◌, inl, inr, sym, ◌∙◌, subst, refl, arith}
+use Rattle.std.proofs.Common.{◌≡◌, ◌≢◌, ℕ, ◌<◌, true, false, List, [], Option, Some, None, length, ◌⊎◌, inl, inr, sym, ◌∙◌, subst, arith}
 use Rattle.std.specs.Prelude.{IsSomeAnd}
 use Rattle.chi_io.specs.Shelf.{Files}
 use Rattle.chi_tool.specs.Call.{SinkUse, ShelfUse, Took}
 use Rattle.chi_tool.specs.Delivery.{Delivers, whole, out_broke, log_broke}
 use Rattle.chi_tool.specs.Headline.{IsNoContent, IsUnread, StoppedByFailure}
 use Rattle.chi_tool.specs.Refusals.{Report}
-use Rattle.chi_tool.specs.Serving.{Tells, told, cut_short, untold, Refuses, missing, long, failed, lost, Serves, served, refused}
+use Rattle.chi_tool.specs.Serving.{Tells, told, cut_short, untold, Refuses, missing, long, failed, lost}
 use Rattle.chi_tool.proofs.Contents.{IsOfContent}
 
 pub goes_stopped : (sink : SinkUse) → sink.stopped ≡ false → sink.stopped ≡ true → ⊥

@@ -15,7 +15,10 @@ use Rattle.chi_tree_laws.specs.Answers.{IsAnswer, IsProgram}
 use Rattle.chi_core.specs.declared.program.Core.{Core}
 use Rattle.chi_core.specs.Kinds.{kinds_of}
 use Rattle.chi_core.specs.Of.{at_start, AreOf}
+use Rattle.chi_core.specs.Runs.{Told}
 use Rattle.chi_core.specs.Sound.{Sound}
+use Rattle.chi_engine.specs.Courses.{Course, Runs, MayHave, IsRunOf, ComesToOne}
+use Rattle.chi_engine.specs.Settings.{Settings}
 use Rattle.chi_lex.specs.declared.lexer.TheConstants.{MOST_BYTES}
 use Rattle.chi_lex.specs.Reading.{Reads}
 use Rattle.chi_check.specs.Programs.{checked, Answers}
@@ -29,9 +32,9 @@ use Rattle.chi_types.specs.declared.ty.Ty.{Ty}
 use Rattle.chi_value.specs.declared.value.Value.{Value}
 use Rattle.chi_tool.specs.Refusals.{Report}
 use Rattle.chi_tool.specs.Report.{IsReportFor, IsReport}
-use Rattle.chi_tool.specs.Running.{Course, IsRunOf, MayHave}
-use Rattle.chi_tool.specs.Settings.{Aim, IsShortFor, MayBeAimed, Settings}
-use Rattle.chi_tool.specs.Simulations.{AreOwnPicks, IsDerived}
+use Rattle.chi_tool.specs.Running.{runs_for}
+use Rattle.chi_tool.specs.Settings.{Aim, IsShortFor, MayBeAimed}
+use Rattle.chi_tool.specs.Simulations.{AreOwnPicks, IsDerived, course_of}
 use Rattle.chi_tool.specs.Sources.{ComesTo}
 
 -- tokens are one program, or have one fault
@@ -40,10 +43,15 @@ pub record AnswerLaw : Type 0 where
   pub one : (tokens : List Spanned) (result other : Result Program ParseFault)
       → IsAnswer tokens result → IsAnswer tokens other → result ≡ other
 
--- the program that a source within the limit comes to has one run with settings that it may have
-pub record RunLaw : Type 0 where
-  pub some : (source : List ℕ) (core : Core) → length source ≤ MOST_BYTES → ComesTo source core → (s : Settings) → MayHave core s → (course : Course) × IsRunOf core s course
-  pub one : (core : Core) (s : Settings) (course other : Course) → IsRunOf core s course → IsRunOf core s other → course ≡ other
+-- of the run of the program that a source within the limit comes to, for whichever aim, comes one thing with settings that it may have
+pub record RunLaw (runs : Runs) : Type 0 where
+  pub some : (aim : Aim) (source : List ℕ) (core : Core) → length source ≤ MOST_BYTES → ComesTo source core → (s : Settings) → MayHave core s
+      → (course : Course) × runs_for runs aim core s course
+  pub one : (aim : Aim) → ComesToOne (runs_for runs aim)
+
+-- it has a run by the meaning
+abbrev pub HasRun : Type 0
+HasRun = (source : List ℕ) (core : Core) → length source ≤ MOST_BYTES → ComesTo source core → (s : Settings) → MayHave core s → (course : Course) × IsRunOf core s course
 
 -- that program has one code
 pub record CodeLaw : Type 0 where
@@ -81,8 +89,8 @@ pub record LogLaw : Type 0 where
 -- the run by the list of a derivation's own picks is that derivation
 abbrev pub OwnLaw : Type 0
 OwnLaw =
-    (core : Core) (s : Settings) (course : Course) (numbers : List ℕ) → IsDerived core s course → AreOwnPicks core s course numbers
-    → s.pick ≡ listed numbers → IsRunOf core s course
+    (core : Core) (s : Settings) (told : Told) (log numbers : List ℕ) → IsDerived core s told log → AreOwnPicks core s told numbers
+    → s.pick ≡ listed numbers → IsRunOf core s (course_of told log)
 
 -- a text has one list of picks, or one first line that doesn't fit
 pub record PicksLaw : Type 0 where
@@ -97,12 +105,12 @@ pub record JudgeLaw : Type 0 where
   pub one_log : OneLog
   pub one_line : OneFirstWrong
 
--- a source within the limit has one report
+-- a source within the limit has one report, by the runs of the meaning
 pub record SourceLaw : Type 0 where
-  pub some : (source : List ℕ) (aim : Aim) → length source ≤ MOST_BYTES → MayBeAimed aim → (r : Report) × IsReportFor aim source r
-  pub one : (source : List ℕ) (aim : Aim) → IsShortFor aim source → (r other : Report) → IsReportFor aim source r → IsReportFor aim source other → r ≡ other
+  pub some : (source : List ℕ) (aim : Aim) → length source ≤ MOST_BYTES → MayBeAimed aim → (r : Report) × IsReportFor IsRunOf aim source r
+  pub one : (source : List ℕ) (aim : Aim) → IsShortFor aim source → (r other : Report) → IsReportFor IsRunOf aim source r → IsReportFor IsRunOf aim source other → r ≡ other
 
 -- words and files have one report
-pub record ReportLaw : Type 0 where
-  pub some : (words : List (List ℕ)) (files : Files) → (r : Report) × IsReport words files r
-  pub one : (words : List (List ℕ)) (files : Files) (r other : Report) → IsReport words files r → IsReport words files other → r ≡ other
+pub record ReportLaw (runs : Runs) : Type 0 where
+  pub some : (words : List (List ℕ)) (files : Files) → (r : Report) × IsReport runs words files r
+  pub one : (words : List (List ℕ)) (files : Files) (r other : Report) → IsReport runs words files r → IsReport runs words files other → r ≡ other

@@ -1,31 +1,23 @@
 -- Reports that are made while their output is passed on.
-use Rattle.std.proofs.Common.{◌≡◌, ℕ, ◌<◌, ◌≤◌, ◌^◌, ℤ, Bool, false, List, [], ◌++◌, Option, Some, ◌⊎◌, inl, inr, refl, sym, ap, subst, arith}
-use Rattle.std.specs.Prelude.{option_map, slice_get, Result, Ok, Err, IfOk, IsErrAnd}
+use Rattle.std.proofs.Common.{◌≡◌, ℕ, ◌≤◌, ℤ, Bool, false, List, [], ◌++◌, Option, inl, inr, refl, sym, ◌∙◌, ap, subst, arith, append-nil}
+use Rattle.std.specs.Prelude.{option_map, Result, Ok, Err, IfOk, IsErrAnd}
 use Rattle.chi_base.specs.declared.no_memory.NoMemory.{NoMemory}
 use Rattle.chi_io.specs.Counts.{Rose}
 use Rattle.chi_io.specs.Sink.{Grew}
 use Rattle.chi_value.specs.declared.value.Value.{Value}
-use Rattle.chi_code.specs.declared.code.Code.{Code}
 use Rattle.chi_core.specs.declared.program.Core.{Core}
-use Rattle.chi_core.specs.declared.program.ProcDef.{ProcDef}
-use Rattle.chi_core.specs.Beginning.{start}
-use Rattle.chi_core.specs.Kinds.{kinds_of}
-use Rattle.chi_core.specs.Of.{at_start, AreOf}
-use Rattle.chi_core.specs.Picks.{Pick, IsLawful}
-use Rattle.chi_core.specs.Sound.{Sound}
-use Rattle.chi_core_runs.specs.Picked.{PickedIsDerived, PickedAlways}
+use Rattle.chi_core.specs.Options.{Ending}
+use Rattle.chi_core.specs.Picks.{Pick}
+use Rattle.chi_engine.proofs.Policies.{formula_given, itself}
+use Rattle.chi_engine.specs.Courses.{Runs, IsRunOf}
+use Rattle.chi_engine.specs.Running.{RunsTo}
+use Rattle.chi_engine.specs.Settings.{Settings}
 use Rattle.chi_machine_traces.specs.declared.passing.PassFault.{PassFault}
 use Rattle.chi_machine_traces.specs.declared.passing.PassFault.TheVariants as fault
-use Rattle.chi_machine_traces.specs.declared.run.Ran.{Ran}
-use Rattle.chi_machine_traces.specs.Passing.{OfRun, Fails}
-use Rattle.chi_machine_traces.specs.Told.{IsTold, told_with}
-use Rattle.chi_cli.specs.declared.request.Pick as words
 use Rattle.chi_picks.specs.Lists as picks
 use Rattle.chi_sched.specs.Policies.{Answers, listed}
 use Rattle.chi_trace.specs.declared.filter.Filter.{Filter}
-use Rattle.chi_trace_events.specs.Laws.{EachHasATrace}
 use Rattle.chi_tool.specs.declared.report.Reported.{Reported}
-use Rattle.chi_tool.specs.declared.task.Asked.{Asked}
 use Rattle.chi_tool.specs.Arguments.{Means}
 use Rattle.chi_tool.specs.Call.{SinkUse, sink_use}
 use Rattle.chi_tool.specs.Delivery.{TookWhole, Delivers, out_broke}
@@ -33,12 +25,12 @@ use Rattle.chi_tool.specs.Refusals.{Report}
 use Rattle.chi_tool.specs.Refusals as refusal
 use Rattle.chi_tool.specs.Report.{IsReportOfRun, fit, IsReportByPicks, mispicked, replayed, IsReportOfProgram, IsReportOfSource, program}
 use Rattle.chi_tool.specs.Reported.{report_in, report_after, unpassed}
-use Rattle.chi_tool.specs.Running.{Course, IsRunOf, IsRunReport, MayHave, run_report}
+use Rattle.chi_tool.specs.Running.{IsRunReport, run_report}
 use Rattle.chi_tool.specs.Serving.{Makes, status_without, Tells, told, cut_short, untold}
-use Rattle.chi_tool.specs.Settings.{Settings, Wanted, Unpicked, settings_with, ProgramAim, simulates, wanted_of, policy_of}
+use Rattle.chi_tool.specs.Settings.{Wanted, Unpicked, settings_with, ProgramAim, simulates}
 use Rattle.chi_tool.specs.Sources.{ComesTo}
-use Rattle.chi_tool.proofs.Runs.{sound_run, if_ok, formula_given, itself, named_lawful, listed_lawful}
-use Rattle.chi_tool.proofs.Sinks.{still, delivers_then}
+use Rattle.chi_tool.proofs.Runs.{if_ok, listed_lawful}
+use Rattle.chi_tool.proofs.Sinks.{still, delivers_then, whole_front}
 
 -- what holds of the report that is made
 pub makes_on : (P Q : Report → Type 0) (out : SinkUse) (result : Result Reported PassFault) → ((r : Report) → P r → Q r) → Makes P out result → Makes Q out result
@@ -95,83 +87,79 @@ tells_none P fault.NoMemory result out log same (inr (r, is, part)) none = cut_s
 after_passed : (passed : List ℕ) (r : Reported) (other : Report) → report_in r ≡ other → report_after passed r ≡ record { status = other.status; out = passed ++ other.out; log = other.log }
 after_passed passed r other is = ap (λ (x : Report). record { status = x.status; out = passed ++ x.out; log = x.log }) is
 
-module _ (core : Core) (s : Settings) where
-  -- it was told to its end
-  module _ (out : SinkUse) (passed : List ℕ) (took : TookWhole out passed) (count : out.faults_before ≤ out.faults_after) (ran : Ran)
-      (t : IsTold s.trace core (start core s.arguments s.seed s.until) s.pick s.bound passed ran) where
-    abbrev course : Course
-    course = record { told = told_with t.labels passed ran; log = ran.told.log.items }
+module _ (runs : Runs) (core : Core) (s : Settings) (out : SinkUse) (logged : List ℕ → Type 0) where
+  -- so it came out
+  abbrev pub RanSo : Result Ending PassFault → Type 0
+  RanSo result = RunsTo (runs core s) core (Grew out.before out.after) logged (Rose out.faults_before out.faults_after) out.stopped result
 
-    course_run : IsRunOf core s course
-    course_run = record { picked = t.picked; logged = t.logged }
+  -- it ran to its end
+  module _ (end : Ending) (lines : List ℕ) (all : (log : List ℕ) → logged log → lines ≡ log) (count : out.faults_before ≤ out.faults_after) (ran : RanSo (Ok end)) where
+    its : IsRunReport runs core s (run_report core ran.1.course)
+    its = record { course = ran.1.course; run = ran.1.run; is = refl }
+
+    whole : (r : Reported) → report_in r ≡ run_report core (record { output = []; log = lines; ending = end }) → report_after ran.1.course.output r ≡ run_report core ran.1.course
+    whole r is =
+        let at : List ℕ → Ending → Report = λ log ending. run_report core (record { output = ran.1.course.output; log = log; ending = ending }) in
+        let writing : List ℕ → Report = λ bytes. run_report core (record { output = bytes; log = lines; ending = end }) in
+        after_passed ran.1.course.output r (run_report core (record { output = []; log = lines; ending = end })) is
+        ∙ ap writing (append-nil ran.1.course.output)
+        ∙ (λ i. at (all ran.1.course.log ran.1.logged_all i) (sym ran.1.ended i))
 
     pub ran_makes : (made : Result Reported NoMemory) (result : Result Reported PassFault) → result ≡ unpassed made
-        → IfOk made (λ r. report_in r ≡ run_report core (record { told = told_with [] [] ran; log = ran.told.log.items })) → Makes (IsRunReport core s) out result
-    ran_makes made result same is = subst (Makes (IsRunReport core s) out) (sym same) (by made is)
+        → IfOk made (λ r. report_in r ≡ run_report core (record { output = []; log = lines; ending = end })) → Makes (IsRunReport runs core s) out result
+    ran_makes made result same is = subst (Makes (IsRunReport runs core s) out) (sym same) (by made is)
       where
-        by : (made' : Result Reported NoMemory) → IfOk made' (λ r. report_in r ≡ run_report core (record { told = told_with [] [] ran; log = ran.told.log.items })) → Makes (IsRunReport core s) out (unpassed made')
-        by (Ok r) e = (passed, took, count, record { course = course; run = course_run; is = after_passed passed r _ e })
-        by (Err lost) e =
-            inr (run_report core course, record { course = course; run = course_run; is = refl }, record { took = (passed, (ran.told.out.items, refl), took.took); goes = took.goes })
+        by : (made' : Result Reported NoMemory) → IfOk made' (λ r. report_in r ≡ run_report core (record { output = []; log = lines; ending = end })) → Makes (IsRunReport runs core s) out (unpassed made')
+        by (Ok r) e = (ran.1.course.output, record { took = ran.1.took_all; goes = ran.0 }, count, subst (IsRunReport runs core s) (sym (whole r e)) its)
+        by (Err lost) e = inr (run_report core ran.1.course, its, record { took = whole_front out ran.1.course.output ran.1.took_all; goes = ran.0 })
 
-  -- it wasn't
-  pub fault_makes : PickedAlways → PickedIsDerived → EachHasATrace → Sound core → MayHave core s → (out : SinkUse) (lost : PassFault) (each : OfRun → Type 0)
-      → ((P : OfRun) → each P → P core (start core s.arguments s.seed s.until) s.pick s.bound)
-      → Fails each (Grew out.before out.after) (Rose out.faults_before out.faults_after) out.stopped lost
-      → Makes (IsRunReport core s) out (Err lost)
-  fault_makes always derived traces sound may out fault.Stopped each here (halted, rose, passed, took, past) =
-      let run = sound_run always derived traces core sound s may in
-      (run_report core run.0, record { course = run.0; run = run.1; is = refl }, record { took = (passed, here _ past run.0.told run.1.picked, took); rose = rose; stopped = halted })
-  fault_makes always derived traces sound may out fault.NoMemory each here (goes, passed, took, begins) =
-      let run = sound_run always derived traces core sound s may in
-      inr (run_report core run.0, record { course = run.0; run = run.1; is = refl }, record { took = (passed, here _ begins run.0.told run.1.picked, took); goes = goes })
+  -- it didn't
+  pub fault_makes : (lost : PassFault) → RanSo (Err lost) → Makes (IsRunReport runs core s) out (Err lost)
+  fault_makes fault.Stopped (halted, rose, so) =
+      (run_report core so.course, record { course = so.course; run = so.run; is = refl }, record { took = (so.front, so.part, so.took_part); rose = rose; stopped = halted })
+  fault_makes fault.NoMemory (goes, so) =
+      inr (run_report core so.course, record { course = so.course; run = so.run; is = refl }, record { took = (so.front, so.part, so.took_part); goes = goes })
 
 -- the report of a run by a list of numbers
 pub listed_ran : (core : Core) (u : Unpicked) (values : List Value) (text numbers : List ℕ) (out : SinkUse) (result : Result Reported PassFault) → picks.Has text numbers
     → ((pick : Pick) → Answers (λ question count answer. answer ≡ listed numbers question count) pick
-    → Makes (IsRunReport core (record { seed = u.seed; bound = u.bound; pick = pick; arguments = values; until = u.until; trace = option_map (λ (filter : Filter). filter) u.trace })) out result)
+    → Makes (IsRunReport IsRunOf core (record { seed = u.seed; bound = u.bound; pick = pick; arguments = values; until = u.until; trace = option_map (λ (filter : Filter). filter) u.trace })) out result)
     → Makes (IsReportByPicks core u text values) out result
 listed_ran core u values text numbers out result has is =
     let at : Option Filter → Type 0 = λ trace.
-    Makes (IsRunReport core (record { seed = u.seed; bound = u.bound; pick = listed numbers; arguments = values; until = u.until; trace = trace })) out result in
+    Makes (IsRunReport IsRunOf core (record { seed = u.seed; bound = u.bound; pick = listed numbers; arguments = values; until = u.until; trace = trace })) out result in
     let w : Settings = record { seed = u.seed; bound = u.bound; pick = listed numbers; arguments = values; until = u.until; trace = u.trace } in
-    makes_on (IsRunReport core w) (IsReportByPicks core u text values) out result (λ r of. replayed numbers has of) (subst at (itself u.trace) (is (listed numbers) (formula_given (listed numbers) (listed_lawful numbers))))
+    makes_on (IsRunReport IsRunOf core w) (IsReportByPicks core u text values) out result (λ r of. replayed numbers has of) (subst at (itself u.trace) (is (listed numbers) (formula_given (listed numbers) (listed_lawful numbers))))
 
 -- the refusal of picks
 pub mispicked_told : (core : Core) (u : Unpicked) (values : List Value) (text : List ℕ) (k : ℕ) (made : Result Reported NoMemory) → picks.Misfits text k
     → IfOk made (λ r. report_in r ≡ refusal.mispicked k) → IfOk made (λ r. IsReportByPicks core u text values (report_in r))
 mispicked_told core u values text k made misfits line = if_ok made (λ r is. mispicked k misfits is) line
 
--- the report of a run with the formula that words ask for as its policy
-pub formula_ran : (p : words.Pick) (core : Core) (a : Asked words.Pick) (out : SinkUse) (result : Result Reported PassFault) → a.terms.policy ≡ p
-    → ((pick : Pick) → Answers (λ question count answer. answer ≡ policy_of p question count) pick
-    → Makes (IsReportOfRun core (record { seed = a.terms.seed; bound = a.terms.bound; pick = pick; texts = a.texts; until = a.terms.until; trace = option_map (λ (filter : Filter). filter) a.terms.trace })) out result)
-    → Makes (IsReportOfRun core (wanted_of a)) out result
-formula_ran p core a out result same is =
-    let at : words.Pick → Option Filter → Type 0 = λ q trace.
-    Makes (IsReportOfRun core (record { seed = a.terms.seed; bound = a.terms.bound; pick = policy_of q; texts = a.texts; until = a.terms.until; trace = trace })) out result in
-    subst (λ q. at q a.terms.trace) (sym same)
-    (subst (at p) (itself a.terms.trace) (is (policy_of p) (formula_given (policy_of p) (named_lawful p))))
-
--- the report of a run with arguments that are read, whatever the policy picks
-pub model_ran : (gives : ℕ → ℕ → ℕ → Type 0) (core : Core) (seed bound : ℕ) (texts : List (List ℕ)) (until : Option ℤ) (trace : Option Filter) (out : SinkUse) (result : Result Reported PassFault)
-    (values : List Value) → Means core texts values
-    → ((pick : Pick) → Answers gives pick → Makes (IsRunReport core (record { seed = seed; bound = bound; pick = pick; arguments = values; until = until; trace = trace })) out result)
-    → (pick : Pick) → Answers gives pick → Makes (IsReportOfRun core (record { seed = seed; bound = bound; pick = pick; texts = texts; until = until; trace = trace })) out result
-model_ran gives core seed bound texts until trace out result values means ran pick answers =
-    let w : Wanted = record { seed = seed; bound = bound; pick = pick; texts = texts; until = until; trace = trace } in
-    makes_on (IsRunReport core (settings_with w values)) (IsReportOfRun core w) out result (λ r of. fit values means of) (ran pick answers)
-
--- the report of a source that comes to a program
-pub program_reported : (source : List ℕ) (core : Core) (aim : ProgramAim) (out : SinkUse) (result : Result Reported PassFault) → ComesTo source core
-    → Makes (IsReportOfProgram core aim) out result → Makes (IsReportOfSource source aim) out result
-program_reported source core aim out result comes is = makes_on (IsReportOfProgram core aim) (IsReportOfSource source aim) out result (λ r of. program core comes of) is
+-- the report of a run with arguments that are read
+pub fit_ran : (runs : Runs) (core : Core) (w : Wanted) (out : SinkUse) (result : Result Reported PassFault) (values : List Value) → Means core w.texts values
+    → Makes (IsRunReport runs core (settings_with w values)) out result → Makes (IsReportOfRun runs core w) out result
+fit_ran runs core w out result values means ran = makes_on (IsRunReport runs core (settings_with w values)) (IsReportOfRun runs core w) out result (λ r of. fit values means of) ran
 
 -- the same, whatever the policy picks
+pub model_ran : (gives : ℕ → ℕ → ℕ → Type 0) (core : Core) (seed bound : ℕ) (texts : List (List ℕ)) (until : Option ℤ) (trace : Option Filter) (out : SinkUse) (result : Result Reported PassFault)
+    (values : List Value) → Means core texts values
+    → ((pick : Pick) → Answers gives pick → Makes (IsRunReport IsRunOf core (record { seed = seed; bound = bound; pick = pick; arguments = values; until = until; trace = trace })) out result)
+    → (pick : Pick) → Answers gives pick → Makes (IsReportOfRun IsRunOf core (record { seed = seed; bound = bound; pick = pick; texts = texts; until = until; trace = trace })) out result
+model_ran gives core seed bound texts until trace out result values means ran pick answers =
+    let w : Wanted = record { seed = seed; bound = bound; pick = pick; texts = texts; until = until; trace = trace } in
+    fit_ran IsRunOf core w out result values means (ran pick answers)
+
+-- the report of a source that comes to a program
+pub program_reported : (runs : Runs) (source : List ℕ) (core : Core) (aim : ProgramAim) (out : SinkUse) (result : Result Reported PassFault) → ComesTo source core
+    → Makes (IsReportOfProgram runs core aim) out result → Makes (IsReportOfSource runs source aim) out result
+program_reported runs source core aim out result comes is = makes_on (IsReportOfProgram runs core aim) (IsReportOfSource runs source aim) out result (λ r of. program core comes of) is
+
+-- the same of a run, whatever the policy picks
 pub terms_reported : (gives : ℕ → ℕ → ℕ → Type 0) (source : List ℕ) (core : Core) (seed bound : ℕ) (texts : List (List ℕ)) (until : Option ℤ) (trace : Option Filter) (out : SinkUse)
     (result : Result Reported PassFault) → ComesTo source core
-    → ((pick : Pick) → Answers gives pick → Makes (IsReportOfRun core (record { seed = seed; bound = bound; pick = pick; texts = texts; until = until; trace = trace })) out result)
-    → (pick : Pick) → Answers gives pick → Makes (IsReportOfSource source (simulates (record { seed = seed; bound = bound; pick = pick; texts = texts; until = until; trace = trace }))) out result
+    → ((pick : Pick) → Answers gives pick → Makes (IsReportOfRun IsRunOf core (record { seed = seed; bound = bound; pick = pick; texts = texts; until = until; trace = trace })) out result)
+    → (pick : Pick) → Answers gives pick → Makes (IsReportOfSource IsRunOf source (simulates (record { seed = seed; bound = bound; pick = pick; texts = texts; until = until; trace = trace }))) out result
 terms_reported gives source core seed bound texts until trace out result comes is pick answers =
     let w : Wanted = record { seed = seed; bound = bound; pick = pick; texts = texts; until = until; trace = trace } in
-    makes_on (IsReportOfRun core w) (IsReportOfSource source (simulates w)) out result (λ r of. program core comes of) (is pick answers)
+    makes_on (IsReportOfRun IsRunOf core w) (IsReportOfSource IsRunOf source (simulates w)) out result (λ r of. program core comes of) (is pick answers)

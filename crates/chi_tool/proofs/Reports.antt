@@ -18,6 +18,8 @@ use Rattle.chi_trace.specs.declared.log.TheConstants.{MOST_LOG_BYTES}
 use Rattle.chi_trace.specs.Logs as logs
 use Rattle.chi_trace.specs.Logs.{IsUp}
 use Rattle.chi_value.specs.declared.value.Value.{Value}
+use Rattle.chi_engine.specs.Courses.{Runs, IsRunOf}
+use Rattle.chi_engine.specs.Settings.{Settings}
 use Rattle.chi_tool.specs.declared.task.Purpose.TheVariants.{OfProgram}
 use Rattle.chi_tool.specs.declared.task.ProgramPurpose.TheVariants.{Simulate}
 use Rattle.chi_picks.specs.Lists as picks
@@ -30,8 +32,8 @@ use Rattle.chi_tool.specs.Refusals as refusal
 use Rattle.chi_tool.specs.Refusals.{Report, usage, no_such_file, file_too_long, unfit_arguments, brought_up, accepted}
 use Rattle.chi_tool.specs.Report.{IsReportWith, unfit, fit, IsReportByPicks, mispicked, replayed, IsReportOnLog, yes, no, IsReportOfProgram, IsReportOfSource, refused, program, IsReportOfLog, up, misfit, IsReportFor, IsReportOfFile, missing, long, fetched, IsReportOfWish, IsReport}
 use Rattle.chi_tool.specs.OnLogs.{IsNoLogWith}
-use Rattle.chi_tool.specs.Running.{IsRunReport, run_report}
-use Rattle.chi_tool.specs.Settings.{Settings, Wanted, Unpicked, picked_by, ProgramAim, simulates, replays, judges, checks, lists, Aim, of_program, lays_out, wanted_of, aim_of, pair_aim, IsShortFor, MayBeAimedAt, MayBeAimed, plain, settings_with}
+use Rattle.chi_tool.specs.Running.{runs_for, IsRunReport, run_report}
+use Rattle.chi_tool.specs.Settings.{Wanted, Unpicked, picked_by, ProgramAim, simulates, replays, judges, checks, lists, Aim, of_program, lays_out, wanted_of, aim_of, pair_aim, IsShortFor, MayBeAimedAt, MayBeAimed, plain, settings_with}
 use Rattle.chi_tool.specs.Sources.{ComesTo}
 use Rattle.chi_tool.specs.Words.{Wish, nothing, of_task, wish_of}
 use Rattle.chi_tool.proofs.Layouts.{layout_some, layout_one}
@@ -79,7 +81,7 @@ module _ (law : LogLaw) where
   log_one text r s (misfit k p a) (up log q b) = absurd (law.apart text log k q p)
   log_one text r s (misfit j p a) (misfit k q b) = a ∙ ap refusal.misfit (law.one_line text j k p q) ∙ sym b
 
-module _ (answers : AnswerLaw) (runs : RunLaw) (coded : CodeLaw) (check : CheckLaw) (values_law : ValuesLaw) (picks_law : PicksLaw)
+module _ (runs : Runs) (answers : AnswerLaw) (ran : RunLaw runs) (coded : CodeLaw) (check : CheckLaw) (values_law : ValuesLaw) (picks_law : PicksLaw)
     (judging : JudgeLaw) where
   -- a run of the program that is asked for with these arguments begins so
   begins_so : (core : Core) (u : Unpicked) (values : List Value) (d : ProcDef) → slice_get core.procs core.model ≡ Some d → values_of d.params u.texts ≡ Ok values
@@ -107,18 +109,18 @@ module _ (answers : AnswerLaw) (runs : RunLaw) (coded : CodeLaw) (check : CheckL
     with_some some = arguments_some some (values_of d.params texts) refl
 
   module _ (source : List ℕ) (core : Core) (within : length source ≤ MOST_BYTES) (comes : ComesTo source core) (d : ProcDef) (is : slice_get core.procs core.model ≡ Some d) where
-    run_some : (w : Wanted) → MayBeAimedAt (simulates w) → (values : List Value) → values_of d.params w.texts ≡ Ok values
-        → (r : Report) × IsRunReport core (settings_with w values) r
-    run_some w bounded values read =
-        let ran = runs.some source core within comes (settings_with w values) (asked_settings values_law core w values d is read bounded) in
-        (run_report core ran.0, record { course = ran.0; run = ran.1; is = refl })
+    run_some : (aim : Aim) (w : Wanted) → MayBeAimedAt (simulates w) → (values : List Value) → values_of d.params w.texts ≡ Ok values
+        → (r : Report) × IsRunReport (runs_for runs aim) core (settings_with w values) r
+    run_some aim w bounded values read =
+        let its = ran.some aim source core within comes (settings_with w values) (asked_settings values_law core w values d is read bounded) in
+        (run_report core its.0, record { course = its.0; run = its.1; is = refl })
 
     by_picks_some : (u : Unpicked) (text : List ℕ) → MayBeAimedAt (replays u text) → (values : List Value) → values_of d.params u.texts ≡ Ok values
         → (r : Report) × IsReportByPicks core u text values r
     by_picks_some u text bounded values read = by (picks_law.some text)
       where
         by : ((numbers : List ℕ) × picks.Has text numbers) ⊎ ((k : ℕ) × picks.Misfits text k) → (r : Report) × IsReportByPicks core u text values r
-        by (inl (numbers, has)) = let p = run_some (picked_by (listed numbers) u) (bounded, listed_lawful numbers) values read in (p.0, replayed numbers has p.1)
+        by (inl (numbers, has)) = let p = run_some (of_program (replays u text)) (picked_by (listed numbers) u) (bounded, listed_lawful numbers) values read in (p.0, replayed numbers has p.1)
         by (inr (k, misfits)) = (refusal.mispicked k, mispicked k misfits refl)
 
     on_log_some : (purpose : LogPurpose) (u : Unpicked) (text : List ℕ) → (values : List Value) → values_of d.params u.texts ≡ Ok values
@@ -135,10 +137,10 @@ module _ (answers : AnswerLaw) (runs : RunLaw) (coded : CodeLaw) (check : CheckL
             )
         by (inr (k, refuses)) = (refusal.no_log k, no k refuses refl)
 
-  program_some : (aim : ProgramAim) → MayBeAimedAt aim → (source : List ℕ) (core : Core) → length source ≤ MOST_BYTES → ComesTo source core → (r : Report) × IsReportOfProgram core aim r
+  program_some : (aim : ProgramAim) → MayBeAimedAt aim → (source : List ℕ) (core : Core) → length source ≤ MOST_BYTES → ComesTo source core → (r : Report) × IsReportOfProgram runs core aim r
   program_some (simulates w) bounded source core within comes =
       let m = (comes_sound check source core within comes).model in
-      with_some core w.texts (λ values. IsRunReport core (settings_with w values)) m.0 m.1 (run_some source core within comes m.0 m.1 w bounded)
+      with_some core w.texts (λ values. IsRunReport runs core (settings_with w values)) m.0 m.1 (run_some source core within comes m.0 m.1 (of_program (simulates w)) w bounded)
   program_some (replays u text) bounded source core within comes =
       let m = (comes_sound check source core within comes).model in
       with_some core u.texts (IsReportByPicks core u text) m.0 m.1 (by_picks_some source core within comes m.0 m.1 u text bounded)
@@ -149,27 +151,27 @@ module _ (answers : AnswerLaw) (runs : RunLaw) (coded : CodeLaw) (check : CheckL
   program_some lists bounded source core within comes =
       let there = coded.some source core within comes in (refusal.listed there.0, record { code = there.0; is = there.1; listed = refl })
 
-  come_to_some : (aim : ProgramAim) → MayBeAimedAt aim → (source : List ℕ) → length source ≤ MOST_BYTES → Comes source → (r : Report) × IsReportOfSource source aim r
+  come_to_some : (aim : ProgramAim) → MayBeAimedAt aim → (source : List ℕ) → length source ≤ MOST_BYTES → Comes source → (r : Report) × IsReportOfSource runs source aim r
   come_to_some aim bounded source within (inl (r, is)) = (r, refused is)
   come_to_some aim bounded source within (inr (core, is)) = let p = program_some aim bounded source core within is in (p.0, program core is p.1)
 
-  pub source_some : (aim : Aim) → MayBeAimed aim → (source : List ℕ) → length source ≤ MOST_BYTES → (r : Report) × IsReportFor aim source r
+  pub source_some : (aim : Aim) → MayBeAimed aim → (source : List ℕ) → length source ≤ MOST_BYTES → (r : Report) × IsReportFor runs aim source r
   source_some (of_program aim) bounded source within = come_to_some aim bounded source within (source_comes answers check source)
   source_some lays_out bounded source within = layout_some answers source
 
-  wish_some : LogLaw → (w : Wish) → IsBoundedWish w → (files : Files) → (r : Report) × IsReportOfWish w files r
+  wish_some : LogLaw → (w : Wish) → IsBoundedWish w → (files : Files) → (r : Report) × IsReportOfWish runs w files r
   wish_some log_law nothing bounded files = (usage, refl)
   wish_some log_law (of_task (OfFile name purpose)) bounded files =
-      file_some MOST_BYTES (IsReportFor (aim_of purpose)) (source_some (aim_of purpose) (may_be_aimed purpose bounded)) (files name)
+      file_some MOST_BYTES (IsReportFor runs (aim_of purpose)) (source_some (aim_of purpose) (may_be_aimed purpose bounded)) (files name)
   wish_some log_law (of_task (OfPair pair)) bounded files =
-      file_some MOST_BYTES (λ source. IsReportOfFile MOST_BESIDE (λ text. IsReportOfSource source (pair_aim pair.purpose text)) (files pair.beside))
-      (λ source within. file_some MOST_BESIDE (λ text. IsReportOfSource source (pair_aim pair.purpose text))
+      file_some MOST_BYTES (λ source. IsReportOfFile MOST_BESIDE (λ text. IsReportOfSource runs source (pair_aim pair.purpose text)) (files pair.beside))
+      (λ source within. file_some MOST_BESIDE (λ text. IsReportOfSource runs source (pair_aim pair.purpose text))
       (λ text short. source_some (of_program (pair_aim pair.purpose text)) (pair_may_be_aimed pair.purpose text bounded) source within) (files pair.beside)) (files pair.file)
   wish_some log_law (of_task (OfLog name)) bounded files = file_some MOST_LOG_BYTES IsReportOfLog (λ text within. log_some log_law text) (files name)
   wish_some log_law (of_task (OfFactory size)) bounded files = source_some (of_program (simulates (wanted_of plain))) (may_be_aimed (OfProgram (Simulate plain)) (omega arith)) (factory_source size) (factory_within size bounded)
   wish_some log_law (of_task (OfTopic topic)) bounded files = (refusal.helped topic, refl)
 
-  pub report_some : LogLaw → RangeLaw → (words : List (List ℕ)) (files : Files) → (r : Report) × IsReport words files r
+  pub report_some : LogLaw → RangeLaw → (words : List (List ℕ)) (files : Files) → (r : Report) × IsReport runs words files r
   report_some log_law bounds words files = wish_some log_law (wish_of words) (bounded_wish bounds words) files
 
   -- and no other
@@ -199,8 +201,8 @@ module _ (answers : AnswerLaw) (runs : RunLaw) (coded : CodeLaw) (check : CheckL
       let same_values : given ≡ values = cc in
       one values p r s of (subst (λ (xs : List Value). P xs s) same_values also)
 
-  run_one : (core : Core) (s : Settings) (r t : Report) → IsRunReport core s r → IsRunReport core s t → r ≡ t
-  run_one core s r t of also = of.is ∙ ap (run_report core) (runs.one core s of.course also.course of.run also.run) ∙ sym also.is
+  run_one : (aim : Aim) (core : Core) (s : Settings) (r t : Report) → IsRunReport (runs_for runs aim) core s r → IsRunReport (runs_for runs aim) core s t → r ≡ t
+  run_one aim core s r t of also = of.is ∙ ap (run_report core) (ran.one aim core s of.course also.course of.run also.run) ∙ sym also.is
 
   by_picks_one : (core : Core) (u : Unpicked) (text : List ℕ) (values : List Value) (r s : Report) → IsReportByPicks core u text values r → IsReportByPicks core u text values s → r ≡ s
   by_picks_one core u text values r s (mispicked j p e) (mispicked k q f) = e ∙ ap refusal.mispicked (picks_law.one_line text j k p q) ∙ sym f
@@ -208,8 +210,8 @@ module _ (answers : AnswerLaw) (runs : RunLaw) (coded : CodeLaw) (check : CheckL
   by_picks_one core u text values r s (replayed numbers has of) (mispicked k p e) = absurd (picks_law.apart text numbers k has p)
   by_picks_one core u text values r s (replayed numbers has of) (replayed others had also) =
       let same : others ≡ numbers = picks_law.one_list text others numbers had has in
-      run_one core (settings_with (picked_by (listed numbers) u) values) r s of
-      (subst (λ (ns : List ℕ). IsRunReport core (settings_with (picked_by (listed ns) u) values) s) same also)
+      run_one (of_program (replays u text)) core (settings_with (picked_by (listed numbers) u) values) r s of
+      (subst (λ (ns : List ℕ). IsRunReport IsRunOf core (settings_with (picked_by (listed ns) u) values) s) same also)
 
   -- a text is the log of one run of a sound program, or has one first wrong line
   on_log_one : (core : Core) → Sound core → (purpose : LogPurpose) (u : Unpicked) (text : List ℕ) (values : List Value) → Means core u.texts values
@@ -226,9 +228,9 @@ module _ (answers : AnswerLaw) (runs : RunLaw) (coded : CodeLaw) (check : CheckL
       e ∙ ap refusal.no_log (judging.one_line core (start core values u.seed u.until) u.bound text j k p.first_wrong q.first_wrong) ∙ sym f
 
   program_one : (source : List ℕ) (core : Core) (aim : ProgramAim) → ComesTo source core → IsShortFor (of_program aim) source
-      → (r s : Report) → IsReportOfProgram core aim r → IsReportOfProgram core aim s → r ≡ s
+      → (r s : Report) → IsReportOfProgram runs core aim r → IsReportOfProgram runs core aim s → r ≡ s
   program_one source core (simulates w) comes short r s p q =
-      with_one core w.texts (λ values. IsRunReport core (settings_with w values)) (λ values means. run_one core (settings_with w values)) r s p q
+      with_one core w.texts (λ values. IsRunReport runs core (settings_with w values)) (λ values means. run_one (of_program (simulates w)) core (settings_with w values)) r s p q
   program_one source core (replays u text) comes short r s p q =
       with_one core u.texts (IsReportByPicks core u text) (λ values means. by_picks_one core u text values) r s p q
   program_one source core (judges purpose u text) comes short r s p q =
@@ -236,14 +238,14 @@ module _ (answers : AnswerLaw) (runs : RunLaw) (coded : CodeLaw) (check : CheckL
   program_one source core checks comes short r s p q = p ∙ sym q
   program_one source core lists comes short r s p q = p.listed ∙ ap refusal.listed (coded.one core p.code q.code p.is q.is) ∙ sym q.listed
 
-  checked_one : (source : List ℕ) (aim : ProgramAim) → IsShortFor (of_program aim) source → (r s : Report) → IsReportOfSource source aim r → IsReportOfSource source aim s → r ≡ s
+  checked_one : (source : List ℕ) (aim : ProgramAim) → IsShortFor (of_program aim) source → (r s : Report) → IsReportOfSource runs source aim r → IsReportOfSource runs source aim s → r ≡ s
   checked_one source aim short r s (refused p) (refused q) = one_refusal answers source r s p q
   checked_one source aim short r s (refused p) (program core q b) = absurd (refused_or_comes answers source r core p q)
   checked_one source aim short r s (program core p a) (refused q) = absurd (refused_or_comes answers source s core q p)
   checked_one source aim short r s (program core p a) (program other q b) =
-      program_one source core aim p short r s a (subst (λ c. IsReportOfProgram c aim s) (one_core answers source other core q p) b)
+      program_one source core aim p short r s a (subst (λ c. IsReportOfProgram runs c aim s) (one_core answers source other core q p) b)
 
-  pub source_one : (source : List ℕ) (aim : Aim) → IsShortFor aim source → (r s : Report) → IsReportFor aim source r → IsReportFor aim source s → r ≡ s
+  pub source_one : (source : List ℕ) (aim : Aim) → IsShortFor aim source → (r s : Report) → IsReportFor runs aim source r → IsReportFor runs aim source s → r ≡ s
   source_one source (of_program aim) short r s p q = checked_one source aim short r s p q
   source_one source lays_out short r s p q = layout_one answers source r s p q
 
@@ -256,18 +258,18 @@ module _ (answers : AnswerLaw) (runs : RunLaw) (coded : CodeLaw) (check : CheckL
   short_for (of_program lists) source within = tt
   short_for lays_out source within = tt
 
-  wish_one : LogLaw → (w : Wish) (files : Files) (r s : Report) → IsReportOfWish w files r → IsReportOfWish w files s → r ≡ s
+  wish_one : LogLaw → (w : Wish) (files : Files) (r s : Report) → IsReportOfWish runs w files r → IsReportOfWish runs w files s → r ≡ s
   wish_one log_law nothing files r s p q = p ∙ sym q
-  wish_one log_law (of_task (OfFile name purpose)) files r s p q = file_one MOST_BYTES (IsReportFor (aim_of purpose))
+  wish_one log_law (of_task (OfFile name purpose)) files r s p q = file_one MOST_BYTES (IsReportFor runs (aim_of purpose))
       (λ source within. source_one source (aim_of purpose) (short_for (aim_of purpose) source within)) (files name) r s p q
   wish_one log_law (of_task (OfPair pair)) files r s p q =
-      file_one MOST_BYTES (λ source. IsReportOfFile MOST_BESIDE (λ text. IsReportOfSource source (pair_aim pair.purpose text)) (files pair.beside))
-      (λ source within. file_one MOST_BESIDE (λ text. IsReportOfSource source (pair_aim pair.purpose text))
+      file_one MOST_BYTES (λ source. IsReportOfFile MOST_BESIDE (λ text. IsReportOfSource runs source (pair_aim pair.purpose text)) (files pair.beside))
+      (λ source within. file_one MOST_BESIDE (λ text. IsReportOfSource runs source (pair_aim pair.purpose text))
       (λ text also. checked_one source (pair_aim pair.purpose text) (short_for (of_program (pair_aim pair.purpose text)) source within)) (files pair.beside))
       (files pair.file) r s p q
   wish_one log_law (of_task (OfLog name)) files r s p q = file_one MOST_LOG_BYTES IsReportOfLog (λ text within. log_one log_law text) (files name) r s p q
   wish_one log_law (of_task (OfFactory size)) files r s p q = source_one (factory_source size) (of_program (simulates (wanted_of plain))) tt r s p q
   wish_one log_law (of_task (OfTopic topic)) files r s p q = p ∙ sym q
 
-  pub report_one : LogLaw → (words : List (List ℕ)) (files : Files) (r s : Report) → IsReport words files r → IsReport words files s → r ≡ s
+  pub report_one : LogLaw → (words : List (List ℕ)) (files : Files) (r s : Report) → IsReport runs words files r → IsReport runs words files s → r ≡ s
   report_one log_law words files r s p q = wish_one log_law (wish_of words) files r s p q

@@ -1,8 +1,9 @@
 -- When each status comes of a call, by how it was served.
-use Rattle.std.proofs.Common.{◌≡◌, ◌≢◌, ℕ, ◌≤◌, true, false, List, length, ◌⊎◌, inl, inr, sym, subst, arith}
+use Rattle.std.proofs.Common.{◌≡◌, ◌≢◌, ℕ, ◌≤◌, false, List, length, inl, inr, sym, subst, arith}
 use Rattle.chi_io.specs.Shelf.{Files}
 use Rattle.chi_lex.specs.declared.lexer.TheConstants.{MOST_BYTES}
 use Rattle.chi_core.specs.declared.verdict.Verdict.TheVariants as verdict
+use Rattle.chi_engine.specs.Courses.{Runs}
 use Rattle.chi_tool.specs.Call.{Call}
 use Rattle.chi_tool.specs.Delivery.{whole, out_broke, log_broke, DeliversReport}
 use Rattle.chi_tool.specs.Serving.{Serves, served, refused, ServesPair}
@@ -41,28 +42,28 @@ asked_within bounds call files aim source (made size asked same plainly) =
     subst (λ s. length s ≤ MOST_BYTES) (sym same) (factory_within size (subst IsBoundedWish asked (bounded_wish bounds call.words)))
 
 -- the parts of the causes that rest on how the call was served
-module _ (law : ReportLaw) (coded : CodeLaw) (call : Call) (head : Headline call) where
-  of_source : (n : ℕ) (P : Aim → List ℕ → Type 0) → StatusOf n P → (n ≢ 5) → (n ≢ 0) × (n ≢ 24) → IsExactlyOf call n P
-  of_source = of_source_status law coded call head
+module _ (runs : Runs) (law : ReportLaw runs) (coded : CodeLaw) (call : Call) (head : Headline runs call) where
+  of_source : (n : ℕ) (P : Aim → List ℕ → Type 0) → StatusOf runs n P → (n ≢ 5) → (n ≢ 0) × (n ≢ 24) → IsExactlyOf call n P
+  of_source = of_source_status runs law coded call head
 
   pub causes : Breaks call.status call.out call.log
       → (call.out.stopped ≡ false → call.log.stopped ≡ false → IsExactly call 3 (wish_of call.words ≡ nothing))
-      → (call.status ≡ 4 → CannotBeRead call.shelf (wish_of call.words)) → Causes call
+      → (call.status ≡ 4 → CannotBeRead call.shelf (wish_of call.words)) → Causes runs call
   causes breaks request unread = record {
-    done = of_done_status law coded call head;
-    exit = of_source 10 (Ends IsExit) exit_status (λ e. omega arith) (λ e. omega arith, λ e. omega arith);
-    deadlock = of_source 11 (Ends (λ v. v ≡ verdict.Deadlock)) deadlock_status (λ e. omega arith) (λ e. omega arith, λ e. omega arith);
-    fault = of_source 12 (Ends IsFault) fault_status (λ e. omega arith) (λ e. omega arith, λ e. omega arith);
-    out_of_steps = of_source 13 (Ends (λ v. v ≡ verdict.OutOfSteps)) out_of_steps_status (λ e. omega arith) (λ e. omega arith, λ e. omega arith);
-    stopped = of_source 14 (Ends (λ v. v ≡ verdict.Stopped)) stopped_status (λ e. omega arith) (λ e. omega arith, λ e. omega arith);
-    lexical = of_source 20 (λ aim. HasLexicalFault) lexical_status (λ e. omega arith) (λ e. omega arith, λ e. omega arith);
-    syntax = of_source 21 (λ aim. HasSyntaxFault) syntax_status (λ e. omega arith) (λ e. omega arith, λ e. omega arith);
-    typing = of_source 22 IsMistyped mistyped_status (λ e. omega arith) (λ e. omega arith, λ e. omega arith);
-    arguments = of_source 23 HasUnfitArguments unfit_status (λ e. omega arith) (λ e. omega arith, λ e. omega arith);
-    mispicked = of_source 26 HasMispick mispicked_status (λ e. omega arith) (λ e. omega arith, λ e. omega arith);
-    no_log = of_source 25 HasNoLog no_log_status (λ e. omega arith) (λ e. omega arith, λ e. omega arith);
-    layout_too_long = of_source 27 IsTooLong too_long_status (λ e. omega arith) (λ e. omega arith, λ e. omega arith);
-    misfit = of_misfit_status law coded call head;
+    done = of_done_status runs law coded call head;
+    exit = of_source 10 (Ends runs IsExit) (exit_status runs) (λ e. omega arith) (λ e. omega arith, λ e. omega arith);
+    deadlock = of_source 11 (Ends runs (λ v. v ≡ verdict.Deadlock)) (deadlock_status runs) (λ e. omega arith) (λ e. omega arith, λ e. omega arith);
+    fault = of_source 12 (Ends runs IsFault) (fault_status runs) (λ e. omega arith) (λ e. omega arith, λ e. omega arith);
+    out_of_steps = of_source 13 (Ends runs (λ v. v ≡ verdict.OutOfSteps)) (out_of_steps_status runs) (λ e. omega arith) (λ e. omega arith, λ e. omega arith);
+    stopped = of_source 14 (Ends runs (λ v. v ≡ verdict.Stopped)) (stopped_status runs) (λ e. omega arith) (λ e. omega arith, λ e. omega arith);
+    lexical = of_source 20 (λ aim. HasLexicalFault) (lexical_status runs) (λ e. omega arith) (λ e. omega arith, λ e. omega arith);
+    syntax = of_source 21 (λ aim. HasSyntaxFault) (syntax_status runs) (λ e. omega arith) (λ e. omega arith, λ e. omega arith);
+    typing = of_source 22 IsMistyped (mistyped_status runs) (λ e. omega arith) (λ e. omega arith, λ e. omega arith);
+    arguments = of_source 23 HasUnfitArguments (unfit_status runs) (λ e. omega arith) (λ e. omega arith, λ e. omega arith);
+    mispicked = of_source 26 HasMispick (mispicked_status runs) (λ e. omega arith) (λ e. omega arith, λ e. omega arith);
+    no_log = of_source 25 HasNoLog (no_log_status runs) (λ e. omega arith) (λ e. omega arith, λ e. omega arith);
+    layout_too_long = of_source 27 IsTooLong (too_long_status runs) (λ e. omega arith) (λ e. omega arith, λ e. omega arith);
+    misfit = of_misfit_status runs law coded call head;
     no_request = request;
     not_read = unread;
     not_written = (breaks.stops, breaks.tells);
@@ -70,54 +71,54 @@ module _ (law : ReportLaw) (coded : CodeLaw) (call : Call) (head : Headline call
     log_failed = breaks.log_failed;
   }
 
-  pub complete : RunLaw → ValuesLaw → RangeLaw → IsComplete call
-  complete runs fit bounds =
+  pub complete : RunLaw runs → ValuesLaw → RangeLaw → IsComplete runs call
+  complete ran fit bounds =
       λ files well aim source asked w is core comes arguments means.
       let bounded = run_may_be_asked aim w is (asked_bound bounds call files aim source asked) in
-      let ran = runs.some source core (asked_within bounds call files aim source asked) comes (settings_with w arguments) (asked_settings fit core w arguments means.model means.is means.read bounded) in
-      (ran.0, ran.1, ends_complete law coded call files (met_of call head files well) aim source asked w is core comes arguments means ran.0 ran.1)
+      let its = ran.some aim source core (asked_within bounds call files aim source asked) comes (settings_with w arguments) (asked_settings fit core w arguments means.model means.is means.read bounded) in
+      (its.0, its.1, ends_complete runs law coded call files (met_of runs call head files well) aim source asked w is core comes arguments means its.0 its.1)
 
 -- of a task
-module _ (t : Task) (call : Call) (asked : wish_of call.words ≡ of_task t) (law : ReportLaw) (coded : CodeLaw) (head : Headline call)
+module _ (runs : Runs) (t : Task) (call : Call) (asked : wish_of call.words ≡ of_task t) (law : ReportLaw runs) (coded : CodeLaw) (head : Headline runs call)
     (ended : Ended ⊥ (CannotBeRead call.shelf (of_task t)) call.status call.out call.log) where
-  pub task-causes : Causes call
+  pub task-causes : Causes runs call
   task-causes =
-      causes law coded call head ended.breaks
+      causes runs law coded call head ended.breaks
       (λ out log. ((λ is. absurd (ended.request is)), λ none. absurd (asks_something (wish_of call.words) t asked none)))
       (λ is. let Q : Wish → Type 0 = CannotBeRead call.shelf in subst Q (sym asked) (ended.unread is))
 
-  pub task-complete : RunLaw → ValuesLaw → RangeLaw → IsComplete call
-  task-complete = complete law coded call head
+  pub task-complete : RunLaw runs → ValuesLaw → RangeLaw → IsComplete runs call
+  task-complete = complete runs law coded call head
 
 -- of a task with one file
-module _ (t : Task) (name : List ℕ) (most : ℕ) (P : List ℕ → Report → Type 0) (of : IsOfFile t name most P) (call : Call)
-    (asked : wish_of call.words ≡ of_task t) (law : ReportLaw) where
+module _ (runs : Runs) (t : Task) (name : List ℕ) (most : ℕ) (P : List ℕ → Report → Type 0) (of : IsOfFile runs t name most P) (call : Call)
+    (asked : wish_of call.words ≡ of_task t) (law : ReportLaw runs) where
   served_ended : Serves most P name call.shelf call.status call.out call.log → Ended ⊥ (CannotBeRead call.shelf (of_task t)) call.status call.out call.log
   served_ended (served content is tells) = tells_ended ⊥ _ (P content) call.status call.out call.log (of.own content) tells
   served_ended (refused refuses) =
       ended_for ⊥ (IsUnread most name call.shelf) _ call.status call.out call.log (of.unread call.shelf) (refuses_ended most name ⊥ call.shelf call.status call.out call.log refuses)
 
-  pub served-headline : Serves most P name call.shelf call.status call.out call.log → Headline call
+  pub served-headline : Serves most P name call.shelf call.status call.out call.log → Headline runs call
   served-headline s =
-      named-headline call (names_file t name most P of (wish_of call.words) asked) (served_one t name most P of call asked law s) (served_ended s).stopped
+      named-headline runs call (names_file runs t name most P of (wish_of call.words) asked) (served_one runs t name most P of call asked law s) (served_ended s).stopped
 
-  pub served-causes : CodeLaw → Serves most P name call.shelf call.status call.out call.log → Causes call
-  served-causes coded s = task-causes t call asked law coded (served-headline s) (served_ended s)
+  pub served-causes : CodeLaw → Serves most P name call.shelf call.status call.out call.log → Causes runs call
+  served-causes coded s = task-causes runs t call asked law coded (served-headline s) (served_ended s)
 
-  pub served-complete : CodeLaw → RunLaw → ValuesLaw → RangeLaw → Serves most P name call.shelf call.status call.out call.log → IsComplete call
-  served-complete coded runs fit bounds s = task-complete t call asked law coded (served-headline s) (served_ended s) runs fit bounds
+  pub served-complete : CodeLaw → RunLaw runs → ValuesLaw → RangeLaw → Serves most P name call.shelf call.status call.out call.log → IsComplete runs call
+  served-complete coded ran fit bounds s = task-complete runs t call asked law coded (served-headline s) (served_ended s) ran fit bounds
 
 -- of one with two
-module _ (pair : Pair) (call : Call) (asked : wish_of call.words ≡ of_task (OfPair pair)) (law : ReportLaw) where
-  pub pair-headline : ServesPair pair call.shelf call.status call.out call.log → Headline call
-  pair-headline s = named-headline call (names_pair pair (wish_of call.words) asked) (pair_one pair call asked law s) (pair_ended pair call.shelf call.status call.out call.log s).stopped
+module _ (runs : Runs) (pair : Pair) (call : Call) (asked : wish_of call.words ≡ of_task (OfPair pair)) (law : ReportLaw runs) where
+  pub pair-headline : ServesPair pair call.shelf call.status call.out call.log → Headline runs call
+  pair-headline s = named-headline runs call (names_pair pair (wish_of call.words) asked) (pair_one runs pair call asked law s) (pair_ended pair call.shelf call.status call.out call.log s).stopped
 
-  pub pair-causes : CodeLaw → ServesPair pair call.shelf call.status call.out call.log → Causes call
-  pair-causes coded s = task-causes (OfPair pair) call asked law coded (pair-headline s) (pair_ended pair call.shelf call.status call.out call.log s)
+  pub pair-causes : CodeLaw → ServesPair pair call.shelf call.status call.out call.log → Causes runs call
+  pair-causes coded s = task-causes runs (OfPair pair) call asked law coded (pair-headline s) (pair_ended pair call.shelf call.status call.out call.log s)
 
-  pub pair-complete : CodeLaw → RunLaw → ValuesLaw → RangeLaw → ServesPair pair call.shelf call.status call.out call.log → IsComplete call
-  pair-complete coded runs fit bounds s =
-      task-complete (OfPair pair) call asked law coded (pair-headline s) (pair_ended pair call.shelf call.status call.out call.log s) runs fit bounds
+  pub pair-complete : CodeLaw → RunLaw runs → ValuesLaw → RangeLaw → ServesPair pair call.shelf call.status call.out call.log → IsComplete runs call
+  pair-complete coded ran fit bounds s =
+      task-complete runs (OfPair pair) call asked law coded (pair-headline s) (pair_ended pair call.shelf call.status call.out call.log s) ran fit bounds
 
 -- a refusal that is told by the words alone
 
@@ -130,13 +131,13 @@ usage_exactly call none (whole s o l) out log = ((λ is. none), λ h. inl s)
 usage_exactly call none (out_broke s o l) out log = absurd (goes_stopped call.out out o.stopped)
 usage_exactly call none (log_broke s o l) out log = absurd (goes_stopped call.log log l.stopped)
 
-pub usage-causes : ReportLaw → CodeLaw → (call : Call) → wish_of call.words ≡ nothing → DeliversReport usage call.status call.out call.log → Causes call
-usage-causes law coded call none d =
+pub usage-causes : (runs : Runs) → ReportLaw runs → CodeLaw → (call : Call) → wish_of call.words ≡ nothing → DeliversReport usage call.status call.out call.log → Causes runs call
+usage-causes runs law coded call none d =
     let ended = usage_ended call d in
-    causes law coded call (usage-headline call none d) ended.breaks (usage_exactly call none d) (λ is. absurd (ended.unread is))
+    causes runs law coded call (usage-headline runs call none d) ended.breaks (usage_exactly call none d) (λ is. absurd (ended.unread is))
 
-pub usage-complete : RunLaw → ValuesLaw → RangeLaw → ReportLaw → CodeLaw → (call : Call) → wish_of call.words ≡ nothing → DeliversReport usage call.status call.out call.log → IsComplete call
-usage-complete runs fit bounds law coded call none d = complete law coded call (usage-headline call none d) runs fit bounds
+pub usage-complete : (runs : Runs) → RunLaw runs → ValuesLaw → RangeLaw → ReportLaw runs → CodeLaw → (call : Call) → wish_of call.words ≡ nothing → DeliversReport usage call.status call.out call.log → IsComplete runs call
+usage-complete runs ran fit bounds law coded call none d = complete runs law coded call (usage-headline runs call none d) ran fit bounds
 
 -- memory was wanting before the words were read
 
@@ -145,11 +146,11 @@ lost_ended call l =
     let lost = l.status in
     silent_ended ⊥ ⊥ call.status call.out call.log (λ is. omega arith) (λ is. omega arith) (λ is. omega arith) l.out.goes l.log.goes l.log.took
 
-pub lost-causes : ReportLaw → CodeLaw → (call : Call) → IsLost call → Causes call
-lost-causes law coded call l =
+pub lost-causes : (runs : Runs) → ReportLaw runs → CodeLaw → (call : Call) → IsLost call → Causes runs call
+lost-causes runs law coded call l =
     let ended = lost_ended call l in
-    causes law coded call (lost-headline law call l) ended.breaks
+    causes runs law coded call (lost-headline runs law call l) ended.breaks
     (λ out log. ((λ is. absurd (ended.request is)), λ none. inr l.status)) (λ is. absurd (ended.unread is))
 
-pub lost-complete : RunLaw → ValuesLaw → RangeLaw → ReportLaw → CodeLaw → (call : Call) → IsLost call → IsComplete call
-lost-complete runs fit bounds law coded call l = complete law coded call (lost-headline law call l) runs fit bounds
+pub lost-complete : (runs : Runs) → RunLaw runs → ValuesLaw → RangeLaw → ReportLaw runs → CodeLaw → (call : Call) → IsLost call → IsComplete runs call
+lost-complete runs ran fit bounds law coded call l = complete runs law coded call (lost-headline runs law call l) ran fit bounds

@@ -1,5 +1,5 @@
 -- What follows of a simulation, by the report that is delivered of it.
-use Rattle.std.proofs.Common.{◌≡◌, ◌≢◌, ℕ, ◌≤◌, Bool, true, false, List, [], length, Option, option_map, ◌⊎◌, inl, inr, ◌∙◌, ap, subst, refl, arith}
+use Rattle.std.proofs.Common.{◌≡◌, ◌≢◌, ℕ, ◌≤◌, Bool, true, false, List, length, Option, option_map, ◌⊎◌, inl, inr, ◌∙◌, ap, subst, refl, arith}
 use Rattle.chi_cli.specs.declared.words.TheConstants.{MOST_STEPS}
 use Rattle.chi_lex.specs.declared.lexer.TheConstants.{MOST_BYTES}
 use Rattle.chi_core.specs.declared.program.Core.{Core}
@@ -8,22 +8,23 @@ use Rattle.chi_core.specs.declared.verdict.Verdict.TheVariants as verdict
 use Rattle.chi_sched.specs.Policies.{Answers, listed}
 use Rattle.chi_trace.specs.declared.filter.Filter.{Filter}
 use Rattle.chi_value.specs.declared.value.Value.{Value}
+use Rattle.chi_engine.specs.Courses.{Course, IsRunOf}
 use Rattle.chi_tool.specs.Arguments.{Means}
-use Rattle.chi_tool.specs.Call.{SinkUse, Took, SinkStood}
+use Rattle.chi_tool.specs.Call.{SinkUse, SinkStood}
 use Rattle.chi_tool.specs.Headline.{IsReportedOrLost, MeetsAlone, delivered, wanting, HasLexicalFault, HasSyntaxFault, IsMistyped, EndsAs, Ends, IsDone, IsExit, IsFault, HasUnfitArguments}
 use Rattle.chi_tool.specs.Refusals.{Report}
 use Rattle.chi_tool.specs.Report as report
 use Rattle.chi_tool.specs.Report.{IsReportOfSource, program}
-use Rattle.chi_tool.specs.Running.{Course, IsRunOf, run_report}
+use Rattle.chi_tool.specs.Running.{run_report}
 use Rattle.chi_tool.specs.Serving.{Tells, told, cut_short, untold}
 use Rattle.chi_tool.specs.Settings.{Wanted, simulates, Aim, of_program, MayBeAimed, settings_with, trace_by}
-use Rattle.chi_tool.specs.Simulations.{Simulation, as_call, SimulationHeadline, ComesOf, IsExactlyFor, SimulationCauses, IsReplayed, IsSimulatedToItsEnd}
+use Rattle.chi_tool.specs.Simulations.{course_of, Simulation, as_call, SimulationHeadline, ComesOf, IsExactlyFor, SimulationCauses, IsReplayed, IsSimulatedToItsEnd}
 use Rattle.chi_tool.specs.Sources.{ComesTo}
 use Rattle.chi_tool.specs.Statuses.{status_of}
 use Rattle.chi_tool.proofs.Causes.{exactly}
 use Rattle.chi_tool.proofs.Contents.{status_ap, simulated_bound, IsOfContent, source_status}
 use Rattle.chi_tool.proofs.Endings.{Ended, tells_ended, delivered_status}
-use Rattle.chi_tool.proofs.LawClauses.{RunLaw, ValuesLaw, SourceLaw, OwnLaw}
+use Rattle.chi_tool.proofs.LawClauses.{HasRun, ValuesLaw, SourceLaw, OwnLaw}
 use Rattle.chi_tool.proofs.Promises.{alone-whole}
 use Rattle.chi_tool.proofs.StatusCauses.{StatusOf, done_status, exit_status, deadlock_status, fault_status, out_of_steps_status, stopped_status, lexical_status, syntax_status, mistyped_status, unfit_status}
 use Rattle.chi_tool.proofs.Runs.{asked_settings}
@@ -41,15 +42,15 @@ kept keeps_to true probe = refl
 
 pub tells_kept : {S : Type 0} (keeps_to : S → Filter) (trace : Bool) (probe : S) (shown : Option S) → shown ≡ trace_by trace probe
     → (source : List ℕ) (wanted : Option Filter → Wanted) (status : ℕ) (out log : SinkUse)
-    → Tells (IsReportOfSource source (simulates (wanted (option_map keeps_to shown)))) status out log
-    → Tells (IsReportOfSource source (simulates (wanted (trace_by trace (keeps_to probe))))) status out log
+    → Tells (IsReportOfSource IsRunOf source (simulates (wanted (option_map keeps_to shown)))) status out log
+    → Tells (IsReportOfSource IsRunOf source (simulates (wanted (trace_by trace (keeps_to probe))))) status out log
 tells_kept keeps_to trace probe shown is source wanted status out log tells =
     let same : option_map keeps_to shown ≡ trace_by trace (keeps_to probe) = ap (option_map keeps_to) is ∙ kept keeps_to trace probe in
-    subst (λ (t : Option Filter). Tells (IsReportOfSource source (simulates (wanted t))) status out log) same tells
+    subst (λ (t : Option Filter). Tells (IsReportOfSource IsRunOf source (simulates (wanted t))) status out log) same tells
 
 -- a report that is met
 abbrev Met : Simulation → Type 0
-Met s = (r : Report) × IsReportOfSource s.source (simulates s.wanted) r × MeetsAlone r (as_call s)
+Met s = (r : Report) × IsReportOfSource IsRunOf s.source (simulates s.wanted) r × MeetsAlone r (as_call s)
 
 module _ (law : SourceLaw) (s : Simulation) where
   -- is that of a run of the program
@@ -57,7 +58,7 @@ module _ (law : SourceLaw) (s : Simulation) where
       → (course : Course) → IsRunOf core (settings_with s.wanted arguments) course → SinkStood s.out → SinkStood s.log
       → IsReportedOrLost (run_report core course) (as_call s)
   run_met (r, is, met) core its_core arguments means course run out log =
-      let its : IsReportOfSource s.source (simulates s.wanted) (run_report core course) =
+      let its : IsReportOfSource IsRunOf s.source (simulates s.wanted) (run_report core course) =
       program core its_core (report.fit arguments means (record { course = course; run = run; is = refl })) in
       let one : r ≡ run_report core course = law.one s.source (of_program (simulates s.wanted)) tt r (run_report core course) is its in
       subst (λ (x : Report). IsReportedOrLost x (as_call s)) one (alone-whole r (as_call s) met out log)
@@ -65,24 +66,24 @@ module _ (law : SourceLaw) (s : Simulation) where
   -- and so that of a derivation whose own numbers the policy has
   pub simulation-own : OwnLaw → SimulationHeadline s → (numbers : List ℕ) → s.wanted.pick ≡ listed numbers → IsReplayed s numbers
   simulation-own own head numbers by_list =
-      λ out log core its_core arguments means course derived picks.
-      run_met head.report core its_core arguments means course (own core (settings_with s.wanted arguments) course numbers derived picks by_list) out log
+      λ out log core its_core arguments means told logged derived picks.
+      run_met head.report core its_core arguments means (course_of told logged) (own core (settings_with s.wanted arguments) told logged numbers derived picks by_list) out log
 
 -- a simulation that was told of
 module _ (law : SourceLaw) (s : Simulation) (within : length s.source ≤ MOST_BYTES) (may : MayBeAimed (of_program (simulates s.wanted)))
-    (tells : Tells (IsReportOfSource s.source (simulates s.wanted)) s.status s.out s.log) where
+    (tells : Tells (IsReportOfSource IsRunOf s.source (simulates s.wanted)) s.status s.out s.log) where
   abbrev Telling : Type 0
-  Telling = Tells (IsReportOfSource s.source (simulates s.wanted)) s.status s.out s.log
+  Telling = Tells (IsReportOfSource IsRunOf s.source (simulates s.wanted)) s.status s.out s.log
 
-  content : (r : Report) → IsReportOfSource s.source (simulates s.wanted) r → IsOfContent r.status
-  content r is = source_status s.source (simulates s.wanted) r is
+  content : (r : Report) → IsReportOfSource IsRunOf s.source (simulates s.wanted) r → IsOfContent r.status
+  content r is = source_status IsRunOf s.source (simulates s.wanted) r is
 
   ended : Ended ⊥ ⊥ s.status s.out s.log
-  ended = tells_ended ⊥ ⊥ (IsReportOfSource s.source (simulates s.wanted)) s.status s.out s.log content tells
+  ended = tells_ended ⊥ ⊥ (IsReportOfSource IsRunOf s.source (simulates s.wanted)) s.status s.out s.log content tells
 
   -- no log is brought up, nothing is laid out, and there are no picks that don't fit
-  above : (n : ℕ) → 24 ≤ n → (r : Report) → IsReportOfSource s.source (simulates s.wanted) r → r.status ≢ n
-  above n high r is h = let b = simulated_bound s.source s.wanted r is in let far = high in grind arith
+  above : (n : ℕ) → 24 ≤ n → (r : Report) → IsReportOfSource IsRunOf s.source (simulates s.wanted) r → r.status ≢ n
+  above n high r is h = let b = simulated_bound IsRunOf s.source s.wanted r is in let far = high in grind arith
 
   met_by : Telling → Met s
   met_by (told r is d) = (r, is, delivered d)
@@ -100,8 +101,8 @@ module _ (law : SourceLaw) (s : Simulation) (within : length s.source ≤ MOST_B
   above_by n high (untold status out log) e = omega arith
 
   -- a status comes exactly of its cause
-  module _ (n : ℕ) (P : Aim → List ℕ → Type 0) (status : StatusOf n P) where
-    causing : (r : Report) → IsReportOfSource s.source (simulates s.wanted) r → P (of_program (simulates s.wanted)) s.source → r.status ≡ n
+  module _ (n : ℕ) (P : Aim → List ℕ → Type 0) (status : StatusOf IsRunOf n P) where
+    causing : (r : Report) → IsReportOfSource IsRunOf s.source (simulates s.wanted) r → P (of_program (simulates s.wanted)) s.source → r.status ≡ n
     causing r is h =
         let p = status.from (of_program (simulates s.wanted)) s.source tt h in
         status_ap r p.0 (law.one s.source (of_program (simulates s.wanted)) tt r p.0 is p.1) ∙ p.2
@@ -111,32 +112,32 @@ module _ (law : SourceLaw) (s : Simulation) (within : length s.source ≤ MOST_B
         exactly r (as_call s) n cause status.other.2 (alone-whole r (as_call s) met out log)
         (λ e. to (status.to (of_program (simulates s.wanted)) s.source r is e)) (λ h. causing r is (from h))
 
-  comes : (n : ℕ) (P : Aim → List ℕ → Type 0) → StatusOf n P → ComesOf s n (P (of_program (simulates s.wanted)))
+  comes : (n : ℕ) (P : Aim → List ℕ → Type 0) → StatusOf IsRunOf n P → ComesOf s n (P (of_program (simulates s.wanted)))
   comes n P status = exactly_by n P status (P (of_program (simulates s.wanted)) s.source) (λ h. h) (λ h. h) (met_by tells)
 
   -- a run ends so, as it is asked for here
-  ends_here : (Q : Verdict → Type 0) → Ends Q (of_program (simulates s.wanted)) s.source → EndsAs Q s.wanted s.source
-  ends_here Q e = subst (λ (w : Wanted). EndsAs Q w s.source) e.1 e.2
+  ends_here : (Q : Verdict → Type 0) → Ends IsRunOf Q (of_program (simulates s.wanted)) s.source → EndsAs IsRunOf Q s.wanted s.source
+  ends_here Q e = subst (λ (w : Wanted). EndsAs IsRunOf Q w s.source) e.1 e.2
 
-  ends : (n : ℕ) (Q : Verdict → Type 0) → StatusOf n (Ends Q) → ComesOf s n (EndsAs Q s.wanted)
-  ends n Q status = exactly_by n (Ends Q) status (EndsAs Q s.wanted s.source) (ends_here Q) (λ e. (s.wanted, refl, e)) (met_by tells)
+  ends : (n : ℕ) (Q : Verdict → Type 0) → StatusOf IsRunOf n (Ends IsRunOf Q) → ComesOf s n (EndsAs IsRunOf Q s.wanted)
+  ends n Q status = exactly_by n (Ends IsRunOf Q) status (EndsAs IsRunOf Q s.wanted s.source) (ends_here Q) (λ e. (s.wanted, refl, e)) (met_by tells)
 
-  completed : IsDone (of_program (simulates s.wanted)) s.source → EndsAs (λ v. v ≡ verdict.Completed) s.wanted s.source
+  completed : IsDone IsRunOf (of_program (simulates s.wanted)) s.source → EndsAs IsRunOf (λ v. v ≡ verdict.Completed) s.wanted s.source
   completed (inl e) = ends_here (λ v. v ≡ verdict.Completed) e
   completed (inr none) = absurd none
 
   pub simulation-causes : SimulationCauses s
   simulation-causes = record {
-    done = exactly_by 0 IsDone done_status (EndsAs (λ v. v ≡ verdict.Completed) s.wanted s.source) completed (λ e. inl (s.wanted, refl, e)) (met_by tells);
-    exit = ends 10 IsExit exit_status;
-    deadlock = ends 11 (λ v. v ≡ verdict.Deadlock) deadlock_status;
-    fault = ends 12 IsFault fault_status;
-    out_of_steps = ends 13 (λ v. v ≡ verdict.OutOfSteps) out_of_steps_status;
-    stopped = ends 14 (λ v. v ≡ verdict.Stopped) stopped_status;
-    lexical = comes 20 (λ aim. HasLexicalFault) lexical_status;
-    syntax = comes 21 (λ aim. HasSyntaxFault) syntax_status;
-    typing = comes 22 IsMistyped mistyped_status;
-    arguments = comes 23 HasUnfitArguments unfit_status;
+    done = exactly_by 0 (IsDone IsRunOf) (done_status IsRunOf) (EndsAs IsRunOf (λ v. v ≡ verdict.Completed) s.wanted s.source) completed (λ e. inl (s.wanted, refl, e)) (met_by tells);
+    exit = ends 10 IsExit (exit_status IsRunOf);
+    deadlock = ends 11 (λ v. v ≡ verdict.Deadlock) (deadlock_status IsRunOf);
+    fault = ends 12 IsFault (fault_status IsRunOf);
+    out_of_steps = ends 13 (λ v. v ≡ verdict.OutOfSteps) (out_of_steps_status IsRunOf);
+    stopped = ends 14 (λ v. v ≡ verdict.Stopped) (stopped_status IsRunOf);
+    lexical = comes 20 (λ aim. HasLexicalFault) (lexical_status IsRunOf);
+    syntax = comes 21 (λ aim. HasSyntaxFault) (syntax_status IsRunOf);
+    typing = comes 22 IsMistyped (mistyped_status IsRunOf);
+    arguments = comes 23 HasUnfitArguments (unfit_status IsRunOf);
     no_request = ended.request;
     not_read = ended.unread;
     misfit = above_by 24 (omega arith) tells;
@@ -148,12 +149,12 @@ module _ (law : SourceLaw) (s : Simulation) (within : length s.source ≤ MOST_B
     log_failed = ended.breaks.log_failed;
   }
 
-  pub simulation-complete : RunLaw → ValuesLaw → IsSimulatedToItsEnd s
-  simulation-complete runs fit =
+  pub simulation-complete : HasRun → ValuesLaw → IsSimulatedToItsEnd s
+  simulation-complete has fit =
       λ out log core its_core arguments means.
-      let ran = runs.some s.source core within its_core (settings_with s.wanted arguments) (asked_settings fit core s.wanted arguments means.model means.is means.read may) in
-      (ran.0, ran.1, ends_by core ran.0 (run_met law s (met_by tells) core its_core arguments means ran.0 ran.1 out log))
+      let its = has s.source core within its_core (settings_with s.wanted arguments) (asked_settings fit core s.wanted arguments means.model means.is means.read may) in
+      (its.0, its.1, ends_by core its.0 (run_met law s (met_by tells) core its_core arguments means its.0 its.1 out log))
     where
-      ends_by : (core : Core) (course : Course) → IsReportedOrLost (run_report core course) (as_call s) → (s.status ≡ status_of course.told.ending.verdict) ⊎ (s.status ≡ 6)
+      ends_by : (core : Core) (course : Course) → IsReportedOrLost (run_report core course) (as_call s) → (s.status ≡ status_of course.ending.verdict) ⊎ (s.status ≡ 6)
       ends_by core course (inl lost) = inr lost
       ends_by core course (inr m) = inl m.status

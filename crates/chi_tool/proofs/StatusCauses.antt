@@ -9,6 +9,7 @@ use Rattle.chi_core.specs.declared.verdict.Verdict.{Verdict}
 use Rattle.chi_core.specs.declared.verdict.Verdict.TheVariants as verdict
 use Rattle.chi_sched.specs.Policies.{listed}
 use Rattle.chi_value.specs.declared.value.Value.{Value}
+use Rattle.chi_engine.specs.Courses.{Course, Runs, IsRunOf}
 use Rattle.chi_tool.specs.Arguments.{Means}
 use Rattle.chi_tool.specs.declared.task.LogPurpose.{LogPurpose}
 use Rattle.chi_tool.specs.Call.{Call}
@@ -17,7 +18,7 @@ use Rattle.chi_tool.specs.Refusals as refusal
 use Rattle.chi_tool.specs.Refusals.{Report}
 use Rattle.chi_tool.specs.Report.{IsReportOfSource, refused, program, IsReportOfJudging, IsReportOfProgram, IsReportOfLayout, faulty, laid_out, too_long, IsReportFor}
 use Rattle.chi_tool.specs.Report as report
-use Rattle.chi_tool.specs.Running.{Course, IsRunOf, IsRunReport, run_report}
+use Rattle.chi_tool.specs.Running.{runs_for, IsRunReport, run_report}
 use Rattle.chi_tool.specs.Settings.{Wanted, Unpicked, picked_by, ProgramAim, simulates, replays, judges, checks, lists, Aim, of_program, lays_out, settings_with}
 use Rattle.chi_tool.specs.Sources.{IsUnparsed, by_lexer, by_parser, unparsed, by_checker, ComesTo}
 use Rattle.chi_tool.specs.Statuses.{status_of}
@@ -25,8 +26,8 @@ use Rattle.chi_tool.proofs.Contents.{status_ap, is_log_status, ran_bound, judgin
 use Rattle.chi_tool.proofs.LawClauses.{CodeLaw}
 use Rattle.chi_tool.proofs.Verdicts.{status_bound, completed_by, exit_by, deadlock_by, fault_by, out_of_steps_by, stopped_by}
 
-no_program : (n : ℕ) → (20 ≤ n) × (n ≤ 22) → (core : Core) (aim : ProgramAim) (r : Report) → IsReportOfProgram core aim r → r.status ≡ n → ⊥
-no_program n between core aim r is e = let b = source_program core aim r is in let low = between.0 in let high = between.1 in grind arith
+no_program : (runs : Runs) (n : ℕ) → (20 ≤ n) × (n ≤ 22) → (core : Core) (aim : ProgramAim) (r : Report) → IsReportOfProgram runs core aim r → r.status ≡ n → ⊥
+no_program runs n between core aim r is e = let b = source_program runs core aim r is in let low = between.0 in let high = between.1 in grind arith
 
 -- what is to be listed is there: the code of the program that a source comes to
 abbrev pub IsListable : Aim → List ℕ → Type 0
@@ -51,29 +52,29 @@ asked_listable coded call files aim source (beside pair text asked there within 
 asked_listable coded call files aim source (made size asked same plainly) = subst (λ (a : Aim). IsListable a source) (sym plainly) tt
 
 -- a status that a source's report has exactly for one cause, and that no other refusal has
-pub record StatusOf (n : ℕ) (P : Aim → List ℕ → Type 0) : Type 0 where
+pub record StatusOf (runs : Runs) (n : ℕ) (P : Aim → List ℕ → Type 0) : Type 0 where
   pub other : (n ≢ 3) × (n ≢ 4) × (n ≢ 6)
-  pub to : (aim : Aim) (source : List ℕ) (r : Report) → IsReportFor aim source r → r.status ≡ n → P aim source
-  pub from : (aim : Aim) (source : List ℕ) → IsListable aim source → P aim source → (r : Report) × IsReportFor aim source r × (r.status ≡ n)
+  pub to : (aim : Aim) (source : List ℕ) (r : Report) → IsReportFor runs aim source r → r.status ≡ n → P aim source
+  pub from : (aim : Aim) (source : List ℕ) → IsListable aim source → P aim source → (r : Report) × IsReportFor runs aim source r × (r.status ≡ n)
 
 -- the statuses of runs
 
 -- a run that is asked for has its report
-pub ran_report : (aim : Aim) (w : Wanted) → IsRunAsked aim w → (source : List ℕ) (core : Core) → ComesTo source core → (arguments : List Value) → Means core w.texts arguments
-    → (course : Course) → IsRunOf core (settings_with w arguments) course → IsReportFor aim source (run_report core course)
-ran_report (of_program (simulates v)) w is source core comes arguments means course run =
-    subst (λ (x : Wanted). IsReportOfSource source (simulates x) (run_report core course)) is
+pub ran_report : (runs : Runs) (aim : Aim) (w : Wanted) → IsRunAsked aim w → (source : List ℕ) (core : Core) → ComesTo source core → (arguments : List Value) → Means core w.texts arguments
+    → (course : Course) → runs_for runs aim core (settings_with w arguments) course → IsReportFor runs aim source (run_report core course)
+ran_report runs (of_program (simulates v)) w is source core comes arguments means course run =
+    subst (λ (x : Wanted). IsReportOfSource runs source (simulates x) (run_report core course)) is
     (program core comes (report.fit arguments means (record { course = course; run = run; is = refl })))
-ran_report (of_program (replays u text)) w is source core comes arguments means course run =
+ran_report runs (of_program (replays u text)) w is source core comes arguments means course run =
     let at : Wanted → Type 0 = λ x. Means core x.texts arguments × IsRunOf core (settings_with x arguments) course in
     let both = subst at is.2 (means, run) in
     program core comes (report.fit arguments both.0 (report.replayed is.0 is.1 (record { course = course; run = both.1; is = refl })))
-ran_report (of_program (judges purpose u text)) w is source core comes arguments means course run = absurd is
-ran_report (of_program checks) w is source core comes arguments means course run = absurd is
-ran_report (of_program lists) w is source core comes arguments means course run = absurd is
-ran_report lays_out w is source core comes arguments means course run = absurd is
+ran_report runs (of_program (judges purpose u text)) w is source core comes arguments means course run = absurd is
+ran_report runs (of_program checks) w is source core comes arguments means course run = absurd is
+ran_report runs (of_program lists) w is source core comes arguments means course run = absurd is
+ran_report runs lays_out w is source core comes arguments means course run = absurd is
 
-module _ (n : ℕ) (Q : Verdict → Type 0) (low : (n ≡ 0) ⊎ ((10 ≤ n) × (n ≤ 14))) (to : (v : Verdict) → status_of v ≡ n → Q v)
+module _ (runs : Runs) (n : ℕ) (Q : Verdict → Type 0) (low : (n ≡ 0) ⊎ ((10 ≤ n) × (n ≤ 14))) (to : (v : Verdict) → status_of v ≡ n → Q v)
     (from : (v : Verdict) → Q v → status_of v ≡ n) where
   no_refusal : (m : ℕ) → (m ≡ 3) ⊎ ((m ≡ 4) ⊎ ((m ≡ 6) ⊎ (20 ≤ m))) → n ≢ m
   no_refusal m (inl a) e = let l = low in grind arith
@@ -81,42 +82,42 @@ module _ (n : ℕ) (Q : Verdict → Type 0) (low : (n ≡ 0) ⊎ ((10 ≤ n) × 
   no_refusal m (inr (inr (inl a))) e = let l = low in grind arith
   no_refusal m (inr (inr (inr a))) e = let l = low in grind arith
 
-  ends_as : (w : Wanted) (source : List ℕ) (core : Core) (r : Report) → ComesTo source core → (values : List Value) → Means core w.texts values
-      → IsRunReport core (settings_with w values) r → r.status ≡ n → EndsAs Q w source
-  ends_as w source core r comes values means of is = record {
+  ends_as : (its : Runs) (w : Wanted) (source : List ℕ) (core : Core) (r : Report) → ComesTo source core → (values : List Value) → Means core w.texts values
+      → IsRunReport its core (settings_with w values) r → r.status ≡ n → EndsAs its Q w source
+  ends_as its w source core r comes values means of is = record {
     core = core;
     program = comes;
     arguments = values;
     fit = means;
     course = of.course;
     run = of.run;
-    ends = to of.course.told.ending.verdict (sym (status_ap r _ of.is) ∙ is);
+    ends = to of.course.ending.verdict (sym (status_ap r _ of.is) ∙ is);
   }
 
-  run_ends : (w : Wanted) (source : List ℕ) (core : Core) (r : Report) → ComesTo source core → IsReportOfProgram core (simulates w) r → r.status ≡ n
-      → Ends Q (of_program (simulates w)) source
+  run_ends : (w : Wanted) (source : List ℕ) (core : Core) (r : Report) → ComesTo source core → IsReportOfProgram runs core (simulates w) r → r.status ≡ n
+      → Ends runs Q (of_program (simulates w)) source
   run_ends w source core r comes (report.unfit wanted fault misfits e) is = absurd (no_refusal 23 (inr (inr (inr (omega arith)))) (sym is ∙ status_ap r _ e))
-  run_ends w source core r comes (report.fit values means of) is = (w, refl, ends_as w source core r comes values means of is)
+  run_ends w source core r comes (report.fit values means of) is = (w, refl, ends_as runs w source core r comes values means of is)
 
-  replay_ends : (u : Unpicked) (text source : List ℕ) (core : Core) (r : Report) → ComesTo source core → IsReportOfProgram core (replays u text) r → r.status ≡ n
-      → Ends Q (of_program (replays u text)) source
+  replay_ends : (u : Unpicked) (text source : List ℕ) (core : Core) (r : Report) → ComesTo source core → IsReportOfProgram runs core (replays u text) r → r.status ≡ n
+      → Ends runs Q (of_program (replays u text)) source
   replay_ends u text source core r comes (report.unfit wanted fault misfits e) is = absurd (no_refusal 23 (inr (inr (inr (omega arith)))) (sym is ∙ status_ap r _ e))
   replay_ends u text source core r comes (report.fit values means (report.mispicked k misfits e)) is =
       absurd (no_refusal 26 (inr (inr (inr (omega arith)))) (sym is ∙ status_ap r _ e))
   replay_ends u text source core r comes (report.fit values means (report.replayed numbers has of)) is =
-      let w = picked_by (listed numbers) u in (w, (numbers, has, refl), ends_as w source core r comes values means of is)
+      let w = picked_by (listed numbers) u in (w, (numbers, has, refl), ends_as IsRunOf w source core r comes values means of is)
 
-  ends_run : (aim : Aim) (source : List ℕ) → Ends Q aim source → (r : Report) × IsReportFor aim source r × (r.status ≡ n)
+  ends_run : (aim : Aim) (source : List ℕ) → Ends runs Q aim source → (r : Report) × IsReportFor runs aim source r × (r.status ≡ n)
   ends_run aim source p =
       let e = p.2 in
-      (run_report e.core e.course, ran_report aim p.0 p.1 source e.core e.program e.arguments e.fit e.course e.run, from e.course.told.ending.verdict e.ends)
+      (run_report e.core e.course, ran_report runs aim p.0 p.1 source e.core e.program e.arguments e.fit e.course e.run, from e.course.ending.verdict e.ends)
 
   -- a source's report with such a status is that of a program
   no_source_refusal : (m : ℕ) (r : Report) → 20 ≤ m → r.status ≡ m → r.status ≡ n → ⊥
   no_source_refusal m r high is e = no_refusal m (inr (inr (inr high))) (sym e ∙ is)
 
   module _ (positive : 10 ≤ n) where
-    ends : (aim : Aim) (source : List ℕ) (r : Report) → IsReportFor aim source r → r.status ≡ n → Ends Q aim source
+    ends : (aim : Aim) (source : List ℕ) (r : Report) → IsReportFor runs aim source r → r.status ≡ n → Ends runs Q aim source
     ends (of_program aim) source r (refused (unparsed (by_lexer fault has e))) is = absurd (no_source_refusal 20 r (omega arith) (status_ap r _ e) is)
     ends (of_program aim) source r (refused (unparsed (by_parser tokens fault has e))) is = absurd (no_source_refusal 21 r (omega arith) (status_ap r _ e) is)
     ends (of_program aim) source r (refused (by_checker fault has e)) is = absurd (no_source_refusal 22 r (omega arith) (status_ap r _ e) is)
@@ -128,7 +129,7 @@ module _ (n : ℕ) (Q : Verdict → Type 0) (low : (n ≡ 0) ⊎ ((10 ≤ n) × 
     ends (of_program lists) source r (program core comes of) is = let none = status_ap r _ of.listed in let some = positive in absurd (omega arith)
     ends lays_out source r of is = let b = layout_bound source r of in let l = low in let some = positive in absurd (grind arith)
 
-    run_status : StatusOf n (Ends Q)
+    run_status : StatusOf runs n (Ends runs Q)
     run_status = record {
       other = (no_refusal 3 (inl refl), no_refusal 4 (inr (inl refl)), no_refusal 6 (inr (inr (inl refl))));
       to = ends;
@@ -143,128 +144,128 @@ given_of purpose u text source core r comes (report.fit values means (report.yes
     record { core = core; program = comes; arguments = values; fit = means; output = output; numbers = numbers; is = log }
 given_of purpose u text source core r comes (report.fit values means (report.no k refuses e)) is = let h = status_ap r _ e in absurd (omega arith)
 
-of_given : (purpose : LogPurpose) (u : Unpicked) (text source : List ℕ) → GivesLog u text source
-    → (r : Report) × IsReportFor (of_program (judges purpose u text)) source r × (r.status ≡ 0)
-of_given purpose u text source g = (
+of_given : (runs : Runs) (purpose : LogPurpose) (u : Unpicked) (text source : List ℕ) → GivesLog u text source
+    → (r : Report) × IsReportFor runs (of_program (judges purpose u text)) source r × (r.status ≡ 0)
+of_given runs purpose u text source g = (
   refusal.is_log purpose g.output g.numbers,
   program g.core g.program (report.fit g.arguments g.fit (report.yes g.output g.numbers g.is refl)),
   is_log_status purpose g.output g.numbers,
 )
 
-done_of : (aim : Aim) (source : List ℕ) (r : Report) → IsReportFor aim source r → r.status ≡ 0 → IsDone aim source
-done_of (of_program aim) source r (refused (unparsed (by_lexer fault has e))) is = let h = status_ap r _ e in absurd (omega arith)
-done_of (of_program aim) source r (refused (unparsed (by_parser tokens fault has e))) is = let h = status_ap r _ e in absurd (omega arith)
-done_of (of_program aim) source r (refused (by_checker fault has e)) is = let h = status_ap r _ e in absurd (omega arith)
-done_of (of_program (simulates w)) source r (program core comes of) is =
-    inl (run_ends 0 (λ v. v ≡ verdict.Completed) (inl refl) completed_by (λ v e. ap status_of e) w source core r comes of is)
-done_of (of_program (replays u text)) source r (program core comes of) is =
-    inl (replay_ends 0 (λ v. v ≡ verdict.Completed) (inl refl) completed_by (λ v e. ap status_of e) u text source core r comes of is)
-done_of (of_program (judges purpose u text)) source r (program core comes of) is = inr (given_of purpose u text source core r comes of is)
-done_of (of_program checks) source r (program core comes of) is = inr (core, comes)
-done_of (of_program lists) source r (program core comes of) is = inr (core, comes)
-done_of lays_out source r (faulty (by_lexer fault has e)) is = let h = status_ap r _ e in absurd (omega arith)
-done_of lays_out source r (faulty (by_parser tokens fault has e)) is = let h = status_ap r _ e in absurd (omega arith)
-done_of lays_out source r (laid_out text has within e) is = inr (text, has, within)
-done_of lays_out source r (too_long text has above e) is = let h = status_ap r _ e in absurd (omega arith)
+done_of : (runs : Runs) (aim : Aim) (source : List ℕ) (r : Report) → IsReportFor runs aim source r → r.status ≡ 0 → IsDone runs aim source
+done_of runs (of_program aim) source r (refused (unparsed (by_lexer fault has e))) is = let h = status_ap r _ e in absurd (omega arith)
+done_of runs (of_program aim) source r (refused (unparsed (by_parser tokens fault has e))) is = let h = status_ap r _ e in absurd (omega arith)
+done_of runs (of_program aim) source r (refused (by_checker fault has e)) is = let h = status_ap r _ e in absurd (omega arith)
+done_of runs (of_program (simulates w)) source r (program core comes of) is =
+    inl (run_ends runs 0 (λ v. v ≡ verdict.Completed) (inl refl) completed_by (λ v e. ap status_of e) w source core r comes of is)
+done_of runs (of_program (replays u text)) source r (program core comes of) is =
+    inl (replay_ends runs 0 (λ v. v ≡ verdict.Completed) (inl refl) completed_by (λ v e. ap status_of e) u text source core r comes of is)
+done_of runs (of_program (judges purpose u text)) source r (program core comes of) is = inr (given_of purpose u text source core r comes of is)
+done_of runs (of_program checks) source r (program core comes of) is = inr (core, comes)
+done_of runs (of_program lists) source r (program core comes of) is = inr (core, comes)
+done_of runs lays_out source r (faulty (by_lexer fault has e)) is = let h = status_ap r _ e in absurd (omega arith)
+done_of runs lays_out source r (faulty (by_parser tokens fault has e)) is = let h = status_ap r _ e in absurd (omega arith)
+done_of runs lays_out source r (laid_out text has within e) is = inr (text, has, within)
+done_of runs lays_out source r (too_long text has above e) is = let h = status_ap r _ e in absurd (omega arith)
 
-of_done : (aim : Aim) (source : List ℕ) → IsListable aim source → IsDone aim source → (r : Report) × IsReportFor aim source r × (r.status ≡ 0)
-of_done aim source may (inl p) = ends_run 0 (λ v. v ≡ verdict.Completed) (inl refl) completed_by (λ v e. ap status_of e) aim source p
-of_done (of_program (simulates w)) source may (inr p) = absurd p
-of_done (of_program (replays u text)) source may (inr p) = absurd p
-of_done (of_program (judges purpose u text)) source may (inr p) = of_given purpose u text source p
-of_done (of_program checks) source may (inr p) = (refusal.accepted, program p.0 p.1 refl, refl)
-of_done (of_program lists) source may (inr p) =
+of_done : (runs : Runs) (aim : Aim) (source : List ℕ) → IsListable aim source → IsDone runs aim source → (r : Report) × IsReportFor runs aim source r × (r.status ≡ 0)
+of_done runs aim source may (inl p) = ends_run runs 0 (λ v. v ≡ verdict.Completed) (inl refl) completed_by (λ v e. ap status_of e) aim source p
+of_done runs (of_program (simulates w)) source may (inr p) = absurd p
+of_done runs (of_program (replays u text)) source may (inr p) = absurd p
+of_done runs (of_program (judges purpose u text)) source may (inr p) = of_given runs purpose u text source p
+of_done runs (of_program checks) source may (inr p) = (refusal.accepted, program p.0 p.1 refl, refl)
+of_done runs (of_program lists) source may (inr p) =
     let there = may p.0 p.1 in (refusal.listed there.0, program p.0 p.1 (record { code = there.0; is = there.1; listed = refl }), refl)
-of_done lays_out source may (inr p) = (refusal.laid_out p.0, laid_out p.0 p.1 p.2 refl, refl)
+of_done runs lays_out source may (inr p) = (refusal.laid_out p.0, laid_out p.0 p.1 p.2 refl, refl)
 
-pub done_status : StatusOf 0 IsDone
-done_status = record { other = (λ e. omega arith, λ e. omega arith, λ e. omega arith); to = done_of; from = of_done }
+pub done_status : (runs : Runs) → StatusOf runs 0 (IsDone runs)
+done_status runs = record { other = (λ e. omega arith, λ e. omega arith, λ e. omega arith); to = done_of runs; from = of_done runs }
 
-pub exit_status : StatusOf 10 (Ends IsExit)
-exit_status = run_status 10 IsExit (inr (omega arith, omega arith)) exit_by (λ v e. ap status_of e.1) (omega arith)
+pub exit_status : (runs : Runs) → StatusOf runs 10 (Ends runs IsExit)
+exit_status runs = run_status runs 10 IsExit (inr (omega arith, omega arith)) exit_by (λ v e. ap status_of e.1) (omega arith)
 
-pub deadlock_status : StatusOf 11 (Ends (λ v. v ≡ verdict.Deadlock))
-deadlock_status = run_status 11 (λ v. v ≡ verdict.Deadlock) (inr (omega arith, omega arith)) deadlock_by (λ v e. ap status_of e) (omega arith)
+pub deadlock_status : (runs : Runs) → StatusOf runs 11 (Ends runs (λ v. v ≡ verdict.Deadlock))
+deadlock_status runs = run_status runs 11 (λ v. v ≡ verdict.Deadlock) (inr (omega arith, omega arith)) deadlock_by (λ v e. ap status_of e) (omega arith)
 
-pub fault_status : StatusOf 12 (Ends IsFault)
-fault_status = run_status 12 IsFault (inr (omega arith, omega arith)) fault_by (λ v e. ap status_of e.3) (omega arith)
+pub fault_status : (runs : Runs) → StatusOf runs 12 (Ends runs IsFault)
+fault_status runs = run_status runs 12 IsFault (inr (omega arith, omega arith)) fault_by (λ v e. ap status_of e.3) (omega arith)
 
-pub out_of_steps_status : StatusOf 13 (Ends (λ v. v ≡ verdict.OutOfSteps))
-out_of_steps_status = run_status 13 (λ v. v ≡ verdict.OutOfSteps) (inr (omega arith, omega arith)) out_of_steps_by (λ v e. ap status_of e) (omega arith)
+pub out_of_steps_status : (runs : Runs) → StatusOf runs 13 (Ends runs (λ v. v ≡ verdict.OutOfSteps))
+out_of_steps_status runs = run_status runs 13 (λ v. v ≡ verdict.OutOfSteps) (inr (omega arith, omega arith)) out_of_steps_by (λ v e. ap status_of e) (omega arith)
 
-pub stopped_status : StatusOf 14 (Ends (λ v. v ≡ verdict.Stopped))
-stopped_status = run_status 14 (λ v. v ≡ verdict.Stopped) (inr (omega arith, omega arith)) stopped_by (λ v e. ap status_of e) (omega arith)
+pub stopped_status : (runs : Runs) → StatusOf runs 14 (Ends runs (λ v. v ≡ verdict.Stopped))
+stopped_status runs = run_status runs 14 (λ v. v ≡ verdict.Stopped) (inr (omega arith, omega arith)) stopped_by (λ v e. ap status_of e) (omega arith)
 
 -- the statuses of refusals
 
-of_unparsed : (aim : Aim) (source : List ℕ) (r : Report) → IsUnparsed source r → IsReportFor aim source r
-of_unparsed (of_program aim) source r is = refused (unparsed is)
-of_unparsed lays_out source r is = faulty is
+of_unparsed : (runs : Runs) (aim : Aim) (source : List ℕ) (r : Report) → IsUnparsed source r → IsReportFor runs aim source r
+of_unparsed runs (of_program aim) source r is = refused (unparsed is)
+of_unparsed runs lays_out source r is = faulty is
 
-lexical_of : (aim : Aim) (source : List ℕ) (r : Report) → IsReportFor aim source r → r.status ≡ 20 → HasLexicalFault source
-lexical_of (of_program aim) source r (refused (unparsed (by_lexer fault has e))) is = (fault, has)
-lexical_of (of_program aim) source r (refused (unparsed (by_parser tokens fault has e))) is = let h = status_ap r _ e in absurd (omega arith)
-lexical_of (of_program aim) source r (refused (by_checker fault has e)) is = let h = status_ap r _ e in absurd (omega arith)
-lexical_of (of_program aim) source r (program core comes of) is = absurd (no_program 20 (omega arith, omega arith) core aim r of is)
-lexical_of lays_out source r (faulty (by_lexer fault has e)) is = (fault, has)
-lexical_of lays_out source r (faulty (by_parser tokens fault has e)) is = let h = status_ap r _ e in absurd (omega arith)
-lexical_of lays_out source r (laid_out text has within e) is = let h = status_ap r _ e in absurd (omega arith)
-lexical_of lays_out source r (too_long text has above e) is = let h = status_ap r _ e in absurd (omega arith)
+lexical_of : (runs : Runs) (aim : Aim) (source : List ℕ) (r : Report) → IsReportFor runs aim source r → r.status ≡ 20 → HasLexicalFault source
+lexical_of runs (of_program aim) source r (refused (unparsed (by_lexer fault has e))) is = (fault, has)
+lexical_of runs (of_program aim) source r (refused (unparsed (by_parser tokens fault has e))) is = let h = status_ap r _ e in absurd (omega arith)
+lexical_of runs (of_program aim) source r (refused (by_checker fault has e)) is = let h = status_ap r _ e in absurd (omega arith)
+lexical_of runs (of_program aim) source r (program core comes of) is = absurd (no_program runs 20 (omega arith, omega arith) core aim r of is)
+lexical_of runs lays_out source r (faulty (by_lexer fault has e)) is = (fault, has)
+lexical_of runs lays_out source r (faulty (by_parser tokens fault has e)) is = let h = status_ap r _ e in absurd (omega arith)
+lexical_of runs lays_out source r (laid_out text has within e) is = let h = status_ap r _ e in absurd (omega arith)
+lexical_of runs lays_out source r (too_long text has above e) is = let h = status_ap r _ e in absurd (omega arith)
 
-pub lexical_status : StatusOf 20 (λ aim. HasLexicalFault)
-lexical_status = record {
+pub lexical_status : (runs : Runs) → StatusOf runs 20 (λ aim. HasLexicalFault)
+lexical_status runs = record {
   other = (λ e. omega arith, λ e. omega arith, λ e. omega arith);
-  to = lexical_of;
-  from = λ aim source may p. (refusal.lexical p.0, of_unparsed aim source (refusal.lexical p.0) (by_lexer p.0 p.1 refl), refl);
+  to = lexical_of runs;
+  from = λ aim source may p. (refusal.lexical p.0, of_unparsed runs aim source (refusal.lexical p.0) (by_lexer p.0 p.1 refl), refl);
 }
 
-syntax_of : (aim : Aim) (source : List ℕ) (r : Report) → IsReportFor aim source r → r.status ≡ 21 → HasSyntaxFault source
-syntax_of (of_program aim) source r (refused (unparsed (by_lexer fault has e))) is = let h = status_ap r _ e in absurd (omega arith)
-syntax_of (of_program aim) source r (refused (unparsed (by_parser tokens fault has e))) is = (tokens, fault, has)
-syntax_of (of_program aim) source r (refused (by_checker fault has e)) is = let h = status_ap r _ e in absurd (omega arith)
-syntax_of (of_program aim) source r (program core comes of) is = absurd (no_program 21 (omega arith, omega arith) core aim r of is)
-syntax_of lays_out source r (faulty (by_lexer fault has e)) is = let h = status_ap r _ e in absurd (omega arith)
-syntax_of lays_out source r (faulty (by_parser tokens fault has e)) is = (tokens, fault, has)
-syntax_of lays_out source r (laid_out text has within e) is = let h = status_ap r _ e in absurd (omega arith)
-syntax_of lays_out source r (too_long text has above e) is = let h = status_ap r _ e in absurd (omega arith)
+syntax_of : (runs : Runs) (aim : Aim) (source : List ℕ) (r : Report) → IsReportFor runs aim source r → r.status ≡ 21 → HasSyntaxFault source
+syntax_of runs (of_program aim) source r (refused (unparsed (by_lexer fault has e))) is = let h = status_ap r _ e in absurd (omega arith)
+syntax_of runs (of_program aim) source r (refused (unparsed (by_parser tokens fault has e))) is = (tokens, fault, has)
+syntax_of runs (of_program aim) source r (refused (by_checker fault has e)) is = let h = status_ap r _ e in absurd (omega arith)
+syntax_of runs (of_program aim) source r (program core comes of) is = absurd (no_program runs 21 (omega arith, omega arith) core aim r of is)
+syntax_of runs lays_out source r (faulty (by_lexer fault has e)) is = let h = status_ap r _ e in absurd (omega arith)
+syntax_of runs lays_out source r (faulty (by_parser tokens fault has e)) is = (tokens, fault, has)
+syntax_of runs lays_out source r (laid_out text has within e) is = let h = status_ap r _ e in absurd (omega arith)
+syntax_of runs lays_out source r (too_long text has above e) is = let h = status_ap r _ e in absurd (omega arith)
 
-pub syntax_status : StatusOf 21 (λ aim. HasSyntaxFault)
-syntax_status = record {
+pub syntax_status : (runs : Runs) → StatusOf runs 21 (λ aim. HasSyntaxFault)
+syntax_status runs = record {
   other = (λ e. omega arith, λ e. omega arith, λ e. omega arith);
-  to = syntax_of;
-  from = λ aim source may p. (refusal.syntax source p.0 p.1, of_unparsed aim source (refusal.syntax source p.0 p.1) (by_parser p.0 p.1 p.2 refl), refl);
+  to = syntax_of runs;
+  from = λ aim source may p. (refusal.syntax source p.0 p.1, of_unparsed runs aim source (refusal.syntax source p.0 p.1) (by_parser p.0 p.1 p.2 refl), refl);
 }
 
-mistyped_of : (aim : Aim) (source : List ℕ) (r : Report) → IsReportFor aim source r → r.status ≡ 22 → IsMistyped aim source
-mistyped_of (of_program aim) source r (refused (unparsed (by_lexer fault has e))) is = let h = status_ap r _ e in absurd (omega arith)
-mistyped_of (of_program aim) source r (refused (unparsed (by_parser tokens fault has e))) is = let h = status_ap r _ e in absurd (omega arith)
-mistyped_of (of_program aim) source r (refused (by_checker fault has e)) is = (fault, has)
-mistyped_of (of_program aim) source r (program core comes of) is = absurd (no_program 22 (omega arith, omega arith) core aim r of is)
-mistyped_of lays_out source r of is = let b = layout_bound source r of in absurd (grind arith)
+mistyped_of : (runs : Runs) (aim : Aim) (source : List ℕ) (r : Report) → IsReportFor runs aim source r → r.status ≡ 22 → IsMistyped aim source
+mistyped_of runs (of_program aim) source r (refused (unparsed (by_lexer fault has e))) is = let h = status_ap r _ e in absurd (omega arith)
+mistyped_of runs (of_program aim) source r (refused (unparsed (by_parser tokens fault has e))) is = let h = status_ap r _ e in absurd (omega arith)
+mistyped_of runs (of_program aim) source r (refused (by_checker fault has e)) is = (fault, has)
+mistyped_of runs (of_program aim) source r (program core comes of) is = absurd (no_program runs 22 (omega arith, omega arith) core aim r of is)
+mistyped_of runs lays_out source r of is = let b = layout_bound source r of in absurd (grind arith)
 
-of_mistyped : (aim : Aim) (source : List ℕ) → IsListable aim source → IsMistyped aim source → (r : Report) × IsReportFor aim source r × (r.status ≡ 22)
-of_mistyped (of_program aim) source may p = (refusal.typing p.0, refused (by_checker p.0 p.1 refl), refl)
-of_mistyped lays_out source may p = absurd p
+of_mistyped : (runs : Runs) (aim : Aim) (source : List ℕ) → IsListable aim source → IsMistyped aim source → (r : Report) × IsReportFor runs aim source r × (r.status ≡ 22)
+of_mistyped runs (of_program aim) source may p = (refusal.typing p.0, refused (by_checker p.0 p.1 refl), refl)
+of_mistyped runs lays_out source may p = absurd p
 
-pub mistyped_status : StatusOf 22 IsMistyped
-mistyped_status = record {
+pub mistyped_status : (runs : Runs) → StatusOf runs 22 IsMistyped
+mistyped_status runs = record {
   other = (λ e. omega arith, λ e. omega arith, λ e. omega arith);
-  to = mistyped_of;
-  from = of_mistyped;
+  to = mistyped_of runs;
+  from = of_mistyped runs;
 }
 
-unfit_run : (w : Wanted) (source : List ℕ) (core : Core) (r : Report) → ComesTo source core → IsReportOfProgram core (simulates w) r → r.status ≡ 23 → HasUnfitArguments (of_program (simulates w)) source
-unfit_run w source core r comes (report.unfit wanted fault misfits e) is =
+unfit_run : (runs : Runs) (w : Wanted) (source : List ℕ) (core : Core) (r : Report) → ComesTo source core → IsReportOfProgram runs core (simulates w) r → r.status ≡ 23 → HasUnfitArguments (of_program (simulates w)) source
+unfit_run runs w source core r comes (report.unfit wanted fault misfits e) is =
     record { core = core; program = comes; wanted = wanted; fault = fault; misfits = misfits }
-unfit_run w source core r comes (report.fit values means of) is =
-    let h : r.status ≡ status_of of.course.told.ending.verdict = status_ap r _ of.is in let b = status_bound of.course.told.ending.verdict in absurd (grind arith)
+unfit_run runs w source core r comes (report.fit values means of) is =
+    let h : r.status ≡ status_of of.course.ending.verdict = status_ap r _ of.is in let b = status_bound of.course.ending.verdict in absurd (grind arith)
 
-unfit_replay : (u : Unpicked) (text source : List ℕ) (core : Core) (r : Report) → ComesTo source core → IsReportOfProgram core (replays u text) r → r.status ≡ 23
+unfit_replay : (runs : Runs) (u : Unpicked) (text source : List ℕ) (core : Core) (r : Report) → ComesTo source core → IsReportOfProgram runs core (replays u text) r → r.status ≡ 23
     → HasUnfitArguments (of_program (replays u text)) source
-unfit_replay u text source core r comes (report.unfit wanted fault misfits e) is =
+unfit_replay runs u text source core r comes (report.unfit wanted fault misfits e) is =
     record { core = core; program = comes; wanted = wanted; fault = fault; misfits = misfits }
-unfit_replay u text source core r comes (report.fit values means (report.mispicked k misfits e)) is = let h = status_ap r _ e in absurd (omega arith)
-unfit_replay u text source core r comes (report.fit values means (report.replayed numbers has of)) is = let b = ran_bound core of.course r of.is in absurd (grind arith)
+unfit_replay runs u text source core r comes (report.fit values means (report.mispicked k misfits e)) is = let h = status_ap r _ e in absurd (omega arith)
+unfit_replay runs u text source core r comes (report.fit values means (report.replayed numbers has of)) is = let b = ran_bound core of.course r of.is in absurd (grind arith)
 
 unfit_judging : (purpose : LogPurpose) (u : Unpicked) (text source : List ℕ) (core : Core) (r : Report) → ComesTo source core → IsReportOfJudging core purpose u text r → r.status ≡ 23
     → HasUnfitArguments (of_program (judges purpose u text)) source
@@ -274,58 +275,58 @@ unfit_judging purpose u text source core r comes (report.fit values means (repor
     let h : r.status ≡ 0 = status_ap r _ e ∙ is_log_status purpose output numbers in absurd (omega arith)
 unfit_judging purpose u text source core r comes (report.fit values means (report.no k refuses e)) is = let h = status_ap r _ e in absurd (omega arith)
 
-unfit_of : (aim : Aim) (source : List ℕ) (r : Report) → IsReportFor aim source r → r.status ≡ 23 → HasUnfitArguments aim source
-unfit_of (of_program aim) source r (refused (unparsed (by_lexer fault has e))) is = let h = status_ap r _ e in absurd (omega arith)
-unfit_of (of_program aim) source r (refused (unparsed (by_parser tokens fault has e))) is = let h = status_ap r _ e in absurd (omega arith)
-unfit_of (of_program aim) source r (refused (by_checker fault has e)) is = let h = status_ap r _ e in absurd (omega arith)
-unfit_of (of_program (simulates w)) source r (program core comes of) is = unfit_run w source core r comes of is
-unfit_of (of_program (replays u text)) source r (program core comes of) is = unfit_replay u text source core r comes of is
-unfit_of (of_program (judges purpose u text)) source r (program core comes of) is = unfit_judging purpose u text source core r comes of is
-unfit_of (of_program checks) source r (program core comes of) is = let h = status_ap r _ of in absurd (omega arith)
-unfit_of (of_program lists) source r (program core comes of) is = let h = status_ap r _ of.listed in absurd (omega arith)
-unfit_of lays_out source r of is = let b = layout_bound source r of in absurd (grind arith)
+unfit_of : (runs : Runs) (aim : Aim) (source : List ℕ) (r : Report) → IsReportFor runs aim source r → r.status ≡ 23 → HasUnfitArguments aim source
+unfit_of runs (of_program aim) source r (refused (unparsed (by_lexer fault has e))) is = let h = status_ap r _ e in absurd (omega arith)
+unfit_of runs (of_program aim) source r (refused (unparsed (by_parser tokens fault has e))) is = let h = status_ap r _ e in absurd (omega arith)
+unfit_of runs (of_program aim) source r (refused (by_checker fault has e)) is = let h = status_ap r _ e in absurd (omega arith)
+unfit_of runs (of_program (simulates w)) source r (program core comes of) is = unfit_run runs w source core r comes of is
+unfit_of runs (of_program (replays u text)) source r (program core comes of) is = unfit_replay runs u text source core r comes of is
+unfit_of runs (of_program (judges purpose u text)) source r (program core comes of) is = unfit_judging purpose u text source core r comes of is
+unfit_of runs (of_program checks) source r (program core comes of) is = let h = status_ap r _ of in absurd (omega arith)
+unfit_of runs (of_program lists) source r (program core comes of) is = let h = status_ap r _ of.listed in absurd (omega arith)
+unfit_of runs lays_out source r of is = let b = layout_bound source r of in absurd (grind arith)
 
-of_unfit : (aim : Aim) (source : List ℕ) → IsListable aim source → HasUnfitArguments aim source → (r : Report) × IsReportFor aim source r × (r.status ≡ 23)
-of_unfit (of_program (simulates w)) source may p =
+of_unfit : (runs : Runs) (aim : Aim) (source : List ℕ) → IsListable aim source → HasUnfitArguments aim source → (r : Report) × IsReportFor runs aim source r × (r.status ≡ 23)
+of_unfit runs (of_program (simulates w)) source may p =
     (refusal.unfit_arguments p.wanted _ p.fault, program p.core p.program (report.unfit p.wanted p.fault p.misfits refl), refl)
-of_unfit (of_program (replays u text)) source may p =
+of_unfit runs (of_program (replays u text)) source may p =
     (refusal.unfit_arguments p.wanted _ p.fault, program p.core p.program (report.unfit p.wanted p.fault p.misfits refl), refl)
-of_unfit (of_program (judges purpose u text)) source may p =
+of_unfit runs (of_program (judges purpose u text)) source may p =
     (refusal.unfit_arguments p.wanted _ p.fault, program p.core p.program (report.unfit p.wanted p.fault p.misfits refl), refl)
-of_unfit (of_program checks) source may p = absurd p
-of_unfit (of_program lists) source may p = absurd p
-of_unfit lays_out source may p = absurd p
+of_unfit runs (of_program checks) source may p = absurd p
+of_unfit runs (of_program lists) source may p = absurd p
+of_unfit runs lays_out source may p = absurd p
 
-pub unfit_status : StatusOf 23 HasUnfitArguments
-unfit_status = record { other = (λ e. omega arith, λ e. omega arith, λ e. omega arith); to = unfit_of; from = of_unfit }
+pub unfit_status : (runs : Runs) → StatusOf runs 23 HasUnfitArguments
+unfit_status runs = record { other = (λ e. omega arith, λ e. omega arith, λ e. omega arith); to = unfit_of runs; from = of_unfit runs }
 
-mispicked_run : (u : Unpicked) (text source : List ℕ) (core : Core) (r : Report) → ComesTo source core → IsReportOfProgram core (replays u text) r → r.status ≡ 26
+mispicked_run : (runs : Runs) (u : Unpicked) (text source : List ℕ) (core : Core) (r : Report) → ComesTo source core → IsReportOfProgram runs core (replays u text) r → r.status ≡ 26
     → HasMispick (of_program (replays u text)) source
-mispicked_run u text source core r comes (report.unfit wanted fault misfits e) is = let h = status_ap r _ e in absurd (omega arith)
-mispicked_run u text source core r comes (report.fit values means (report.mispicked k misfits e)) is =
+mispicked_run runs u text source core r comes (report.unfit wanted fault misfits e) is = let h = status_ap r _ e in absurd (omega arith)
+mispicked_run runs u text source core r comes (report.fit values means (report.mispicked k misfits e)) is =
     record { core = core; program = comes; arguments = values; fit = means; k = k; misfits = misfits }
-mispicked_run u text source core r comes (report.fit values means (report.replayed numbers has of)) is = let b = ran_bound core of.course r of.is in absurd (grind arith)
+mispicked_run runs u text source core r comes (report.fit values means (report.replayed numbers has of)) is = let b = ran_bound core of.course r of.is in absurd (grind arith)
 
-mispicked_of : (aim : Aim) (source : List ℕ) (r : Report) → IsReportFor aim source r → r.status ≡ 26 → HasMispick aim source
-mispicked_of (of_program aim) source r (refused refusal_is) is = let b = refused_bound source r refusal_is in let high = b.1 in absurd (omega arith)
-mispicked_of (of_program (simulates w)) source r (program core comes of) is = let b = simulated_bound source w r (program core comes of) in absurd (grind arith)
-mispicked_of (of_program (replays u text)) source r (program core comes of) is = mispicked_run u text source core r comes of is
-mispicked_of (of_program (judges purpose u text)) source r (program core comes of) is = let b = judging_bound core purpose u text r of in absurd (grind arith)
-mispicked_of (of_program checks) source r (program core comes of) is = let h = status_ap r _ of in absurd (omega arith)
-mispicked_of (of_program lists) source r (program core comes of) is = let h = status_ap r _ of.listed in absurd (omega arith)
-mispicked_of lays_out source r of is = let b = layout_bound source r of in absurd (grind arith)
+mispicked_of : (runs : Runs) (aim : Aim) (source : List ℕ) (r : Report) → IsReportFor runs aim source r → r.status ≡ 26 → HasMispick aim source
+mispicked_of runs (of_program aim) source r (refused refusal_is) is = let b = refused_bound source r refusal_is in let high = b.1 in absurd (omega arith)
+mispicked_of runs (of_program (simulates w)) source r (program core comes of) is = let b = simulated_bound runs source w r (program core comes of) in absurd (grind arith)
+mispicked_of runs (of_program (replays u text)) source r (program core comes of) is = mispicked_run runs u text source core r comes of is
+mispicked_of runs (of_program (judges purpose u text)) source r (program core comes of) is = let b = judging_bound core purpose u text r of in absurd (grind arith)
+mispicked_of runs (of_program checks) source r (program core comes of) is = let h = status_ap r _ of in absurd (omega arith)
+mispicked_of runs (of_program lists) source r (program core comes of) is = let h = status_ap r _ of.listed in absurd (omega arith)
+mispicked_of runs lays_out source r of is = let b = layout_bound source r of in absurd (grind arith)
 
-of_mispicked : (aim : Aim) (source : List ℕ) → IsListable aim source → HasMispick aim source → (r : Report) × IsReportFor aim source r × (r.status ≡ 26)
-of_mispicked (of_program (simulates w)) source may p = absurd p
-of_mispicked (of_program (replays u text)) source may p =
+of_mispicked : (runs : Runs) (aim : Aim) (source : List ℕ) → IsListable aim source → HasMispick aim source → (r : Report) × IsReportFor runs aim source r × (r.status ≡ 26)
+of_mispicked runs (of_program (simulates w)) source may p = absurd p
+of_mispicked runs (of_program (replays u text)) source may p =
     (refusal.mispicked p.k, program p.core p.program (report.fit p.arguments p.fit (report.mispicked p.k p.misfits refl)), refl)
-of_mispicked (of_program (judges purpose u text)) source may p = absurd p
-of_mispicked (of_program checks) source may p = absurd p
-of_mispicked (of_program lists) source may p = absurd p
-of_mispicked lays_out source may p = absurd p
+of_mispicked runs (of_program (judges purpose u text)) source may p = absurd p
+of_mispicked runs (of_program checks) source may p = absurd p
+of_mispicked runs (of_program lists) source may p = absurd p
+of_mispicked runs lays_out source may p = absurd p
 
-pub mispicked_status : StatusOf 26 HasMispick
-mispicked_status = record { other = (λ e. omega arith, λ e. omega arith, λ e. omega arith); to = mispicked_of; from = of_mispicked }
+pub mispicked_status : (runs : Runs) → StatusOf runs 26 HasMispick
+mispicked_status runs = record { other = (λ e. omega arith, λ e. omega arith, λ e. omega arith); to = mispicked_of runs; from = of_mispicked runs }
 
 -- a log that the program can't give
 no_log_judging : (purpose : LogPurpose) (u : Unpicked) (text source : List ℕ) (core : Core) (r : Report) → ComesTo source core → IsReportOfJudging core purpose u text r → r.status ≡ 25
@@ -336,37 +337,37 @@ no_log_judging purpose u text source core r comes (report.fit values means (repo
 no_log_judging purpose u text source core r comes (report.fit values means (report.no k refuses e)) is =
     record { core = core; program = comes; arguments = values; fit = means; k = k; refuses = refuses }
 
-no_log_of : (aim : Aim) (source : List ℕ) (r : Report) → IsReportFor aim source r → r.status ≡ 25 → HasNoLog aim source
-no_log_of (of_program aim) source r (refused refusal_is) is = let b = refused_bound source r refusal_is in let high = b.1 in absurd (omega arith)
-no_log_of (of_program (simulates w)) source r (program core comes of) is = let b = simulated_bound source w r (program core comes of) in absurd (grind arith)
-no_log_of (of_program (replays u text)) source r (program core comes of) is = let b = replayed_bound core u text r of in absurd (grind arith)
-no_log_of (of_program (judges purpose u text)) source r (program core comes of) is = no_log_judging purpose u text source core r comes of is
-no_log_of (of_program checks) source r (program core comes of) is = let h = status_ap r _ of in absurd (omega arith)
-no_log_of (of_program lists) source r (program core comes of) is = let h = status_ap r _ of.listed in absurd (omega arith)
-no_log_of lays_out source r of is = let b = layout_bound source r of in absurd (grind arith)
+no_log_of : (runs : Runs) (aim : Aim) (source : List ℕ) (r : Report) → IsReportFor runs aim source r → r.status ≡ 25 → HasNoLog aim source
+no_log_of runs (of_program aim) source r (refused refusal_is) is = let b = refused_bound source r refusal_is in let high = b.1 in absurd (omega arith)
+no_log_of runs (of_program (simulates w)) source r (program core comes of) is = let b = simulated_bound runs source w r (program core comes of) in absurd (grind arith)
+no_log_of runs (of_program (replays u text)) source r (program core comes of) is = let b = replayed_bound core u text r of in absurd (grind arith)
+no_log_of runs (of_program (judges purpose u text)) source r (program core comes of) is = no_log_judging purpose u text source core r comes of is
+no_log_of runs (of_program checks) source r (program core comes of) is = let h = status_ap r _ of in absurd (omega arith)
+no_log_of runs (of_program lists) source r (program core comes of) is = let h = status_ap r _ of.listed in absurd (omega arith)
+no_log_of runs lays_out source r of is = let b = layout_bound source r of in absurd (grind arith)
 
-of_no_log : (aim : Aim) (source : List ℕ) → IsListable aim source → HasNoLog aim source → (r : Report) × IsReportFor aim source r × (r.status ≡ 25)
-of_no_log (of_program (simulates w)) source may p = absurd p
-of_no_log (of_program (replays u text)) source may p = absurd p
-of_no_log (of_program (judges purpose u text)) source may p =
+of_no_log : (runs : Runs) (aim : Aim) (source : List ℕ) → IsListable aim source → HasNoLog aim source → (r : Report) × IsReportFor runs aim source r × (r.status ≡ 25)
+of_no_log runs (of_program (simulates w)) source may p = absurd p
+of_no_log runs (of_program (replays u text)) source may p = absurd p
+of_no_log runs (of_program (judges purpose u text)) source may p =
     (refusal.no_log p.k, program p.core p.program (report.fit p.arguments p.fit (report.no p.k p.refuses refl)), refl)
-of_no_log (of_program checks) source may p = absurd p
-of_no_log (of_program lists) source may p = absurd p
-of_no_log lays_out source may p = absurd p
+of_no_log runs (of_program checks) source may p = absurd p
+of_no_log runs (of_program lists) source may p = absurd p
+of_no_log runs lays_out source may p = absurd p
 
-pub no_log_status : StatusOf 25 HasNoLog
-no_log_status = record { other = (λ e. omega arith, λ e. omega arith, λ e. omega arith); to = no_log_of; from = of_no_log }
+pub no_log_status : (runs : Runs) → StatusOf runs 25 HasNoLog
+no_log_status runs = record { other = (λ e. omega arith, λ e. omega arith, λ e. omega arith); to = no_log_of runs; from = of_no_log runs }
 
-too_long_of : (aim : Aim) (source : List ℕ) (r : Report) → IsReportFor aim source r → r.status ≡ 27 → IsTooLong aim source
-too_long_of (of_program aim) source r of is = let b = source_bound source aim r of in absurd (grind arith)
-too_long_of lays_out source r (faulty (by_lexer fault has e)) is = let h = status_ap r _ e in absurd (omega arith)
-too_long_of lays_out source r (faulty (by_parser tokens fault has e)) is = let h = status_ap r _ e in absurd (omega arith)
-too_long_of lays_out source r (laid_out text has within e) is = let h = status_ap r _ e in absurd (omega arith)
-too_long_of lays_out source r (too_long text has above e) is = (text, has, above)
+too_long_of : (runs : Runs) (aim : Aim) (source : List ℕ) (r : Report) → IsReportFor runs aim source r → r.status ≡ 27 → IsTooLong aim source
+too_long_of runs (of_program aim) source r of is = let b = source_bound runs source aim r of in absurd (grind arith)
+too_long_of runs lays_out source r (faulty (by_lexer fault has e)) is = let h = status_ap r _ e in absurd (omega arith)
+too_long_of runs lays_out source r (faulty (by_parser tokens fault has e)) is = let h = status_ap r _ e in absurd (omega arith)
+too_long_of runs lays_out source r (laid_out text has within e) is = let h = status_ap r _ e in absurd (omega arith)
+too_long_of runs lays_out source r (too_long text has above e) is = (text, has, above)
 
-of_too_long : (aim : Aim) (source : List ℕ) → IsListable aim source → IsTooLong aim source → (r : Report) × IsReportFor aim source r × (r.status ≡ 27)
-of_too_long (of_program aim) source may p = absurd p
-of_too_long lays_out source may p = (refusal.layout_too_long, too_long p.0 p.1 p.2 refl, refl)
+of_too_long : (runs : Runs) (aim : Aim) (source : List ℕ) → IsListable aim source → IsTooLong aim source → (r : Report) × IsReportFor runs aim source r × (r.status ≡ 27)
+of_too_long runs (of_program aim) source may p = absurd p
+of_too_long runs lays_out source may p = (refusal.layout_too_long, too_long p.0 p.1 p.2 refl, refl)
 
-pub too_long_status : StatusOf 27 IsTooLong
-too_long_status = record { other = (λ e. omega arith, λ e. omega arith, λ e. omega arith); to = too_long_of; from = of_too_long }
+pub too_long_status : (runs : Runs) → StatusOf runs 27 IsTooLong
+too_long_status runs = record { other = (λ e. omega arith, λ e. omega arith, λ e. omega arith); to = too_long_of runs; from = of_too_long runs }

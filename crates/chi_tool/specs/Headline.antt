@@ -12,6 +12,7 @@ use Rattle.chi_core.specs.declared.program.Core.{Core}
 use Rattle.chi_core.specs.declared.fault.FaultKind.{FaultKind}
 use Rattle.chi_core.specs.declared.verdict.Verdict.{Verdict}
 use Rattle.chi_core.specs.declared.verdict.Verdict.TheVariants as verdict
+use Rattle.chi_engine.specs.Courses.{Course, Runs}
 use Rattle.chi_trace.specs.declared.log.TheConstants.{MOST_LOG_BYTES}
 use Rattle.chi_trace.specs.Logs as logs
 use Rattle.chi_value.specs.declared.value.Value.{Value}
@@ -29,7 +30,7 @@ use Rattle.chi_tool.specs.Layouts.{HasLayout}
 use Rattle.chi_tool.specs.Refusals.{Report, no_such_file, file_too_long}
 use Rattle.chi_tool.specs.Report.{IsReport}
 use Rattle.chi_tool.specs.OnLogs.{IsLogWith, IsNoLogWith}
-use Rattle.chi_tool.specs.Running.{Course, IsRunOf}
+use Rattle.chi_tool.specs.Running.{runs_for}
 use Rattle.chi_tool.specs.Settings.{Wanted, Unpicked, picked_by, simulates, replays, judges, checks, lists, Aim, of_program, lays_out, wanted_of, aim_of, pair_aim, settings_with, plain}
 use Rattle.chi_tool.specs.Sources.{IsNoProgram, BreaksRule, ComesTo}
 use Rattle.chi_tool.specs.Statuses as statuses
@@ -70,11 +71,12 @@ pub data Meets (r : Report) (call : Call) : Type 0 where
 abbrev pub MayHold : ShelfUse → Files → Type 0
 MayHold shelf files = IfSome shelf.files (λ told. told ≡ files)
 
-pub record Headline (call : Call) : Type 0 where
+-- with what comes of the runs that words ask to be simulated
+pub record Headline (runs : Runs) (call : Call) : Type 0 where
   -- there is a report of the words, and of files that the shelf may have, which the call meets
-  pub report : (files : Files) × MayHold call.shelf files × (r : Report) × IsReport call.words files r × Meets r call
+  pub report : (files : Files) × MayHold call.shelf files × (r : Report) × IsReport runs call.words files r × Meets r call
   -- where the words name no file, it is the same with whichever files
-  pub by_words : NamesNoFile (wish_of call.words) → (files : Files) → (r : Report) × IsReport call.words files r × MeetsAlone r call
+  pub by_words : NamesNoFile (wish_of call.words) → (files : Files) → (r : Report) × IsReport runs call.words files r × MeetsAlone r call
   -- once the output is stopped, nothing is logged
   pub out_stopped : call.out.stopped ≡ true → Took call.log []
 
@@ -156,14 +158,14 @@ IsMistyped (of_program aim) source = HasTypeFault source
 IsMistyped lays_out source = ⊥
 
 -- it comes to a program whose run, as it is asked for, ends with a verdict of which P holds
-pub record EndsAs (P : Verdict → Type 0) (w : Wanted) (source : List ℕ) : Type 0 where
+pub record EndsAs (runs : Runs) (P : Verdict → Type 0) (w : Wanted) (source : List ℕ) : Type 0 where
   pub core : Core
   pub program : ComesTo source core
   pub arguments : List Value
   pub fit : Means core w.texts arguments
   pub course : Course
-  pub run : IsRunOf core (settings_with w arguments) course
-  pub ends : P course.told.ending.verdict
+  pub run : runs core (settings_with w arguments) course
+  pub ends : P course.ending.verdict
 
 -- a run is asked for, as w wants it: by a policy that words name, or by the numbers of a text of picks
 abbrev pub IsRunAsked : Aim → Wanted → Type 0
@@ -175,8 +177,8 @@ IsRunAsked (of_program lists) w = ⊥
 IsRunAsked lays_out w = ⊥
 
 -- and ends so
-abbrev pub Ends : (Verdict → Type 0) → Aim → List ℕ → Type 0
-Ends P aim source = (w : Wanted) × IsRunAsked aim w × EndsAs P w source
+abbrev pub Ends : Runs → (Verdict → Type 0) → Aim → List ℕ → Type 0
+Ends runs P aim source = (w : Wanted) × IsRunAsked aim w × EndsAs (runs_for runs aim) P w source
 
 -- it comes to a program that can give this text as a log, with the arguments that are given
 pub record GivesLog (u : Unpicked) (text source : List ℕ) : Type 0 where
@@ -199,8 +201,8 @@ IsAccepted (of_program lists) source = (core : Core) × ComesTo source core
 IsAccepted lays_out source = (text : List ℕ) × HasLayout source text × (length text ≤ MOST_BYTES)
 
 -- a run has completed, or a source is accepted, to be checked, listed or laid out, or with a log that its program can give
-abbrev pub IsDone : Aim → List ℕ → Type 0
-IsDone aim source = Ends (λ v. v ≡ verdict.Completed) aim source ⊎ IsAccepted aim source
+abbrev pub IsDone : Runs → Aim → List ℕ → Type 0
+IsDone runs aim source = Ends runs (λ v. v ≡ verdict.Completed) aim source ⊎ IsAccepted aim source
 
 -- it comes to a program whose parameters the given arguments don't fit
 pub record IsUnfit (texts : List (List ℕ)) (source : List ℕ) : Type 0 where
@@ -303,21 +305,21 @@ abbrev pub IsExactlyOf : Call → ℕ → (Aim → List ℕ → Type 0) → Type
 IsExactlyOf call n P = IsExactlyIn call n (λ files. AsksFor call files P)
 
 -- a run has completed, a program is accepted, listed, laid out or can give a log, a log of old is brought up, or help is told
-abbrev pub AsksForDone : Call → Files → Type 0
-AsksForDone call files = AsksFor call files IsDone ⊎ (AsksForLog call files ComesUp ⊎ AsksForHelp call)
+abbrev pub AsksForDone : Runs → Call → Files → Type 0
+AsksForDone runs call files = AsksFor call files (IsDone runs) ⊎ (AsksForLog call files ComesUp ⊎ AsksForHelp call)
 
 -- a sink that is stopped has failed
 abbrev pub StoppedByFailure : SinkUse → Type 0
 StoppedByFailure sink = sink.stopped ≡ true → SinkRose sink
 
 -- when each status comes
-pub record Causes (call : Call) : Type 0 where
-  pub done : IsExactlyIn call statuses.completed (AsksForDone call)
-  pub exit : IsExactlyOf call statuses.exited (Ends IsExit)
-  pub deadlock : IsExactlyOf call statuses.deadlocked (Ends (λ v. v ≡ verdict.Deadlock))
-  pub fault : IsExactlyOf call statuses.faulted (Ends IsFault)
-  pub out_of_steps : IsExactlyOf call statuses.out_of_steps (Ends (λ v. v ≡ verdict.OutOfSteps))
-  pub stopped : IsExactlyOf call statuses.stopped (Ends (λ v. v ≡ verdict.Stopped))
+pub record Causes (runs : Runs) (call : Call) : Type 0 where
+  pub done : IsExactlyIn call statuses.completed (AsksForDone runs call)
+  pub exit : IsExactlyOf call statuses.exited (Ends runs IsExit)
+  pub deadlock : IsExactlyOf call statuses.deadlocked (Ends runs (λ v. v ≡ verdict.Deadlock))
+  pub fault : IsExactlyOf call statuses.faulted (Ends runs IsFault)
+  pub out_of_steps : IsExactlyOf call statuses.out_of_steps (Ends runs (λ v. v ≡ verdict.OutOfSteps))
+  pub stopped : IsExactlyOf call statuses.stopped (Ends runs (λ v. v ≡ verdict.Stopped))
   pub lexical : IsExactlyOf call statuses.lexical (λ aim. HasLexicalFault)
   pub syntax : IsExactlyOf call statuses.syntax (λ aim. HasSyntaxFault)
   pub typing : IsExactlyOf call statuses.typing IsMistyped
@@ -335,9 +337,9 @@ pub record Causes (call : Call) : Type 0 where
 
 -- a program that is asked to be run, with arguments that fit, is run to its end: the status is that of its verdict, unless
 -- memory is wanting
-abbrev pub IsComplete : Call → Type 0
-IsComplete call =
+abbrev pub IsComplete : Runs → Call → Type 0
+IsComplete runs call =
     (files : Files) → GoesWell call files → (aim : Aim) (source : List ℕ) → IsAskedSource call files aim source → (w : Wanted) → IsRunAsked aim w
     → (core : Core) → ComesTo source core → (arguments : List Value) → Means core w.texts arguments
-    → (course : Course) × IsRunOf core (settings_with w arguments) course
-    × ((call.status ≡ status_of course.told.ending.verdict) ⊎ (call.status ≡ statuses.no_memory))
+    → (course : Course) × runs_for runs aim core (settings_with w arguments) course
+    × ((call.status ≡ status_of course.ending.verdict) ⊎ (call.status ≡ statuses.no_memory))

@@ -7,6 +7,7 @@ use Rattle.chi_io.specs.Shelf.{Files}
 use Rattle.chi_load.specs.Factory.{factory_source}
 use Rattle.chi_lex.specs.declared.lexer.TheConstants.{MOST_BYTES}
 use Rattle.chi_core.specs.declared.program.Core.{Core}
+use Rattle.chi_engine.specs.Courses.{Runs, IsRunOf}
 use Rattle.chi_trace.specs.declared.log.TheConstants.{MOST_LOG_BYTES}
 use Rattle.chi_trace.specs.Logs as logs
 use Rattle.chi_value.specs.declared.value.Value.{Value}
@@ -33,13 +34,13 @@ pub data IsReportWith (core : Core) (texts : List (List ℕ)) (P : List Value �
   fit : (values : List Value) → Means core texts values → P values r → IsReportWith core texts P r
 
 -- it is run with them
-abbrev pub IsReportOfRun : Core → Wanted → Report → Type 0
-IsReportOfRun core w r = IsReportWith core w.texts (λ values. IsRunReport core (settings_with w values)) r
+abbrev pub IsReportOfRun : Runs → Core → Wanted → Report → Type 0
+IsReportOfRun runs core w r = IsReportWith core w.texts (λ values. IsRunReport runs core (settings_with w values)) r
 
 -- a program that is run with arguments by the picks of a text: these are refused, or it is run by them
 pub data IsReportByPicks (core : Core) (u : Unpicked) (text : List ℕ) (values : List Value) (r : Report) : Type 0 where
   mispicked : (k : ℕ) → picks.Misfits text k → r ≡ refusal.mispicked k → IsReportByPicks core u text values r
-  replayed : (numbers : List ℕ) → picks.Has text numbers → IsRunReport core (settings_with (picked_by (listed numbers) u) values) r
+  replayed : (numbers : List ℕ) → picks.Has text numbers → IsRunReport IsRunOf core (settings_with (picked_by (listed numbers) u) values) r
       → IsReportByPicks core u text values r
 
 abbrev pub IsReportOfReplay : Core → Unpicked → List ℕ → Report → Type 0
@@ -61,17 +62,17 @@ pub record IsReportOfCode (core : Core) (r : Report) : Type 0 where
   pub listed : r ≡ refusal.listed code
 
 -- what is done with a program
-abbrev pub IsReportOfProgram : Core → ProgramAim → Report → Type 0
-IsReportOfProgram core (simulates w) r = IsReportOfRun core w r
-IsReportOfProgram core (replays u text) r = IsReportOfReplay core u text r
-IsReportOfProgram core (judges purpose u text) r = IsReportOfJudging core purpose u text r
-IsReportOfProgram core checks r = r ≡ accepted
-IsReportOfProgram core lists r = IsReportOfCode core r
+abbrev pub IsReportOfProgram : Runs → Core → ProgramAim → Report → Type 0
+IsReportOfProgram runs core (simulates w) r = IsReportOfRun runs core w r
+IsReportOfProgram runs core (replays u text) r = IsReportOfReplay core u text r
+IsReportOfProgram runs core (judges purpose u text) r = IsReportOfJudging core purpose u text r
+IsReportOfProgram runs core checks r = r ≡ accepted
+IsReportOfProgram runs core lists r = IsReportOfCode core r
 
 -- a source's report where something is done with its program: its refusal, or that of the program that it comes to
-pub data IsReportOfSource (source : List ℕ) (aim : ProgramAim) (r : Report) : Type 0 where
-  refused : IsRefused source r → IsReportOfSource source aim r
-  program : (core : Core) → ComesTo source core → IsReportOfProgram core aim r → IsReportOfSource source aim r
+pub data IsReportOfSource (runs : Runs) (source : List ℕ) (aim : ProgramAim) (r : Report) : Type 0 where
+  refused : IsRefused source r → IsReportOfSource runs source aim r
+  program : (core : Core) → ComesTo source core → IsReportOfProgram runs core aim r → IsReportOfSource runs source aim r
 
 -- its report where it is laid out, as it is written: its refusal, its layout, or that this has more bytes than a source may have
 pub data IsReportOfLayout (source : List ℕ) (r : Report) : Type 0 where
@@ -91,30 +92,31 @@ pub data IsReportOfFile (most : ℕ) (P : List ℕ → Report → Type 0) (file 
   fetched : (content : List ℕ) → file ≡ Some content → length content ≤ most → P content r → IsReportOfFile most P file r
 
 -- what is said of a file that holds a source
-abbrev pub IsReportFor : Aim → List ℕ → Report → Type 0
-IsReportFor (of_program aim) source = IsReportOfSource source aim
-IsReportFor lays_out source = IsReportOfLayout source
+abbrev pub IsReportFor : Runs → Aim → List ℕ → Report → Type 0
+IsReportFor runs (of_program aim) source = IsReportOfSource runs source aim
+IsReportFor runs lays_out source = IsReportOfLayout source
 
 -- what is said of two files, the source and the text: the first refusal of one is told, in this order
-abbrev pub IsReportOfPair : Pair → Files → Report → Type 0
-IsReportOfPair pair files r =
-    IsReportOfFile MOST_BYTES (λ source. IsReportOfFile MOST_BESIDE (λ text. IsReportOfSource source (pair_aim pair.purpose text)) (files pair.beside)) (files pair.file) r
+abbrev pub IsReportOfPair : Runs → Pair → Files → Report → Type 0
+IsReportOfPair runs pair files r =
+    IsReportOfFile MOST_BYTES (λ source. IsReportOfFile MOST_BESIDE (λ text. IsReportOfSource runs source (pair_aim pair.purpose text)) (files pair.beside)) (files pair.file) r
 
 -- a factory is run like its source, with nothing asked for
-abbrev pub IsReportOfTask : Task → Files → Report → Type 0
-IsReportOfTask (OfFile file purpose) files r = IsReportOfFile MOST_BYTES (IsReportFor (aim_of purpose)) (files file) r
-IsReportOfTask (OfPair pair) files r = IsReportOfPair pair files r
-IsReportOfTask (OfLog file) files r = IsReportOfFile MOST_LOG_BYTES IsReportOfLog (files file) r
-IsReportOfTask (OfFactory size) files r = IsReportOfSource (factory_source size) (simulates (wanted_of plain)) r
-IsReportOfTask (OfTopic topic) files r = r ≡ refusal.helped topic
+abbrev pub IsReportOfTask : Runs → Task → Files → Report → Type 0
+IsReportOfTask runs (OfFile file purpose) files r = IsReportOfFile MOST_BYTES (IsReportFor runs (aim_of purpose)) (files file) r
+IsReportOfTask runs (OfPair pair) files r = IsReportOfPair runs pair files r
+IsReportOfTask runs (OfLog file) files r = IsReportOfFile MOST_LOG_BYTES IsReportOfLog (files file) r
+IsReportOfTask runs (OfFactory size) files r = IsReportOfSource runs (factory_source size) (simulates (wanted_of plain)) r
+IsReportOfTask runs (OfTopic topic) files r = r ≡ refusal.helped topic
 
-abbrev pub IsReportOfWish : Wish → Files → Report → Type 0
-IsReportOfWish nothing files r = r ≡ usage
-IsReportOfWish (of_task t) files r = IsReportOfTask t files r
+abbrev pub IsReportOfWish : Runs → Wish → Files → Report → Type 0
+IsReportOfWish runs nothing files r = r ≡ usage
+IsReportOfWish runs (of_task t) files r = IsReportOfTask runs t files r
 
--- r is the report of these words and files: the first refusal among words, files, bytes, tokens, program, arguments, and picks or log,
+-- r is the report of these words and files, with what comes of the runs that words ask to be simulated: the first refusal among
+-- words, files, bytes, tokens, program, arguments, and picks or log,
 -- or what was asked for: the output, trace and verdict of the run, that a text is a log that the program can give, with its run's output
 -- or its picks, that the program is accepted, the listing of its code, the layout of the source, what the log of old is brought up to, or
 -- the text of help
-abbrev pub IsReport : List (List ℕ) → Files → Report → Type 0
-IsReport words files r = IsReportOfWish (wish_of words) files r
+abbrev pub IsReport : Runs → List (List ℕ) → Files → Report → Type 0
+IsReport runs words files r = IsReportOfWish runs (wish_of words) files r

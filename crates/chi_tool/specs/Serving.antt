@@ -4,6 +4,7 @@ use Rattle.chi_io.specs.Shelf.{Files}
 use Rattle.chi_lex.specs.declared.lexer.TheConstants.{MOST_BYTES}
 use Rattle.chi_machine_traces.specs.declared.passing.PassFault.{PassFault}
 use Rattle.chi_machine_traces.specs.declared.passing.PassFault.TheVariants.{Stopped, NoMemory}
+use Rattle.chi_engine.specs.Courses.{IsRunOf}
 use Rattle.chi_tool.specs.declared.report.Reported.{Reported}
 use Rattle.chi_tool.specs.declared.task.TheConstants.{MOST_BESIDE}
 use Rattle.chi_tool.specs.declared.task.Pair.{Pair}
@@ -54,9 +55,9 @@ pub data Serves (most : ℕ) (P : List ℕ → Report → Type 0) (name : List �
 -- a second file is served after this content of the first: where they have one name, the report of that as both is told; else the
 -- report of both, or the second is refused
 pub data ServesBeside (pair : Pair) (source : List ℕ) (shelf : ShelfUse) (result : ℕ) (out log : SinkUse) : Type 0 where
-  same : pair.beside ≡ pair.file → Tells (IsReportOfSource source (pair_aim pair.purpose source)) result out log → ServesBeside pair source shelf result out log
+  same : pair.beside ≡ pair.file → Tells (IsReportOfSource IsRunOf source (pair_aim pair.purpose source)) result out log → ServesBeside pair source shelf result out log
   both : (text : List ℕ) → pair.beside ≢ pair.file → IsContent MOST_BESIDE pair.beside shelf.files text
-      → Tells (IsReportOfSource source (pair_aim pair.purpose text)) result out log → ServesBeside pair source shelf result out log
+      → Tells (IsReportOfSource IsRunOf source (pair_aim pair.purpose text)) result out log → ServesBeside pair source shelf result out log
   no_second : Refuses MOST_BESIDE pair.beside shelf result out log → ServesBeside pair source shelf result out log
 
 -- two files are served: the second after the first, or the first is refused

@@ -7,7 +7,7 @@ use Rattle.chi_lex.specs.declared.lexer.TheConstants.{MOST_BYTES}
 use Rattle.chi_trace.specs.declared.filter.Filter.{Filter}
 use Rattle.chi_value.specs.declared.value.Value.{Value}
 use Rattle.chi_core.specs.Picks.{Pick, IsLawful}
-use Rattle.chi_sched.specs.Policies.{first, last, spread}
+use Rattle.chi_engine.specs.Settings.{Settings, policy_of}
 use Rattle.chi_tool.specs.declared.task.Asked.{Asked}
 use Rattle.chi_tool.specs.declared.settings.ByPicks.{ByPicks}
 use Rattle.chi_tool.specs.declared.task.LogPurpose.{LogPurpose}
@@ -18,18 +18,7 @@ use Rattle.chi_tool.specs.declared.task.Purpose.TheVariants.{OfProgram, LayOut}
 use Rattle.chi_tool.specs.declared.task.ProgramPurpose.{ProgramPurpose}
 use Rattle.chi_tool.specs.declared.task.ProgramPurpose.TheVariants.{Simulate, Check, ListCode}
 
--- The seed of its draws; the bound on the costs of all its steps together; the policy that picks among what may
--- happen; the arguments of its model; the stopping time, if there is one; and, where its trace is
--- logged, which events are shown.
-pub record Settings : Type 0 where
-  pub seed : ℕ
-  pub bound : ℕ
-  pub pick : Pick
-  pub arguments : List Value
-  pub until : Option ℤ
-  pub trace : Option Filter
-
--- the same, with the texts of the arguments
+-- what a run's settings are, with the texts of its arguments
 pub record Wanted : Type 0 where
   pub seed : ℕ
   pub bound : ℕ
@@ -67,12 +56,6 @@ pub data Aim : Type 0 where
 abbrev pub trace_by : {S : Type 0} → Bool → S → Option S
 trace_by false probe = None
 trace_by true probe = Some probe
-
--- the policy that words name
-abbrev pub policy_of : words.Pick → Pick
-policy_of pick.First = first
-policy_of pick.Last = last
-policy_of (pick.Spread salt) = spread salt
 
 -- as words ask
 abbrev pub wanted_of : Asked words.Pick → Wanted

@@ -4,6 +4,9 @@ ghost use Rattle.chi_code.specs.Codes.{Codes};
 ghost use Rattle.chi_io.specs.Shelf.{Files};
 ghost use Rattle.chi_tree_laws.specs.Answers.{IsProgram};
 ghost use Rattle.chi_core.specs.declared.program.Core.{Core};
+ghost use Rattle.chi_core.specs.Runs.{Told};
+ghost use Rattle.chi_engine.specs.Courses.{ComesToOne, Course, IsRunOf, MayHave};
+ghost use Rattle.chi_engine.specs.Settings.{Settings};
 ghost use Rattle.chi_lex.specs.declared.lexer.TheConstants.{MOST_BYTES};
 ghost use Rattle.chi_lex.specs.Reading.{Reads};
 ghost use Rattle.chi_tree_spell.specs.Statements.{spelled};
@@ -16,9 +19,9 @@ ghost use Rattle.chi_tool.specs.Layouts.{HasLayout};
 ghost use Rattle.chi_tool.specs.Limits.{LimitsAre};
 ghost use Rattle.chi_tool.specs.Refusals.{Report};
 ghost use Rattle.chi_tool.specs.Report.{IsReport, IsReportFor};
-ghost use Rattle.chi_tool.specs.Running.{Course, IsRunOf, MayHave};
-ghost use Rattle.chi_tool.specs.Settings.{Aim, IsShortFor, MayBeAimed, Settings};
-ghost use Rattle.chi_tool.specs.Simulations.{AreOwnPicks, IsDerived};
+ghost use Rattle.chi_tool.specs.Running.{runs_for};
+ghost use Rattle.chi_tool.specs.Settings.{Aim, IsShortFor, MayBeAimed};
+ghost use Rattle.chi_tool.specs.Simulations.{AreOwnPicks, IsDerived, course_of};
 ghost use Rattle.chi_tool.specs.Sources.{ComesTo, IsWritten};
 ghost use Rattle.chi_tree.specs.declared.definition.Program.{Program};
 ghost use Rattle.chi_tree_laws.specs.UnplacedStatements.{unplaced};
@@ -27,12 +30,12 @@ ghost use Rattle.chi_fmt.specs.Kept.{kept};
 use chi_check_parsed::parsed_programs_are_sound;
 use chi_cli::{numbers_are_in_range, values_are_of_parameters};
 use chi_code::code_is_unique;
-use chi_core_runs::{own_numbers_law, picked_law};
+use chi_core_runs::own_numbers_law;
+use chi_engine::{Engine, Machines, course_law};
 use chi_gen_laws::sound_programs_have_one_code;
 use chi_log::{judging_law, one_log_law};
 use chi_picks::picks_law;
 use chi_trace::logs_law;
-use chi_trace_events::trace_law;
 use chi_tree_laws::answer_law;
 
 /// The program that a source within the limit comes to has exactly one run with settings that it may have.
@@ -41,14 +44,25 @@ pub fn one_run_law()
     ensures one { (core : Core) (s : Settings) (course other : Course) → IsRunOf core s course → IsRunOf core s other → course ≡ other }
 {
     parsed_programs_are_sound();
-    picked_law();
-    trace_law();
+    course_law();
+}
+
+/// Of each run that is asked for, of the program that a source within the limit comes to, comes exactly one thing, with
+/// settings that it may have: with this engine where words ask for a simulation, else by the meaning.
+pub(crate) fn asked_runs_law<E: Engine>(engine: &E)
+    ensures some { (aim : Aim) (source : List ℕ) (core : Core) → length source ≤ MOST_BYTES → ComesTo source core → (s : Settings) → MayHave core s
+        → (course : Course) × runs_for (E.outcome engine.now) aim core s course }
+    ensures one { (aim : Aim) → ComesToOne (runs_for (E.outcome engine.now) aim) }
+{
+    parsed_programs_are_sound();
+    course_law();
+    engine.law();
 }
 
 /// The run by the list of a derivation's own picks is that derivation.
 pub fn own_picks_law()
-    ensures { (core : Core) (s : Settings) (course : Course) (numbers : List ℕ) → IsDerived core s course → AreOwnPicks core s course numbers
-        → s.pick ≡ listed numbers → IsRunOf core s course }
+    ensures { (core : Core) (s : Settings) (told : Told) (log numbers : List ℕ) → IsDerived core s told log → AreOwnPicks core s told numbers
+        → s.pick ≡ listed numbers → IsRunOf core s (course_of told log) }
 {
     own_numbers_law();
 }
@@ -63,14 +77,14 @@ pub fn one_code_law()
     code_is_unique();
 }
 
-/// A source within the limit has exactly one report, for each aim that may be had with it.
+/// A source within the limit has exactly one report by the runs of the meaning, for each aim that may be had with it.
 pub fn source_law()
-    ensures some { (source : List ℕ) (aim : Aim) → length source ≤ MOST_BYTES → MayBeAimed aim → (r : Report) × IsReportFor aim source r }
-    ensures one { (source : List ℕ) (aim : Aim) → IsShortFor aim source → (r other : Report) → IsReportFor aim source r → IsReportFor aim source other → r ≡ other }
+    ensures some { (source : List ℕ) (aim : Aim) → length source ≤ MOST_BYTES → MayBeAimed aim → (r : Report) × IsReportFor IsRunOf aim source r }
+    ensures one { (source : List ℕ) (aim : Aim) → IsShortFor aim source → (r other : Report) → IsReportFor IsRunOf aim source r → IsReportFor IsRunOf aim source other → r ≡ other }
 {
     answer_law();
     parsed_programs_are_sound();
-    one_run_law();
+    asked_runs_law(&Machines);
     one_code_law();
     values_are_of_parameters();
     picks_law();
@@ -78,15 +92,15 @@ pub fn source_law()
     one_log_law();
 }
 
-/// Words and files have exactly one report.
-pub fn report_law()
-    ensures some { (words : List (List ℕ)) (files : Files) → (r : Report) × IsReport words files r }
+/// Words and files have exactly one report with an engine.
+pub fn report_law<E: Engine>(engine: &E)
+    ensures some { (words : List (List ℕ)) (files : Files) → (r : Report) × IsReport (E.outcome engine.now) words files r }
     ensures one { (words : List (List ℕ)) (files : Files) (r other : Report)
-        → IsReport words files r → IsReport words files other → r ≡ other }
+        → IsReport (E.outcome engine.now) words files r → IsReport (E.outcome engine.now) words files other → r ≡ other }
 {
     answer_law();
     parsed_programs_are_sound();
-    one_run_law();
+    asked_runs_law(engine);
     one_code_law();
     numbers_are_in_range();
     values_are_of_parameters();

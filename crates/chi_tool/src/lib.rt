@@ -2,6 +2,7 @@
 #![tactic(auto)]
 
 mod arguments;
+mod by_engine;
 mod by_picks;
 mod code;
 mod deliver;

@@ -2,6 +2,7 @@
 
 ghost use Rattle.std.specs.Prelude.{◌≡◌, ◌≤◌, ◌<◌, ◌^◌, false, length, option_map};
 ghost use Rattle.chi_core.specs.Picks as picks;
+ghost use Rattle.chi_engine.specs.Courses.{IsRunOf};
 ghost use Rattle.chi_sched.specs.Policies.{Answers, listed};
 ghost use Rattle.chi_trace.specs.declared.filter.Filter.TheVariants.{All};
 ghost use Rattle.chi_tool.specs.Call.{sink_use};
@@ -39,7 +40,7 @@ fn report_of_terms<P: Chooser + Drop, S: Sieve + Drop, O: Sink>(
     requires bound { terms.bound < 2 ^ 63 }
     requires out_goes { O.stopped out.old ≡ false }
     ensures { (pick : picks.Pick) → Answers (P.gives terms.policy) pick
-        → Makes (IsReportOfSource source.now (simulates (record { seed = terms.seed; bound = terms.bound; pick = pick; texts = texts.now; until = terms.until; trace = option_map S.keeps_to terms.trace })))
+        → Makes (IsReportOfSource IsRunOf source.now (simulates (record { seed = terms.seed; bound = terms.bound; pick = pick; texts = texts.now; until = terms.until; trace = option_map S.keeps_to terms.trace })))
         (sink_use O.taken O.faults O.stopped out.old out.new) result }
 {
     match read(alloc, source)? {
@@ -62,7 +63,7 @@ fn tell_terms<P: Chooser + Drop, S: Sieve + Drop, O: Sink, L: Sink>(
     requires within { length source.now ≤ MOST_BYTES }
     requires bound { terms.bound < 2 ^ 63 }
     ensures { (pick : picks.Pick) → Answers (P.gives terms.policy) pick
-        → Tells (IsReportOfSource source.now (simulates (record { seed = terms.seed; bound = terms.bound; pick = pick; texts = texts.now; until = terms.until; trace = option_map S.keeps_to terms.trace }))) result
+        → Tells (IsReportOfSource IsRunOf source.now (simulates (record { seed = terms.seed; bound = terms.bound; pick = pick; texts = texts.now; until = terms.until; trace = option_map S.keeps_to terms.trace }))) result
         (sink_use O.taken O.faults O.stopped out.old out.new) (sink_use L.taken L.faults L.stopped log.old log.new) }
 {
     chooser_law(&terms.policy);

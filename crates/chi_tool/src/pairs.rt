@@ -3,6 +3,7 @@
 ghost use Rattle.std.specs.Prelude.{◌≡◌, ◌≤◌, false, length};
 ghost use Rattle.chi_tool.specs.Call.{sink_use, shelf_use};
 ghost use Rattle.chi_core.specs.Sound.{Sound};
+ghost use Rattle.chi_engine.specs.Courses.{IsRunOf};
 ghost use Rattle.chi_tool.specs.Report.{IsReportOfProgram, IsReportOfSource};
 ghost use Rattle.chi_tool.specs.Serving.{Makes, ServesBeside, ServesPair, Tells};
 ghost use Rattle.chi_tool.specs.Settings.{IsBoundedPair, pair_aim};
@@ -33,7 +34,7 @@ fn report_by<O: Sink>(
     requires short { length text.now ≤ MOST_BESIDE }
     requires bounded { IsBoundedPair purpose.now }
     requires out_goes { O.stopped out.old ≡ false }
-    ensures { Makes (IsReportOfProgram core.now (pair_aim purpose.now text.now)) (sink_use O.taken O.faults O.stopped out.old out.new) result }
+    ensures { Makes (IsReportOfProgram IsRunOf core.now (pair_aim purpose.now text.now)) (sink_use O.taken O.faults O.stopped out.old out.new) result }
 {
     match purpose {
         PairPurpose::Replay(asked) => report_of_replay(alloc, core, asked, text, out),
@@ -55,7 +56,7 @@ fn report_of_pair<O: Sink>(
     requires short { length text.now ≤ MOST_BESIDE }
     requires bounded { IsBoundedPair purpose.now }
     requires out_goes { O.stopped out.old ≡ false }
-    ensures { Makes (IsReportOfSource source.now (pair_aim purpose.now text.now)) (sink_use O.taken O.faults O.stopped out.old out.new) result }
+    ensures { Makes (IsReportOfSource IsRunOf source.now (pair_aim purpose.now text.now)) (sink_use O.taken O.faults O.stopped out.old out.new) result }
 {
     match read(alloc, source)? {
         Source::Refused(refusal) => Ok(refusal),
@@ -77,7 +78,7 @@ fn tell_pair<O: Sink, L: Sink>(
     requires within { length source.now ≤ MOST_BYTES }
     requires short { length text.now ≤ MOST_BESIDE }
     requires bounded { IsBoundedPair purpose.now }
-    ensures { Tells (IsReportOfSource source.now (pair_aim purpose.now text.now)) result
+    ensures { Tells (IsReportOfSource IsRunOf source.now (pair_aim purpose.now text.now)) result
         (sink_use O.taken O.faults O.stopped out.old out.new) (sink_use L.taken L.faults L.stopped log.old log.new) }
 {
     match report_of_pair(alloc, source, text, purpose, out) {

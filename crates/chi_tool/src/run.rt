@@ -8,6 +8,7 @@ ghost use Rattle.chi_core.specs.Of.{at_start, AreOf};
 ghost use Rattle.chi_core.specs.Picks.{Pick};
 ghost use Rattle.chi_core.specs.Sound.{Sound};
 ghost use Rattle.chi_core.specs.VerdictLine.{MayTell};
+ghost use Rattle.chi_engine.specs.Courses.{IsRunOf};
 ghost use Rattle.chi_sched.specs.Policies.{Answers};
 ghost use Rattle.chi_tool.specs.Call.{sink_use};
 ghost use Rattle.chi_tool.specs.Reported.{report_in};
@@ -20,27 +21,27 @@ use crate::status::status_of;
 use chi_base::NoMemory;
 use chi_code::Code;
 use chi_core::{Core, verdict_line};
-use chi_core_runs::{endings_law, picked_law};
+use chi_engine::{run_guided, units_of};
 use chi_gen::generate;
 use chi_io::Sink;
-use chi_machine_traces::{Guide, PassFault, Ran, Start, Telling, run_told};
-use chi_num::Real;
+use chi_machine_agenda::Ending;
+use chi_machine_traces::{Guide, PassFault, Start};
 use chi_sched::{Chooser, chooser_law};
 use chi_trace::Sieve;
-use chi_trace_events::trace_law;
 use chi_value::{TextFault, Value};
 use std::alloc::Global;
 
-/// The report of a run that has ended, but for what was passed on of its output.
-fn reported(alloc: Global, core: &Core, ran: Ran) -> Result<Reported, NoMemory>
-    requires { MayTell core.now ran.ending.verdict }
-    ensures { IfOk result (λ r. report_in r ≡ run_report core.now (record {
-      told = record { labels = []; ending = ran.ending; output = ran.told.out.items };
-      log = ran.told.log.items;
-    })) }
+/// The report of a run that has ended, but for its output, which was passed on, with what is logged of it.
+pub fn reported(
+    alloc: Global,
+    core: &Core,
+    ending: Ending,
+    lines: Vec<u8>,
+) -> Result<Reported, NoMemory>
+    requires { MayTell core.now ending.verdict }
+    ensures { IfOk result (λ r. report_in r ≡ run_report core.now (record { output = []; log = lines.items; ending = ending })) }
 {
-    let Ran { ending, told } = ran;
-    let Telling { out, mut log } = told;
+    let mut log = lines;
     let status = status_of(ending.verdict());
     let written = verdict_line(
         alloc,
@@ -51,19 +52,13 @@ fn reported(alloc: Global, core: &Core, ran: Ran) -> Result<Reported, NoMemory>
     );
     drop(ending);
     match written {
-        Ok(()) => Ok(Reported { status, out, log }),
+        Ok(()) => Ok(Reported {
+            status,
+            out: Vec::new(alloc),
+            log,
+        }),
         Err(TextFault::Limit) => unreachable!(),
         Err(TextFault::NoMemory) => Err(NoMemory),
-    }
-}
-
-/// A stopping time in units of a real.
-pub fn units_of(until: Option<Real>) -> Option<i64>
-    ensures { result ≡ until }
-{
-    match until {
-        None => None,
-        Some(time) => Some(time.units()),
     }
 }
 
@@ -83,12 +78,9 @@ fn run_code<P: Chooser + Drop, S: Sieve + Drop, O: Sink>(
     requires bound { terms.bound < 2 ^ 63 }
     requires out_goes { O.stopped out.old ≡ false }
     ensures { (pick : Pick) → Answers (P.gives terms.policy) pick
-        → Makes (IsRunReport core.now (record { seed = terms.seed; bound = terms.bound; pick = pick; arguments = arguments.items; until = terms.until; trace = option_map S.keeps_to terms.trace }))
+        → Makes (IsRunReport IsRunOf core.now (record { seed = terms.seed; bound = terms.bound; pick = pick; arguments = arguments.items; until = terms.until; trace = option_map S.keeps_to terms.trace }))
         (sink_use O.taken O.faults O.stopped out.old out.new) result }
 {
-    endings_law();
-    picked_law();
-    trace_law();
     let Terms {
         seed,
         bound,
@@ -108,8 +100,9 @@ fn run_code<P: Chooser + Drop, S: Sieve + Drop, O: Sink>(
         chooser: policy,
         trace,
     };
-    let ran = run_told(alloc, code, start, &guide, out)?;
-    unpassed(reported(alloc, core, ran))
+    let mut log = Vec::new(alloc);
+    let ending = run_guided(alloc, code, start, &guide, &mut log, out)?;
+    unpassed(reported(alloc, core, ending, log))
 }
 
 /// The report of a program's run on these terms, with these arguments.
@@ -126,7 +119,7 @@ pub fn run<P: Chooser + Drop, S: Sieve + Drop, O: Sink>(
     requires bound { terms.bound < 2 ^ 63 }
     requires out_goes { O.stopped out.old ≡ false }
     ensures { (pick : Pick) → Answers (P.gives terms.policy) pick
-        → Makes (IsRunReport core.now (record { seed = terms.seed; bound = terms.bound; pick = pick; arguments = arguments.items; until = terms.until; trace = option_map S.keeps_to terms.trace }))
+        → Makes (IsRunReport IsRunOf core.now (record { seed = terms.seed; bound = terms.bound; pick = pick; arguments = arguments.items; until = terms.until; trace = option_map S.keeps_to terms.trace }))
         (sink_use O.taken O.faults O.stopped out.old out.new) result }
 {
     let code = generate(alloc, core)?;

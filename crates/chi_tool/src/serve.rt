@@ -12,7 +12,8 @@ use crate::program::report_of_program;
 use crate::report::{Reported, unpassed};
 use crate::source::{Source, read};
 use crate::status::{NO_MEMORY, status_without};
-use crate::task::{ProgramPurpose, Purpose, unasked};
+use crate::task::{FileTask, ProgramPurpose, Purpose, unasked};
+use chi_engine::Engine;
 use chi_io::{Shelf, Sink};
 use chi_lex::MOST_BYTES;
 use chi_load::{MOST_MACHINES, factory};
@@ -20,69 +21,78 @@ use chi_machine_traces::PassFault;
 use std::alloc::Global;
 
 /// The report of a source with whose program something is done: its refusal, or that of its program.
-fn report_of_source<O: Sink>(
+fn report_of_source<E: Engine, O: Sink>(
     alloc: Global,
     source: &[u8],
     purpose: &ProgramPurpose,
     out: &mut O,
+    engine: &mut E,
 ) -> Result<Reported, PassFault>
     requires within { length source.now ≤ MOST_BYTES }
     requires bounded { IsBoundedFor purpose.now }
     requires out_goes { O.stopped out.old ≡ false }
-    ensures { Makes (IsReportOfSource source.now (program_aim purpose.now)) (sink_use O.taken O.faults O.stopped out.old out.new) result }
+    ensures { Makes (IsReportOfSource (E.outcome engine.old) source.now (program_aim purpose.now)) (sink_use O.taken O.faults O.stopped out.old out.new) result }
 {
     match read(alloc, source)? {
         Source::Refused(refusal) => Ok(refusal),
-        Source::Program(core) => report_of_program(alloc, &core, purpose, out),
+        Source::Program(core) => report_of_program(alloc, &core, purpose, out, engine),
     }
 }
 
 /// The report of a source.
-fn report_of<O: Sink>(
+fn report_of<E: Engine, O: Sink>(
     alloc: Global,
     source: &[u8],
     purpose: &Purpose,
     out: &mut O,
+    engine: &mut E,
 ) -> Result<Reported, PassFault>
     requires within { length source.now ≤ MOST_BYTES }
     requires bounded { IsBounded purpose.now }
     requires out_goes { O.stopped out.old ≡ false }
-    ensures { Makes (IsReportFor (aim_of purpose.now) source.now) (sink_use O.taken O.faults O.stopped out.old out.new) result }
+    ensures { Makes (IsReportFor (E.outcome engine.old) (aim_of purpose.now) source.now) (sink_use O.taken O.faults O.stopped out.old out.new) result }
 {
     match purpose {
-        Purpose::OfProgram(purpose) => report_of_source(alloc, source, purpose, out),
+        Purpose::OfProgram(purpose) => report_of_source(alloc, source, purpose, out, engine),
         Purpose::LayOut => unpassed(report_of_layout(alloc, source)),
     }
 }
 
 /// Delivers the report of a source, of whose output a part is passed on while it is made.
-fn tell<O: Sink, L: Sink>(
+fn tell<E: Engine, O: Sink, L: Sink>(
     alloc: Global,
     source: &[u8],
     purpose: &Purpose,
     out: &mut O,
     log: &mut L,
+    engine: &mut E,
 ) -> u8
     requires out_goes { O.stopped out.old ≡ false }
     requires log_goes { L.stopped log.old ≡ false }
     requires within { length source.now ≤ MOST_BYTES }
     requires bounded { IsBounded purpose.now }
-    ensures { Tells (IsReportFor (aim_of purpose.now) source.now) result
+    ensures { Tells (IsReportFor (E.outcome engine.old) (aim_of purpose.now) source.now) result
         (sink_use O.taken O.faults O.stopped out.old out.new) (sink_use L.taken L.faults L.stopped log.old log.new) }
 {
-    match report_of(alloc, source, purpose, out) {
+    match report_of(alloc, source, purpose, out, engine) {
         Ok(report) => deliver(report.status, out, &report.out, log, &report.log),
         Err(fault) => status_without(fault),
     }
 }
 
 /// Delivers the report of a factory of this size.
-pub fn serve_factory<O: Sink, L: Sink>(alloc: Global, size: u32, out: &mut O, log: &mut L) -> u8
+pub fn serve_factory<E: Engine, O: Sink, L: Sink>(
+    alloc: Global,
+    size: u32,
+    out: &mut O,
+    log: &mut L,
+    engine: &mut E,
+) -> u8
     requires out_goes { O.stopped out.old ≡ false }
     requires log_goes { L.stopped log.old ≡ false }
     requires some { 1 ≤ size }
     requires most { size ≤ MOST_MACHINES }
-    ensures { Tells (IsReportOfSource (factory_source size) (simulates (wanted_of plain))) result
+    ensures { Tells (IsReportOfSource (E.outcome engine.old) (factory_source size) (simulates (wanted_of plain))) result
         (sink_use O.taken O.faults O.stopped out.old out.new) (sink_use L.taken L.faults L.stopped log.old log.new) }
 {
     let Ok(source) = factory(alloc, size) else {
@@ -92,26 +102,27 @@ pub fn serve_factory<O: Sink, L: Sink>(alloc: Global, size: u32, out: &mut O, lo
         return NO_MEMORY;
     };
     let purpose = Purpose::OfProgram(ProgramPurpose::Simulate(asked));
-    tell(alloc, &source, &purpose, out, log)
+    tell(alloc, &source, &purpose, out, log, engine)
 }
 
-/// Fetches the file of this name, and delivers its report or its refusal.
-pub fn serve<H: Shelf, O: Sink, L: Sink>(
+/// Fetches a file, and delivers its report or its refusal.
+pub fn serve<E: Engine, H: Shelf, O: Sink, L: Sink>(
     alloc: Global,
-    name: &[u8],
-    purpose: &Purpose,
+    asked: &FileTask,
     shelf: &mut H,
     out: &mut O,
     log: &mut L,
+    engine: &mut E,
 ) -> u8
     requires out_goes { O.stopped out.old ≡ false }
     requires log_goes { L.stopped log.old ≡ false }
-    requires bounded { IsBounded purpose.now }
-    ensures { Serves MOST_BYTES (IsReportFor (aim_of purpose.now)) name.now (shelf_use H.files H.faults shelf.old shelf.new) result
+    requires bounded { IsBounded asked.now.purpose }
+    ensures { Serves MOST_BYTES (IsReportFor (E.outcome engine.old) (aim_of asked.now.purpose)) asked.now.file (shelf_use H.files H.faults shelf.old shelf.new) result
         (sink_use O.taken O.faults O.stopped out.old out.new) (sink_use L.taken L.faults L.stopped log.old log.new) }
 {
+    let name = asked.file.as_slice();
     match fetched(alloc, name, MOST_BYTES as u64, shelf, out, log) {
-        Ok(source) => tell(alloc, &source, purpose, out, log),
+        Ok(source) => tell(alloc, &source, &asked.purpose, out, log, engine),
         Err(status) => status,
     }
 }

@@ -55,6 +55,13 @@ pub enum Purpose {
     LayOut,
 }
 
+/// A file that holds a source, and what is done with that.
+#[derive(Debug, Drop)]
+pub struct FileTask {
+    pub file: Bytes,
+    pub purpose: Purpose,
+}
+
 /// What is told of a text that is a log of a program.
 #[derive(Clone, Copy, Debug)]
 pub enum LogPurpose {

@@ -1,5 +1,6 @@
 //! The program over objects that tell nothing, and over a log that fails at each of its puts in turn.
 
+use chi_engine::Machines;
 use chi_io::{MemShelf, MemSink, MuteShelf, MuteSink};
 use chi_tool::chi;
 use std::alloc::{AllocError, Global};
@@ -31,7 +32,14 @@ fn what_tells_nothing_is_served(rt: HostRuntime) -> Result<(), Fail> {
     let mut shelf = MuteShelf::new(shelf_of(alloc)?);
     let mut out = MuteSink::new(MemSink::new(alloc, 65_536, 65_536, Vec::new(alloc))?);
     let mut log = MuteSink::new(MemSink::new(alloc, 65_536, 65_536, Vec::new(alloc))?);
-    let status = chi(alloc, &["sim", "m.chi"], &mut shelf, &mut out, &mut log);
+    let status = chi(
+        alloc,
+        &["sim", "m.chi"],
+        &mut shelf,
+        &mut out,
+        &mut log,
+        &mut Machines,
+    );
     assert_eq!(rt; status, EXITED);
     Ok(())
 }
@@ -42,7 +50,14 @@ fn a_name_that_is_missing_is_refused(rt: HostRuntime) -> Result<(), Fail> {
     let mut shelf = MuteShelf::new(MemShelf::new(Vec::new(alloc), Vec::new(alloc)));
     let mut out = MemSink::new(alloc, 65_536, 65_536, Vec::new(alloc))?;
     let mut log = MemSink::new(alloc, 65_536, 65_536, Vec::new(alloc))?;
-    let status = chi(alloc, &["sim", "m.chi"], &mut shelf, &mut out, &mut log);
+    let status = chi(
+        alloc,
+        &["sim", "m.chi"],
+        &mut shelf,
+        &mut out,
+        &mut log,
+        &mut Machines,
+    );
     assert_eq!(rt; out.bytes(), b"".as_slice());
     assert_eq!(rt; log.bytes(), b"no such file\n".as_slice());
     assert_eq!(rt; status, 4);
@@ -57,7 +72,7 @@ fn each_put_of_a_log_may_fail(rt: HostRuntime) -> Result<(), Fail> {
         let mut out = MemSink::new(alloc, 65_536, 65_536, Vec::new(alloc))?;
         let mut log = MemSink::new(alloc, 65_536, 3, Vec::from_slice(alloc, &[failing])?)?;
         let words = ["sim", "--trace", "m.chi"];
-        let status = chi(alloc, &words, &mut shelf, &mut out, &mut log);
+        let status = chi(alloc, &words, &mut shelf, &mut out, &mut log, &mut Machines);
         assert!(rt;
             LOGGED.as_bytes().starts_with(log.bytes()),
             "put {failing} fails"

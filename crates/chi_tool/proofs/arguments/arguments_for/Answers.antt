@@ -1,5 +1,4 @@
-use Rattle.std.proofs.Common.{sym, ◌∙◌}
-use Rattle.chi_tool.proofs.Runs.{arguments_fit, arguments_refused}
+use Rattle.chi_tool.proofs.Runs.{arguments_fit}
 use Rattle.chi_tool.proofs.arguments.arguments_for.Goals as goal
 
 pub returns-in-Ok : goal.returns-in-Ok

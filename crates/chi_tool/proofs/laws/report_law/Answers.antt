@@ -3,15 +3,15 @@ use Rattle.chi_tool.proofs.Reports.{report_some, report_one}
 use Rattle.chi_tool.proofs.laws.report_law.Goals as goal
 
 pub returns : goal.returns
-returns c =
+returns g c =
     let answers : AnswerLaw = record { some = c.answer_law.ensures.some; one = c.answer_law.ensures.one } in
-    let runs : RunLaw = record { some = c.one_run_law.ensures.some; one = c.one_run_law.ensures.one } in
+    let ran : RunLaw (g.E.Engine.outcome c.args.engine.now) = record { some = c.asked_runs_law.ensures.some; one = c.asked_runs_law.ensures.one } in
     let coded : CodeLaw = record { some = c.one_code_law.ensures.some; one = c.one_code_law.ensures.one } in
     let check : CheckLaw = record { whole = c.parsed_programs_are_sound.ensures.whole; sound = c.parsed_programs_are_sound.ensures.sound } in
     let log_law : LogLaw = record { some = c.logs_law.ensures.some; one_log = c.logs_law.ensures.one_log; one_line = c.logs_law.ensures.one_line; apart = c.logs_law.ensures.apart } in
     let picks : PicksLaw = record { some = c.picks_law.ensures.some; one_list = c.picks_law.ensures.one_list; one_line = c.picks_law.ensures.one_line; apart = c.picks_law.ensures.apart } in
     let judging : JudgeLaw = record { some = c.judging_law.ensures; one_log = c.one_log_law.ensures.one_log; one_line = c.one_log_law.ensures.one_line } in
     record {
-      some = report_some answers runs coded check c.values_are_of_parameters.ensures picks judging log_law c.numbers_are_in_range.ensures;
-      one = report_one answers runs coded check c.values_are_of_parameters.ensures picks judging log_law;
+      some = report_some (g.E.Engine.outcome c.args.engine.now) answers ran coded check c.values_are_of_parameters.ensures picks judging log_law c.numbers_are_in_range.ensures;
+      one = report_one (g.E.Engine.outcome c.args.engine.now) answers ran coded check c.values_are_of_parameters.ensures picks judging log_law;
     }

@@ -4,7 +4,8 @@ use Rattle.chi_sched.specs.Policies.{listed}
 use Rattle.chi_tool.specs.Serving.{untold}
 use Rattle.chi_tool.specs.Settings.{Wanted, settings_with, trace_by}
 use Rattle.chi_tool.proofs.LawClauses.{SourceLaw}
-use Rattle.chi_tool.proofs.Runs.{asked_settings, formula_given, listed_lawful}
+use Rattle.chi_engine.proofs.Policies.{formula_given}
+use Rattle.chi_tool.proofs.Runs.{asked_settings, listed_lawful}
 use Rattle.chi_tool.proofs.Simulations.{simulation-headline, simulation-own}
 use Rattle.chi_tool.proofs.Sinks.{still}
 use Rattle.chi_tool.proofs.library.replay.Goals as goal

@@ -1,4 +1,5 @@
 use Rattle.std.proofs.Common.{option_map, subst}
+use Rattle.chi_engine.specs.Courses.{IsRunOf}
 use Rattle.chi_tool.specs.Call.{sink_use}
 use Rattle.chi_tool.specs.Readings.{IsReadAs, SoundlyComes}
 use Rattle.chi_tool.specs.Report.{refused, IsReportOfSource}
@@ -20,7 +21,7 @@ returns-in-Refused g c pick answers =
       until = c.args.terms.until;
       trace = option_map g.S.Sieve.keeps_to c.args.terms.trace;
     } in
-    makes_here g.O.Sink.taken g.O.Sink.faults g.O.Sink.stopped c.args.out.now c.requires.out_goes (IsReportOfSource c.args.source.now (simulates w)) c.in-Refused.refusal (refused (subst (IsReadAs c.args.source.now) c.in-Refused.is c.in_ok-refusal.ensures))
+    makes_here g.O.Sink.taken g.O.Sink.faults g.O.Sink.stopped c.args.out.now c.requires.out_goes (IsReportOfSource IsRunOf c.args.source.now (simulates w)) c.in-Refused.refusal (refused (subst (IsReadAs c.args.source.now) c.in-Refused.is c.in_ok-refusal.ensures))
 
 pub returns-in-Program : goal.returns-in-Program
 returns-in-Program g c =
@@ -38,4 +39,4 @@ returns-in_err-refusal g c pick answers =
       until = c.args.terms.until;
       trace = option_map g.S.Sieve.keeps_to c.args.terms.trace;
     } in
-    makes_lost g.O.Sink.taken g.O.Sink.faults g.O.Sink.stopped c.args.out.now c.requires.out_goes (IsReportOfSource c.args.source.now (simulates w)) c.from_residual.result c.from_residual.ensures.1
+    makes_lost g.O.Sink.taken g.O.Sink.faults g.O.Sink.stopped c.args.out.now c.requires.out_goes (IsReportOfSource IsRunOf c.args.source.now (simulates w)) c.from_residual.result c.from_residual.ensures.1

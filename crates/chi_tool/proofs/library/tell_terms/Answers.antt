@@ -1,3 +1,4 @@
+use Rattle.chi_engine.specs.Courses.{IsRunOf}
 use Rattle.chi_tool.specs.Call.{sink_use}
 use Rattle.std.proofs.Common.{option_map}
 use Rattle.chi_tool.specs.Report.{IsReportOfSource}
@@ -19,7 +20,7 @@ returns-in-Ok g c pick answers =
       until = c.args.terms.until;
       trace = option_map g.S.Sieve.keeps_to c.args.terms.trace;
     } in
-    tells_rest g.O.Sink.taken g.O.Sink.faults g.O.Sink.stopped c.args.out.now c.report_of_terms.new.out c.deliver.new.out (IsReportOfSource c.args.source.now (simulates w)) c.in-Ok.report c.deliver.result _ (c.in-Ok.ensures pick answers)
+    tells_rest g.O.Sink.taken g.O.Sink.faults g.O.Sink.stopped c.args.out.now c.report_of_terms.new.out c.deliver.new.out (IsReportOfSource IsRunOf c.args.source.now (simulates w)) c.in-Ok.report c.deliver.result _ (c.in-Ok.ensures pick answers)
     (rw (c.deref.ensures.value, c.deref-in-Ok.ensures.value) at c.deliver.ensures)
 
 pub returns-in-Err : goal.returns-in-Err
@@ -32,5 +33,5 @@ returns-in-Err g c pick answers =
       until = c.args.terms.until;
       trace = option_map g.S.Sieve.keeps_to c.args.terms.trace;
     } in
-    tells_none (IsReportOfSource c.args.source.now (simulates w)) c.in-Err.fault c.status_without.result (sink_use g.O.Sink.taken g.O.Sink.faults g.O.Sink.stopped c.args.out.now c.report_of_terms.new.out) _ c.status_without.ensures (c.in-Err.ensures pick answers)
+    tells_none (IsReportOfSource IsRunOf c.args.source.now (simulates w)) c.in-Err.fault c.status_without.result (sink_use g.O.Sink.taken g.O.Sink.faults g.O.Sink.stopped c.args.out.now c.report_of_terms.new.out) _ c.status_without.ensures (c.in-Err.ensures pick answers)
     (record { took = still _; goes = c.requires.log_goes })

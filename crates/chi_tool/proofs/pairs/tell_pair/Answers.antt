@@ -1,3 +1,4 @@
+use Rattle.chi_engine.specs.Courses.{IsRunOf}
 use Rattle.chi_tool.specs.Call.{sink_use}
 use Rattle.chi_tool.specs.Report.{IsReportOfSource}
 use Rattle.chi_tool.specs.Settings.{pair_aim}
@@ -10,10 +11,10 @@ deliver-requires-clause-out_goes g c = c.in-Ok.ensures.1.goes
 
 pub returns-in-Ok : goal.returns-in-Ok
 returns-in-Ok g c =
-    tells_rest g.O.Sink.taken g.O.Sink.faults g.O.Sink.stopped c.args.out.now c.report_of_pair.new.out c.deliver.new.out (IsReportOfSource c.args.source.now (pair_aim c.args.purpose.now c.args.text.now)) c.in-Ok.report c.deliver.result _ c.in-Ok.ensures
+    tells_rest g.O.Sink.taken g.O.Sink.faults g.O.Sink.stopped c.args.out.now c.report_of_pair.new.out c.deliver.new.out (IsReportOfSource IsRunOf c.args.source.now (pair_aim c.args.purpose.now c.args.text.now)) c.in-Ok.report c.deliver.result _ c.in-Ok.ensures
     (rw (c.deref.ensures.value, c.deref-in-Ok.ensures.value) at c.deliver.ensures)
 
 pub returns-in-Err : goal.returns-in-Err
 returns-in-Err g c =
-    tells_none (IsReportOfSource c.args.source.now (pair_aim c.args.purpose.now c.args.text.now)) c.in-Err.fault c.status_without.result (sink_use g.O.Sink.taken g.O.Sink.faults g.O.Sink.stopped c.args.out.now c.report_of_pair.new.out) _ c.status_without.ensures c.in-Err.ensures
+    tells_none (IsReportOfSource IsRunOf c.args.source.now (pair_aim c.args.purpose.now c.args.text.now)) c.in-Err.fault c.status_without.result (sink_use g.O.Sink.taken g.O.Sink.faults g.O.Sink.stopped c.args.out.now c.report_of_pair.new.out) _ c.status_without.ensures c.in-Err.ensures
     (record { took = still _; goes = c.requires.log_goes })

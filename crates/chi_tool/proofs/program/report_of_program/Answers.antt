@@ -8,14 +8,14 @@ use Rattle.chi_tool.proofs.program.report_of_program.Goals as goal
 
 pub returns-in-Check : goal.returns-in-Check
 returns-in-Check g c =
-    subst (λ p. Makes (IsReportOfProgram c.args.core.now (program_aim p)) (sink_use g.O.Sink.taken g.O.Sink.faults g.O.Sink.stopped c.args.out.now c.args.out.now) c.unpassed.result) (sym c.in-Check.is)
-    (makes_apart g.O.Sink.taken g.O.Sink.faults g.O.Sink.stopped c.args.out.now c.requires.out_goes (IsReportOfProgram c.args.core.now checks) c.one_line.result c.unpassed.result c.unpassed.ensures c.one_line.ensures)
+    subst (λ p. Makes (IsReportOfProgram (g.E.Engine.outcome c.args.engine.now) c.args.core.now (program_aim p)) (sink_use g.O.Sink.taken g.O.Sink.faults g.O.Sink.stopped c.args.out.now c.args.out.now) c.unpassed.result) (sym c.in-Check.is)
+    (makes_apart g.O.Sink.taken g.O.Sink.faults g.O.Sink.stopped c.args.out.now c.requires.out_goes (IsReportOfProgram (g.E.Engine.outcome c.args.engine.now) c.args.core.now checks) c.one_line.result c.unpassed.result c.unpassed.ensures c.one_line.ensures)
 
 pub returns-in-Simulate : goal.returns-in-Simulate
 returns-in-Simulate g c =
-    subst (λ p. Makes (IsReportOfProgram c.args.core.now (program_aim p)) (sink_use g.O.Sink.taken g.O.Sink.faults g.O.Sink.stopped c.args.out.now c.run_asked.new.out) c.run_asked.result) (sym c.in-Simulate.is) c.run_asked.ensures
+    subst (λ p. Makes (IsReportOfProgram (g.E.Engine.outcome c.args.engine.now) c.args.core.now (program_aim p)) (sink_use g.O.Sink.taken g.O.Sink.faults g.O.Sink.stopped c.args.out.now c.report_by_engine.new.out) c.report_by_engine.result) (sym c.in-Simulate.is) c.report_by_engine.ensures
 
 pub returns-in-ListCode : goal.returns-in-ListCode
 returns-in-ListCode g c =
-    subst (λ p. Makes (IsReportOfProgram c.args.core.now (program_aim p)) (sink_use g.O.Sink.taken g.O.Sink.faults g.O.Sink.stopped c.args.out.now c.args.out.now) c.unpassed-in-ListCode.result) (sym c.in-ListCode.is)
-    (makes_apart g.O.Sink.taken g.O.Sink.faults g.O.Sink.stopped c.args.out.now c.requires.out_goes (IsReportOfProgram c.args.core.now lists) c.report_of_code.result c.unpassed-in-ListCode.result c.unpassed-in-ListCode.ensures c.report_of_code.ensures)
+    subst (λ p. Makes (IsReportOfProgram (g.E.Engine.outcome c.args.engine.now) c.args.core.now (program_aim p)) (sink_use g.O.Sink.taken g.O.Sink.faults g.O.Sink.stopped c.args.out.now c.args.out.now) c.unpassed-in-ListCode.result) (sym c.in-ListCode.is)
+    (makes_apart g.O.Sink.taken g.O.Sink.faults g.O.Sink.stopped c.args.out.now c.requires.out_goes (IsReportOfProgram (g.E.Engine.outcome c.args.engine.now) c.args.core.now lists) c.report_of_code.result c.unpassed-in-ListCode.result c.unpassed-in-ListCode.ensures c.report_of_code.ensures)

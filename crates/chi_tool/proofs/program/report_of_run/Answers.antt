@@ -1,4 +1,5 @@
 use Rattle.std.proofs.Common.{option_map, subst}
+use Rattle.chi_engine.specs.Courses.{IsRunOf}
 use Rattle.chi_tool.specs.Readings.{AreReadAs}
 use Rattle.chi_tool.specs.Report.{unfit, IsReportOfRun}
 use Rattle.chi_tool.specs.Call.{sink_use}
@@ -21,7 +22,7 @@ returns-in-Unfit g c pick answers =
       until = c.args.terms.until;
       trace = option_map g.S.Sieve.keeps_to c.args.terms.trace;
     } in
-    makes_here g.O.Sink.taken g.O.Sink.faults g.O.Sink.stopped c.args.out.now c.requires.out_goes (IsReportOfRun c.args.core.now w) c.in-Unfit.refusal (unfit no.0 no.1 no.2 no.3)
+    makes_here g.O.Sink.taken g.O.Sink.faults g.O.Sink.stopped c.args.out.now c.requires.out_goes (IsReportOfRun IsRunOf c.args.core.now w) c.in-Unfit.refusal (unfit no.0 no.1 no.2 no.3)
 
 pub returns-in-Fit : goal.returns-in-Fit
 returns-in-Fit g c =
@@ -39,4 +40,4 @@ returns-in_err-refusal g c pick answers =
       until = c.args.terms.until;
       trace = option_map g.S.Sieve.keeps_to c.args.terms.trace;
     } in
-    makes_lost g.O.Sink.taken g.O.Sink.faults g.O.Sink.stopped c.args.out.now c.requires.out_goes (IsReportOfRun c.args.core.now w) c.from_residual.result c.from_residual.ensures.1
+    makes_lost g.O.Sink.taken g.O.Sink.faults g.O.Sink.stopped c.args.out.now c.requires.out_goes (IsReportOfRun IsRunOf c.args.core.now w) c.from_residual.result c.from_residual.ensures.1

@@ -8,9 +8,9 @@ use Rattle.chi_tool.proofs.serve.report_of.Goals as goal
 
 pub returns-in-OfProgram : goal.returns-in-OfProgram
 returns-in-OfProgram g c =
-    subst (λ p. Makes (IsReportFor (aim_of p) c.args.source.now) (sink_use g.O.Sink.taken g.O.Sink.faults g.O.Sink.stopped c.args.out.now c.report_of_source.new.out) c.report_of_source.result) (sym c.in-OfProgram.is) c.report_of_source.ensures
+    subst (λ p. Makes (IsReportFor (g.E.Engine.outcome c.args.engine.now) (aim_of p) c.args.source.now) (sink_use g.O.Sink.taken g.O.Sink.faults g.O.Sink.stopped c.args.out.now c.report_of_source.new.out) c.report_of_source.result) (sym c.in-OfProgram.is) c.report_of_source.ensures
 
 pub returns-in-LayOut : goal.returns-in-LayOut
 returns-in-LayOut g c =
-    subst (λ p. Makes (IsReportFor (aim_of p) c.args.source.now) (sink_use g.O.Sink.taken g.O.Sink.faults g.O.Sink.stopped c.args.out.now c.args.out.now) c.unpassed.result) (sym c.in-LayOut.is)
-    (makes_apart g.O.Sink.taken g.O.Sink.faults g.O.Sink.stopped c.args.out.now c.requires.out_goes (IsReportFor lays_out c.args.source.now) c.report_of_layout.result c.unpassed.result c.unpassed.ensures c.report_of_layout.ensures)
+    subst (λ p. Makes (IsReportFor (g.E.Engine.outcome c.args.engine.now) (aim_of p) c.args.source.now) (sink_use g.O.Sink.taken g.O.Sink.faults g.O.Sink.stopped c.args.out.now c.args.out.now) c.unpassed.result) (sym c.in-LayOut.is)
+    (makes_apart g.O.Sink.taken g.O.Sink.faults g.O.Sink.stopped c.args.out.now c.requires.out_goes (IsReportFor (g.E.Engine.outcome c.args.engine.now) lays_out c.args.source.now) c.report_of_layout.result c.unpassed.result c.unpassed.ensures c.report_of_layout.ensures)

@@ -12,12 +12,12 @@ report_of_program-requires-clause-sound g c =
 
 pub returns-in-Refused : goal.returns-in-Refused
 returns-in-Refused g c =
-    makes_here g.O.Sink.taken g.O.Sink.faults g.O.Sink.stopped c.args.out.now c.requires.out_goes (IsReportOfSource c.args.source.now (program_aim c.args.purpose.now)) c.in-Refused.refusal (refused (subst (IsReadAs c.args.source.now) c.in-Refused.is c.in_ok-refusal.ensures))
+    makes_here g.O.Sink.taken g.O.Sink.faults g.O.Sink.stopped c.args.out.now c.requires.out_goes (IsReportOfSource (g.E.Engine.outcome c.args.engine.now) c.args.source.now (program_aim c.args.purpose.now)) c.in-Refused.refusal (refused (subst (IsReadAs c.args.source.now) c.in-Refused.is c.in_ok-refusal.ensures))
 
 pub returns-in-Program : goal.returns-in-Program
 returns-in-Program g c =
     let comes : SoundlyComes c.args.source.now c.in-Program.core = subst (IsReadAs c.args.source.now) c.in-Program.is c.in_ok-refusal.ensures in
-    program_reported c.args.source.now c.in-Program.core (program_aim c.args.purpose.now) (sink_use g.O.Sink.taken g.O.Sink.faults g.O.Sink.stopped c.args.out.now c.report_of_program.new.out) c.report_of_program.result comes.comes c.report_of_program.ensures
+    program_reported (g.E.Engine.outcome c.args.engine.now) c.args.source.now c.in-Program.core (program_aim c.args.purpose.now) (sink_use g.O.Sink.taken g.O.Sink.faults g.O.Sink.stopped c.args.out.now c.report_of_program.new.out) c.report_of_program.result comes.comes c.report_of_program.ensures
 
 pub returns-in_err-refusal : goal.returns-in_err-refusal
-returns-in_err-refusal g c = makes_lost g.O.Sink.taken g.O.Sink.faults g.O.Sink.stopped c.args.out.now c.requires.out_goes (IsReportOfSource c.args.source.now (program_aim c.args.purpose.now)) c.from_residual.result c.from_residual.ensures.1
+returns-in_err-refusal g c = makes_lost g.O.Sink.taken g.O.Sink.faults g.O.Sink.stopped c.args.out.now c.requires.out_goes (IsReportOfSource (g.E.Engine.outcome c.args.engine.now) c.args.source.now (program_aim c.args.purpose.now)) c.from_residual.result c.from_residual.ensures.1

@@ -10,10 +10,10 @@ deliver-requires-clause-out_goes g c = c.in-Ok.ensures.1.goes
 
 pub returns-in-Ok : goal.returns-in-Ok
 returns-in-Ok g c =
-    tells_rest g.O.Sink.taken g.O.Sink.faults g.O.Sink.stopped c.args.out.now c.report_of.new.out c.deliver.new.out (IsReportFor (aim_of c.args.purpose.now) c.args.source.now) c.in-Ok.report c.deliver.result _ c.in-Ok.ensures
+    tells_rest g.O.Sink.taken g.O.Sink.faults g.O.Sink.stopped c.args.out.now c.report_of.new.out c.deliver.new.out (IsReportFor (g.E.Engine.outcome c.args.engine.now) (aim_of c.args.purpose.now) c.args.source.now) c.in-Ok.report c.deliver.result _ c.in-Ok.ensures
     (rw (c.deref.ensures.value, c.deref-in-Ok.ensures.value) at c.deliver.ensures)
 
 pub returns-in-Err : goal.returns-in-Err
 returns-in-Err g c =
-    tells_none (IsReportFor (aim_of c.args.purpose.now) c.args.source.now) c.in-Err.fault c.status_without.result (sink_use g.O.Sink.taken g.O.Sink.faults g.O.Sink.stopped c.args.out.now c.report_of.new.out) _ c.status_without.ensures c.in-Err.ensures
+    tells_none (IsReportFor (g.E.Engine.outcome c.args.engine.now) (aim_of c.args.purpose.now) c.args.source.now) c.in-Err.fault c.status_without.result (sink_use g.O.Sink.taken g.O.Sink.faults g.O.Sink.stopped c.args.out.now c.report_of.new.out) _ c.status_without.ensures c.in-Err.ensures
     (record { took = still _; goes = c.requires.log_goes })

@@ -1,0 +1,3 @@
+pub mod Policies
+mod Picked
+mod Passed
