@@ -1,4 +1,5 @@
 pub mod Advancing
+pub mod Ahead
 pub mod Assigned
 pub mod Constants
 pub mod Entering

@@ -2,6 +2,7 @@
 #![tactic(auto)]
 
 mod acting;
+mod ahead;
 mod assigning;
 mod calling;
 mod evaluating;
@@ -13,14 +14,15 @@ mod inserting;
 mod ints;
 mod machinery;
 mod making;
+mod operands;
 mod operating;
 mod popping;
 mod repeating;
 mod running;
-mod scalars;
 mod simple;
 mod soon;
 mod stacking;
+mod taking;
 mod walking;
 
 pub use assigning::{path_of, step_count};
