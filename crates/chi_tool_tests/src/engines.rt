@@ -41,6 +41,7 @@ fn abc_law()
 {}
 
 /// An engine that puts `abc`, logs nothing and completes at time 0, whatever it is given.
+#[derive(Clone, Copy, Debug)]
 struct Abc;
 
 impl Engine for Abc {
@@ -63,6 +64,7 @@ impl Engine for Abc {
 }
 
 /// The engine that runs the machine, with whether its last run ended.
+#[derive(Clone, Copy, Debug)]
 struct Watched {
     has_ended: bool,
 }

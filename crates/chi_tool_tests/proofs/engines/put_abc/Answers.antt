@@ -1,4 +1,4 @@
-use Rattle.std.proofs.Common.{◌≡◌, refl, sym, subst, append-nil, arith}
+use Rattle.std.proofs.Common.{refl, sym, subst, append-nil, arith}
 use Rattle.chi_core.specs.declared.program.Core.{Core}
 use Rattle.chi_core.specs.declared.verdict.Verdict.TheVariants.{Completed}
 use Rattle.chi_core.specs.Options.{Ending}
