@@ -3,6 +3,7 @@ ghost use Rattle.chi_chan.specs.Held.{held};
 
 use chi_base::NoMemory;
 use chi_chan::{Choice, Offer, Party, Waiting};
+use std::alloc::Global;
 
 /// Whether an instance waits.
 fn waits(waiting: &Waiting, pid: u32) -> bool
@@ -29,6 +30,24 @@ pub fn offer(waiting: &mut Waiting, pid: u32, offers: &[Offer]) -> Result<(), No
 pub fn withdraw(waiting: &mut Waiting, pid: u32) {
     if waits(waiting, pid) {
         waiting.withdraw(pid);
+    }
+}
+
+/// An instance doesn't wait any more. Its own offers are given with it, copied, since they are lent by what changes.
+pub fn withdraw_lent(alloc: Global, waiting: &mut Waiting, pid: u32) -> Result<(), NoMemory> {
+    let copied = match waiting.offers_of(pid) {
+        Some(offers) => Vec::from_slice(alloc, offers)?,
+        None => return Ok(()),
+    };
+    waiting.withdraw_with(pid, copied.as_slice());
+    Ok(())
+}
+
+/// How many options an instance has, by the offers that are lent.
+pub fn count_lent(waiting: &Waiting, pid: u32, clock: i64) -> u64 {
+    match waiting.offers_of(pid) {
+        Some(offers) => waiting.count_with(pid, clock, offers),
+        None => 0,
     }
 }
 

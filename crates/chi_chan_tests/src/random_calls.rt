@@ -1,4 +1,4 @@
-use crate::guarded::{is_pair, is_party, offer, option, withdraw};
+use crate::guarded::{count_lent, is_pair, is_party, offer, option, withdraw, withdraw_lent};
 use crate::twin::Twin;
 use chi_base::NoMemory;
 use chi_chan::{Choice, Offer, Party, Waiting};
@@ -84,7 +84,8 @@ fn options_agree(
 ) -> Result<bool, NoMemory> {
     for pid in 0..INSTANCES + 1 {
         let options = twin.options(alloc, pid, clock)?;
-        if waiting.option_count(pid, clock) != options.len() as u64 {
+        let count = options.len() as u64;
+        if waiting.option_count(pid, clock) != count || count_lent(waiting, pid, clock) != count {
             return Ok(false);
         }
         let mut i = 0u64;
@@ -109,7 +110,11 @@ fn lines_and_options_are_those_of_a_scan(rt: HostRuntime) -> Result<(), Fail> {
         let pid = random.next() % INSTANCES;
         if twin.waits(pid) {
             twin.withdraw(pid);
-            withdraw(&mut waiting, pid);
+            if call % 2 == 0 {
+                withdraw(&mut waiting, pid);
+            } else {
+                withdraw_lent(alloc, &mut waiting, pid)?;
+            }
         } else {
             let offers = random.offers(alloc)?;
             offer(&mut waiting, pid, offers.as_slice())?;
