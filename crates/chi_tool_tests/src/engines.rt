@@ -9,14 +9,15 @@ ghost use Rattle.chi_io.specs.Counts.{Rose};
 ghost use Rattle.chi_io.specs.Sink.{Grew};
 ghost use Rattle.chi_tool_tests.specs.Engines.{IsAbc};
 
+use crate::shelves::shelf_of;
 use chi_code::Code;
 use chi_core::Verdict;
 use chi_engine::{Engine, Job, Machines, course_law};
-use chi_io::{MemShelf, MemSink, Sink, put_all};
+use chi_io::{MemSink, Sink, put_all};
 use chi_machine_agenda::Ending;
 use chi_machine_traces::PassFault;
 use chi_tool::chi;
-use std::alloc::{AllocError, Global};
+use std::alloc::Global;
 use std::test::Fail;
 
 // Puts three letters, and tells that a run completed at once.
@@ -92,15 +93,6 @@ impl Engine for Watched {
 }
 
 const WORKS: &str = "model M(): write(\"It works!\\n\") end";
-
-/// A shelf with this source in `m.chi`.
-fn shelf_of(alloc: Global, source: &str) -> Result<MemShelf, AllocError> {
-    let name = Vec::from_slice(alloc, b"m.chi")?;
-    let source = Vec::from_slice(alloc, source.as_bytes())?;
-    let mut files = Vec::new(alloc);
-    files.push((name, source))?;
-    Ok(MemShelf::new(files, Vec::new(alloc)))
-}
 
 #[test]
 fn a_simulation_is_the_engines(rt: HostRuntime) -> Result<(), Fail> {

@@ -7,6 +7,8 @@ mod engines;
 #[cfg(test)]
 mod probed;
 #[cfg(test)]
+mod shelves;
+#[cfg(test)]
 mod silent;
 #[cfg(test)]
 mod streams;

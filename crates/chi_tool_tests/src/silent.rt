@@ -1,9 +1,9 @@
 //! The program over objects that tell nothing, and over a log that fails at each of its puts in turn.
 
+use crate::shelves::shelf_of;
 use chi_engine::Machines;
 use chi_io::{MemShelf, MemSink, MuteShelf, MuteSink};
 use chi_tool::chi;
-use std::alloc::{AllocError, Global};
 use std::test::Fail;
 
 const STARTED: &str =
@@ -17,19 +17,10 @@ const LOGGED: &str =
     "trace 2\n0 local 0 M 1\n1 local 0 M 1\n2 local 0 M 1\n3 local 0 M 1\n4 local 1 S 1\n5 pair 1 0 0 0 0 7\n\
      6 local 0 M 1\nexit at time 0.0\n";
 
-/// A shelf with this source in `m.chi`.
-fn shelf_of(alloc: Global) -> Result<MemShelf, AllocError> {
-    let name = Vec::from_slice(alloc, b"m.chi")?;
-    let source = Vec::from_slice(alloc, STARTED.as_bytes())?;
-    let mut files = Vec::new(alloc);
-    files.push((name, source))?;
-    Ok(MemShelf::new(files, Vec::new(alloc)))
-}
-
 #[test]
 fn what_tells_nothing_is_served(rt: HostRuntime) -> Result<(), Fail> {
     let alloc = rt.alloc();
-    let mut shelf = MuteShelf::new(shelf_of(alloc)?);
+    let mut shelf = MuteShelf::new(shelf_of(alloc, STARTED)?);
     let mut out = MuteSink::new(MemSink::new(alloc, 65_536, 65_536, Vec::new(alloc))?);
     let mut log = MuteSink::new(MemSink::new(alloc, 65_536, 65_536, Vec::new(alloc))?);
     let status = chi(
@@ -68,7 +59,7 @@ fn a_name_that_is_missing_is_refused(rt: HostRuntime) -> Result<(), Fail> {
 fn each_put_of_a_log_may_fail(rt: HostRuntime) -> Result<(), Fail> {
     let alloc = rt.alloc();
     for failing in 0..100_u64 {
-        let mut shelf = shelf_of(alloc)?;
+        let mut shelf = shelf_of(alloc, STARTED)?;
         let mut out = MemSink::new(alloc, 65_536, 65_536, Vec::new(alloc))?;
         let mut log = MemSink::new(alloc, 65_536, 3, Vec::from_slice(alloc, &[failing])?)?;
         let words = ["sim", "--trace", "m.chi"];

@@ -1,9 +1,9 @@
 //! The output of a run is passed on as it goes: what a sink has taken where each of its puts fails.
 
+use crate::shelves::shelf_of;
 use chi_engine::Machines;
-use chi_io::{MemShelf, MemSink};
+use chi_io::MemSink;
 use chi_tool::chi;
-use std::alloc::{AllocError, Global};
 use std::test::Fail;
 
 /// It writes 30,000 lines of 10 bytes.
@@ -20,20 +20,11 @@ const TAKEN: [(u64, usize, u8); 6] = [
     (5, 300_000, 0),
 ];
 
-/// A shelf with that source in `m.chi`.
-fn shelf_of(alloc: Global) -> Result<MemShelf, AllocError> {
-    let name = Vec::from_slice(alloc, b"m.chi")?;
-    let source = Vec::from_slice(alloc, LINES.as_bytes())?;
-    let mut files = Vec::new(alloc);
-    files.push((name, source))?;
-    Ok(MemShelf::new(files, Vec::new(alloc)))
-}
-
 #[test]
 fn output_is_passed_on_as_the_run_goes(rt: HostRuntime) -> Result<(), Fail> {
     let alloc = rt.alloc();
     for (failing, taken, wanted) in TAKEN {
-        let mut shelf = shelf_of(alloc)?;
+        let mut shelf = shelf_of(alloc, LINES)?;
         let mut out = MemSink::new(alloc, 400_000, 400_000, Vec::from_slice(alloc, &[failing])?)?;
         let mut log = MemSink::new(alloc, 65_536, 65_536, Vec::new(alloc))?;
         let words = ["sim", "m.chi"];
