@@ -21,12 +21,13 @@ use Rattle.chi_exec_law.specs.Laws.{evaluated, begun, Values}
 use Rattle.chi_exec_law.proofs.Ends.{ends_alike}
 use Rattle.chi_exec_law.proofs.Stated.{expressions_run, constants_run}
 use Rattle.chi_core_frame.specs.Stops.{Stops}
+use Rattle.chi_exec_steps.specs.declared.machinery.Machine.{Machine}
+use Rattle.chi_exec_steps.specs.Views.{state_of}
 use Rattle.chi_exec.specs.Evaluations.{scene_in, Stretch, Ready}
 use Rattle.chi_exec.specs.declared.evaluating.Outlook.{Outlook}
 use Rattle.chi_value.specs.declared.names.Names.{Names}
 use Rattle.chi_exec.specs.Constants.{ConstantAt, ConstantReady, Sets}
-use Rattle.chi_exec.specs.declared.machinery.Machine.{Machine}
-use Rattle.chi_exec.specs.Views.{EndedAt, state_of}
+use Rattle.chi_exec.specs.Ends.{EndedAt}
 
 module _ (m : Setting) where
   halting : (z : ℕ) (variables : Variables) (s : State) (o : Answer (List Value)) → o ≢ Amiss → Values m z variables s o → Halts (step m) s

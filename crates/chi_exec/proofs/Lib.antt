@@ -1,12 +1,7 @@
-pub mod Turns
-pub mod Keyed
-pub mod Stepped
-pub mod Counts
-pub mod Aims
 pub mod Hints
 pub mod Fusing
 pub mod Popped
 pub mod Loops
 pub mod Leading
-pub mod Walks
+pub mod Waiting
 pub mod Answers

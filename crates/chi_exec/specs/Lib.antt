@@ -1,13 +1,9 @@
 pub mod Advancing
 pub mod Ahead
-pub mod Assigned
 pub mod Constants
-pub mod Entering
+pub mod Ends
 pub mod Evaluations
 pub mod Extents
 pub mod Fused
 pub mod Hints
-pub mod Keyed
 pub mod Popped
-pub mod Views
-pub mod Walks

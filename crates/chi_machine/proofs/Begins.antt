@@ -8,7 +8,7 @@ use Rattle.chi_core.specs.Variables.{variables_of}
 use Rattle.chi_code.specs.declared.code.Code.{Code}
 use Rattle.chi_code.specs.declared.code.Entry.{Entry}
 use Rattle.chi_exec.specs.Hints.{AreRight}
-use Rattle.chi_exec.specs.Views.{frame_in, state_of, under_of}
+use Rattle.chi_exec_steps.specs.Views.{frame_in, state_of, under_of}
 use Rattle.chi_exec_law.specs.Laws.{begun}
 use Rattle.chi_exec_law.specs.State.{State, frame_of}
 use Rattle.chi_machine_laws.specs.Beginning.{Ready, first_whole, Begins}

@@ -7,7 +7,7 @@ use Rattle.chi_value.specs.declared.value.Value.{Value}
 use Rattle.chi_core.specs.Config.{has_finished}
 use Rattle.chi_code.specs.declared.code.Code.{Code}
 use Rattle.chi_code.specs.declared.instr.Instr.{Instr}
-use Rattle.chi_exec.specs.declared.machinery.Machine.{Machine}
+use Rattle.chi_exec_steps.specs.declared.machinery.Machine.{Machine}
 use Rattle.chi_exec_law.specs.Runs.{Halts}
 use Rattle.chi_exec_law.specs.State.{Frame, state}
 use Rattle.chi_machine_laws.specs.Choosing.{instance_of}

@@ -1,7 +1,7 @@
 -- What the machine's own values stand for.
 use Rattle.std.specs.Prelude.{List, [], ◌∷◌, Option, Some, None, reverse}
-use Rattle.chi_exec.specs.declared.machinery.Machine.{Machine}
-use Rattle.chi_exec.specs.Views.{frame_in, callers_of}
+use Rattle.chi_exec_steps.specs.declared.machinery.Machine.{Machine}
+use Rattle.chi_exec_steps.specs.Views.{frame_in, callers_of}
 use Rattle.chi_exec_law.specs.State.{Frame, State, state, frame_of}
 use Rattle.chi_machine_laws.specs.Instances as law
 use Rattle.chi_machine_laws.specs.Instances.{Kept, Standing, Held, Whole}

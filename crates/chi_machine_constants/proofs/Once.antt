@@ -12,7 +12,7 @@ use Rattle.chi_code.specs.declared.code.Code.{Code}
 use Rattle.chi_code.specs.declared.code.Entry.{Entry}
 use Rattle.chi_code.specs.declared.instr.Instr.{Instr}
 use Rattle.chi_code.specs.declared.instr.Instr.TheVariants as i
-use Rattle.chi_exec.specs.Views.{EndedAt}
+use Rattle.chi_exec.specs.Ends.{EndedAt}
 use Rattle.chi_exec_law.specs.Runs.{End, Rests, Faults, Spends, Reaches, Halts}
 use Rattle.chi_exec_law.specs.State.{State, frame_of}
 use Rattle.chi_exec_law.specs.Instructions.{set_const_on}

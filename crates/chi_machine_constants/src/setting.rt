@@ -2,8 +2,9 @@
 
 ghost use Rattle.std.specs.Prelude.{◌≡◌, [], length, IfOk};
 ghost use Rattle.chi_core.specs.Beginning.{constant_view};
+ghost use Rattle.chi_exec.specs.Ends.{EndedAt};
 ghost use Rattle.chi_exec.specs.Hints.{AreRight};
-ghost use Rattle.chi_exec.specs.Views.{state_of, EndedAt};
+ghost use Rattle.chi_exec_steps.specs.Views.{state_of};
 ghost use Rattle.chi_exec_law.specs.Laws.{begun};
 ghost use Rattle.chi_exec_law.specs.Machine.{in_expressions, step};
 ghost use Rattle.chi_machine_laws.specs.Beginning.{scene_before};

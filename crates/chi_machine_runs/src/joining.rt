@@ -4,7 +4,7 @@ ghost use Rattle.std.specs.Prelude.{◌≡◌, ◌≢◌, ◌+◌, ◌<◌, ◌^
 ghost use Rattle.std.specs.List.{range_with_len};
 ghost use Rattle.chi_core.specs.Answer.{Amiss, Gives};
 ghost use Rattle.chi_core.specs.Performing.{all_named};
-ghost use Rattle.chi_exec.specs.Views.{state_of};
+ghost use Rattle.chi_exec_steps.specs.Views.{state_of};
 ghost use Rattle.chi_exec_law.specs.Runs.{Ends, Rests, Stuck};
 ghost use Rattle.chi_machine_laws.specs.Deeds.{Joins, finish_on, join_on};
 ghost use Rattle.chi_machine_runs.specs.Views.{brought_of, done_by};

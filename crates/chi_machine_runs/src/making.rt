@@ -6,7 +6,7 @@ ghost use Rattle.chi_core.specs.Variables.{variables_of};
 ghost use Rattle.chi_core_frame.specs.declared.stop.Stop.TheVariants.{NoMemory};
 ghost use Rattle.chi_core_frame.specs.Spots.{spot_in};
 ghost use Rattle.chi_core_frame.specs.Stops.{Stops};
-ghost use Rattle.chi_exec.specs.Views.{state_of};
+ghost use Rattle.chi_exec_steps.specs.Views.{state_of};
 ghost use Rattle.chi_exec_law.specs.Runs.{Goes, Stuck};
 ghost use Rattle.chi_exec_law.specs.Instructions.{index_count, spots_from};
 ghost use Rattle.chi_machine_laws.specs.Deeds.{aims_of, make_on, makes_on};

@@ -2,7 +2,7 @@
 
 ghost use Rattle.std.specs.Prelude.{◌≡◌, ◌≢◌, IsTrue, IsFalse};
 ghost use Rattle.chi_exec.specs.Hints.{AreRight};
-ghost use Rattle.chi_exec.specs.Views.{state_of};
+ghost use Rattle.chi_exec_steps.specs.Views.{state_of};
 ghost use Rattle.chi_exec_law.specs.Runs.{Halts};
 ghost use Rattle.chi_machine_laws.specs.Deeds.{moves};
 ghost use Rattle.chi_machine_runs.specs.Views.{brought_of, there, within_of, Ran};

@@ -3,7 +3,7 @@
 ghost use Rattle.std.specs.Prelude.{◌≡◌, ◌≢◌, ◌+◌, ◌<◌, ◌^◌, Some, IfErr, IfOk, OnOk};
 ghost use Rattle.chi_core_frame.specs.Stops.{Stops};
 ghost use Rattle.chi_core.specs.Answer.{Amiss, Gives};
-ghost use Rattle.chi_exec.specs.Views.{state_of};
+ghost use Rattle.chi_exec_steps.specs.Views.{state_of};
 ghost use Rattle.chi_exec_law.specs.Runs.{Goes, Ends, Rests, Stuck};
 ghost use Rattle.chi_machine_laws.specs.Deeds.{Exits, exit_by, exit_on, shown_in, text_by, write_on};
 ghost use Rattle.chi_machine_runs.specs.Views.{done_by, there, Failed};

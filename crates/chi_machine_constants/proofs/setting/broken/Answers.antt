@@ -3,7 +3,7 @@ use Rattle.std.specs.Prelude.{drop}
 use Rattle.chi_core.specs.Beginning.{constant_view}
 use Rattle.chi_core_frame.specs.declared.stop.Stop.{Stop}
 use Rattle.chi_code.specs.declared.instr.Instr.{Instr}
-use Rattle.chi_exec.specs.Views.{EndedAt}
+use Rattle.chi_exec.specs.Ends.{EndedAt}
 use Rattle.chi_exec_law.specs.Laws.{begun}
 use Rattle.chi_exec_law.specs.Machine.{in_expressions, step}
 use Rattle.chi_machine_laws.specs.Beginning.{line_from, scene_before}

@@ -1,7 +1,7 @@
 use Rattle.std.proofs.Common.{◌+◌, ◌<◌, [], List, length, reverse, pos, sym, ◌∙◌, subst, refl, rules, arith}
 use Rattle.std.specs.Prelude.{IfOk}
 use Rattle.chi_value.specs.declared.value.Value.{Value}
-use Rattle.chi_exec.specs.Views.{state_of}
+use Rattle.chi_exec_steps.specs.Views.{state_of}
 use Rattle.chi_machine_constants.specs.Moves.{Moved}
 use Rattle.chi_machine_constants.specs.Settings.{MayBegin, LeadsTo}
 use Rattle.chi_machine_constants.proofs.Once.{ended_so, halts_so, is_over, is_there, leads_on, no_stack, place_fits, place_within, rests_so, topmost}

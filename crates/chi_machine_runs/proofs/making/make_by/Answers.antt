@@ -1,6 +1,6 @@
 use Rattle.std.proofs.Common.{refl, sym, subst, ◌∙◌}
 use Rattle.std.specs.Prelude.{IfErr}
-use Rattle.chi_exec.specs.Views.{state_of}
+use Rattle.chi_exec_steps.specs.Views.{state_of}
 use Rattle.chi_machine_laws.specs.Deeds.{Deed, aims_of}
 use Rattle.chi_machine_runs.specs.Views.{brought_of, Failed}
 use Rattle.chi_machine_runs.proofs.News.{keys_taken}

@@ -1,5 +1,5 @@
 use Rattle.std.proofs.Common.{rules}
-use Rattle.chi_exec.specs.Views.{state_of}
+use Rattle.chi_exec_steps.specs.Views.{state_of}
 use Rattle.chi_exec_law.proofs.Going.{leads_same}
 use Rattle.chi_machine_laws.specs.Deeds.{moves}
 use Rattle.chi_machine_runs.specs.Views.{brought_of, there, within_of}

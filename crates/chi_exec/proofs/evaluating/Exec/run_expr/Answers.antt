@@ -1,7 +1,7 @@
 use Rattle.std.proofs.Common.{◌≡◌, rules, w64, FitsSigned}
 use Rattle.std.proofs.lemmas.Int.{to_z-of_z}
+use Rattle.chi_exec_steps.specs.Views.{state_of}
 use Rattle.chi_exec.specs.Evaluations.{scene_in}
-use Rattle.chi_exec.specs.Views.{state_of}
 use Rattle.chi_exec.proofs.Answers.{scene_found, list_halts, list_values, list_rests, list_variables, list_stops}
 use Rattle.chi_exec.proofs.evaluating.Exec.run_expr.Goals as goal
 

@@ -1,5 +1,5 @@
 use Rattle.std.proofs.Common.{rules, pos, []}
-use Rattle.chi_exec.specs.Views.{state_of}
+use Rattle.chi_exec_steps.specs.Views.{state_of}
 use Rattle.chi_exec.proofs.Answers.{const_halts, const_there, const_rests, const_sets, const_stops}
 use Rattle.chi_exec.proofs.evaluating.Exec.set_constant.Goals as goal
 
