@@ -4,6 +4,7 @@ mod Joined
 mod Many
 mod News
 mod Offered
+mod OfferedAlone
 mod Offers
 mod Ran
 mod Resumed

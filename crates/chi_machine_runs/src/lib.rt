@@ -2,6 +2,7 @@
 #![tactic(auto)]
 
 mod acting;
+mod alone;
 mod brought;
 mod doing;
 mod joining;

@@ -117,9 +117,9 @@ pub fn receive(
     offer(m, opened, names, Offer::Receive(channel), kept)
 }
 
-// When a delay that begins at a time is over, in units of a real.
+/// When a delay that begins at a time is over, in units of a real.
 #[inline(always)]
-fn due_after(clock: i64, delay: Real, view: &View) -> Result<i64, Stop>
+pub(crate) fn due_after(clock: i64, delay: Real, view: &View) -> Result<i64, Stop>
     ensures due { IfOk result (λ due. delayed_by clock delay view.now ≡ Gives (act.Delay due) view.now) }
     ensures stops { IfErr result (λ stop. Stops stop (delayed_by clock delay view.now)) }
 {

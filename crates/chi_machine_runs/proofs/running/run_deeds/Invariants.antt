@@ -1,7 +1,7 @@
 use Rattle.chi_exec_law.specs.Runs.{Halts, Leads}
 use Rattle.chi_machine_laws.specs.Deeds.{moves}
 use Rattle.chi_machine_runs.specs.Views.{there, within_of}
-use Rattle.chi_machine_runs.proofs.running.run.Given as goal
+use Rattle.chi_machine_runs.proofs.running.run_deeds.Given as goal
 
 abbrev pub invariant-deeds : goal.invariant-deeds
 invariant-deeds l = record {
