@@ -1,4 +1,4 @@
--- At the place of a bad byte there stands one, on its line.
+-- At the place of a bad byte there stands one, on its line; and want of memory is no fault of a source.
 use Rattle.std.proofs.Common.{◌≡◌, ℕ, suc, ◌+◌, ◌<◌, false, cond, not, Option, Some, None, List, ◌∷◌, length, drop, take, refl, ap, sym, ◌∙◌, subst, inl, inr, arith}
 use Rattle.std.specs.List.{before_first, prefix_len}
 use Rattle.std.proofs.lemmas.Bool.{cases_Bool, eqb-true, ne_eqb}
@@ -15,12 +15,12 @@ use Rattle.chi_lex.specs.Reading.{ReadsFrom, at_end, past_gap, past_token, at_fa
 use Rattle.chi_explain.specs.Excerpts.{from_place}
 use Rattle.chi_explain.proofs.PlaceLemmas.{from_place_of}
 
--- a bad byte stands on the line of its place
+-- a bad byte stands on the line of its place, and a source has no fault that is want of memory
 abbrev pub StandsThere : List ℕ → LexFault → Type 0
 StandsThere source (BadByte place) = 0 < length (from_place source place)
 StandsThere source (OpenString place) = Unit {0}
 StandsThere source (BadEscape place) = Unit {0}
-StandsThere source NoMemory = Unit {0}
+StandsThere source NoMemory = ⊥
 
 some_before : (c : ℕ) (more : List ℕ) → is_line_feed c ≡ false → 0 < length (before_first is_line_feed (c ∷ more))
 some_before c more e =
@@ -72,5 +72,8 @@ from_offset source offset _ _ fault (at_fault _ told no_gap none is) e =
     let same : told ≡ fault = cc in
     subst (λ f. StandsThere source f) same (at_place source offset told no_gap is)
 
+pub faulty : (source : List ℕ) (fault : LexFault) → HasFault source fault → StandsThere source fault
+faulty source fault h = from_offset source 0 h.0 (Some fault) fault h.1 refl
+
 pub faulty_byte : (source : List ℕ) (place : Place) → HasFault source (BadByte place) → 0 < length (from_place source place)
-faulty_byte source place h = from_offset source 0 h.0 (Some (BadByte place)) (BadByte place) h.1 refl
+faulty_byte source place h = faulty source (BadByte place) h

@@ -79,7 +79,7 @@ pub fn from_place(source: &[u8], place: Place) -> &[u8]
 }
 
 /// Appends bytes as they are shown.
-fn put_bytes(bytes: &[u8], out: &mut Vec<u8>) -> Result<(), NoMemory>
+pub fn put_as_shown(bytes: &[u8], out: &mut Vec<u8>) -> Result<(), NoMemory>
     ensures { OnOk result (out.new.items ≡ out.old.items ++ map shown bytes.now) }
 {
     for byte in bytes {
@@ -113,7 +113,7 @@ fn put_shown(line: &[u8], first: usize, stop: usize, out: &mut Vec<u8>) -> Resul
     ensures { OnOk result (out.new.items ≡ out.old.items ++ shown_line line.now first stop) }
 {
     put_cut(0 < first, out)?;
-    put_bytes(part(line, first, stop), out)?;
+    put_as_shown(part(line, first, stop), out)?;
     put_cut(stop < line.len(), out)?;
     Ok(())
 }

@@ -1,5 +1,6 @@
-ghost use Rattle.std.specs.Prelude.{◌≡◌, ◌<◌, ◌++◌, length, OnOk, IfOk};
-ghost use Rattle.chi_lex.specs.Reading.{IsFaultOf};
+ghost use Rattle.std.specs.Prelude.{◌≡◌, ◌<◌, ◌++◌, ℕ, List, length, OnOk, IfOk};
+ghost use Rattle.chi_lex.specs.declared.fault.LexFault.{LexFault};
+ghost use Rattle.chi_lex.specs.Reading.{HasFault, IsFaultOf};
 ghost use Rattle.chi_explain.specs.Excerpts.{from_place};
 ghost use Rattle.chi_explain.specs.Lexical.{bad_byte_words, byte_words, hex_digit, IsExplanation};
 
@@ -91,3 +92,10 @@ pub fn explain_lexical(
         LexFault::NoMemory => Err(NoMemory),
     }
 }
+
+/// The first fault of a source where no token can be read has exactly one explanation.
+pub fn lexical_explanation_law()
+    ensures some { (file source : List ℕ) (fault : LexFault) → HasFault source fault → (text : List ℕ) × IsExplanation file source fault text }
+    ensures one { (file source : List ℕ) (fault : LexFault) (text other : List ℕ)
+        → IsExplanation file source fault text → IsExplanation file source fault other → text ≡ other }
+{}

@@ -5,9 +5,9 @@ mod excerpts;
 mod explanations;
 mod lexical;
 
-pub use excerpts::{MOST_BEFORE, MOST_SHOWN, excerpt, line_alone, place_law};
+pub use excerpts::{MOST_BEFORE, MOST_SHOWN, excerpt, line_alone, place_law, put_as_shown};
 pub use explanations::{explained, put_number};
-pub use lexical::explain_lexical;
+pub use lexical::{explain_lexical, lexical_explanation_law};
 
 #[cfg(test)]
 mod tests;
