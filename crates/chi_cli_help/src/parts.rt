@@ -6,9 +6,10 @@ ghost use Rattle.chi_cli_help.specs.Help.{parts_of};
 use crate::texts::*;
 use crate::topic::Topic;
 
-const OF_ALL_COMMANDS: [&str; 11] = [
+const OF_ALL_COMMANDS: [&str; 12] = [
     USAGE,
     SIM_LINE,
+    EXPLAIN_LINE,
     CHECK_LINE,
     CODE_LINE,
     FMT_LINE,
@@ -39,6 +40,25 @@ const OF_SIM: [&str; 18] = [
     NO_FILE,
     FAILED,
     SIM_EXAMPLE,
+];
+
+const OF_EXPLAIN: [&str; 16] = [
+    EXPLAIN,
+    OPTIONS,
+    SEED,
+    STEPS,
+    POLICY,
+    SALT,
+    UNTIL,
+    STATUSES,
+    RUN_ENDED,
+    UNREAD,
+    UNTYPED,
+    UNFIT,
+    NO_REQUEST,
+    NO_FILE,
+    FAILED,
+    EXPLAIN_EXAMPLE,
 ];
 
 const OF_CHECK: [&str; 9] = [
@@ -154,6 +174,7 @@ pub fn parts_of(topic: Topic) -> &'static [&'static str]
     match topic {
         Topic::AllCommands => &OF_ALL_COMMANDS,
         Topic::Sim => &OF_SIM,
+        Topic::Explain => &OF_EXPLAIN,
         Topic::Check => &OF_CHECK,
         Topic::Code => &OF_CODE,
         Topic::Fmt => &OF_FMT,

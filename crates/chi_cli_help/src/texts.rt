@@ -5,6 +5,8 @@ pub const USAGE: &str = "chi COMMAND [OPTIONS] FILE [ARGS..]\n\n";
 
 pub const SIM_LINE: &str = "  sim       simulates the first model of a file\n";
 
+pub const EXPLAIN_LINE: &str = "  explain   simulates it too, and says in words what is wrong\n";
+
 pub const CHECK_LINE: &str = "  check     says whether a file is a program\n";
 
 pub const CODE_LINE: &str = "  code      lists the code of its program\n";
@@ -27,6 +29,12 @@ pub const SIM: &str = "chi sim [OPTIONS] FILE [ARGS..]
 
 Simulates the first model of FILE. ARGS are texts of its parameters, whose types are bool, int, real or string. What the
 model writes goes to the output, and how it ended to the log.
+";
+
+pub const EXPLAIN: &str = "chi explain [OPTIONS] FILE [ARGS..]
+
+Simulates the first model of FILE as `chi sim` does, with its output and status. The log says in words what is wrong, with
+the line and the place.
 ";
 
 pub const CHECK: &str = "chi check FILE
@@ -139,6 +147,8 @@ pub const FAILED: &str = "  5    the output or the log can't be written
 ";
 
 pub const SIM_EXAMPLE: &str = "\nExample:\n  chi sim --seed 7 models/line.chi\n";
+
+pub const EXPLAIN_EXAMPLE: &str = "\nExample:\n  chi explain models/line.chi\n";
 
 pub const CHECK_EXAMPLE: &str = "\nExample:\n  chi check models/line.chi\n";
 

@@ -6,6 +6,7 @@ ghost use Rattle.chi_cli_help.specs.Topics.{topic_named};
 pub enum Topic {
     AllCommands,
     Sim,
+    Explain,
     Check,
     Code,
     Fmt,
@@ -24,6 +25,8 @@ impl Topic {
     {
         if word == b"sim".as_slice() {
             Some(Topic::Sim)
+        } else if word == b"explain".as_slice() {
+            Some(Topic::Explain)
         } else if word == b"check".as_slice() {
             Some(Topic::Check)
         } else if word == b"code".as_slice() {
