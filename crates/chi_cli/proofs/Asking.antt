@@ -1,16 +1,21 @@
 -- What a command asks for, by what clap's matches give.
 use Rattle.std.proofs.Common.{◌≡◌, ◌∙◌, Bool, true, false, codes, List, [], ◌∷◌, Option, Some, None, Result, Ok, Err, if◌then◌else◌, refl, sym, ap, subst}
-use Rattle.std.specs.Prelude.{IfErr, IfOk, unwrap_or}
+use Rattle.std.specs.Prelude.{IfErr, IfOk, is_some, unwrap_or}
 use Rattle.std.proofs.lemmas.Bool.{and_parts}
-use Rattle.clap.specs.Walk.{Row, all_of, first_of}
+use Rattle.clap.specs.Walk.{Row, all_of, first_of, one_of}
 use Rattle.chi_cli.specs.declared.command.Command.{Command}
+use Rattle.chi_cli.specs.declared.command.Command.TheVariants as command
+use Rattle.chi_cli.specs.declared.command.OptionName.TheVariants as option
 use Rattle.chi_cli.specs.declared.fault.CliFault.{CliFault}
 use Rattle.chi_cli.specs.declared.fault.CliFault.TheVariants as fault
 use Rattle.chi_cli.specs.declared.request.Request.{Request}
+use Rattle.chi_cli.specs.declared.one_run.OneRun.{OneRun}
 use Rattle.chi_cli.specs.declared.two_files.TwoFiles.{TwoFiles}
+use Rattle.chi_trace.specs.declared.filter.Filter.{Filter}
 use Rattle.chi_cli.specs.Commands.{Text, command_named}
-use Rattle.chi_cli.specs.Parsing.{EachGiven, Gives, first, fits, has_place, if_fits, rest, taken}
-use Rattle.chi_cli.specs.Requests.{IsRefused, asked, command_request, each_once, file_with, of_two, said_request, two_files}
+use Rattle.chi_cli.specs.Parsing.{EachGiven, Gives, first, fits, has_place, if_fits, rest, taken, truth_text}
+use Rattle.chi_cli.specs.Probes.{probe_or_all}
+use Rattle.chi_cli.specs.Requests.{IsRefused, asked, command_request, each_once, explained, file_with, of_two, one_run, said_request, sim, simulated, two_files, value_given}
 use Rattle.chi_cli.specs.Splitting.{Said, split}
 
 -- what fits a command is asked
@@ -77,3 +82,46 @@ of_two_refused done meant fault.NoMemory is = tt
 of_two_refused done meant fault.Usage is = ap (of_two done) is
 of_two_refused done meant fault.Command is = ap (of_two done) is
 of_two_refused done meant fault.BadNumber is = ap (of_two done) is
+
+-- a run that is told in words is refused as the run is
+pub explained_refused : (meant : Result OneRun CliFault) (why : CliFault) → IsRefused meant why → IsRefused (explained meant) why
+explained_refused meant fault.NoMemory is = tt
+explained_refused meant fault.Usage is = ap explained is
+explained_refused meant fault.Command is = ap explained is
+explained_refused meant fault.BadNumber is = ap explained is
+
+refused_as : (meant : Result Request CliFault) (why : CliFault) → meant ≡ Err why → IsRefused meant why
+refused_as meant fault.NoMemory is = tt
+refused_as meant fault.Usage is = is
+refused_as meant fault.Command is = is
+refused_as meant fault.BadNumber is = is
+
+-- a run with a filter of its trace's events
+module _ (rows : List Row) (trace : Bool) (probe : Option Filter)
+    (wanted : (wanted : Bool) → unwrap_or (one_of (codes "trace") rows) (codes "false") ≡ truth_text wanted → trace ≡ wanted)
+    (filtered : probe_or_all (first_of (codes "probe") rows) ≡ Some probe) where
+  simulated_so : (said : Said) → Gives command.Sim rows said → (meant : Result OneRun CliFault) → one_run said.plain said.options ≡ meant
+      → sim said.plain said.options ≡ simulated trace (Some probe) meant
+  simulated_so said gives meant is =
+      let traced : is_some (value_given option.Trace said.options) ≡ trace = sym (wanted (is_some (value_given option.Trace said.options)) gives.trace) in
+      let probed : probe_or_all (value_given option.Probe said.options) ≡ Some probe = ap probe_or_all (sym (gives.values option.Probe refl)) ∙ filtered in
+      λ i. simulated (traced i) (probed i) (is i)
+
+  module _ (run : OneRun) (asked : (c : Command) → EachGiven c rows (λ said. one_run said.plain said.options ≡ Ok run)) where
+    pub sim_given : (answer : Result Request CliFault) → answer ≡ simulated trace (Some probe) (Ok run)
+        → IfOk answer (λ request. EachGiven command.Sim rows (λ said. sim said.plain said.options ≡ Ok request))
+    sim_given (Ok request) is = λ said gives. simulated_so said gives (Ok run) (asked command.Sim said gives) ∙ sym is
+    sim_given (Err why) is = tt
+
+    pub sim_refused : (answer : Result Request CliFault) → answer ≡ simulated trace (Some probe) (Ok run)
+        → IfErr answer (λ fault. EachGiven command.Sim rows (λ said. IsRefused (sim said.plain said.options) fault))
+    sim_refused (Ok request) is = tt
+    sim_refused (Err why) is =
+        λ said gives. refused_as (sim said.plain said.options) why (simulated_so said gives (Ok run) (asked command.Sim said gives) ∙ sym is)
+
+  pub sim_without : (why : CliFault) → ((c : Command) → EachGiven c rows (λ said. IsRefused (one_run said.plain said.options) why))
+      → EachGiven command.Sim rows (λ said. IsRefused (sim said.plain said.options) why)
+  sim_without fault.NoMemory refused said gives = tt
+  sim_without fault.Usage refused said gives = simulated_so said gives (Err fault.Usage) (refused command.Sim said gives)
+  sim_without fault.Command refused said gives = simulated_so said gives (Err fault.Command) (refused command.Sim said gives)
+  sim_without fault.BadNumber refused said gives = simulated_so said gives (Err fault.BadNumber) (refused command.Sim said gives)

@@ -72,6 +72,9 @@ no_default_fault command.Picks rows = no_judge_fault rows
 no_default_fault command.Replay rows =
     plain_option name.Seed refl _ (plain_option name.Steps refl _ (plain_option name.Until refl _ (one_more (built_option name.Trace) _ trace_default
     (one_more built_file _ (without_default built_file refl) (one_more built_args _ (without_default built_args refl) no_more))))) rows
+no_default_fault command.Explain rows =
+    plain_option name.Seed refl _ (plain_option name.Steps refl _ (plain_option name.Policy refl _ (plain_option name.Salt refl _ (plain_option name.Until refl _
+    (one_more built_file _ (without_default built_file refl) (one_more built_args _ (without_default built_args refl) no_more)))))) rows
 no_default_fault command.Sim rows =
     plain_option name.Seed refl _ (plain_option name.Steps refl _ (plain_option name.Policy refl _ (plain_option name.Salt refl _ (plain_option name.Until refl _
     (plain_option name.Probe refl _ (one_more (built_option name.Trace) _ trace_default (one_more built_file _ (without_default built_file refl)
@@ -111,6 +114,11 @@ finished_is command.Replay rows =
     ∙ skip name.Until refl (drop 3 (rules command.Replay)) rows
     ∙ ap (λ (rs : List Row). with_default rs built_args) (unchanged built_file refl (with_default rows (built_option name.Trace)))
     ∙ unchanged built_args refl (with_default rows (built_option name.Trace))
+finished_is command.Explain rows =
+    skip name.Seed refl (drop 1 (rules command.Explain)) rows ∙ skip name.Steps refl (drop 2 (rules command.Explain)) rows
+    ∙ skip name.Policy refl (drop 3 (rules command.Explain)) rows ∙ skip name.Salt refl (drop 4 (rules command.Explain)) rows
+    ∙ skip name.Until refl (drop 5 (rules command.Explain)) rows
+    ∙ ap (λ (rs : List Row). with_default rs built_args) (unchanged built_file refl rows) ∙ unchanged built_args refl rows
 finished_is command.Sim rows =
     skip name.Seed refl (drop 1 (rules command.Sim)) rows ∙ skip name.Steps refl (drop 2 (rules command.Sim)) rows
     ∙ skip name.Policy refl (drop 3 (rules command.Sim)) rows ∙ skip name.Salt refl (drop 4 (rules command.Sim)) rows ∙ skip name.Until refl (drop 5 (rules command.Sim)) rows
@@ -127,6 +135,7 @@ trace_kept id rows apart = each (has_row (codes "trace") rows) where
 end_kept : (c : Command) (id : Text) (rows : List Row) → bytes_eq (codes "trace") id ≡ false → row_at id (at_end c rows) ≡ row_at id rows
 end_kept command.Sim id rows apart = trace_kept id rows apart
 end_kept command.Replay id rows apart = trace_kept id rows apart
+end_kept command.Explain id rows apart = refl
 end_kept command.Judge id rows apart = refl
 end_kept command.Picks id rows apart = refl
 end_kept command.Check id rows apart = refl
@@ -171,6 +180,7 @@ trace_end rows = each (row_at (codes "trace") rows) refl where
 flag_end : (c : Command) (rows : List Row) → flag_of (row_at (codes "trace") (at_end c rows)) ≡ flag_of (row_at (codes "trace") rows)
 flag_end command.Sim rows = trace_end rows
 flag_end command.Replay rows = trace_end rows
+flag_end command.Explain rows = refl
 flag_end command.Judge rows = refl
 flag_end command.Picks rows = refl
 flag_end command.Check rows = refl
@@ -208,6 +218,7 @@ wants false = refl
 
 check_is : (c : Command) (rows : List Row) → none (check_fault (shape c) rows false) ≡ row_is_given (codes "file") rows
 check_is command.Sim rows = wants (row_is_given (codes "file") rows)
+check_is command.Explain rows = wants (row_is_given (codes "file") rows)
 check_is command.Check rows = wants (row_is_given (codes "file") rows)
 check_is command.Code rows = wants (row_is_given (codes "file") rows)
 check_is command.Fmt rows = wants (row_is_given (codes "file") rows)

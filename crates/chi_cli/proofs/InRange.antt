@@ -25,11 +25,12 @@ use Rattle.chi_cli_help.specs.Topics.{topic_named}
 use Rattle.chi_trace.specs.declared.filter.EventKind.{EventKind}
 use Rattle.chi_trace.specs.declared.filter.Filter.{Filter}
 use Rattle.chi_trace.specs.declared.filter.Filter.TheVariants as filter
+use Rattle.chi_cli.specs.declared.one_run.OneRun.{OneRun}
 use Rattle.chi_cli.specs.declared.two_files.TwoFiles.{TwoFiles}
 use Rattle.chi_cli.specs.Numbers.{is_numeral, number_in, number_or, number_sought, time_in, time_or_none, within}
 use Rattle.chi_cli.specs.Probes.{kind_named, probe_or_all, sought}
 use Rattle.chi_cli.specs.Ranges.{IsFilter, IsInRange, IsPick, IsTime}
-use Rattle.chi_cli.specs.Requests.{asked, command_request, each_once, help, help_on, load, load_of, of_file, judged, of_two, one_word, pick_of, picked, policy_or_first, replayed, request_of, run_asked, said_request, sim, sim_of_file, two_files, two_files_asked, value_given}
+use Rattle.chi_cli.specs.Requests.{asked, command_request, each_once, explained, help, help_on, load, load_of, of_file, judged, of_two, one_run, one_word, pick_of, picked, policy_or_first, replayed, request_of, run_asked, run_of_file, said_request, sim, simulated, two_files, two_files_asked, value_given}
 use Rattle.chi_cli.specs.Splitting.{Said, name_in, split, value_in}
 use Rattle.chi_load.specs.declared.source.TheConstants.{MOST_MACHINES}
 
@@ -141,36 +142,50 @@ probe_in_range (Some word) = each (value_in word) where
 abbrev most_word : ℕ
 most_word = 18_446_744_073_709_551_615
 
-run_in_range : (file : Text) (args : List Text) (policy : PolicyName) (trace : Bool) (seed bound salt : Option ℕ) (until : Option (Option ℤ)) (probe : Option Filter)
+-- the numbers of a command on one run
+abbrev RunInRange : OneRun → Type 0
+RunInRange run = (run.seed < 2 ^ 64) × (run.bound ≤ MOST_STEPS) × IfSome run.until IsTime × IsPick run.pick
+
+run_asked_in_range : (file : Text) (args : List Text) (policy : PolicyName) (seed bound salt : Option ℕ) (until : Option (Option ℤ))
     → ((n : ℕ) → seed ≡ Some n → n ≤ most_word) → ((n : ℕ) → bound ≡ Some n → n ≤ MOST_STEPS) → ((n : ℕ) → salt ≡ Some n → n ≤ most_word)
-    → ((t : Option ℤ) → until ≡ Some t → IfSome t IsTime) → IfSome probe IsFilter
-    → IfOk (run_asked file args policy trace seed bound salt until probe) IsInRange
-run_in_range file args policy trace (Some seed) (Some bound) (Some salt) (Some until) (Some probe) a b c d small =
+    → ((t : Option ℤ) → until ≡ Some t → IfSome t IsTime) → IfOk (run_asked file args policy seed bound salt until) RunInRange
+run_asked_in_range file args policy (Some seed) (Some bound) (Some salt) (Some until) a b c d =
     let fits : seed ≤ most_word = a seed refl in
     let salt_fits : salt ≤ most_word = c salt refl in
-    (omega arith, b bound refl, d until refl, salted policy salt (omega arith), small)
-run_in_range file args policy trace None bound salt until probe a b c d small = tt
-run_in_range file args policy trace (Some seed) None salt until probe a b c d small = tt
-run_in_range file args policy trace (Some seed) (Some bound) None until probe a b c d small = tt
-run_in_range file args policy trace (Some seed) (Some bound) (Some salt) None probe a b c d small = tt
-run_in_range file args policy trace (Some seed) (Some bound) (Some salt) (Some until) None a b c d small = tt
+    (omega arith, b bound refl, d until refl, salted policy salt (omega arith))
+run_asked_in_range file args policy None bound salt until a b c d = tt
+run_asked_in_range file args policy (Some seed) None salt until a b c d = tt
+run_asked_in_range file args policy (Some seed) (Some bound) None until a b c d = tt
+run_asked_in_range file args policy (Some seed) (Some bound) (Some salt) None a b c d = tt
 
-file_in_range : (file : Text) (args : List Text) (p : Option PolicyName) (probe : Option (Option Filter)) (options : List (OptionName × Text)) → IsSought probe
-    → IfOk (sim_of_file file args p probe options) IsInRange
-file_in_range file args None probe options small = tt
-file_in_range file args (Some p) None options small = tt
-file_in_range file args (Some p) (Some probe) options small = run_in_range file args p (is_some (value_given option.Trace options))
+run_of_file_in_range : (file : Text) (args : List Text) (p : Option PolicyName) (options : List (OptionName × Text)) → IfOk (run_of_file file args p options) RunInRange
+run_of_file_in_range file args None options = tt
+run_of_file_in_range file args (Some p) options = run_asked_in_range file args p
     (number_or 0 0 most_word (value_given option.Seed options)) (number_or STEPS 0 MOST_STEPS (value_given option.Steps options))
-    (number_or 0 0 most_word (value_given option.Salt options)) (time_or_none (value_given option.Until options)) probe
+    (number_or 0 0 most_word (value_given option.Salt options)) (time_or_none (value_given option.Until options))
     (λ n e. (given_within 0 0 most_word (value_given option.Seed options) n (omega arith, omega arith) e).1)
     (λ n e. (given_within STEPS 0 MOST_STEPS (value_given option.Steps options) n (omega arith, omega arith) e).1)
     (λ n e. (given_within 0 0 most_word (value_given option.Salt options) n (omega arith, omega arith) e).1)
-    (λ t e. time_given (value_given option.Until options) t e) small
+    (λ t e. time_given (value_given option.Until options) t e)
+
+one_run_in_range : (plain : List Text) (options : List (OptionName × Text)) → IfOk (one_run plain options) RunInRange
+one_run_in_range [] options = tt
+one_run_in_range (file ∷ args) options = run_of_file_in_range file args (policy_or_first (value_given option.Policy options)) options
+
+simulated_in_range : (trace : Bool) (probe : Option (Option Filter)) (run : Result OneRun CliFault) → IsSought probe → IfOk run RunInRange
+    → IfOk (simulated trace probe run) IsInRange
+simulated_in_range trace None run small is = tt
+simulated_in_range trace (Some probe) (Err why) small is = tt
+simulated_in_range trace (Some None) (Ok run) small is = tt
+simulated_in_range trace (Some (Some probe)) (Ok run) small is = (is.0, is.1, is.2, is.3, small)
 
 sim_in_range : (plain : List Text) (options : List (OptionName × Text)) → IfOk (sim plain options) IsInRange
-sim_in_range [] options = tt
-sim_in_range (file ∷ args) options = file_in_range file args (policy_or_first (value_given option.Policy options))
-    (probe_or_all (value_given option.Probe options)) options (probe_in_range (value_given option.Probe options))
+sim_in_range plain options = simulated_in_range (is_some (value_given option.Trace options)) (probe_or_all (value_given option.Probe options)) (one_run plain options)
+    (probe_in_range (value_given option.Probe options)) (one_run_in_range plain options)
+
+explained_in_range : (run : Result OneRun CliFault) → IfOk run RunInRange → IfOk (explained run) IsInRange
+explained_in_range (Ok run) is = is
+explained_in_range (Err why) is = tt
 
 -- the numbers of a command on two files
 abbrev TwoInRange : TwoFiles → Type 0
@@ -207,6 +222,7 @@ load_in_range (Some size) = each (number_in 1 MOST_MACHINES size) refl where
 
 asked_in_range : (c : Command) (said : Said) → IfOk (asked c said) IsInRange
 asked_in_range command.Sim said = sim_in_range said.plain said.options
+asked_in_range command.Explain said = explained_in_range (one_run said.plain said.options) (one_run_in_range said.plain said.options)
 asked_in_range command.Check said = each (one_word said.plain) where
   each : (o : Option Text) → IfOk (of_file request.Check o) IsInRange
   each None = tt

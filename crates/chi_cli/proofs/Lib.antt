@@ -7,6 +7,7 @@ pub mod Holding
 pub mod InRange
 pub mod Joining
 pub mod Kinded
+pub mod Misfits
 pub mod Once
 pub mod OneAnswer
 pub mod Options

@@ -80,6 +80,7 @@ twice_after options (g ∷ gs) twice =
 -- a plain word too many stays one
 pub no_place_after : (c : Command) (plain more : List Text) → has_place c plain ≡ false → has_place c (plain ++ more) ≡ false
 no_place_after command.Sim plain more none = absurd (cc)
+no_place_after command.Explain plain more none = absurd (cc)
 no_place_after command.Replay plain more none = absurd (cc)
 no_place_after command.Judge plain more none = absurd (cc)
 no_place_after command.Picks plain more none = absurd (cc)

@@ -146,6 +146,7 @@ plain_lacks c [] h unsettled =
     ap none (ap (λ (a : Option Rule). option_map_or (λ r. positional_fault (rules c) false r h) a (stray_fault (shape c))) (file_first c)
     ∙ never (is_pending built_file h.pending) (settle_fault (rules c) false h)) ∙ unsettled
 plain_lacks command.Sim (file ∷ args) h unsettled = ap none (never (is_pending built_args h.pending) (settle_fault (rules command.Sim) false h)) ∙ unsettled
+plain_lacks command.Explain (file ∷ args) h unsettled = ap none (never (is_pending built_args h.pending) (settle_fault (rules command.Explain) false h)) ∙ unsettled
 plain_lacks command.Replay (file ∷ args) h unsettled = ap none (never (is_pending built_args h.pending) (settle_fault (rules command.Replay) false h)) ∙ unsettled
 plain_lacks command.Judge (file ∷ args) h unsettled = ap none (never (is_pending built_args h.pending) (settle_fault (rules command.Judge) false h)) ∙ unsettled
 plain_lacks command.Picks (file ∷ args) h unsettled = ap none (never (is_pending built_args h.pending) (settle_fault (rules command.Picks) false h)) ∙ unsettled

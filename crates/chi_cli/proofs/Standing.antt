@@ -14,7 +14,7 @@ use Rattle.chi_cli.specs.Splitting.{Said, Next, any, value_of, plain_alone}
 use Rattle.chi_cli.specs.Parsing.{has_place}
 use Rattle.chi_cli.proofs.Holding.{Holds, holds_args, holds_file, none, use_args, use_file}
 use Rattle.chi_cli.proofs.Once.{Given, is_right}
-use Rattle.chi_cli.proofs.Rules.{built_args, built_file, built_option, file_first, file_found, rules, shape, TakesMore, sim_takes_more, replay_takes_more, judge_takes_more, picks_takes_more}
+use Rattle.chi_cli.proofs.Rules.{built_args, built_file, built_option, file_first, file_found, rules, shape, TakesMore, sim_takes_more, explain_takes_more, replay_takes_more, judge_takes_more, picks_takes_more}
 
 -- the argument that is being read, with its values so far
 abbrev pub Pending : Type 0
@@ -105,6 +105,7 @@ or_not false = refl
 
 one_place : (c : Command) (word : Text) → has_place c (word ∷ []) ≡ true
 one_place command.Sim word = refl
+one_place command.Explain word = refl
 one_place command.Check word = refl
 one_place command.Code word = refl
 one_place command.Fmt word = refl
@@ -223,6 +224,7 @@ module _ (c : Command) (more : TakesMore c) (rows : List Row) (pending : Pending
 -- and another command doesn't
 no_place : (c : Command) (file word : Text) (args : List Text) → has_place c (file ∷ args ++ word ∷ []) ≡ has_place c (file ∷ word ∷ [])
 no_place command.Sim file word args = refl
+no_place command.Explain file word args = refl
 no_place command.Replay file word args = refl
 no_place command.Judge file word args = refl
 no_place command.Picks file word args = refl
@@ -244,6 +246,7 @@ pub takes_plain : (c : Command) (rows : List Row) (pending : Pending) (waiting :
     alone (record { options = options; plain = plain ++ word ∷ [] })
 takes_plain c rows pending waiting alone options [] word before_is = plain_first c rows pending waiting alone options word before_is
 takes_plain command.Sim rows pending waiting alone options (file ∷ args) word before_is = plain_next command.Sim sim_takes_more rows pending waiting alone options file args word before_is
+takes_plain command.Explain rows pending waiting alone options (file ∷ args) word before_is = plain_next command.Explain explain_takes_more rows pending waiting alone options file args word before_is
 takes_plain command.Replay rows pending waiting alone options (file ∷ args) word before_is = plain_next command.Replay replay_takes_more rows pending waiting alone options file args word before_is
 takes_plain command.Judge rows pending waiting alone options (file ∷ args) word before_is = plain_next command.Judge judge_takes_more rows pending waiting alone options file args word before_is
 takes_plain command.Picks rows pending waiting alone options (file ∷ args) word before_is = plain_next command.Picks picks_takes_more rows pending waiting alone options file args word before_is

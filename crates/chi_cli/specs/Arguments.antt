@@ -1,5 +1,5 @@
 -- The arguments of a model, from texts on the command line.
-use Rattle.std.specs.Prelude.{◌≡◌, ℕ, ◌+◌, ◌==◌, ◌&&◌, ◌||◌, Bool, true, false, bytes_eq, codes, nat_le, nat_lt, length, zip, List, [], ◌∷◌, Option, Some, None, option_map, Result, Ok, Err, if◌then◌else◌}
+use Rattle.std.specs.Prelude.{◌≡◌, ℕ, ◌+◌, ◌<◌, ◌≤◌, ◌==◌, ◌&&◌, ◌||◌, Bool, true, false, bytes_eq, codes, nat_le, nat_lt, length, zip, List, [], ◌∷◌, Option, Some, None, option_map, Result, Ok, Err, if◌then◌else◌}
 use Rattle.std.specs.List.{list_all}
 use Rattle.std.specs.Result.{result_ok}
 use Rattle.chi_num.specs.TextNumbers.{answer_of, int_meant, real_meant}
@@ -78,3 +78,7 @@ IsRefused meant (fault.Text k) = meant ≡ Err (fault.Text k)
 abbrev pub after : List Value → Result (List Value) ArgFault → Result (List Value) ArgFault
 after [] read = read
 after (v ∷ vs) read = with_value v (after vs read)
+
+-- the number of one of these, counted from 1
+abbrev pub IsNumber : {A : Type 0} → List A → ℕ → Type 0
+IsNumber items k = (0 < k) × (k ≤ length items)

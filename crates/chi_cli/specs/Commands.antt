@@ -12,6 +12,7 @@ Text = List ℕ
 abbrev pub command_named : Text → Option Command
 command_named word =
     if bytes_eq word (codes "sim") then Some command.Sim
+    else if bytes_eq word (codes "explain") then Some command.Explain
     else if bytes_eq word (codes "check") then Some command.Check
     else if bytes_eq word (codes "code") then Some command.Code
     else if bytes_eq word (codes "fmt") then Some command.Fmt
@@ -26,6 +27,7 @@ command_named word =
 abbrev pub options_of : Command → List OptionName
 options_of command.Sim =
     option.Seed ∷ option.Steps ∷ option.Policy ∷ option.Salt ∷ option.Until ∷ option.Probe ∷ option.Trace ∷ []
+options_of command.Explain = option.Seed ∷ option.Steps ∷ option.Policy ∷ option.Salt ∷ option.Until ∷ []
 options_of command.Check = []
 options_of command.Code = []
 options_of command.Fmt = []

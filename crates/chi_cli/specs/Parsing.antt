@@ -31,6 +31,7 @@ args_rule = record (new_rule (codes "args")) { action = Some action.Append }
 
 abbrev pub plain_rules : Command → List Rule
 plain_rules command.Sim = file_rule ∷ args_rule ∷ []
+plain_rules command.Explain = file_rule ∷ args_rule ∷ []
 plain_rules command.Replay = file_rule ∷ args_rule ∷ []
 plain_rules command.Judge = file_rule ∷ args_rule ∷ []
 plain_rules command.Picks = file_rule ∷ args_rule ∷ []
@@ -52,9 +53,10 @@ bare_app = record {
 abbrev pub app_for : Command → App
 app_for c = on_top (λ shape. record shape { rules = map option_rule (options_of c) ++ plain_rules c }) bare_app
 
--- `sim` and the commands on two files have any number of plain words after the first, another command none
+-- `sim`, `explain` and the commands on two files have any number of plain words after the first, another command none
 abbrev pub has_place : Command → List Text → Bool
 has_place command.Sim plain = true
+has_place command.Explain plain = true
 has_place command.Replay plain = true
 has_place command.Judge plain = true
 has_place command.Picks plain = true

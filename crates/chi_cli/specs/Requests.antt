@@ -6,6 +6,7 @@ use Rattle.chi_cli.specs.declared.command.OptionName.{OptionName}
 use Rattle.chi_cli.specs.declared.command.OptionName.TheVariants as option
 use Rattle.chi_cli.specs.declared.fault.CliFault.{CliFault}
 use Rattle.chi_cli.specs.declared.fault.CliFault.TheVariants as fault
+use Rattle.chi_cli.specs.declared.one_run.OneRun.{OneRun}
 use Rattle.chi_cli.specs.declared.policy.PolicyName.{PolicyName}
 use Rattle.chi_cli.specs.declared.policy.PolicyName.TheVariants as policy
 use Rattle.chi_cli.specs.declared.request.Pick.{Pick}
@@ -50,26 +51,41 @@ pick_of policy.First salt = pick.First
 pick_of policy.Last salt = pick.Last
 pick_of policy.Spread salt = pick.Spread salt
 
--- a run of a file with arguments, where all its numbers are in their forms and ranges
-abbrev pub run_asked : Text → List Text → PolicyName → Bool → Option ℕ → Option ℕ → Option ℕ → Option (Option ℤ) → Option Filter → Result Request CliFault
-run_asked file args policy trace (Some seed) (Some bound) (Some salt) (Some until) (Some probe) =
-    Ok (request.Sim file args seed bound until (pick_of policy salt) trace probe)
-run_asked file args policy trace seed bound salt until probe = Err fault.BadNumber
+-- a file, arguments and what its run is asked for with, where all its numbers are in their forms and ranges
+abbrev pub run_asked : Text → List Text → PolicyName → Option ℕ → Option ℕ → Option ℕ → Option (Option ℤ) → Result OneRun CliFault
+run_asked file args policy (Some seed) (Some bound) (Some salt) (Some until) =
+    Ok (record { file = file; args = args; seed = seed; bound = bound; until = until; pick = pick_of policy salt })
+run_asked file args policy seed bound salt until = Err fault.BadNumber
 
--- `sim`: the seed and the salt are below 2^64, and the bound on steps is within its limit
-abbrev pub sim_of_file : Text → List Text → Option PolicyName → Option (Option Filter) → List (OptionName × Text) → Result Request CliFault
-sim_of_file file args None probe options = Err fault.Usage
-sim_of_file file args (Some policy) None options = Err fault.Usage
-sim_of_file file args (Some policy) (Some probe) options = run_asked file args policy (is_some (value_given option.Trace options))
+-- the seed and the salt are below 2^64, and the bound on steps is within its limit
+abbrev pub run_of_file : Text → List Text → Option PolicyName → List (OptionName × Text) → Result OneRun CliFault
+run_of_file file args None options = Err fault.Usage
+run_of_file file args (Some policy) options = run_asked file args policy
     (number_or 0 0 18_446_744_073_709_551_615 (value_given option.Seed options))
     (number_or STEPS 0 MOST_STEPS (value_given option.Steps options))
     (number_or 0 0 18_446_744_073_709_551_615 (value_given option.Salt options))
-    (time_or_none (value_given option.Until options)) probe
+    (time_or_none (value_given option.Until options))
+
+-- a file that is to be run, and arguments
+abbrev pub one_run : List Text → List (OptionName × Text) → Result OneRun CliFault
+one_run [] options = Err fault.Usage
+one_run (file ∷ args) options = run_of_file file args (policy_or_first (value_given option.Policy options)) options
+
+-- a run, whether its trace is wanted, and which events of that are shown
+abbrev pub simulated : Bool → Option (Option Filter) → Result OneRun CliFault → Result Request CliFault
+simulated trace None run = Err fault.Usage
+simulated trace (Some probe) (Err why) = Err why
+simulated trace (Some None) (Ok run) = Err fault.BadNumber
+simulated trace (Some (Some probe)) (Ok run) = Ok (request.Sim run.file run.args run.seed run.bound run.until run.pick trace probe)
 
 abbrev pub sim : List Text → List (OptionName × Text) → Result Request CliFault
-sim [] options = Err fault.Usage
-sim (file ∷ args) options =
-    sim_of_file file args (policy_or_first (value_given option.Policy options)) (probe_or_all (value_given option.Probe options)) options
+sim plain options =
+    simulated (is_some (value_given option.Trace options)) (probe_or_all (value_given option.Probe options)) (one_run plain options)
+
+-- a run that is told in words
+abbrev pub explained : Result OneRun CliFault → Result Request CliFault
+explained (Ok run) = Ok (request.Explain run.file run.args run.seed run.bound run.until run.pick)
+explained (Err why) = Err why
 
 -- two files, arguments, and the numbers of a run, where these are all in their forms and ranges
 abbrev pub two_files_asked : Text → Text → List Text → Option ℕ → Option ℕ → Option (Option ℤ) → Result TwoFiles CliFault
@@ -130,6 +146,7 @@ load (Some size) = load_of (number_in 1 MOST_MACHINES size)
 -- the request of a command's options and plain words
 abbrev pub asked : Command → Said → Result Request CliFault
 asked command.Sim said = sim said.plain said.options
+asked command.Explain said = explained (one_run said.plain said.options)
 asked command.Check said = of_file request.Check (one_word said.plain)
 asked command.Code said = of_file request.Code (one_word said.plain)
 asked command.Fmt said = of_file request.Fmt (one_word said.plain)

@@ -5,6 +5,7 @@ ghost use Rattle.chi_cli.specs.Commands.{command_named, options_of, option_text,
 #[derive(Clone, Copy, Debug)]
 pub enum Command {
     Sim,
+    Explain,
     Check,
     Code,
     Fmt,
@@ -37,6 +38,14 @@ const SIM_OPTIONS: [OptionName; 7] = [
     OptionName::Trace,
 ];
 
+const EXPLAIN_OPTIONS: [OptionName; 5] = [
+    OptionName::Seed,
+    OptionName::Steps,
+    OptionName::Policy,
+    OptionName::Salt,
+    OptionName::Until,
+];
+
 const REPLAY_OPTIONS: [OptionName; 4] = [
     OptionName::Seed,
     OptionName::Steps,
@@ -53,6 +62,8 @@ impl Command {
     {
         if word == b"sim".as_slice() {
             Some(Command::Sim)
+        } else if word == b"explain".as_slice() {
+            Some(Command::Explain)
         } else if word == b"check".as_slice() {
             Some(Command::Check)
         } else if word == b"code".as_slice() {
@@ -80,6 +91,7 @@ impl Command {
     {
         match self {
             Command::Sim => &SIM_OPTIONS,
+            Command::Explain => &EXPLAIN_OPTIONS,
             Command::Replay => &REPLAY_OPTIONS,
             Command::Judge | Command::Picks => &JUDGE_OPTIONS,
             Command::Check | Command::Code | Command::Fmt | Command::Load | Command::TraceUp => &[],

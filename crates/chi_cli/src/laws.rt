@@ -9,7 +9,8 @@ ghost use Rattle.chi_cli.specs.declared.fault.CliFault.{CliFault};
 ghost use Rattle.chi_cli.specs.declared.fault.CliFault.TheVariants as fault;
 ghost use Rattle.chi_cli.specs.declared.request.Request.{Request};
 ghost use Rattle.chi_cli.specs.Answers.{IsAnswer};
-ghost use Rattle.chi_cli.specs.Arguments.{values_of};
+ghost use Rattle.chi_cli.specs.declared.args.ArgFault.TheVariants as arg;
+ghost use Rattle.chi_cli.specs.Arguments.{IsNumber, values_of};
 ghost use Rattle.chi_cli.specs.Ranges.{IsInRange};
 ghost use Rattle.chi_cli.specs.Requests.{request_of};
 
@@ -30,4 +31,13 @@ pub fn numbers_are_in_range()
 pub fn values_are_of_parameters()
     ensures { (names : List (List (List ℕ))) → (params : List Ty) → (args : List (List ℕ)) → (values : List Value)
         → values_of params args ≡ Ok values → AreOf (at_start names) values (kinds_of params) }
+{}
+
+/// A fault of an argument has the number of a parameter, and where its text is at fault of an argument too. Want of memory is
+/// no fault of theirs.
+pub fn faults_of_arguments_name_them()
+    ensures kind { (params : List Ty) → (args : List (List ℕ)) → (k : ℕ) → values_of params args ≡ Err (arg.Kind k) → IsNumber params k }
+    ensures text { (params : List Ty) → (args : List (List ℕ)) → (k : ℕ) → values_of params args ≡ Err (arg.Text k)
+        → IsNumber params k × IsNumber args k }
+    ensures memory { (params : List Ty) → (args : List (List ℕ)) → values_of params args ≢ Err arg.NoMemory }
 {}

@@ -6,6 +6,7 @@ mod command;
 mod fault;
 mod laws;
 mod number;
+mod one_run;
 mod parsing;
 mod policy;
 mod probe;
@@ -16,7 +17,9 @@ mod words;
 
 pub use args::ArgFault;
 pub use fault::CliFault;
-pub use laws::{numbers_are_in_range, one_request_law, values_are_of_parameters};
+pub use laws::{
+    faults_of_arguments_name_them, numbers_are_in_range, one_request_law, values_are_of_parameters,
+};
 pub use number::number_in;
 pub use reading::read_args;
 pub use request::{Pick, Request};

@@ -56,9 +56,8 @@ fn parser_of<'a>(alloc: Global, command: Command) -> Result<clap::Command<'a>, A
     }
     let parser = parser.arg(file_arg(alloc))?;
     match command {
-        Command::Sim | Command::Replay | Command::Judge | Command::Picks => {
-            parser.arg(args_arg(alloc))
-        }
+        Command::Sim | Command::Explain | Command::Replay | Command::Judge | Command::Picks =>
+            parser.arg(args_arg(alloc)),
         Command::Check | Command::Code | Command::Fmt | Command::Load | Command::TraceUp => Ok(
             parser,
         ),

@@ -31,6 +31,18 @@ pub enum Request {
         /// Which events of the trace are shown.
         probe: Filter,
     },
+    /// To simulate, and to say in words how it ended, or what is wrong.
+    Explain {
+        file: Bytes,
+        /// The texts of the model's arguments.
+        args: Items<Bytes>,
+        seed: u64,
+        /// On the costs of all steps together.
+        bound: u64,
+        /// The stopping time.
+        until: Option<Real>,
+        pick: Pick,
+    },
     Check {
         file: Bytes,
     },

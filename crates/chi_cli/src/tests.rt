@@ -26,6 +26,14 @@ fn words_are_read(rt: HostRuntime) -> Result<(), Fail> {
     assert!(rt; matches!(pick, Pick::Last));
     let refused = read_words(rt.alloc(), &["sim", "--seed", "x", "f"]);
     assert!(rt; matches!(refused, Err(CliFault::BadNumber)));
+    let words = ["explain", "--policy=spread", "--salt", "3", "f", "5"];
+    let Ok(Request::Explain { args, pick, .. }) = read_words(rt.alloc(), &words) else {
+        return Err(Fail::new("another request"));
+    };
+    assert_eq!(rt; args.as_slice().len(), 1);
+    assert!(rt; matches!(pick, Pick::Spread(3)));
+    let refused = read_words(rt.alloc(), &["explain", "--trace", "f"]);
+    assert!(rt; matches!(refused, Err(CliFault::Usage)));
     Ok(())
 }
 

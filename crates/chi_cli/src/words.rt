@@ -4,15 +4,15 @@ ghost use Rattle.chi_cli.specs.declared.command.Command.TheVariants as command;
 ghost use Rattle.chi_cli.specs.declared.command.OptionName.TheVariants as option;
 ghost use Rattle.chi_cli.specs.declared.request.Request.TheVariants as asked_for;
 ghost use Rattle.chi_cli.specs.Commands.{command_named, option_text};
-ghost use Rattle.chi_cli.specs.Parsing.{EachGiven, rest, truth_text};
-ghost use Rattle.chi_cli.specs.Requests.{IsRefused, asked, command_request, help, judged, load, of_file, of_two, picked, replayed, request_of, sim, sim_of_file, two_files, value_given};
+ghost use Rattle.chi_cli.specs.Parsing.{EachGiven, truth_text};
+ghost use Rattle.chi_cli.specs.Requests.{IsRefused, asked, command_request, explained, help, judged, load, of_file, of_two, one_run, picked, replayed, request_of, sim, simulated, two_files, value_given};
 ghost use Rattle.chi_cli.specs.Saying.{texts};
 
 use crate::command::{Command, OptionName};
 use crate::fault::CliFault;
-use crate::number::{number_in, number_or, time_or_none};
+use crate::number::number_in;
+use crate::one_run::{OneRun, one_run};
 use crate::parsing::matched;
-use crate::policy::PolicyName;
 use crate::probe::probe_or_all;
 use crate::request::Request;
 use crate::two_files::two_files;
@@ -83,6 +83,7 @@ fn asked(alloc: Global, command: Command, matches: &ArgMatches<'_>) -> Result<Re
 {
     match command {
         Command::Sim => sim(alloc, matches),
+        Command::Explain => explain(alloc, matches),
         Command::Check => check(alloc, text_of(matches, "file")),
         Command::Code => code(alloc, text_of(matches, "file")),
         Command::Fmt => fmt(alloc, text_of(matches, "file")),
@@ -186,57 +187,51 @@ fn sim(alloc: Global, matches: &ArgMatches<'_>) -> Result<Request, CliFault>
     ensures request { IfOk result (λ request. EachGiven command.Sim (rows_of (found_of matches.now)) (λ said. sim said.plain said.options ≡ Ok request)) }
     ensures fault { IfErr result (λ fault. EachGiven command.Sim (rows_of (found_of matches.now)) (λ said. IsRefused (sim said.plain said.options) fault)) }
 {
-    let Some(file) = text_of(matches, "file") else {
+    let trace = has_trace(matches);
+    let Some(probe) = probe_or_all(value_of(matches, OptionName::Probe)) else {
         return Err(CliFault::Usage);
     };
-    let Some(policy) = PolicyName::asked(value_of(matches, OptionName::Policy)) else {
-        return Err(CliFault::Usage);
-    };
-    match probe_or_all(value_of(matches, OptionName::Probe)) {
-        Some(probe) => sim_of_file(alloc, file, policy, probe, matches),
-        None => Err(CliFault::Usage),
+    match one_run(alloc, matches) {
+        Ok(run) => simulated(run, trace, probe),
+        Err(fault) => Err(fault),
     }
 }
 
-/// A run of a file, where its policy is known, and the filter, or that its number isn't one.
-fn sim_of_file(
-    alloc: Global,
-    file: &[u8],
-    policy: PolicyName,
-    probe: Option<Filter>,
-    matches: &ArgMatches<'_>,
-) -> Result<Request, CliFault>
-    ensures request { IfOk result (λ request. EachGiven command.Sim (rows_of (found_of matches.now))
-        (λ said. sim_of_file file.now (rest said.plain) (Some policy) (Some probe) said.options ≡ Ok request)) }
-    ensures fault { IfErr result (λ fault. EachGiven command.Sim (rows_of (found_of matches.now))
-        (λ said. IsRefused (sim_of_file file.now (rest said.plain) (Some policy) (Some probe) said.options) fault)) }
+/// A run with a filter of its trace's events, or that the filter's number isn't one.
+fn simulated(run: OneRun, trace: bool, probe: Option<Filter>) -> Result<Request, CliFault>
+    ensures { result ≡ simulated trace (Some probe) (Ok run) }
 {
-    let trace = has_trace(matches);
-    let Some(seed) = number_or(0, 0, u64::MAX, value_of(matches, OptionName::Seed)) else {
-        return Err(CliFault::BadNumber);
-    };
-    let Some(bound) = number_or(STEPS, 0, MOST_STEPS, value_of(matches, OptionName::Steps)) else {
-        return Err(CliFault::BadNumber);
-    };
-    let Some(salt) = number_or(0, 0, u64::MAX, value_of(matches, OptionName::Salt)) else {
-        return Err(CliFault::BadNumber);
-    };
-    let Some(until) = time_or_none(value_of(matches, OptionName::Until)) else {
-        return Err(CliFault::BadNumber);
-    };
-    let Some(probe) = probe else {
-        return Err(CliFault::BadNumber);
-    };
-    Ok(Request::Sim {
-        file: Bytes::copy_of(alloc, file)?,
-        args: args_of(alloc, matches)?,
-        seed,
-        bound,
-        until,
-        pick: policy.pick(salt),
-        trace,
-        probe,
-    })
+    match probe {
+        Some(probe) => Ok(Request::Sim {
+            file: run.file,
+            args: run.args,
+            seed: run.seed,
+            bound: run.bound,
+            until: run.until,
+            pick: run.pick,
+            trace,
+            probe,
+        }),
+        None => Err(CliFault::BadNumber),
+    }
+}
+
+/// A run that is told in words, by what the matches give.
+fn explain(alloc: Global, matches: &ArgMatches<'_>) -> Result<Request, CliFault>
+    ensures request { IfOk result (λ request. EachGiven command.Explain (rows_of (found_of matches.now)) (λ said. explained (one_run said.plain said.options) ≡ Ok request)) }
+    ensures fault { IfErr result (λ fault. EachGiven command.Explain (rows_of (found_of matches.now)) (λ said. IsRefused (explained (one_run said.plain said.options)) fault)) }
+{
+    match one_run(alloc, matches) {
+        Ok(run) => Ok(Request::Explain {
+            file: run.file,
+            args: run.args,
+            seed: run.seed,
+            bound: run.bound,
+            until: run.until,
+            pick: run.pick,
+        }),
+        Err(fault) => Err(fault),
+    }
 }
 
 /// A run by the picks of a second file, by what the matches give.
@@ -297,8 +292,9 @@ fn picks(alloc: Global, matches: &ArgMatches<'_>) -> Result<Request, CliFault>
     }
 }
 
+/// The words after the first plain one.
 #[tactic(auto, using(crate::proofs::Parsed::all_texts))]
-fn args_of(alloc: Global, matches: &ArgMatches<'_>) -> Result<Items<Bytes>, NoMemory>
+pub fn args_of(alloc: Global, matches: &ArgMatches<'_>) -> Result<Items<Bytes>, NoMemory>
     ensures { IfOk result (λ items. items ≡ unwrap_or (all_of (codes "args") (rows_of (found_of matches.now))) []) }
 {
     match matches.get_strs("args") {
