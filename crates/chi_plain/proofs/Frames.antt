@@ -12,9 +12,9 @@ use Rattle.chi_core.specs.declared.label.Label.TheVariants.{Wake, Join}
 use Rattle.chi_core.specs.Config.{Config, Instance, Offer, State, Running, Waiting, Joining, Finished, offers_in}
 use Rattle.chi_core.specs.Options.{numbers, receivers, pairs_with, pairs, options_by, options_for, options_in, options_of, options, is_under_way, none_under_way}
 use Rattle.chi_plain_options.specs.declared.parties.Parties.{Parties}
-use Rattle.chi_plain_options.specs.Listing.{AllJoiners, AllParties, IsJoiner, IsParty, IsPartyBy, Keeps, is_joining, listed_at}
+use Rattle.chi_plain_options.specs.Listing.{AllJoiners, AllParties, IsJoiner, IsListedFor, IsParty, IsPartyBy, Keeps, listed_at, waited_in}
 use Rattle.chi_plain_options.specs.Reaching.{Covers, Reaches}
-use Rattle.chi_plain.specs.Watching.{IsAffected, Others}
+use Rattle.chi_plain.specs.Watching.{IsAffected, IsJoined, Others}
 use Rattle.chi_plain_options.specs.Acting.{acts}
 use Rattle.chi_plain.specs.Led.{Settles}
 use Rattle.chi_plain_options.proofs.Lists.{eq-cases}
@@ -55,11 +55,17 @@ flat-beyond f m (suc n) h none = by_cases (flat-beyond f m n) (let c : (m ≤ n)
     by_cases before (inl l) = flat-append f (numbers n) (n ∷ []) (ap (λ xs. xs ++ []) (none n l)) ∙ before l none
     by_cases before (inr e) = ap (λ k. flat_map f (numbers k)) (sym e)
 
-all-same : (f g : ℕ → Bool) (xs : List ℕ) → ((x : ℕ) → f x ≡ g x) → list_all f xs ≡ list_all g xs
+all-same : (f g : ℕ → Bool) (xs : List ℕ) → ((x : ℕ) → Contains xs x → f x ≡ g x) → list_all f xs ≡ list_all g xs
 all-same f g [] h = refl
-all-same f g (x ∷ xs) h = (λ k. h x k && all-same f g xs h k)
+all-same f g (x ∷ xs) h = (λ k. h x first k && all-same f g xs (λ y c. h y (later y c)) k)
+  where
+    first : Contains (x ∷ xs) x
+    first = (0, omega arith, refl)
 
-module _ (old new : Config) (parties : Parties) (joiners : List ℕ) (p q : ℕ) (some : List ℕ)
+    later : (y : ℕ) → Contains xs y → Contains (x ∷ xs) y
+    later y c = (suc c.0, (let h : c.0 < length xs = c.1 in omega (arith, h)), c.2)
+
+module _ (old new : Config) (parties : Parties) (joiners : List (List ℕ)) (p q : ℕ) (some : List ℕ)
     (others : Others p q old.instances new.instances) (still : new.clock ≡ old.clock)
     (parts : AllParties parties old.instances) (joins : AllJoiners joiners old.instances)
     (affected : IsAffected parties joiners p q old.instances new.instances some) where
@@ -96,7 +102,7 @@ module _ (old new : Config) (parties : Parties) (joiners : List ℕ) (p q : ℕ)
 
         by_new : length old.instances ≤ r → (r < length new.instances) ⊎ (length new.instances ≤ r)
             → pairs_with x a channel r (slice_get new.instances r) ≡ pairs_with x a channel r (slice_get old.instances r)
-        by_new h (inl l) = no_pairs new.instances r x a channel (affected.added r h l) out listed ∙ sym (past h)
+        by_new h (inl l) = no_pairs new.instances r x a channel (affected.added r h l).0 out listed ∙ sym (past h)
         by_new h (inr g) = ap (pairs_with x a channel r) (slice_get_past new.instances r g) ∙ sym (past h)
 
         by_old : r ≢ p → r ≢ q → (r < length old.instances) ⊎ (length old.instances ≤ r)
@@ -132,44 +138,47 @@ module _ (old new : Config) (parties : Parties) (joiners : List ℕ) (p q : ℕ)
         let party : IsParty parties x (Some i) = subst (λ (m : Option Instance). IsParty parties x m) at (parts x) in
         same_by a o.act (party a o offered)
 
-    same_under_way : ((length new.instances ≡ length old.instances) × (is_under_way (slice_get new.instances p) ≡ is_under_way (slice_get old.instances p))
-        × (is_under_way (slice_get new.instances q) ≡ is_under_way (slice_get old.instances q)))
-        → (r : ℕ) → is_under_way (slice_get new.instances r) ≡ is_under_way (slice_get old.instances r)
-    same_under_way same r = by_first (eq-cases r p)
+    -- those for which it waits are under way as they were
+    same_under_way : (waited : List ℕ) → IsListedFor joiners x waited → (r : ℕ) → Contains waited r
+        → is_under_way (slice_get new.instances r) ≡ is_under_way (slice_get old.instances r)
+    same_under_way waited listed r waits = by_first (eq-cases r p)
       where
         U : List Instance → ℕ → Bool
         U is k = is_under_way (slice_get is k)
 
+        not_all : Keeps (listed_at joiners r) some → ⊥
+        not_all all = out (all x (listed r waits))
+
+        at_named : (m : ℕ) → r ≡ m → IsJoined joiners new.instances m (U old.instances m) some → U new.instances r ≡ U old.instances r
+        at_named m e (inl all) = absurd (not_all (subst (λ (k : ℕ). Keeps (listed_at joiners k) some) (sym e) all))
+        at_named m e (inr same) = ap (U new.instances) e ∙ same ∙ sym (ap (U old.instances) e)
+
+        by_new : length old.instances ≤ r → (r < length new.instances) ⊎ (length new.instances ≤ r) → U new.instances r ≡ U old.instances r
+        by_new h (inl l) = absurd (not_all (affected.added r h l).1)
+        by_new h (inr g) = ap is_under_way (slice_get_past new.instances r g ∙ sym (slice_get_past old.instances r h))
+
         by_old : r ≢ p → r ≢ q → (r < length old.instances) ⊎ (length old.instances ≤ r) → U new.instances r ≡ U old.instances r
         by_old f g (inl l) = ap is_under_way (others.same r f g l)
-        by_old f g (inr h) =
-            ap is_under_way (slice_get_past new.instances r (let e = same.0 in omega (arith, e, h)) ∙ sym (slice_get_past old.instances r h))
+        by_old f g (inr h) = by_new h (let c : (r < length new.instances) ⊎ (length new.instances ≤ r) = grind arith in c)
 
         by_second : r ≢ p → (r ≡ q) ⊎ (r ≢ q) → U new.instances r ≡ U old.instances r
-        by_second f (inl e) = ap (U new.instances) e ∙ same.2 ∙ sym (ap (U old.instances) e)
+        by_second f (inl e) = at_named q e affected.second_joined
         by_second f (inr g) = by_old f g (let c : (r < length old.instances) ⊎ (length old.instances ≤ r) = grind arith in c)
 
         by_first : (r ≡ p) ⊎ (r ≢ p) → U new.instances r ≡ U old.instances r
-        by_first (inl e) = ap (U new.instances) e ∙ same.1 ∙ sym (ap (U old.instances) e)
+        by_first (inl e) = at_named p e affected.first_joined
         by_first (inr f) = by_second f (eq-cases r q)
 
     same_joining : (i : Instance) (waited : List ℕ) → slice_get old.instances x ≡ Some i → i.state ≡ Joining waited
         → none_under_way new waited ≡ none_under_way old waited
-    same_joining i waited at is = by_joining affected.joining
+    same_joining i waited at is =
+        all-same (λ r. not (is_under_way (slice_get new.instances r))) (λ r. not (is_under_way (slice_get old.instances r))) waited
+        (λ r c. ap not (same_under_way waited listed r c))
       where
-        joiner : Contains joiners x
-        joiner =
-            let j : IsJoiner joiners x (Some i) = subst (λ (m : Option Instance). IsJoiner joiners x m) at (joins x) in
-            j (ap (λ s. is_joining s) is)
-
-        by_joining : Keeps joiners some ⊎ ((length new.instances ≡ length old.instances)
-            × (is_under_way (slice_get new.instances p) ≡ is_under_way (slice_get old.instances p))
-            × (is_under_way (slice_get new.instances q) ≡ is_under_way (slice_get old.instances q)))
-            → none_under_way new waited ≡ none_under_way old waited
-        by_joining (inl all) = absurd (out (all x joiner))
-        by_joining (inr same) =
-            all-same (λ r. not (is_under_way (slice_get new.instances r))) (λ r. not (is_under_way (slice_get old.instances r))) waited
-            (λ r. ap not (same_under_way same r))
+        listed : IsListedFor joiners x waited
+        listed =
+            let joiner : IsJoiner joiners x (Some i) = subst (λ (m : Option Instance). IsJoiner joiners x m) at (joins x) in
+            subst (λ (s : State). IsListedFor joiners x (waited_in s)) is joiner
 
     same_in : (i : Instance) → slice_get old.instances x ≡ Some i → (s : State) → i.state ≡ s → options_in new x s ≡ options_in old x s
     same_in i at Running is = refl
@@ -186,7 +195,7 @@ module _ (old new : Config) (parties : Parties) (joiners : List ℕ) (p q : ℕ)
         not_at m is covers e = out (subst (λ (k : ℕ). Contains some k) (sym e) covers.itself)
 
         by_new : length old.instances ≤ x → (x < length new.instances) ⊎ (length new.instances ≤ x) → slice_get new.instances x ≡ slice_get old.instances x
-        by_new h (inl l) = let covers : Covers parties new.instances x some = affected.added x h l in absurd (out covers.itself)
+        by_new h (inl l) = let covers : Covers parties new.instances x some = (affected.added x h l).0 in absurd (out covers.itself)
         by_new h (inr g) = slice_get_past new.instances x g ∙ sym (slice_get_past old.instances x h)
 
         by_old : (x < length old.instances) ⊎ (length old.instances ≤ x) → slice_get new.instances x ≡ slice_get old.instances x

@@ -1,7 +1,5 @@
 -- What is kept beside a configuration, from the one before a step to the one after it.
-use Rattle.std.proofs.Common.{◌≡◌, ◌≢◌, ℕ, ◌<◌, ◌≤◌, List, Option, Bool, true, false, length, ◌⊎◌, inl, inr, sym, ◌∙◌, ap, subst, refl}
-use Rattle.std.specs.Prelude.{IsTrue}
-use Rattle.std.specs.Bool.{OnFalse}
+use Rattle.std.proofs.Common.{◌≡◌, ◌≢◌, ℕ, ◌<◌, ◌≤◌, List, Option, Bool, true, false, length, inl, inr, sym, ◌∙◌, ap, subst}
 use Rattle.std.specs.List.{slice_get, Contains}
 use Rattle.std.proofs.lemmas.Bool.{false≢true}
 use Rattle.chi_core.specs.declared.label.Label.{Label}
@@ -15,10 +13,11 @@ use Rattle.chi_plain_steps.specs.declared.stepping.Went.{Went}
 use Rattle.chi_plain_steps.specs.declared.stepping.Went.TheVariants as wents
 use Rattle.chi_plain_steps.specs.Takings.{Appends, Takes}
 use Rattle.chi_plain.specs.declared.watching.Before.{Before}
+use Rattle.chi_plain.specs.declared.watching.Kept.{Kept}
 use Rattle.chi_plain_options.specs.declared.parties.Parties.{Parties}
 use Rattle.chi_order.specs.Marked.{is_marked}
-use Rattle.chi_plain.specs.Watching.{is_advance, IsAffected, IsWatched, first_named, second_named}
-use Rattle.chi_plain_options.specs.Listing.{AllJoiners, AllParties, IsJoiner, IsParty, Keeps, KeepsParties}
+use Rattle.chi_plain.specs.Watching.{is_advance, IsAffected, IsJoined, IsWatched, first_named, second_named}
+use Rattle.chi_plain_options.specs.Listing.{AllJoiners, AllParties, IsJoiner, IsParty, Keeps, KeepsLists, KeepsParties, listed_at}
 use Rattle.chi_plain_options.specs.Reaching.{Covers, CoversFrom}
 use Rattle.chi_plain.specs.Led.{IsBefore, IsListed, Leads, Led, Settles}
 use Rattle.chi_plain_options.proofs.Keeping.{keeps-trans}
@@ -40,32 +39,41 @@ is_before parties label old b one first second count under other covered keeps a
   second_covered = subst (λ (k : ℕ). Covers parties old k b.covered.items) second also;
 }
 
--- what may_join tells
-abbrev pub Same : List Instance → Before → Type 0
-Same new b = (b.count ≡ length new) × (b.first_under_way ≡ is_under_way (slice_get new b.first))
-    × (b.second_under_way ≡ is_under_way (slice_get new b.second))
-
-pub may_join : (joiners some : List ℕ) (new : List Instance) (b : Before) (joining : Bool) → (IsTrue joining → Keeps joiners some) → OnFalse joining (Same new b)
-    → Keeps joiners some ⊎ Same new b
-may_join joiners some new b true joins same = inl (joins refl)
-may_join joiners some new b false joins same = inr same
-
-module _ (parties : Parties) (joiners : List ℕ) (new : List Instance) (b : Before) (one two three some : List ℕ)
+module _ (parties : Parties) (joiners : List (List ℕ)) (new : List Instance) (b : Before) (one two three four some : List ℕ)
     (k1 : Keeps b.covered.items one) (first : Covers parties new b.first one) (k2 : Keeps one two) (second : Covers parties new b.second two)
-    (k3 : Keeps two three) (added : CoversFrom parties new b.count three) (k4 : Keeps three some) where
-  pub is_affected : Keeps joiners some ⊎ Same new b → (label : Label) (old : List Instance) → IsBefore parties label old b
+    (k3 : Keeps two three) (added : CoversFrom parties joiners new b.count three)
+    (k4 : Keeps three four) (first_joined : IsJoined joiners new b.first b.first_under_way four)
+    (k5 : Keeps four some) (second_joined : IsJoined joiners new b.second b.second_under_way some) where
+  -- what is told of a number is told of the one that is named
+  joined-named : (k m : ℕ) (was before : Bool) → k ≡ m → was ≡ before → IsJoined joiners new k was some → IsJoined joiners new m before some
+  joined-named k m was before e is (inl all) = inl (subst (λ (r : ℕ). Keeps (listed_at joiners r) some) e all)
+  joined-named k m was before e is (inr same) = inr (ap (λ r. is_under_way (slice_get new r)) (sym e) ∙ same ∙ is)
+
+  joined-kept : IsJoined joiners new b.first b.first_under_way four → IsJoined joiners new b.first b.first_under_way some
+  joined-kept (inl all) = inl (keeps-trans (listed_at joiners b.first) four some all k5)
+  joined-kept (inr same) = inr same
+
+  pub is_affected : (label : Label) (old : List Instance) → IsBefore parties label old b
       → IsAffected parties joiners (first_named label) (second_named label) old new some
-  is_affected joining label old before = record {
+  is_affected label old before = record {
     first_old = covers-kept parties old (first_named label) b.covered.items some before.first_covered all;
     second_old = covers-kept parties old (second_named label) b.covered.items some before.second_covered all;
     first_new = covers-kept parties new (first_named label) one some (subst (λ (k : ℕ). Covers parties new k one) before.first first) from_one;
     second_new = covers-kept parties new (second_named label) two some (subst (λ (k : ℕ). Covers parties new k two) before.second second) from_two;
-    added = λ r h l. covers-kept parties new r three some (added r (subst (λ (k : ℕ). k ≤ r) (sym before.count) h) l) k4;
-    joining = by_joining joining;
+    added = λ r h l.
+        let both = added r (subst (λ (k : ℕ). k ≤ r) (sym before.count) h) l in
+        (covers-kept parties new r three some both.0 from_three, keeps-trans (listed_at joiners r) three some both.1 from_three);
+    first_joined = joined-named b.first (first_named label) b.first_under_way (is_under_way (slice_get old (first_named label))) before.first
+        before.first_under_way (joined-kept first_joined);
+    second_joined = joined-named b.second (second_named label) b.second_under_way (is_under_way (slice_get old (second_named label))) before.second
+        before.second_under_way second_joined;
   }
     where
+      from_three : Keeps three some
+      from_three = keeps-trans three four some k4 k5
+
       from_two : Keeps two some
-      from_two = keeps-trans two three some k3 k4
+      from_two = keeps-trans two three some k3 from_three
 
       from_one : Keeps one some
       from_one = keeps-trans one two some k2 from_two
@@ -73,25 +81,15 @@ module _ (parties : Parties) (joiners : List ℕ) (new : List Instance) (b : Bef
       all : Keeps b.covered.items some
       all = keeps-trans b.covered.items one some k1 from_one
 
-      by_joining : Keeps joiners some ⊎ Same new b → Keeps joiners some ⊎ ((length new ≡ length old)
-          × (is_under_way (slice_get new (first_named label)) ≡ is_under_way (slice_get old (first_named label)))
-          × (is_under_way (slice_get new (second_named label)) ≡ is_under_way (slice_get old (second_named label))))
-      by_joining (inl j) = inl j
-      by_joining (inr same) = inr (
-        sym same.0 ∙ before.count,
-        sym (ap (λ k. is_under_way (slice_get new k)) before.first) ∙ sym same.1 ∙ before.first_under_way,
-        sym (ap (λ k. is_under_way (slice_get new k)) before.second) ∙ sym same.2 ∙ before.second_under_way,
-      )
-
 other_label : (label : Label) → is_advance label ≡ false → label ≢ Advance
 other_label label e is = let wrong : true ≡ false = sym (ap is_advance is) ∙ e in false≢true (sym wrong)
 
 -- what unsettled tells
-abbrev pub AllSettled : Label → Config → Parties → List ℕ → Before → List ℕ → Type 0
+abbrev pub AllSettled : Label → Config → Parties → List (List ℕ) → Before → List ℕ → Type 0
 AllSettled label new parties joiners b some =
     (old : Config) → Leads label old new → IsListed old parties joiners → IsBefore parties label old.instances b → Settles old new some
 
-pub settled_others : (label : Label) (new : Config) (parties : Parties) (joiners : List ℕ) (b : Before) (some : List ℕ) (advance : Bool)
+pub settled_others : (label : Label) (new : Config) (parties : Parties) (joiners : List (List ℕ)) (b : Before) (some : List ℕ) (advance : Bool)
     → advance ≡ is_advance label → advance ≡ false
     → ((label : Label) (old : List Instance) → IsBefore parties label old b
     → IsAffected parties joiners (first_named label) (second_named label) old new.instances some)
@@ -99,7 +97,7 @@ pub settled_others : (label : Label) (new : Config) (parties : Parties) (joiners
 settled_others label new parties joiners b some advance e still affected old leads listed before =
     settles_still label old new leads parties joiners some (other_label label (sym e ∙ still)) listed (affected label old.instances before)
 
-pub settled_all : (label : Label) (new : Config) (parties : Parties) (joiners : List ℕ) (b : Before) (some : List ℕ) (n : ℕ) → n ≡ length new.instances
+pub settled_all : (label : Label) (new : Config) (parties : Parties) (joiners : List (List ℕ)) (b : Before) (some : List ℕ) (n : ℕ) → n ≡ length new.instances
     → ((p : ℕ) → p < n → Contains some p) → AllSettled label new parties joiners b some
 settled_all label new parties joiners b some n e all old leads listed before =
     settles_later label old new leads some (λ p h. all p (subst (λ (k : ℕ). p < k) (sym e) h))
@@ -111,10 +109,10 @@ leads_on core old new label left text rest e = record {
   still = λ other. stands_still core old label new text rest left e other;
 }
 
-pub led_on : (core : Core) (old new : Config) (label : Label) (left : ℕ) (before after : List ℕ) (went : Went) (rest : ℕ) (marks : List Bool) (parties : Parties)
-    (joiners : List ℕ) (b : Before) → IsWatched old marks parties joiners → IsBefore parties label old.instances b
-    → Appends before after (λ text. Takes (step core old label left) old new text went) → went ≡ wents.On rest → Led label new marks parties joiners b
-led_on core old new label left before after went rest marks parties joiners b watched known took is = record {
+pub led_on : (core : Core) (old new : Config) (label : Label) (left : ℕ) (before after : List ℕ) (went : Went) (rest : ℕ) (kept : Kept) (b : Before)
+    → IsWatched old kept → IsBefore kept.parties label old.instances b
+    → Appends before after (λ text. Takes (step core old label left) old new text went) → went ≡ wents.On rest → Led label new kept b
+led_on core old new label left before after went rest kept b watched known took is = record {
   old = old;
   watched = watched;
   before = known;
@@ -126,16 +124,16 @@ abbrev Stays : (P Q : ℕ → Option Instance → Type 0) → Type 0
 Stays P Q = (r : ℕ) (o : Option Instance) → P r o → Q r o
 
 -- all is mended
-module _ (label : Label) (new : Config) (marks : List Bool) (parties : Parties) (joiners : List ℕ) (b : Before) (led : Led label new marks parties joiners b) where
-  old_listed : IsListed led.old parties joiners
+module _ (label : Label) (new : Config) (kept : Kept) (b : Before) (led : Led label new kept b) where
+  old_listed : IsListed led.old kept.parties kept.joiners
   old_listed = record { communicating = led.watched.communicating; waiting = led.watched.waiting }
 
-  pub led_settled : (some : List ℕ) → AllSettled label new parties joiners b some → Settles led.old new some
+  pub led_settled : (some : List ℕ) → AllSettled label new kept.parties kept.joiners b some → Settles led.old new some
   led_settled some settled = settled led.old led.leads old_listed led.before
 
-  pub led_right : (longer : List Bool) (some : List ℕ) → ((p : ℕ) → is_marked longer p ≡ is_marked marks p) → AllSettled label new parties joiners b some
+  pub led_right : (longer : List Bool) (some : List ℕ) → ((p : ℕ) → is_marked longer p ≡ is_marked kept.marks p) → AllSettled label new kept.parties kept.joiners b some
       → RightBut new longer some
-  led_right longer some same settled = right-led led.old new marks longer some led.watched.marked same (led_settled some settled)
+  led_right longer some same settled = right-led led.old new kept.marks longer some led.watched.marked same (led_settled some settled)
 
   module _ (first second : ℕ) (is_first : first ≡ first_named label) (is_second : second ≡ second_named label) where
     -- of all instances, through three changes of what is kept: at the first that was named, at the second, and at the new ones
@@ -151,16 +149,16 @@ module _ (label : Label) (new : Config) (marks : List Bool) (parties : Parties) 
         Holds : ℕ → Type 0
         Holds k = S k (slice_get new.instances k)
 
-    pub led_parties : (one two three : Parties) → KeepsParties parties one → KeepsParties one two → KeepsParties two three
+    pub led_parties : (one two three : Parties) → KeepsParties kept.parties one → KeepsParties one two → KeepsParties two three
         → IsParty one first (slice_get new.instances first) → IsParty two second (slice_get new.instances second)
         → ((r : ℕ) → b.count ≤ r → IsParty three r (slice_get new.instances r)) → AllParties three new.instances
     led_parties one two three k1 k2 k3 f s added =
-        led_all (IsParty parties) (IsParty one) (IsParty two) (IsParty three) (λ r o. party-kept parties one r o k1) (λ r o. party-kept one two r o k2)
+        led_all (IsParty kept.parties) (IsParty one) (IsParty two) (IsParty three) (λ r o. party-kept kept.parties one r o k1) (λ r o. party-kept one two r o k2)
         (λ r o. party-kept two three r o k3) led.watched.communicating f s added
 
-    pub led_joiners : (one two three : List ℕ) → Keeps joiners one → Keeps one two → Keeps two three
+    pub led_joiners : (one two three : List (List ℕ)) → KeepsLists kept.joiners one → KeepsLists one two → KeepsLists two three
         → IsJoiner one first (slice_get new.instances first) → IsJoiner two second (slice_get new.instances second)
         → ((r : ℕ) → b.count ≤ r → IsJoiner three r (slice_get new.instances r)) → AllJoiners three new.instances
     led_joiners one two three k1 k2 k3 f s added =
-        led_all (IsJoiner joiners) (IsJoiner one) (IsJoiner two) (IsJoiner three) (λ r o. joiner-kept joiners one r o k1) (λ r o. joiner-kept one two r o k2)
+        led_all (IsJoiner kept.joiners) (IsJoiner one) (IsJoiner two) (IsJoiner three) (λ r o. joiner-kept kept.joiners one r o k1) (λ r o. joiner-kept one two r o k2)
         (λ r o. joiner-kept two three r o k3) led.watched.waiting f s added

@@ -158,7 +158,7 @@ module _ (label : Label) (old new : Config) (leads : Leads label old new) where
       by_first (inr f) = by_second f (eq-cases r (second_named label))
 
   -- the time stood still
-  pub settles_still : (parties : Parties) (joiners some : List ℕ) → label ≢ Advance → IsListed old parties joiners
+  pub settles_still : (parties : Parties) (joiners : List (List ℕ)) (some : List ℕ) → label ≢ Advance → IsListed old parties joiners
       → IsAffected parties joiners (first_named label) (second_named label) old.instances new.instances some → Settles old new some
   settles_still parties joiners some other listed affected =
       settles old new parties joiners (first_named label) (second_named label) some leads.others (leads.still other) listed.communicating listed.waiting affected

@@ -1,11 +1,12 @@
 -- Private to proofs: from one configuration to the next, with what is kept beside them.
-use Rattle.std.specs.Prelude.{◌≡◌, ◌≢◌, ℕ, ◌⊎◌, List, Bool, length, slice_get, Contains}
+use Rattle.std.specs.Prelude.{◌≡◌, ◌≢◌, ℕ, ◌⊎◌, List, length, slice_get, Contains}
 use Rattle.chi_core.specs.declared.label.Label.{Label}
 use Rattle.chi_core.specs.declared.label.Label.TheVariants.{Advance}
 use Rattle.chi_core.specs.Config.{Config, Instance}
 use Rattle.chi_core.specs.Options.{is_under_way}
 use Rattle.chi_plain_options.specs.declared.parties.Parties.{Parties}
 use Rattle.chi_plain.specs.declared.watching.Before.{Before}
+use Rattle.chi_plain.specs.declared.watching.Kept.{Kept}
 use Rattle.chi_plain_options.specs.Listing.{AllJoiners, AllParties}
 use Rattle.chi_plain_options.specs.Reaching.{Covers}
 use Rattle.chi_plain.specs.Watching.{IsWatched, Others, first_named, second_named}
@@ -27,7 +28,7 @@ pub record Leads (label : Label) (old new : Config) : Type 0 where
   pub still : label ≢ Advance → new.clock ≡ old.clock
 
 -- the lists are those of a configuration
-pub record IsListed (config : Config) (parties : Parties) (joiners : List ℕ) : Type 0 where
+pub record IsListed (config : Config) (parties : Parties) (joiners : List (List ℕ)) : Type 0 where
   pub communicating : AllParties parties config.instances
   pub waiting : AllJoiners joiners config.instances
 
@@ -36,8 +37,8 @@ abbrev pub Settles : Config → Config → List ℕ → Type 0
 Settles old new some = (p : ℕ) → (acts new p ≡ acts old p) ⊎ Contains some p
 
 -- a label has led to a configuration, from one beside which this was kept
-pub record Led (label : Label) (new : Config) (marks : List Bool) (parties : Parties) (joiners : List ℕ) (b : Before) : Type 0 where
+pub record Led (label : Label) (new : Config) (kept : Kept) (b : Before) : Type 0 where
   pub old : Config
-  pub watched : IsWatched old marks parties joiners
-  pub before : IsBefore parties label old.instances b
+  pub watched : IsWatched old kept
+  pub before : IsBefore kept.parties label old.instances b
   pub leads : Leads label old new

@@ -6,19 +6,20 @@ use Rattle.chi_core.specs.Config.{Config, Instance}
 use Rattle.chi_core.specs.Options.{is_under_way}
 use Rattle.chi_plain_options.specs.declared.parties.Parties.{Parties}
 use Rattle.chi_plain_options.specs.Acting.{acts}
-use Rattle.chi_plain_options.specs.Listing.{AllJoiners, AllParties, Keeps}
+use Rattle.chi_plain_options.specs.Listing.{AllJoiners, AllParties, Keeps, listed_at}
 use Rattle.chi_order.specs.Marked.{is_marked}
 use Rattle.chi_plain_options.specs.Reaching.{Covers, CoversFrom}
+use Rattle.chi_plain.specs.declared.watching.Kept.{Kept}
 
 -- marked are the instances that have an option, and there is room for all
 pub record IsMarked (config : Config) (marks : List Bool) : Type 0 where
   pub room : length config.instances ≤ length marks
   pub each : (p : ℕ) → is_marked marks p ≡ acts config p
 
-pub record IsWatched (config : Config) (marks : List Bool) (parties : Parties) (joiners : List ℕ) : Type 0 where
-  pub marked : IsMarked config marks
-  pub communicating : AllParties parties config.instances
-  pub waiting : AllJoiners joiners config.instances
+pub record IsWatched (config : Config) (kept : Kept) : Type 0 where
+  pub marked : IsMarked config kept.marks
+  pub communicating : AllParties kept.parties config.instances
+  pub waiting : AllJoiners kept.joiners config.instances
 
 -- steps
 
@@ -49,12 +50,16 @@ is_advance (Wake p a) = false
 is_advance (Join p) = false
 is_advance Advance = true
 
+-- all that wait for instance r are among some, or it is under way as it was before
+abbrev pub IsJoined : List (List ℕ) → List Instance → ℕ → Bool → List ℕ → Type 0
+IsJoined joiners new r before some = Keeps (listed_at joiners r) some ⊎ (is_under_way (slice_get new r) ≡ before)
+
 -- all those are among some that may have an option now and had none, or had one and have none now
-pub record IsAffected (parties : Parties) (joiners : List ℕ) (p q : ℕ) (old new : List Instance) (some : List ℕ) : Type 0 where
+pub record IsAffected (parties : Parties) (joiners : List (List ℕ)) (p q : ℕ) (old new : List Instance) (some : List ℕ) : Type 0 where
   pub first_old : Covers parties old p some
   pub second_old : Covers parties old q some
   pub first_new : Covers parties new p some
   pub second_new : Covers parties new q some
-  pub added : CoversFrom parties new (length old) some
-  pub joining : Keeps joiners some ⊎ ((length new ≡ length old) × (is_under_way (slice_get new p) ≡ is_under_way (slice_get old p))
-      × (is_under_way (slice_get new q) ≡ is_under_way (slice_get old q)))
+  pub added : CoversFrom parties joiners new (length old) some
+  pub first_joined : IsJoined joiners new p (is_under_way (slice_get old p)) some
+  pub second_joined : IsJoined joiners new q (is_under_way (slice_get old q)) some

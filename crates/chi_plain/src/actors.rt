@@ -35,7 +35,7 @@ impl<'a> Watched<'a> {
     pub fn actor_count(&self) -> u32
         ensures { result ≡ length (actors self.now) }
     {
-        self.marks.count()
+        self.kept.marks.count()
     }
 
     /// Number `i` of the instances that have an option, ascending.
@@ -44,14 +44,14 @@ impl<'a> Watched<'a> {
         requires { i < length (actors self.now) }
         ensures { slice_get (actors self.now) i ≡ Some result }
     {
-        marked_at::<Brand>(&self.marks, i, Blank::new(1))
+        marked_at::<Brand>(&self.kept.marks, i, Blank::new(1))
     }
 
     /// How many options instance `pid` has.
     pub fn option_count(&self, pid: u32) -> u64
         ensures { result ≡ length (options self.now pid) }
     {
-        option_count(&self.configuration, &self.parties, pid)
+        option_count(&self.configuration, &self.kept.parties, pid)
     }
 
     /// Option number `i` of instance `pid`.
@@ -59,6 +59,6 @@ impl<'a> Watched<'a> {
         requires { i < length (options self.now pid) }
         ensures { slice_get (options self.now pid) i ≡ Some result }
     {
-        option_at(&self.configuration, &self.parties, pid, i)
+        option_at(&self.configuration, &self.kept.parties, pid, i)
     }
 }

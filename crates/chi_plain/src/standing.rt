@@ -5,7 +5,7 @@ ghost use Rattle.chi_core.specs.Sound.{Sound};
 ghost use Rattle.chi_core.specs.Step.{Spent, step};
 ghost use Rattle.chi_plain.specs.Stage.{At, MayStep, Steps};
 ghost use Rattle.chi_plain_steps.specs.Takings.{Appends};
-ghost use Rattle.chi_plain.specs.Standings.{IsAt, Stands, stage_of, standing_at};
+ghost use Rattle.chi_plain.specs.Standings.{Stands, stage_of, standing_at};
 
 use crate::stepped::Stepped;
 use crate::taking::Taken;
@@ -48,13 +48,12 @@ fn step_at<'a>(
     alloc: Global,
     core: &'a Core,
     watched: Watched<'a>,
-    ending: Option<Ending>,
     label: &Label,
     left: u64,
     out: &mut Vec<u8>,
 ) -> (Standing<'a>, Stepped)
     requires sound { Sound core.now }
-    requires at { IsAt core.now watched ending }
+    requires kinded { Kinded core.now watched }
     requires may { Contains (enabled watched) label.now }
     ensures stands { Stands core.now result.0 }
     ensures steps { Appends out.old.items out.new.items (λ text. Steps core.now (At watched.entry) (stage_of result.0) label.now left text result.1) }
@@ -68,7 +67,10 @@ fn step_at<'a>(
             (Standing::At(watched, ending), Stepped::Next(left - rest))
         }
         Ok(Taken::Over(verdict)) => (Standing::Ended(Ending::of(verdict, clock)), Stepped::Over),
-        Ok(Taken::Spent(watched)) => (Standing::At(watched, ending), Stepped::Spent),
+        Ok(Taken::Spent(watched)) => {
+            let ending = watched.ending();
+            (Standing::At(watched, ending), Stepped::Spent)
+        }
         Err(NoMemory) => (Standing::Lost, Stepped::NoMemory),
     }
 }
@@ -89,7 +91,7 @@ pub fn step<'a>(
     ensures steps { Appends out.old.items out.new.items (λ text. Steps core.now (stage_of standing.entry) (stage_of result.0) label.now left text result.1) }
 {
     match standing {
-        Standing::At(watched, ending) => step_at(alloc, core, watched, ending, label, left, out),
+        Standing::At(watched, _) => step_at(alloc, core, watched, label, left, out),
         Standing::Ended(_) => unreachable!(),
         Standing::Lost => (Standing::Lost, Stepped::NoMemory),
     }

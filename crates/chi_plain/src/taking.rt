@@ -39,15 +39,13 @@ impl<'a> Watched<'a> {
     {
         let Watched {
             mut configuration,
-            marks,
-            parties,
-            joiners,
+            kept,
         } = self;
-        let known = noted(alloc, &configuration, &parties, label)?;
+        let known = noted(alloc, &configuration, &kept.parties, label)?;
         let written = out.len();
         match configuration.take(alloc, core, label, left, out)? {
             Went::On(rest) => {
-                match mended(alloc, configuration, marks, parties, joiners, label, known) {
+                match mended(alloc, configuration, kept, label, known) {
                     Ok(watched) => Ok(Taken::On(watched, rest)),
                     Err(_) => {
                         out.truncate(written);
@@ -58,9 +56,7 @@ impl<'a> Watched<'a> {
             Went::Over(verdict) => Ok(Taken::Over(verdict)),
             Went::Spent => Ok(Taken::Spent(Watched {
                 configuration,
-                marks,
-                parties,
-                joiners,
+                kept,
             })),
         }
     }

@@ -1,15 +1,13 @@
 //! A configuration with what is kept beside it: which instances have an option, and which may get or lose one by
 //! what another does. After a step only those are looked at.
 
-ghost use Rattle.std.specs.Prelude.{◌≡◌, ◌≢◌, ℕ, ◌≤◌, ◌<◌, ◌⊎◌, List, length, slice_get, Contains, IfOk};
-ghost use Rattle.std.specs.Bool.{OnFalse};
+ghost use Rattle.std.specs.Prelude.{◌≡◌, ◌≢◌, ℕ, ◌≤◌, ◌<◌, ◌⊎◌, List, length, Contains, IfOk, OnOk};
 ghost use Rattle.chi_core.specs.declared.label.Label.{Label};
 ghost use Rattle.chi_core.specs.declared.limits.TheConstants.{MOST_INSTANCES};
 ghost use Rattle.chi_core.specs.Config.{Config, Instance};
-ghost use Rattle.chi_core.specs.Options.{is_under_way};
 ghost use Rattle.chi_order.specs.Marked.{is_marked};
-ghost use Rattle.chi_plain.specs.Watching.{is_advance, IsAffected, IsMarked, IsWatched, first_named, second_named};
-ghost use Rattle.chi_plain_options.specs.Listing.{AllParties};
+ghost use Rattle.chi_plain.specs.Watching.{is_advance, IsAffected, IsJoined, IsMarked, first_named, second_named};
+ghost use Rattle.chi_plain_options.specs.Listing.{AllParties, Keeps};
 ghost use Rattle.chi_plain_options.specs.Acting.{acts};
 ghost use Rattle.chi_plain.specs.Led.{IsBefore, IsListed, Leads, Led, Settles};
 
@@ -17,20 +15,26 @@ use chi_base::NoMemory;
 use chi_core::Label;
 use chi_order::Ranks;
 use chi_plain_options::{
-    Listed, Parties, cover, cover_from, cover_joiners, has_option, relist, relist_from,
+    ListedAt, Parties, cover, cover_from, cover_joiners, has_option, relist, relist_from,
 };
 use chi_plain_steps::Configuration;
 use std::alloc::Global;
 use std::marker::Model;
 
-/// A configuration, and beside it: for each instance whether it has an option; for each channel which instances
-/// communicate on it, and which instances wait for others, each with some that did before.
+/// What is kept beside a configuration: for each instance whether it has an option; for each channel which instances
+/// communicate on it, and for each instance which wait for it, each with some that did before.
+#[derive(Debug, Drop)]
+pub struct Kept {
+    pub(crate) marks: Ranks,
+    pub(crate) parties: Parties,
+    pub(crate) joiners: ListedAt,
+}
+
+/// A configuration, with what is kept beside it.
 #[derive(Debug, Drop)]
 pub struct Watched<'a> {
     pub(crate) configuration: Configuration<'a>,
-    pub(crate) marks: Ranks,
-    pub(crate) parties: Parties,
-    pub(crate) joiners: Listed,
+    pub(crate) kept: Kept,
 }
 
 impl<'a> Model for Watched<'a> {
@@ -48,7 +52,7 @@ impl<'a> Model for Watched<'a> {
 
     ghost view = { λ w. w.configuration };
 
-    ghost invariant = { λ w. IsWatched w.configuration w.marks w.parties w.joiners };
+    ghost invariant = { λ w. IsWatched w.configuration w.kept };
 }
 
 impl<'a> Watched<'a> {
@@ -137,44 +141,47 @@ pub fn noted(
     })
 }
 
-/// Whether one of those that were named is under way now and wasn't, or was and isn't now, or some are new.
-fn may_join(config: &Configuration<'_>, before: &Before) -> bool
-    ensures { OnFalse result ((before.now.count ≡ length config.now.instances)
-        × (before.now.first_under_way ≡ is_under_way (slice_get config.now.instances before.now.first))
-        × (before.now.second_under_way ≡ is_under_way (slice_get config.now.instances before.now.second))) }
+/// Adds those that wait for an instance, where it is under way now and wasn't before, or was and isn't now.
+#[tactic(auto, using(chi_plain_options::proofs::Keeping::keeping))]
+fn cover_changed(
+    config: &Configuration<'_>,
+    joiners: &ListedAt,
+    pid: u32,
+    was_under_way: bool,
+    covered: &mut Vec<u32>,
+) -> Result<(), NoMemory>
+    ensures keeps { Keeps covered.old.items covered.new.items }
+    ensures joined { OnOk result (IsJoined joiners.now config.now.instances pid was_under_way covered.new.items) }
 {
-    if before.count as usize != config.instances().len() {
-        return true;
+    if config.is_under_way(pid) != was_under_way {
+        cover_joiners(joiners, pid, covered)?;
     }
-    if before.first_under_way != config.is_under_way(before.first) {
-        return true;
-    }
-    before.second_under_way != config.is_under_way(before.second)
+    Ok(())
 }
 
 /// All those that may have got or lost an option by a step.
 fn affected(
     config: &Configuration<'_>,
     parties: &Parties,
-    joiners: &Listed,
+    joiners: &ListedAt,
     before: Before,
 ) -> Result<Vec<u32>, NoMemory>
     ensures { IfOk result (λ some. (label : Label) (old : List Instance) → IsBefore parties.now label old before
         → IsAffected parties.now joiners.now (first_named label) (second_named label) old config.now.instances some.items) }
 {
-    let joining = may_join(config, &before);
     let Before {
         first,
         second,
         count,
-        first_under_way: _,
-        second_under_way: _,
+        first_under_way,
+        second_under_way,
         mut covered,
     } = before;
     cover(config, parties, first, &mut covered)?;
     cover(config, parties, second, &mut covered)?;
-    cover_from(config, parties, count, &mut covered)?;
-    cover_joiners(joining, joiners, &mut covered)?;
+    cover_from(config, parties, joiners, count, &mut covered)?;
+    cover_changed(config, joiners, first, first_under_way, &mut covered)?;
+    cover_changed(config, joiners, second, second_under_way, &mut covered)?;
     Ok(covered)
 }
 
@@ -208,7 +215,7 @@ fn unsettled(
     alloc: Global,
     config: &Configuration<'_>,
     parties: &Parties,
-    joiners: &Listed,
+    joiners: &ListedAt,
     label: &Label,
     before: Before,
 ) -> Result<Vec<u32>, NoMemory>
@@ -226,15 +233,18 @@ fn unsettled(
 pub fn mended<'a>(
     alloc: Global,
     configuration: Configuration<'a>,
-    mut marks: Ranks,
-    mut parties: Parties,
-    mut joiners: Listed,
+    kept: Kept,
     label: &Label,
     before: Before,
 ) -> Result<Watched<'a>, NoMemory>
-    requires { Led label.now configuration marks parties joiners before }
+    requires { Led label.now configuration kept before }
     ensures { IfOk result (λ w. w ≡ configuration.entry) }
 {
+    let Kept {
+        mut marks,
+        mut parties,
+        mut joiners,
+    } = kept;
     let (first, second) = named(label);
     let count = before.count;
     let some = unsettled(alloc, &configuration, &parties, &joiners, label, before)?;
@@ -243,11 +253,14 @@ pub fn mended<'a>(
     relist_from(&configuration, &mut parties, &mut joiners, count)?;
     marks.reserve(configuration.instances().len() as u32)?;
     renew_all(&configuration, &parties, &mut marks, some.as_slice());
-    Ok(Watched {
-        configuration,
+    let kept = Kept {
         marks,
         parties,
         joiners,
+    };
+    Ok(Watched {
+        configuration,
+        kept,
     })
 }
 
@@ -258,16 +271,19 @@ pub fn watch<'a>(alloc: Global, configuration: Configuration<'a>) -> Result<Watc
 {
     let mut marks = Ranks::new(alloc);
     let mut parties = Parties::new(alloc)?;
-    let mut joiners = Listed::new(alloc);
+    let mut joiners = ListedAt::new(alloc)?;
     let count = configuration.instances().len();
     relist_from(&configuration, &mut parties, &mut joiners, 0)?;
     marks.reserve(count as u32)?;
     let all = everyone(alloc, count)?;
     renew_all(&configuration, &parties, &mut marks, all.as_slice());
-    Ok(Watched {
-        configuration,
+    let kept = Kept {
         marks,
         parties,
         joiners,
+    };
+    Ok(Watched {
+        configuration,
+        kept,
     })
 }

@@ -87,41 +87,41 @@ module _ (xs ys : List ℕ) (p i : ℕ) (at : StandsAt xs p i) (is : ys ≡ inse
       by_place (inr h) =
           (c.0 + 1, (let l = length-insert xs i p at.within in let w = c.1 in omega (arith, l, w)), get_or-insert_above xs i p q c.0 h at.within ∙ c.2)
 
--- lists of channels
+-- lists by numbers
 
-pub listed_at-read : (lists : List (List ℕ)) (channel k : ℕ) (l : List ℕ) → k ≡ channel % length lists → k < length lists
-    → l ≡ get_or lists k l → l ≡ listed_at lists channel
-listed_at-read lists channel k l e h is = is ∙ get_or-within lists k l [] h ∙ ap (λ n. get_or lists n []) e
+pub listed_at-read : (lists : List (List ℕ)) (number k : ℕ) (l : List ℕ) → k ≡ number % length lists → k < length lists
+    → l ≡ get_or lists k l → l ≡ listed_at lists number
+listed_at-read lists number k l e h is = is ∙ get_or-within lists k l [] h ∙ ap (λ n. get_or lists n []) e
 
 module _ (lists : List (List ℕ)) (k : ℕ) (l : List ℕ) (h : k < length lists) where
-  at_other : (channel : ℕ) → channel % length lists ≢ k → listed_at (slice_set lists k l) channel ≡ listed_at lists channel
-  at_other channel d =
-      ap (λ n. get_or (slice_set lists k l) (channel % n) []) (length-set lists k l)
-      ∙ get_or-set_other lists k (channel % length lists) l [] d
+  at_other : (number : ℕ) → number % length lists ≢ k → listed_at (slice_set lists k l) number ≡ listed_at lists number
+  at_other number d =
+      ap (λ n. get_or (slice_set lists k l) (number % n) []) (length-set lists k l)
+      ∙ get_or-set_other lists k (number % length lists) l [] d
 
-  at_same : (channel : ℕ) → channel % length lists ≡ k → listed_at (slice_set lists k l) channel ≡ l
-  at_same channel e =
-      ap (λ n. get_or (slice_set lists k l) (channel % n) []) (length-set lists k l)
+  at_same : (number : ℕ) → number % length lists ≡ k → listed_at (slice_set lists k l) number ≡ l
+  at_same number e =
+      ap (λ n. get_or (slice_set lists k l) (number % n) []) (length-set lists k l)
       ∙ ap (λ n. get_or (slice_set lists k l) n []) e ∙ get_or-set_same lists k l [] h
 
   pub keeps-set : (new : List (List ℕ)) (old : List ℕ) → new ≡ slice_set lists k l → old ≡ get_or lists k old → Keeps old l → KeepsLists lists new
-  keeps-set new old e is keeps channel q c =
-      let P : List (List ℕ) → Type 0 = λ ps. Contains (listed_at ps channel) q in
-      subst P (sym e) (by_cases (eq-cases (channel % length lists) k))
+  keeps-set new old e is keeps number q c =
+      let P : List (List ℕ) → Type 0 = λ ps. Contains (listed_at ps number) q in
+      subst P (sym e) (by_cases (eq-cases (number % length lists) k))
     where
-      by_cases : (channel % length lists ≡ k) ⊎ (channel % length lists ≢ k) → Contains (listed_at (slice_set lists k l) channel) q
+      by_cases : (number % length lists ≡ k) ⊎ (number % length lists ≢ k) → Contains (listed_at (slice_set lists k l) number) q
       by_cases (inl same) =
           let R : List ℕ → Type 0 = λ m. Contains m q in
           let here : Contains old q = subst R (ap (λ n. get_or lists n []) same ∙ get_or-within lists k [] old h ∙ sym is) c in
-          subst R (sym (at_same channel same)) (keeps q here)
-      by_cases (inr other) = let R : List ℕ → Type 0 = λ m. Contains m q in subst R (sym (at_other channel other)) c
+          subst R (sym (at_same number same)) (keeps q here)
+      by_cases (inr other) = let R : List ℕ → Type 0 = λ m. Contains m q in subst R (sym (at_other number other)) c
 
-  pub contains-set : (new : List (List ℕ)) (channel p : ℕ) → new ≡ slice_set lists k l → k ≡ channel % length lists → Contains l p
-      → Contains (listed_at new channel) p
-  contains-set new channel p e same c =
-      let P : List (List ℕ) → Type 0 = λ ps. Contains (listed_at ps channel) p in
+  pub contains-set : (new : List (List ℕ)) (number p : ℕ) → new ≡ slice_set lists k l → k ≡ number % length lists → Contains l p
+      → Contains (listed_at new number) p
+  contains-set new number p e same c =
+      let P : List (List ℕ) → Type 0 = λ ps. Contains (listed_at ps number) p in
       let R : List ℕ → Type 0 = λ m. Contains m p in
-      subst P (sym e) (subst R (sym (at_same channel (sym same))) c)
+      subst P (sym e) (subst R (sym (at_same number (sym same))) c)
 
 -- every list is empty
 abbrev pub AllEmpty : List (List ℕ) → Type 0
@@ -141,7 +141,7 @@ all-empty-more lists new l h none e =
     subst (λ (ls : List (List ℕ)). AllEmpty ls) (sym e) (subst (λ (m : List ℕ). AllEmpty (lists ++ m ∷ [])) (sym none) (empty-more lists h))
 
 pub nobody-listed : (lists : List (List ℕ)) → AllEmpty lists → NobodyListed lists
-nobody-listed lists h channel = h (channel % length lists)
+nobody-listed lists h number = h (number % length lists)
 
 pub ruleset keeping = (
   keeps-refl,

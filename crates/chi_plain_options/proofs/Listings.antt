@@ -1,7 +1,6 @@
 -- Lists of those that communicate and of those that wait, and who is reached by them.
-use Rattle.std.proofs.Common.{◌≡◌, ℕ, ◌+◌, ◌<◌, ◌≤◌, ℤ, List, [], ◌∷◌, ◌++◌, Option, Some, None, Bool, true, false, length, get_or, ◌⊎◌, inl, inr, sym, ◌∙◌, subst, refl, arith}
+use Rattle.std.proofs.Common.{◌≡◌, ℕ, ◌+◌, ◌<◌, ◌≤◌, ℤ, List, [], ◌∷◌, ◌++◌, Option, Some, None, length, get_or, ◌⊎◌, inl, inr, sym, ◌∙◌, subst, refl, arith}
 use Rattle.std.specs.List.{slice_get, Contains}
-use Rattle.std.proofs.lemmas.Bool.{false≢true}
 use Rattle.std.proofs.lemmas.Option.{slice_get_within, slice_get_past, slice_get_read}
 use Rattle.chi_core.specs.declared.act.Act.{Act}
 use Rattle.chi_core.specs.declared.act.Act.TheVariants.{Send, Receive, Delay}
@@ -9,7 +8,8 @@ use Rattle.chi_core.specs.Config.{Instance, Offer, offers_in}
 use Rattle.chi_value.specs.declared.value.Value.{Value}
 use Rattle.chi_plain_options.specs.declared.parties.Parties.{Parties}
 use Rattle.chi_plain_options.specs.Reaching.{Covers, CoversFrom, ReachesBy, ReachesIn, Reaches}
-use Rattle.chi_plain_options.specs.Listing.{IsJoiner, IsParty, IsPartyBy, IsPartyIn, Keeps, KeepsLists, KeepsParties, is_joining, listed_at}
+use Rattle.chi_plain_options.specs.Listing.{IsJoiner, IsListedFor, IsParty, IsPartyBy, IsPartyIn, Keeps, KeepsLists, KeepsParties, listed_at, waited_in}
+use Rattle.chi_plain_options.proofs.Lists.{get_or-within}
 use Rattle.chi_plain_options.proofs.Keeping.{keeps-refl, keeps-trans, keeps-more, keeps-added, contains-pushed}
 
 -- parties
@@ -58,9 +58,15 @@ pub party-kept : (a b : Parties) (p : ℕ) (o : Option Instance) → KeepsPartie
 party-kept a b p None keeps h = tt
 party-kept a b p (Some i) keeps h = party_in-kept a b p (offers_in i.state) keeps h
 
-pub joiner-kept : (a b : List ℕ) (p : ℕ) (o : Option Instance) → Keeps a b → IsJoiner a p o → IsJoiner b p o
+pub lists-refl : (lists : List (List ℕ)) → KeepsLists lists lists
+lists-refl lists number q c = c
+
+pub lists-trans : (a b d : List (List ℕ)) → KeepsLists a b → KeepsLists b d → KeepsLists a d
+lists-trans a b d f g number q c = g number q (f number q c)
+
+pub joiner-kept : (a b : List (List ℕ)) (p : ℕ) (o : Option Instance) → KeepsLists a b → IsJoiner a p o → IsJoiner b p o
 joiner-kept a b p None keeps h = tt
-joiner-kept a b p (Some i) keeps h = λ e. keeps p (h e)
+joiner-kept a b p (Some i) keeps h = λ r c. keeps r p (h r c)
 
 -- an offer of the first n
 cases_below : (P : ℕ → Type 0) (n : ℕ) → ((k : ℕ) → k < n → P k) → P n → (k : ℕ) → k < n + 1 → P k
@@ -109,14 +115,31 @@ party-some parties p m i offers at is h =
 pub party-none : (parties : Parties) (p : ℕ) (m : Option Instance) → m ≡ None → IsParty parties p m
 party-none parties p m at = subst (λ (o : Option Instance). IsParty parties p o) (sym at) tt
 
-pub joiner-some : (joiners : List ℕ) (p : ℕ) (m : Option Instance) (i : Instance) → m ≡ Some i → Contains joiners p → IsJoiner joiners p m
-joiner-some joiners p m i at c = subst (λ (o : Option Instance). IsJoiner joiners p o) (sym at) (λ e. c)
+pub joiner-some : (joiners : List (List ℕ)) (p : ℕ) (m : Option Instance) (i : Instance) (waited : List ℕ) → m ≡ Some i → waited ≡ waited_in i.state
+    → IsListedFor joiners p waited → IsJoiner joiners p m
+joiner-some joiners p m i waited at is h =
+    subst (λ (o : Option Instance). IsJoiner joiners p o) (sym at) (subst (λ (l : List ℕ). IsListedFor joiners p l) is h)
 
-pub joiner-other : (joiners : List ℕ) (p : ℕ) (m : Option Instance) (i : Instance) (b : Bool) → m ≡ Some i → b ≡ is_joining i.state → b ≡ false → IsJoiner joiners p m
-joiner-other joiners p m i b at e is = subst (λ (o : Option Instance). IsJoiner joiners p o) (sym at) (λ t. absurd (let wrong : true ≡ false = sym t ∙ sym e ∙ is in false≢true (sym wrong)))
-
-pub joiner-none : (joiners : List ℕ) (p : ℕ) (m : Option Instance) → m ≡ None → IsJoiner joiners p m
+pub joiner-none : (joiners : List (List ℕ)) (p : ℕ) (m : Option Instance) → m ≡ None → IsJoiner joiners p m
 joiner-none joiners p m at = subst (λ (o : Option Instance). IsJoiner joiners p o) (sym at) tt
+
+-- in the lists of the first n of those for which it waits
+abbrev pub ListedForBelow : List (List ℕ) → ℕ → List ℕ → ℕ → Type 0
+ListedForBelow joiners p waited n = (k : ℕ) → k < n → Contains (listed_at joiners (get_or waited k 0)) p
+
+pub listed_for_below-none : (joiners : List (List ℕ)) (p : ℕ) (waited : List ℕ) → ListedForBelow joiners p waited 0
+listed_for_below-none joiners p waited k h = absurd (omega (arith, h))
+
+pub listed_for_below-more : (a b : List (List ℕ)) (p n q : ℕ) (waited : List ℕ) → ListedForBelow a p waited n → KeepsLists a b → q ≡ get_or waited n 0
+    → Contains (listed_at b q) p → ListedForBelow b p waited (n + 1)
+listed_for_below-more a b p n q waited below keeps is c =
+    cases_below (λ k. Contains (listed_at b (get_or waited k 0)) p) n (λ k l. keeps (get_or waited k 0) p (below k l))
+    (subst (λ (r : ℕ). Contains (listed_at b r) p) is c)
+
+pub listed_for_below-all : (joiners : List (List ℕ)) (p n : ℕ) (waited : List ℕ) → ListedForBelow joiners p waited n → length waited ≤ n → IsListedFor joiners p waited
+listed_for_below-all joiners p n waited below all r c =
+    let h = c.1 in
+    subst (λ (q : ℕ). Contains (listed_at joiners q) p) (get_or-within waited c.0 0 r h ∙ c.2) (below c.0 (omega (arith, h, all)))
 
 -- who is reached
 
@@ -173,32 +196,39 @@ covers-none parties is p before some e at = record {
 }
 
 -- all from a number on, below n
-abbrev pub CoversBelow : Parties → List Instance → ℕ → ℕ → List ℕ → Type 0
-CoversBelow parties is from n some = (r : ℕ) → from ≤ r → r < n → Covers parties is r some
+abbrev pub CoversBelow : Parties → List (List ℕ) → List Instance → ℕ → ℕ → List ℕ → Type 0
+CoversBelow parties joiners is from n some = (r : ℕ) → from ≤ r → r < n → Covers parties is r some × Keeps (listed_at joiners r) some
 
-pub covers_below-none : (parties : Parties) (is : List Instance) (from : ℕ) (some : List ℕ) → CoversBelow parties is from from some
-covers_below-none parties is from some r h l = absurd (omega (arith, h, l))
+pub covers_below-none : (parties : Parties) (joiners : List (List ℕ)) (is : List Instance) (from : ℕ) (some : List ℕ) → CoversBelow parties joiners is from from some
+covers_below-none parties joiners is from some r h l = absurd (omega (arith, h, l))
 
-pub covers_below-more : (parties : Parties) (is : List Instance) (from n : ℕ) (a b : List ℕ) → CoversBelow parties is from n a → Keeps a b → Covers parties is n b
-    → CoversBelow parties is from (n + 1) b
-covers_below-more parties is from n a b below keeps here r h l = by_cases (let c : (r < n) ⊎ (r ≡ n) = grind arith in c)
+pub covers_below-more : (parties : Parties) (joiners : List (List ℕ)) (is : List Instance) (from n : ℕ) (a b d : List ℕ) → CoversBelow parties joiners is from n a
+    → Keeps a b → Covers parties is n b → Keeps b d → Keeps (listed_at joiners n) d → CoversBelow parties joiners is from (n + 1) d
+covers_below-more parties joiners is from n a b d below more here keeps joined r h l = by_cases (let c : (r < n) ⊎ (r ≡ n) = grind arith in c)
   where
-    by_cases : (r < n) ⊎ (r ≡ n) → Covers parties is r b
-    by_cases (inl less) = covers-kept parties is r a b (below r h less) keeps
-    by_cases (inr e) = subst (λ (k : ℕ). Covers parties is k b) (sym e) here
+    all : Keeps a d
+    all = keeps-trans a b d more keeps
 
-pub covers_below-all : (parties : Parties) (is : List Instance) (from n : ℕ) (some : List ℕ) → CoversBelow parties is from n some → length is ≤ n
-    → CoversFrom parties is from some
-covers_below-all parties is from n some below all r h l = below r h (omega (arith, l, all))
+    by_cases : (r < n) ⊎ (r ≡ n) → Covers parties is r d × Keeps (listed_at joiners r) d
+    by_cases (inl less) =
+        let both = below r h less in (covers-kept parties is r a d both.0 all, keeps-trans (listed_at joiners r) a d both.1 all)
+    by_cases (inr e) = (
+      subst (λ (k : ℕ). Covers parties is k d) (sym e) (covers-kept parties is n b d here keeps),
+      subst (λ (k : ℕ). Keeps (listed_at joiners k) d) (sym e) joined,
+    )
+
+pub covers_below-all : (parties : Parties) (joiners : List (List ℕ)) (is : List Instance) (from n : ℕ) (some : List ℕ)
+    → CoversBelow parties joiners is from n some → length is ≤ n → CoversFrom parties joiners is from some
+covers_below-all parties joiners is from n some below all r h l = below r h (omega (arith, l, all))
 
 -- all from a number on are listed, below n
-abbrev pub ListedBelow : Parties → List ℕ → List Instance → ℕ → ℕ → Type 0
+abbrev pub ListedBelow : Parties → List (List ℕ) → List Instance → ℕ → ℕ → Type 0
 ListedBelow parties joiners is from n = (r : ℕ) → from ≤ r → r < n → IsParty parties r (slice_get is r) × IsJoiner joiners r (slice_get is r)
 
-pub listed_below-none : (parties : Parties) (joiners : List ℕ) (is : List Instance) (from : ℕ) → ListedBelow parties joiners is from from
+pub listed_below-none : (parties : Parties) (joiners : List (List ℕ)) (is : List Instance) (from : ℕ) → ListedBelow parties joiners is from from
 listed_below-none parties joiners is from r h l = absurd (omega (arith, h, l))
 
-pub listed_below-more : (a b : Parties) (d e : List ℕ) (is : List Instance) (from n : ℕ) → ListedBelow a d is from n → KeepsParties a b → Keeps d e
+pub listed_below-more : (a b : Parties) (d e : List (List ℕ)) (is : List Instance) (from n : ℕ) → ListedBelow a d is from n → KeepsParties a b → KeepsLists d e
     → IsParty b n (slice_get is n) → IsJoiner e n (slice_get is n) → ListedBelow b e is from (n + 1)
 listed_below-more a b d e is from n below keeps kept party joiner r h l = by_cases (let c : (r < n) ⊎ (r ≡ n) = grind arith in c)
   where
@@ -208,7 +238,7 @@ listed_below-more a b d e is from n below keeps kept party joiner r h l = by_cas
     by_cases (inr same) =
         (subst (λ (k : ℕ). IsParty b k (slice_get is k)) (sym same) party, subst (λ (k : ℕ). IsJoiner e k (slice_get is k)) (sym same) joiner)
 
-pub listed_below-all : (parties : Parties) (joiners : List ℕ) (is : List Instance) (from n : ℕ) → ListedBelow parties joiners is from n → length is ≤ n
+pub listed_below-all : (parties : Parties) (joiners : List (List ℕ)) (is : List Instance) (from n : ℕ) → ListedBelow parties joiners is from n → length is ≤ n
     → (r : ℕ) → from ≤ r → IsParty parties r (slice_get is r) × IsJoiner joiners r (slice_get is r)
 listed_below-all parties joiners is from n below all r h = by_cases (let c : (r < n) ⊎ (n ≤ r) = grind arith in c)
   where
@@ -231,9 +261,13 @@ pub ruleset listing = (
   party-delay,
   party-some,
   party-none,
+  lists-refl,
+  lists-trans,
   joiner-some,
-  joiner-other,
   joiner-none,
+  listed_for_below-none,
+  listed_for_below-more,
+  listed_for_below-all,
   party_below-none,
   party_below-more,
   party_below-all,

@@ -1,5 +1,5 @@
--- Lists of instances: those that communicate on channels, and those that wait for others.
-use Rattle.std.specs.Prelude.{◌≡◌, ℕ, ◌%◌, List, [], Option, None, Some, Bool, true, false, length, slice_get, get_or, Contains}
+-- Lists of instances: for each channel those that communicate on it, and for each instance those that wait for it.
+use Rattle.std.specs.Prelude.{◌≡◌, ℕ, ◌%◌, List, [], Option, None, Some, length, slice_get, get_or, Contains}
 use Rattle.chi_core.specs.declared.act.Act.{Act}
 use Rattle.chi_core.specs.declared.act.Act.TheVariants.{Send, Receive, Delay}
 use Rattle.chi_core.specs.Config.{Instance, Offer, State, Running, Waiting, Joining, Finished, offers_in}
@@ -9,16 +9,16 @@ use Rattle.chi_plain_options.specs.declared.parties.Parties.{Parties}
 abbrev pub Keeps : List ℕ → List ℕ → Type 0
 Keeps old new = (q : ℕ) → Contains old q → Contains new q
 
--- the list of a channel; channels share lists
+-- the list of a number, of a channel or of an instance; numbers share lists
 abbrev pub listed_at : List (List ℕ) → ℕ → List ℕ
-listed_at lists channel = get_or lists (channel % length lists) []
+listed_at lists number = get_or lists (number % length lists) []
 
--- nobody is in the list of any channel
+-- nobody is in the list of any number
 abbrev pub NobodyListed : List (List ℕ) → Type 0
-NobodyListed lists = (channel : ℕ) → listed_at lists channel ≡ []
+NobodyListed lists = (number : ℕ) → listed_at lists number ≡ []
 
 abbrev pub KeepsLists : List (List ℕ) → List (List ℕ) → Type 0
-KeepsLists old new = (channel : ℕ) → Keeps (listed_at old channel) (listed_at new channel)
+KeepsLists old new = (number : ℕ) → Keeps (listed_at old number) (listed_at new number)
 
 -- parties: those that send on channels and those that receive from them, now or before
 pub record KeepsParties (old new : Parties) : Type 0 where
@@ -46,17 +46,22 @@ IsParty parties p (Some i) = IsPartyIn parties p (offers_in i.state)
 abbrev pub AllParties : Parties → List Instance → Type 0
 AllParties parties instances = (p : ℕ) → IsParty parties p (slice_get instances p)
 
--- joiners: those that wait for others, now or before
+-- joiners: those that wait for an instance, now or before, in the list of its number
 
-abbrev pub is_joining : State → Bool
-is_joining Running = false
-is_joining (Waiting offers) = false
-is_joining (Joining numbers) = true
-is_joining Finished = false
+-- the instances for which one waits
+abbrev pub waited_in : State → List ℕ
+waited_in Running = []
+waited_in (Waiting offers) = []
+waited_in (Joining numbers) = numbers
+waited_in Finished = []
 
-abbrev pub IsJoiner : List ℕ → ℕ → Option Instance → Type 0
+-- instance p is in the list of each of these
+abbrev pub IsListedFor : List (List ℕ) → ℕ → List ℕ → Type 0
+IsListedFor joiners p waited = (r : ℕ) → Contains waited r → Contains (listed_at joiners r) p
+
+abbrev pub IsJoiner : List (List ℕ) → ℕ → Option Instance → Type 0
 IsJoiner joiners p None = Unit {0}
-IsJoiner joiners p (Some i) = is_joining i.state ≡ true → Contains joiners p
+IsJoiner joiners p (Some i) = IsListedFor joiners p (waited_in i.state)
 
-abbrev pub AllJoiners : List ℕ → List Instance → Type 0
+abbrev pub AllJoiners : List (List ℕ) → List Instance → Type 0
 AllJoiners joiners instances = (p : ℕ) → IsJoiner joiners p (slice_get instances p)

@@ -1,4 +1,4 @@
--- Who may pair with an instance by what it receives.
+-- Who may pair with an instance by what it receives, and who waits for it.
 use Rattle.std.specs.Prelude.{◌≡◌, ℕ, ◌≤◌, ◌<◌, List, Option, None, Some, length, slice_get, Contains}
 use Rattle.chi_core.specs.declared.act.Act.{Act}
 use Rattle.chi_core.specs.declared.act.Act.TheVariants.{Send, Receive, Delay}
@@ -25,5 +25,7 @@ pub record Covers (parties : Parties) (instances : List Instance) (p : ℕ) (som
   pub itself : Contains some p
   pub reaches : Reaches parties (slice_get instances p) some
 
-abbrev pub CoversFrom : Parties → List Instance → ℕ → List ℕ → Type 0
-CoversFrom parties instances n some = (r : ℕ) → n ≤ r → r < length instances → Covers parties instances r some
+-- each instance from number n on, all that may pair with it so, and all that wait for it
+abbrev pub CoversFrom : Parties → List (List ℕ) → List Instance → ℕ → List ℕ → Type 0
+CoversFrom parties joiners instances n some =
+    (r : ℕ) → n ≤ r → r < length instances → Covers parties instances r some × Keeps (listed_at joiners r) some

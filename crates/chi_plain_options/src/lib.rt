@@ -10,4 +10,4 @@ mod parties;
 pub use acting::has_option;
 pub use choices::{option_at, option_count};
 pub use listing::{cover, cover_from, cover_joiners, relist, relist_from};
-pub use parties::{Channels, Listed, Parties};
+pub use parties::{Listed, ListedAt, Parties};

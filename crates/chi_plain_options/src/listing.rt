@@ -1,11 +1,11 @@
-//! Which instances are in view of others: those that communicate on channels, and those that wait for others.
+//! Which instances are in view of others: those that communicate on channels, and those that wait for an instance.
 
-ghost use Rattle.std.specs.Prelude.{◌≡◌, ℕ, ◌≤◌, ◌<◌, length, slice_get, Contains, IsTrue, OnOk};
+ghost use Rattle.std.specs.Prelude.{◌≡◌, ℕ, ◌≤◌, ◌<◌, length, slice_get, Contains, OnOk};
 ghost use Rattle.chi_core.specs.declared.limits.TheConstants.{MOST_INSTANCES};
 ghost use Rattle.chi_plain_options.specs.Reaching.{Covers, CoversFrom, ReachesBy, ReachesIn};
-ghost use Rattle.chi_plain_options.specs.Listing.{IsJoiner, IsParty, IsPartyBy, IsPartyIn, Keeps, KeepsParties, is_joining};
+ghost use Rattle.chi_plain_options.specs.Listing.{IsJoiner, IsListedFor, IsParty, IsPartyBy, IsPartyIn, Keeps, KeepsLists, KeepsParties, listed_at, waited_in};
 
-use crate::parties::{Listed, Parties};
+use crate::parties::{ListedAt, Parties};
 use chi_base::NoMemory;
 use chi_core::Act;
 use chi_plain_open::{Instance, Offer, State};
@@ -50,33 +50,40 @@ fn list_party(config: &Configuration<'_>, parties: &mut Parties, pid: u32) -> Re
     }
 }
 
+/// Lists instance `pid` as one that waits for each of these.
+#[tactic(auto, using(crate::proofs::Listings::listing))]
+fn list_for(joiners: &mut ListedAt, pid: u32, waited: &[u32]) -> Result<(), NoMemory>
+    requires { pid < MOST_INSTANCES }
+    ensures keeps { KeepsLists joiners.old joiners.new }
+    ensures listed { OnOk result (IsListedFor joiners.new pid waited.now) }
+{
+    for other in waited {
+        joiners.add(*other, pid)?;
+    }
+    Ok(())
+}
+
 /// Lists instance `pid` where it waits for others.
 #[tactic(auto, using(crate::proofs::Listings::listing))]
-fn list_joiner(config: &Configuration<'_>, joiners: &mut Listed, pid: u32) -> Result<(), NoMemory>
-    ensures keeps { Keeps joiners.old joiners.new }
+fn list_joiner(config: &Configuration<'_>, joiners: &mut ListedAt, pid: u32) -> Result<(), NoMemory>
+    ensures keeps { KeepsLists joiners.old joiners.new }
     ensures listed { OnOk result (IsJoiner joiners.new pid (slice_get config.now.instances pid)) }
 {
     match config.instances().get(pid as usize) {
-        Some(instance) => {
-            if is_joining(instance) {
-                joiners.add(pid)
-            } else {
-                Ok(())
-            }
-        }
+        Some(instance) => list_for(joiners, pid, waited_by(instance)),
         None => Ok(()),
     }
 }
 
-/// Whether it waits for others.
-fn is_joining(instance: &Instance) -> bool
-    ensures { result ≡ is_joining instance.now.state }
+/// The instances for which one waits.
+fn waited_by<'i>(instance: &'i Instance<'_>) -> &'i [u32]
+    ensures { result.now ≡ waited_in instance.now.state }
 {
     match instance.state() {
-        State::Running => false,
-        State::Waiting(_) => false,
-        State::Joining(_) => true,
-        State::Finished => false,
+        State::Running => &[],
+        State::Waiting(_) => &[],
+        State::Joining(waited) => waited.as_slice(),
+        State::Finished => &[],
     }
 }
 
@@ -85,11 +92,11 @@ fn is_joining(instance: &Instance) -> bool
 pub fn relist(
     config: &Configuration<'_>,
     parties: &mut Parties,
-    joiners: &mut Listed,
+    joiners: &mut ListedAt,
     pid: u32,
 ) -> Result<(), NoMemory>
     ensures parties { KeepsParties parties.old parties.new }
-    ensures joiners { Keeps joiners.old joiners.new }
+    ensures joiners { KeepsLists joiners.old joiners.new }
     ensures party { OnOk result (IsParty parties.new pid (slice_get config.now.instances pid)) }
     ensures joiner { OnOk result (IsJoiner joiners.new pid (slice_get config.now.instances pid)) }
 {
@@ -102,11 +109,11 @@ pub fn relist(
 pub fn relist_from(
     config: &Configuration<'_>,
     parties: &mut Parties,
-    joiners: &mut Listed,
+    joiners: &mut ListedAt,
     from: u32,
 ) -> Result<(), NoMemory>
     ensures parties { KeepsParties parties.old parties.new }
-    ensures joiners { Keeps joiners.old joiners.new }
+    ensures joiners { KeepsLists joiners.old joiners.new }
     ensures party { OnOk result ((p : ℕ) → from ≤ p → IsParty parties.new p (slice_get config.now.instances p)) }
     ensures joiner { OnOk result ((p : ℕ) → from ≤ p → IsJoiner joiners.new p (slice_get config.now.instances p)) }
 {
@@ -162,35 +169,31 @@ pub fn cover(
     }
 }
 
-/// Adds each instance from this number on, and all that may pair with it by what it receives.
+/// Adds those that wait for instance `pid`.
+#[tactic(auto, using(crate::proofs::Keeping::keeping))]
+pub fn cover_joiners(joiners: &ListedAt, pid: u32, covered: &mut Vec<u32>) -> Result<(), NoMemory>
+    ensures keeps { Keeps covered.old.items covered.new.items }
+    ensures joined { OnOk result (Keeps (listed_at joiners.now pid) covered.new.items) }
+{
+    covered.extend_from_slice(joiners.at(pid))?;
+    Ok(())
+}
+
+/// Adds each instance from this number on, all that may pair with it by what it receives, and those that wait for it.
 #[tactic(auto, using(crate::proofs::Listings::listing))]
 pub fn cover_from(
     config: &Configuration<'_>,
     parties: &Parties,
+    joiners: &ListedAt,
     from: u32,
     covered: &mut Vec<u32>,
 ) -> Result<(), NoMemory>
     ensures keeps { Keeps covered.old.items covered.new.items }
-    ensures covered { OnOk result (CoversFrom parties.now config.now.instances from covered.new.items) }
+    ensures covered { OnOk result (CoversFrom parties.now joiners.now config.now.instances from covered.new.items) }
 {
     for pid in from..config.instances().len() as u32 {
         cover(config, parties, pid, covered)?;
-    }
-    Ok(())
-}
-
-/// Adds those that wait for others, where it is so.
-#[tactic(auto, using(crate::proofs::Keeping::keeping))]
-pub fn cover_joiners(
-    joining: bool,
-    joiners: &Listed,
-    covered: &mut Vec<u32>,
-) -> Result<(), NoMemory>
-    ensures keeps { Keeps covered.old.items covered.new.items }
-    ensures joined { OnOk result (IsTrue joining → Keeps joiners.now covered.new.items) }
-{
-    if joining {
-        covered.extend_from_slice(joiners.as_slice())?;
+        cover_joiners(joiners, pid, covered)?;
     }
     Ok(())
 }

@@ -7,7 +7,7 @@ use chi_base::NoMemory;
 use std::alloc::Global;
 use std::marker::Model;
 
-/// How many lists there are. Each channel has one, and channels share lists, so that they don't grow
+/// How many lists there are. Each number has one, and numbers share lists, so that they don't grow
 /// with the channels that a run makes.
 const LISTS: usize = 16_384;
 
@@ -64,54 +64,54 @@ impl Listed {
     }
 }
 
-/// For each channel a list of instances.
+/// For each number, of a channel or of an instance, the instances that are listed at it.
 #[derive(Debug, Drop)]
-pub struct Channels {
+pub struct ListedAt {
     lists: Vec<Listed>,
 }
 
-impl Model for Channels {
+impl Model for ListedAt {
     ghost use Rattle.std.specs.Prelude.{List, ℕ, ◌<◌, length};
 
     ghost Value = { List (List ℕ) };
 
-    ghost view = { λ c. c.lists.items };
+    ghost view = { λ l. l.lists.items };
 
-    ghost invariant = { λ c. 0 < length c.lists.items };
+    ghost invariant = { λ l. 0 < length l.lists.items };
 }
 
-impl Channels {
-    /// A list for each channel, where nobody is listed.
+impl ListedAt {
+    /// A list for each number, where nobody is listed.
     #[tactic(auto, using(crate::proofs::Keeping::keeping))]
-    pub fn new(alloc: Global) -> Result<Channels, NoMemory>
-        ensures { IfOk result (λ channels. NobodyListed channels) }
+    pub fn new(alloc: Global) -> Result<ListedAt, NoMemory>
+        ensures { IfOk result (λ lists. NobodyListed lists) }
     {
         let mut lists = Vec::new(alloc);
         lists.push(Listed::new(alloc))?;
         for _more in 1..LISTS {
             lists.push(Listed::new(alloc))?;
         }
-        Ok(Channels { lists })
+        Ok(ListedAt { lists })
     }
 
-    /// The list of a channel.
+    /// The list of a number.
     #[tactic(auto, using(crate::proofs::Keeping::keeping))]
-    pub fn at(&self, channel: u32) -> &[u32]
-        ensures listed { result.now ≡ listed_at self.now channel }
+    pub fn at(&self, number: u32) -> &[u32]
+        ensures listed { result.now ≡ listed_at self.now number }
         ensures ascending { Ascends 0 MOST_INSTANCES result.now }
     {
-        let k = channel as usize % self.lists.len();
+        let k = number as usize % self.lists.len();
         self.lists[k].as_slice()
     }
 
-    /// The instance is in the list of a channel, with all that are.
+    /// The instance is in the list of a number, with all that are.
     #[tactic(auto, using(crate::proofs::Keeping::keeping))]
-    pub fn add(&mut self, channel: u32, pid: u32) -> Result<(), NoMemory>
+    pub fn add(&mut self, number: u32, pid: u32) -> Result<(), NoMemory>
         requires { pid < MOST_INSTANCES }
         ensures keeps { KeepsLists self.old self.new }
-        ensures added { OnOk result (Contains (listed_at self.new channel) pid) }
+        ensures added { OnOk result (Contains (listed_at self.new number) pid) }
     {
-        let k = channel as usize % self.lists.len();
+        let k = number as usize % self.lists.len();
         self.lists[k].add(pid)
     }
 }
@@ -119,8 +119,8 @@ impl Channels {
 /// The instances that send on channels, and those that receive from them, or did before.
 #[derive(Debug, Drop)]
 pub struct Parties {
-    pub senders: Channels,
-    pub receivers: Channels,
+    pub senders: ListedAt,
+    pub receivers: ListedAt,
 }
 
 impl Parties {
@@ -128,8 +128,8 @@ impl Parties {
     pub fn new(alloc: Global) -> Result<Parties, NoMemory>
         ensures { IfOk result (λ parties. NobodyCommunicates parties) }
     {
-        let senders = Channels::new(alloc)?;
-        let receivers = Channels::new(alloc)?;
+        let senders = ListedAt::new(alloc)?;
+        let receivers = ListedAt::new(alloc)?;
         Ok(Parties { senders, receivers })
     }
 }

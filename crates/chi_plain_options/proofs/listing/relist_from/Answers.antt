@@ -1,6 +1,5 @@
 use Rattle.std.proofs.Common.{◌≤◌, length, ap, arith}
-use Rattle.chi_plain_options.proofs.Keeping.{keeps-trans}
-use Rattle.chi_plain_options.proofs.Listings.{listed_below-all, listed_below-more, parties-trans}
+use Rattle.chi_plain_options.proofs.Listings.{listed_below-all, listed_below-more, lists-trans, parties-trans}
 use Rattle.chi_plain_options.proofs.listing.relist_from.Goals as goal
 
 pub loop-pid-preserved : goal.loop-pid-preserved
@@ -8,7 +7,7 @@ loop-pid-preserved c =
     let before = c.loop-pid.invariant in
     let now = c.in_ok-relist.ensures in (
       parties-trans c.args.parties.now c.loop-pid.parties c.relist.new.parties before.0 now.parties,
-      keeps-trans c.args.joiners.now c.loop-pid.joiners c.relist.new.joiners before.1 now.joiners,
+      lists-trans c.args.joiners.now c.loop-pid.joiners c.relist.new.joiners before.1 now.joiners,
       listed_below-more c.loop-pid.parties c.relist.new.parties c.loop-pid.joiners c.relist.new.joiners c.args.config.now.instances c.args.from c.loop-pid.pid
           before.2 now.parties now.joiners now.party now.joiner,
     )
