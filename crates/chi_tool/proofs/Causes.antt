@@ -55,7 +55,7 @@ module _ (runs : Runs) (call : Call) (files : Files) (r : Report) where
     asks (is_long e) is = absurd (status.other.1 (sym is ∙ status_ap r _ e))
     asks (of_log text asked of) is = absurd (not_of_log text of is)
     asks (of_help asked e) is = absurd (no_log.0 (sym is ∙ status_ap r _ e))
-    asks (of_source aim source asked of) is = (aim, source, asked, status.to aim source r of is)
+    asks (of_source aim source asked plain of same) is = (aim, source, asked, status.to aim source plain of (sym same ∙ is))
 
   -- what is done: with a source, or with a log
   asks_done : CaseOf runs call files r → r.status ≡ 0 → AsksForDone runs call files
@@ -64,7 +64,7 @@ module _ (runs : Runs) (call : Call) (files : Files) (r : Report) where
   asks_done (is_long e) is = let h = status_ap r _ e in absurd (omega arith)
   asks_done (of_log text asked of) is = inr (inl (text, asked, up_of text r of is))
   asks_done (of_help asked e) is = inr (inr asked)
-  asks_done (of_source aim source asked of) is = inl (aim, source, asked, (done_status runs).to aim source r of is)
+  asks_done (of_source aim source asked plain of same) is = inl (aim, source, asked, (done_status runs).to aim source plain of (sym same ∙ is))
 
   -- a line of a log doesn't fit
   asks_misfit : CaseOf runs call files r → r.status ≡ 24 → AsksForLog call files HasMisfit
@@ -73,7 +73,7 @@ module _ (runs : Runs) (call : Call) (files : Files) (r : Report) where
   asks_misfit (is_long e) is = let h = status_ap r _ e in absurd (omega arith)
   asks_misfit (of_log text asked of) is = (text, asked, misfit_of text r of is)
   asks_misfit (of_help asked e) is = let h = status_ap r _ e in absurd (omega arith)
-  asks_misfit (of_source aim source asked of) is = let b = aim_bound runs aim source r of in absurd (grind arith)
+  asks_misfit (of_source aim source asked plain of same) is = let its : plain.status ≡ 24 = sym same ∙ is in let b = aim_bound runs aim source plain of in absurd (grind arith)
 
 module _ (runs : Runs) (law : ReportLaw runs) (coded : CodeLaw) (call : Call) (files : Files) (one : MetOne runs call files) where
   met : IsReportedOrLost one.0 call
@@ -83,7 +83,9 @@ module _ (runs : Runs) (law : ReportLaw runs) (coded : CodeLaw) (call : Call) (f
   same_status s is = status_ap one.0 s (law.one call.words files one.0 s one.1 is)
 
   asked_status : (n : ℕ) (P : Aim → List ℕ → Type 0) → StatusOf runs n P → AsksFor call files P → one.0.status ≡ n
-  asked_status n P status h = let p = status.from h.0 h.1 (asked_listable coded call files h.0 h.1 h.2) h.3 in same_status p.0 (asked_report runs call files h.0 h.1 p.0 h.2 p.1) ∙ p.2
+  asked_status n P status h = let p = status.from h.0 h.1 (asked_listable coded call files h.0 h.1 h.2) h.3 in
+      let told = asked_report runs law call files h.0 h.1 p.0 h.2 p.1 in
+      same_status told.0 told.1 ∙ told.2 ∙ p.2
 
   done_is : AsksForDone runs call files → one.0.status ≡ 0
   done_is (inl h) = asked_status 0 (IsDone runs) (done_status runs) h
@@ -99,8 +101,8 @@ module _ (runs : Runs) (law : ReportLaw runs) (coded : CodeLaw) (call : Call) (f
       → (arguments : List Value) → Means core w.texts arguments → (course : Course) → runs_for runs aim core (settings_with w arguments) course
       → (call.status ≡ status_of course.ending.verdict) ⊎ (call.status ≡ 6)
   ends_complete aim source asked w is core comes arguments means course run =
-      by_met (same_status (run_report core course)
-      (asked_report runs call files aim source (run_report core course) asked (ran_report runs aim w is source core comes arguments means course run))) met
+      let told = asked_report runs law call files aim source (run_report core course) asked (ran_report runs aim w is source core comes arguments means course run) in
+      by_met (same_status told.0 told.1 ∙ told.2) met
     where
       by_met : one.0.status ≡ status_of course.ending.verdict → IsReportedOrLost one.0 call
           → (call.status ≡ status_of course.ending.verdict) ⊎ (call.status ≡ 6)

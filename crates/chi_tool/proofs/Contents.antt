@@ -1,5 +1,5 @@
 -- Which statuses the report of a file's content has, and which tasks have to do with a file.
-use Rattle.std.proofs.Common.{◌≡◌, ◌≢◌, ℕ, ◌≤◌, List, ◌⊎◌, inl, inr, ◌∙◌, ap, refl, arith}
+use Rattle.std.proofs.Common.{◌≡◌, ◌≢◌, ℕ, ◌≤◌, List, ◌⊎◌, inl, inr, sym, ◌∙◌, ap, subst, refl, arith}
 use Rattle.chi_cli.specs.declared.args.ArgFault.{ArgFault}
 use Rattle.chi_cli_help.specs.declared.topic.Topic.{Topic}
 use Rattle.chi_code.specs.declared.code.Code.{Code}
@@ -13,13 +13,14 @@ use Rattle.chi_engine.specs.Courses.{Course, Runs}
 use Rattle.chi_tool.specs.declared.task.LogPurpose.{LogPurpose}
 use Rattle.chi_tool.specs.declared.task.LogPurpose.TheVariants.{Judge, Picks}
 use Rattle.chi_tool.specs.declared.task.Purpose.{Purpose}
+use Rattle.chi_tool.specs.declared.task.Purpose.TheVariants.{OfProgram, Explain, LayOut}
 use Rattle.chi_tool.specs.declared.task.Task.{Task}
 use Rattle.chi_tool.specs.declared.task.Task.TheVariants.{OfFile, OfLog, OfFactory, OfTopic}
 use Rattle.chi_tool.specs.Call.{ShelfUse}
 use Rattle.chi_tool.specs.Headline.{IsUnread, CannotBeRead}
 use Rattle.chi_tool.specs.Refusals as refusal
 use Rattle.chi_tool.specs.Refusals.{Report}
-use Rattle.chi_tool.specs.Report.{IsReportWith, unfit, fit, IsReportByPicks, mispicked, replayed, IsReportOfReplay, IsReportOnLog, yes, no, IsReportOfJudging, IsReportOfProgram, IsReportOfSource, refused, program, IsReportOfLayout, faulty, laid_out, too_long, IsReportOfLog, up, misfit, IsReportOfFile, IsReportFor, IsReportOfTask}
+use Rattle.chi_tool.specs.Report.{IsReportWith, unfit, fit, IsReportByPicks, mispicked, replayed, IsReportOfReplay, IsReportOnLog, yes, no, IsReportOfJudging, IsReportOfProgram, IsReportOfSource, refused, program, IsReportOfLayout, faulty, laid_out, too_long, IsReportOfLog, up, misfit, IsReportOfFile, IsReportFor, IsReportTo, IsReportOfTask}
 use Rattle.chi_tool.specs.Running.{IsRunReport, run_report}
 use Rattle.chi_tool.specs.Settings.{Wanted, Unpicked, ProgramAim, simulates, replays, judges, checks, lists, Aim, of_program, lays_out, wanted_of, aim_of, settings_with, plain}
 use Rattle.chi_tool.specs.Sources.{IsRefused, by_lexer, by_parser, unparsed, by_checker}
@@ -188,6 +189,18 @@ aim_status runs aim source r of = of_content r.status (low (aim_bound runs aim s
     low (inr (inl b)) = inr b.0
     low (inr (inr b)) = let above = b.0 in inr (omega arith)
 
+-- what words ask of a file is done as its plain report has it, and has the status of that
+pub as_plain : (runs : Runs) (name : List ℕ) (purpose : Purpose) (source : List ℕ) (r : Report) → IsReportTo runs name purpose source r
+    → (plain : Report) × IsReportFor runs (aim_of purpose) source plain × (r.status ≡ plain.status)
+as_plain runs name (OfProgram p) source r of = (r, of, refl)
+as_plain runs name (Explain a) source r of = (of.plain, of.is, status_ap r _ of.told)
+as_plain runs name LayOut source r of = (r, of, refl)
+
+purpose_status : (runs : Runs) (name : List ℕ) (purpose : Purpose) (source : List ℕ) (r : Report) → IsReportTo runs name purpose source r → IsOfContent r.status
+purpose_status runs name purpose source r of =
+    let it = as_plain runs name purpose source r of in
+    subst IsOfContent (sym it.2) (aim_status runs (aim_of purpose) source it.0 it.1)
+
 pub source_status : (runs : Runs) (source : List ℕ) (aim : ProgramAim) (r : Report) → IsReportOfSource runs source aim r → IsOfContent r.status
 source_status runs source aim r of = aim_status runs (of_program aim) source r of
 
@@ -205,12 +218,12 @@ pub record IsOfFile (runs : Runs) (t : Task) (name : List ℕ) (most : ℕ) (P :
   pub named : NamesNoFile (of_task t) → ⊥
   pub own : (content : List ℕ) (r : Report) → P content r → IsOfContent r.status
 
-pub source_of_file : (runs : Runs) (name : List ℕ) (purpose : Purpose) → IsOfFile runs (OfFile name purpose) name MOST_BYTES (IsReportFor runs (aim_of purpose))
+pub source_of_file : (runs : Runs) (name : List ℕ) (purpose : Purpose) → IsOfFile runs (OfFile name purpose) name MOST_BYTES (IsReportTo runs name purpose)
 source_of_file runs name purpose = record {
   reports = λ files r is. is;
   unread = λ shelf is. is;
   named = λ none. none;
-  own = λ source r is. aim_status runs (aim_of purpose) source r is;
+  own = λ source r is. purpose_status runs name purpose source r is;
 }
 
 pub log_of_file : (runs : Runs) (name : List ℕ) → IsOfFile runs (OfLog name) name MOST_LOG_BYTES IsReportOfLog

@@ -1,8 +1,9 @@
 -- The laws that the promises rest on, as their functions' contracts give them.
-use Rattle.std.proofs.Common.{◌≡◌, ℕ, ◌≤◌, List, length, Result, ◌⊎◌}
-use Rattle.std.specs.Prelude.{Ok}
+use Rattle.std.proofs.Common.{◌≡◌, ◌≢◌, ℕ, ◌≤◌, List, length, Result, ◌⊎◌}
+use Rattle.std.specs.Prelude.{Ok, Err}
 use Rattle.chi_cli.specs.declared.request.Request.{Request}
-use Rattle.chi_cli.specs.Arguments.{values_of}
+use Rattle.chi_cli.specs.declared.args.ArgFault.TheVariants as arg
+use Rattle.chi_cli.specs.Arguments.{IsNumber, values_of}
 use Rattle.chi_cli.specs.Ranges.{IsInRange}
 use Rattle.chi_cli.specs.Requests.{request_of}
 use Rattle.chi_code.specs.declared.code.Code.{Code}
@@ -20,6 +21,10 @@ use Rattle.chi_core.specs.Sound.{Sound}
 use Rattle.chi_engine.specs.Courses.{Course, Runs, MayHave, IsRunOf, ComesToOne}
 use Rattle.chi_engine.specs.Settings.{Settings}
 use Rattle.chi_lex.specs.declared.lexer.TheConstants.{MOST_BYTES}
+use Rattle.chi_explain.specs.Lexical as lexical_told
+use Rattle.chi_explain_syntax.specs.Syntax.{IsSyntaxExplanation}
+use Rattle.chi_lex.specs.declared.fault.LexFault.{LexFault}
+use Rattle.chi_lex.specs.Reading as lexical
 use Rattle.chi_lex.specs.Reading.{Reads}
 use Rattle.chi_check.specs.Programs.{checked, Answers}
 use Rattle.chi_check_laws.specs.Laws.{IsWhole}
@@ -31,9 +36,9 @@ use Rattle.chi_sched.specs.Policies.{listed}
 use Rattle.chi_types.specs.declared.ty.Ty.{Ty}
 use Rattle.chi_value.specs.declared.value.Value.{Value}
 use Rattle.chi_tool.specs.Refusals.{Report}
-use Rattle.chi_tool.specs.Report.{IsReportFor, IsReport}
+use Rattle.chi_tool.specs.Report.{IsReportOfSource, IsExplained, IsReportFor, IsReport}
 use Rattle.chi_tool.specs.Running.{runs_for}
-use Rattle.chi_tool.specs.Settings.{Aim, IsShortFor, MayBeAimed}
+use Rattle.chi_tool.specs.Settings.{Wanted, simulates, Aim, IsShortFor, MayBeAimed}
 use Rattle.chi_tool.specs.Simulations.{AreOwnPicks, IsDerived, course_of}
 use Rattle.chi_tool.specs.Sources.{ComesTo}
 
@@ -110,7 +115,21 @@ pub record SourceLaw : Type 0 where
   pub some : (source : List ℕ) (aim : Aim) → length source ≤ MOST_BYTES → MayBeAimed aim → (r : Report) × IsReportFor IsRunOf aim source r
   pub one : (source : List ℕ) (aim : Aim) → IsShortFor aim source → (r other : Report) → IsReportFor IsRunOf aim source r → IsReportFor IsRunOf aim source other → r ≡ other
 
--- words and files have one report
+-- what is told at length of a fault is one text; and a fault of an argument names it
+pub record ExplainLaw : Type 0 where
+  pub lexical_some : (file source : List ℕ) (fault : LexFault) → lexical.HasFault source fault → (text : List ℕ) × lexical_told.IsExplanation file source fault text
+  pub lexical_one : (file source : List ℕ) (fault : LexFault) (text other : List ℕ) → lexical_told.IsExplanation file source fault text
+      → lexical_told.IsExplanation file source fault other → text ≡ other
+  pub syntax_some : (file source : List ℕ) (tokens : List Spanned) (fault : ParseFault) → IsAnswer tokens (Err fault) → (text : List ℕ) × IsSyntaxExplanation file source tokens fault text
+  pub syntax_one : (file source : List ℕ) (tokens : List Spanned) (fault : ParseFault) (text other : List ℕ) → IsSyntaxExplanation file source tokens fault text
+      → IsSyntaxExplanation file source tokens fault other → text ≡ other
+  pub kind : (params : List Ty) (args : List (List ℕ)) (k : ℕ) → values_of params args ≡ Err (arg.Kind k) → IsNumber params k
+  pub text : (params : List Ty) (args : List (List ℕ)) (k : ℕ) → values_of params args ≡ Err (arg.Text k) → IsNumber params k × IsNumber args k
+  pub memory : (params : List Ty) (args : List (List ℕ)) → values_of params args ≢ Err arg.NoMemory
+
+-- words and files have one report, and each report of a simulation can be told at length
 pub record ReportLaw (runs : Runs) : Type 0 where
   pub some : (words : List (List ℕ)) (files : Files) → (r : Report) × IsReport runs words files r
   pub one : (words : List (List ℕ)) (files : Files) (r other : Report) → IsReport runs words files r → IsReport runs words files other → r ≡ other
+  pub explained : (file source : List ℕ) (w : Wanted) (plain : Report) → IsReportOfSource runs source (simulates w) plain
+      → (r : Report) × IsExplained runs file w source r × (r.status ≡ plain.status)

@@ -9,7 +9,8 @@ use Rattle.chi_core.specs.declared.program.Core.{Core}
 use Rattle.chi_core.specs.Options.{Ending}
 use Rattle.chi_core.specs.Picks.{Pick}
 use Rattle.chi_engine.proofs.Policies.{formula_given, itself}
-use Rattle.chi_engine.specs.Courses.{Runs, IsRunOf}
+use Rattle.chi_core.specs.VerdictLine.{verdict_line_of}
+use Rattle.chi_engine.specs.Courses.{Course, Runs, IsRunOf}
 use Rattle.chi_engine.specs.Running.{RunsTo}
 use Rattle.chi_engine.specs.Settings.{Settings}
 use Rattle.chi_machine_traces.specs.declared.passing.PassFault.{PassFault}
@@ -17,16 +18,18 @@ use Rattle.chi_machine_traces.specs.declared.passing.PassFault.TheVariants as fa
 use Rattle.chi_picks.specs.Lists as picks
 use Rattle.chi_sched.specs.Policies.{Answers, listed}
 use Rattle.chi_trace.specs.declared.filter.Filter.{Filter}
+use Rattle.chi_tool.specs.declared.by_engine.Ran.{Ran}
 use Rattle.chi_tool.specs.declared.report.Reported.{Reported}
 use Rattle.chi_tool.specs.Arguments.{Means}
 use Rattle.chi_tool.specs.Call.{SinkUse, sink_use}
 use Rattle.chi_tool.specs.Delivery.{TookWhole, Delivers, out_broke}
+use Rattle.chi_tool.specs.Explaining.{told_with}
 use Rattle.chi_tool.specs.Refusals.{Report}
 use Rattle.chi_tool.specs.Refusals as refusal
 use Rattle.chi_tool.specs.Report.{IsReportOfRun, fit, IsReportByPicks, mispicked, replayed, IsReportOfProgram, IsReportOfSource, program}
 use Rattle.chi_tool.specs.Reported.{report_in, report_after, unpassed}
 use Rattle.chi_tool.specs.Running.{IsRunReport, run_report}
-use Rattle.chi_tool.specs.Serving.{Makes, status_without, Tells, told, cut_short, untold}
+use Rattle.chi_tool.specs.Serving.{Makes, RunsAs, status_without, Tells, told, cut_short, untold}
 use Rattle.chi_tool.specs.Settings.{Wanted, Unpicked, settings_with, ProgramAim, simulates}
 use Rattle.chi_tool.specs.Sources.{ComesTo}
 use Rattle.chi_tool.proofs.Runs.{if_ok, listed_lawful}
@@ -60,6 +63,11 @@ module _ {S : Type 0} (taken : S → Option (List ℕ)) (faults : S → ℕ) (st
   makes_lost P (Ok r) none = absurd none
   makes_lost P (Err lost) none = makes_none P lost none
 
+  pub runs_none : (runs : Runs) (core : Core) (s : Settings) (result : Result Ran PassFault) → IsErrAnd result (λ e. e ≡ fault.NoMemory)
+      → RunsAs runs core s (sink_use taken faults stopped sink sink) result
+  runs_none runs core s (Ok ran) none = absurd none
+  runs_none runs core s (Err lost) none = inl (none, took_none)
+
   by_made : (P : Report → Type 0) (made : Result Reported NoMemory) → IfOk made (λ r. P (report_in r)) → Makes P (sink_use taken faults stopped sink sink) (unpassed made)
   by_made P (Ok r) is = makes_here P r is
   by_made P (Err lost) is = inl took_none
@@ -92,33 +100,86 @@ module _ (runs : Runs) (core : Core) (s : Settings) (out : SinkUse) (logged : Li
   abbrev pub RanSo : Result Ending PassFault → Type 0
   RanSo result = RunsTo (runs core s) core (Grew out.before out.after) logged (Rose out.faults_before out.faults_after) out.stopped result
 
-  -- it ran to its end
-  module _ (end : Ending) (lines : List ℕ) (all : (log : List ℕ) → logged log → lines ≡ log) (count : out.faults_before ≤ out.faults_after) (ran : RanSo (Ok end)) where
-    its : IsRunReport runs core s (run_report core ran.1.course)
-    its = record { course = ran.1.course; run = ran.1.run; is = refl }
-
-    whole : (r : Reported) → report_in r ≡ run_report core (record { output = []; log = lines; ending = end }) → report_after ran.1.course.output r ≡ run_report core ran.1.course
+  -- it ran to its end, and this text is told of that
+  module _ (text : Ending → List ℕ) (P : Report → Type 0) (end : Ending) (lines : List ℕ) (all : (log : List ℕ) → logged log → lines ≡ log)
+      (count : out.faults_before ≤ out.faults_after) (ran : RanSo (Ok end)) (its : P (told_with text ran.1.course)) where
+    whole : (r : Reported) → report_in r ≡ told_with text (record { output = []; log = lines; ending = end })
+        → report_after ran.1.course.output r ≡ told_with text ran.1.course
     whole r is =
-        let at : List ℕ → Ending → Report = λ log ending. run_report core (record { output = ran.1.course.output; log = log; ending = ending }) in
-        let writing : List ℕ → Report = λ bytes. run_report core (record { output = bytes; log = lines; ending = end }) in
-        after_passed ran.1.course.output r (run_report core (record { output = []; log = lines; ending = end })) is
+        let at : List ℕ → Ending → Report = λ log ending. told_with text (record { output = ran.1.course.output; log = log; ending = ending }) in
+        let writing : List ℕ → Report = λ bytes. told_with text (record { output = bytes; log = lines; ending = end }) in
+        after_passed ran.1.course.output r (told_with text (record { output = []; log = lines; ending = end })) is
         ∙ ap writing (append-nil ran.1.course.output)
         ∙ (λ i. at (all ran.1.course.log ran.1.logged_all i) (sym ran.1.ended i))
 
-    pub ran_makes : (made : Result Reported NoMemory) (result : Result Reported PassFault) → result ≡ unpassed made
-        → IfOk made (λ r. report_in r ≡ run_report core (record { output = []; log = lines; ending = end })) → Makes (IsRunReport runs core s) out result
-    ran_makes made result same is = subst (Makes (IsRunReport runs core s) out) (sym same) (by made is)
+    pub told_makes : (made : Result Reported NoMemory) (result : Result Reported PassFault) → result ≡ unpassed made
+        → IfOk made (λ r. report_in r ≡ told_with text (record { output = []; log = lines; ending = end })) → Makes P out result
+    told_makes made result same is = subst (Makes P out) (sym same) (by made is)
       where
-        by : (made' : Result Reported NoMemory) → IfOk made' (λ r. report_in r ≡ run_report core (record { output = []; log = lines; ending = end })) → Makes (IsRunReport runs core s) out (unpassed made')
-        by (Ok r) e = (ran.1.course.output, record { took = ran.1.took_all; goes = ran.0 }, count, subst (IsRunReport runs core s) (sym (whole r e)) its)
-        by (Err lost) e = inr (run_report core ran.1.course, its, record { took = whole_front out ran.1.course.output ran.1.took_all; goes = ran.0 })
+        by : (made' : Result Reported NoMemory) → IfOk made' (λ r. report_in r ≡ told_with text (record { output = []; log = lines; ending = end })) → Makes P out (unpassed made')
+        by (Ok r) e = (ran.1.course.output, record { took = ran.1.took_all; goes = ran.0 }, count, subst P (sym (whole r e)) its)
+        by (Err lost) e = inr (told_with text ran.1.course, its, record { took = whole_front out ran.1.course.output ran.1.took_all; goes = ran.0 })
 
   -- it didn't
+  module _ (text : Ending → List ℕ) (P : Report → Type 0) (its : (course : Course) → runs core s course → P (told_with text course)) where
+    pub told_fault : (lost : PassFault) → RanSo (Err lost) → Makes P out (Err lost)
+    told_fault fault.Stopped (halted, rose, so) =
+        (told_with text so.course, its so.course so.run, record { took = (so.front, so.part, so.took_part); rose = rose; stopped = halted })
+    told_fault fault.NoMemory (goes, so) =
+        inr (told_with text so.course, its so.course so.run, record { took = (so.front, so.part, so.took_part); goes = goes })
+
+  -- what is logged of it is at hand
+
+  pub runs_logged : (its : Ran) → ((log : List ℕ) → logged log → its.log.items ≡ log) → out.faults_before ≤ out.faults_after → RanSo (Ok its.ending)
+      → RunsAs runs core s out (Ok its)
+  runs_logged its all count ran = (
+    count,
+    (
+      ran.0,
+      record {
+        course = ran.1.course;
+        run = ran.1.run;
+        ended = ran.1.ended;
+        took_all = ran.1.took_all;
+        logged_all = all ran.1.course.log ran.1.logged_all;
+        may = ran.1.may;
+      },
+    ),
+  )
+
+  unlogged : (lost : PassFault) → RanSo (Err lost) → RunsAs runs core s out (Err lost)
+  unlogged fault.Stopped ran = inr ran
+  unlogged fault.NoMemory ran = inr ran
+
+  pub runs_lost : (result : Result Ran PassFault) (lost : PassFault) → IsErrAnd result (λ e. e ≡ lost) → RanSo (Err lost) → RunsAs runs core s out result
+  runs_lost (Ok ran) lost none is = absurd none
+  runs_lost (Err e) lost same is = subst (λ (x : PassFault). RunsAs runs core s out (Err x)) (sym same) (unlogged lost is)
+
+  -- the line of its verdict is
+
+  abbrev line_of : Ending → List ℕ
+  line_of ending = verdict_line_of core.names.kinds ending.verdict ending.clock
+
+  pub ran_makes : (end : Ending) (lines : List ℕ) (all : (log : List ℕ) → logged log → lines ≡ log) (count : out.faults_before ≤ out.faults_after) (ran : RanSo (Ok end))
+      → (made : Result Reported NoMemory) (result : Result Reported PassFault) → result ≡ unpassed made
+      → IfOk made (λ r. report_in r ≡ run_report core (record { output = []; log = lines; ending = end })) → Makes (IsRunReport runs core s) out result
+  ran_makes end lines all count ran made result same is =
+      told_makes line_of (IsRunReport runs core s) end lines all count ran (record { course = ran.1.course; run = ran.1.run; is = refl }) made result same is
+
   pub fault_makes : (lost : PassFault) → RanSo (Err lost) → Makes (IsRunReport runs core s) out (Err lost)
-  fault_makes fault.Stopped (halted, rose, so) =
-      (run_report core so.course, record { course = so.course; run = so.run; is = refl }, record { took = (so.front, so.part, so.took_part); rose = rose; stopped = halted })
-  fault_makes fault.NoMemory (goes, so) =
-      inr (run_report core so.course, record { course = so.course; run = so.run; is = refl }, record { took = (so.front, so.part, so.took_part); goes = goes })
+  fault_makes lost ran = told_fault line_of (IsRunReport runs core s) (λ course run. record { course = course; run = run; is = refl }) lost ran
+
+-- the same of a run that may not have begun
+
+pub runs_fault : (runs : Runs) (core : Core) (s : Settings) (out : SinkUse) (text : Ending → List ℕ) (P : Report → Type 0) → ((course : Course) → runs core s course → P (told_with text course))
+    → (lost : PassFault) → RunsAs runs core s out (Err lost) → Makes P out (Err lost)
+runs_fault runs core s out text P its lost (inl (none, took)) = subst (λ (e : PassFault). Makes P out (Err e)) (sym none) (inl took)
+runs_fault runs core s out text P its lost (inr ran) = told_fault runs core s out (λ lines. ⊥) text P its lost ran
+
+pub report_fault : (runs : Runs) (core : Core) (s : Settings) (out : SinkUse) (lost : PassFault) → RunsAs runs core s out (Err lost) → Makes (IsRunReport runs core s) out (Err lost)
+report_fault runs core s out =
+    runs_fault runs core s out (λ ending. verdict_line_of core.names.kinds ending.verdict ending.clock) (IsRunReport runs core s)
+    (λ course run. record { course = course; run = run; is = refl })
 
 -- the report of a run by a list of numbers
 pub listed_ran : (core : Core) (u : Unpicked) (values : List Value) (text numbers : List ℕ) (out : SinkUse) (result : Result Reported PassFault) → picks.Has text numbers

@@ -20,7 +20,8 @@ use Rattle.chi_trace.specs.Logs.{IsUp}
 use Rattle.chi_value.specs.declared.value.Value.{Value}
 use Rattle.chi_engine.specs.Courses.{Runs, IsRunOf}
 use Rattle.chi_engine.specs.Settings.{Settings}
-use Rattle.chi_tool.specs.declared.task.Purpose.TheVariants.{OfProgram}
+use Rattle.chi_tool.specs.declared.task.Purpose.{Purpose}
+use Rattle.chi_tool.specs.declared.task.Purpose.TheVariants.{OfProgram, Explain, LayOut}
 use Rattle.chi_tool.specs.declared.task.ProgramPurpose.TheVariants.{Simulate}
 use Rattle.chi_picks.specs.Lists as picks
 use Rattle.chi_sched.specs.Policies.{listed}
@@ -30,14 +31,15 @@ use Rattle.chi_tool.specs.declared.task.Task.TheVariants.{OfFile, OfPair, OfLog,
 use Rattle.chi_tool.specs.Arguments.{Means, Misfits}
 use Rattle.chi_tool.specs.Refusals as refusal
 use Rattle.chi_tool.specs.Refusals.{Report, usage, no_such_file, file_too_long, unfit_arguments, brought_up, accepted}
-use Rattle.chi_tool.specs.Report.{IsReportWith, unfit, fit, IsReportByPicks, mispicked, replayed, IsReportOnLog, yes, no, IsReportOfProgram, IsReportOfSource, refused, program, IsReportOfLog, up, misfit, IsReportFor, IsReportOfFile, missing, long, fetched, IsReportOfWish, IsReport}
+use Rattle.chi_tool.specs.Report.{IsReportWith, unfit, fit, IsReportByPicks, mispicked, replayed, IsReportOnLog, yes, no, IsReportOfProgram, IsReportOfSource, refused, program, IsReportOfLog, up, misfit, IsReportFor, IsReportTo, IsReportOfFile, missing, long, fetched, IsReportOfWish, IsReport}
 use Rattle.chi_tool.specs.OnLogs.{IsNoLogWith}
 use Rattle.chi_tool.specs.Running.{runs_for, IsRunReport, run_report}
-use Rattle.chi_tool.specs.Settings.{Wanted, Unpicked, picked_by, ProgramAim, simulates, replays, judges, checks, lists, Aim, of_program, lays_out, wanted_of, aim_of, pair_aim, IsShortFor, MayBeAimedAt, MayBeAimed, plain, settings_with}
+use Rattle.chi_tool.specs.Settings.{Wanted, Unpicked, picked_by, ProgramAim, simulates, replays, judges, checks, lists, Aim, of_program, program_aim, lays_out, wanted_of, pair_aim, IsBounded, IsShortFor, MayBeAimedAt, MayBeAimed, plain, settings_with}
 use Rattle.chi_tool.specs.Sources.{ComesTo}
 use Rattle.chi_tool.specs.Words.{Wish, nothing, of_task, wish_of}
 use Rattle.chi_tool.proofs.Layouts.{layout_some, layout_one}
-use Rattle.chi_tool.proofs.LawClauses.{AnswerLaw, RunLaw, CodeLaw, CheckLaw, JudgeLaw, comes_sound, ValuesLaw, RangeLaw, LogLaw, PicksLaw}
+use Rattle.chi_tool.proofs.Explained.{explained_some, explained_one}
+use Rattle.chi_tool.proofs.LawClauses.{AnswerLaw, RunLaw, CodeLaw, CheckLaw, ExplainLaw, JudgeLaw, comes_sound, ValuesLaw, RangeLaw, LogLaw, PicksLaw}
 use Rattle.chi_tool.proofs.Runs.{may_be_aimed, pair_may_be_aimed, listed_lawful, asked_settings}
 use Rattle.chi_tool.proofs.Sources.{Comes, source_comes, one_refusal, refused_or_comes, one_core}
 use Rattle.chi_tool.proofs.Wishes.{IsBoundedWish, bounded_wish, factory_within}
@@ -159,20 +161,29 @@ module _ (runs : Runs) (answers : AnswerLaw) (ran : RunLaw runs) (coded : CodeLa
   source_some (of_program aim) bounded source within = come_to_some aim bounded source within (source_comes answers check source)
   source_some lays_out bounded source within = layout_some answers source
 
-  wish_some : LogLaw → (w : Wish) → IsBoundedWish w → (files : Files) → (r : Report) × IsReportOfWish runs w files r
-  wish_some log_law nothing bounded files = (usage, refl)
-  wish_some log_law (of_task (OfFile name purpose)) bounded files =
-      file_some MOST_BYTES (IsReportFor runs (aim_of purpose)) (source_some (aim_of purpose) (may_be_aimed purpose bounded)) (files name)
-  wish_some log_law (of_task (OfPair pair)) bounded files =
+  -- what words ask of a file that holds a source
+  purpose_some : ExplainLaw → (name : List ℕ) (purpose : Purpose) → IsBounded purpose → (source : List ℕ) → length source ≤ MOST_BYTES → (r : Report) × IsReportTo runs name purpose source r
+  purpose_some explain name (OfProgram p) bounded source within = source_some (of_program (program_aim p)) (may_be_aimed (OfProgram p) bounded) source within
+  purpose_some explain name (Explain a) bounded source within =
+      let p = source_some (of_program (simulates (wanted_of a))) (may_be_aimed (Explain a) bounded) source within in
+      let told = explained_some answers explain runs name source (wanted_of a) p.0 p.1 in
+      (told.0, told.1)
+  purpose_some explain name LayOut bounded source within = source_some lays_out tt source within
+
+  wish_some : ExplainLaw → LogLaw → (w : Wish) → IsBoundedWish w → (files : Files) → (r : Report) × IsReportOfWish runs w files r
+  wish_some explain log_law nothing bounded files = (usage, refl)
+  wish_some explain log_law (of_task (OfFile name purpose)) bounded files =
+      file_some MOST_BYTES (IsReportTo runs name purpose) (purpose_some explain name purpose bounded) (files name)
+  wish_some explain log_law (of_task (OfPair pair)) bounded files =
       file_some MOST_BYTES (λ source. IsReportOfFile MOST_BESIDE (λ text. IsReportOfSource runs source (pair_aim pair.purpose text)) (files pair.beside))
       (λ source within. file_some MOST_BESIDE (λ text. IsReportOfSource runs source (pair_aim pair.purpose text))
       (λ text short. source_some (of_program (pair_aim pair.purpose text)) (pair_may_be_aimed pair.purpose text bounded) source within) (files pair.beside)) (files pair.file)
-  wish_some log_law (of_task (OfLog name)) bounded files = file_some MOST_LOG_BYTES IsReportOfLog (λ text within. log_some log_law text) (files name)
-  wish_some log_law (of_task (OfFactory size)) bounded files = source_some (of_program (simulates (wanted_of plain))) (may_be_aimed (OfProgram (Simulate plain)) (omega arith)) (factory_source size) (factory_within size bounded)
-  wish_some log_law (of_task (OfTopic topic)) bounded files = (refusal.helped topic, refl)
+  wish_some explain log_law (of_task (OfLog name)) bounded files = file_some MOST_LOG_BYTES IsReportOfLog (λ text within. log_some log_law text) (files name)
+  wish_some explain log_law (of_task (OfFactory size)) bounded files = source_some (of_program (simulates (wanted_of plain))) (may_be_aimed (OfProgram (Simulate plain)) (omega arith)) (factory_source size) (factory_within size bounded)
+  wish_some explain log_law (of_task (OfTopic topic)) bounded files = (refusal.helped topic, refl)
 
-  pub report_some : LogLaw → RangeLaw → (words : List (List ℕ)) (files : Files) → (r : Report) × IsReport runs words files r
-  report_some log_law bounds words files = wish_some log_law (wish_of words) (bounded_wish bounds words) files
+  pub report_some : ExplainLaw → LogLaw → RangeLaw → (words : List (List ℕ)) (files : Files) → (r : Report) × IsReport runs words files r
+  report_some explain log_law bounds words files = wish_some explain log_law (wish_of words) (bounded_wish bounds words) files
 
   -- and no other
 
@@ -258,18 +269,25 @@ module _ (runs : Runs) (answers : AnswerLaw) (ran : RunLaw runs) (coded : CodeLa
   short_for (of_program lists) source within = tt
   short_for lays_out source within = tt
 
-  wish_one : LogLaw → (w : Wish) (files : Files) (r s : Report) → IsReportOfWish runs w files r → IsReportOfWish runs w files s → r ≡ s
-  wish_one log_law nothing files r s p q = p ∙ sym q
-  wish_one log_law (of_task (OfFile name purpose)) files r s p q = file_one MOST_BYTES (IsReportFor runs (aim_of purpose))
-      (λ source within. source_one source (aim_of purpose) (short_for (aim_of purpose) source within)) (files name) r s p q
-  wish_one log_law (of_task (OfPair pair)) files r s p q =
+  purpose_one : ExplainLaw → (name : List ℕ) (purpose : Purpose) (source : List ℕ) → length source ≤ MOST_BYTES
+      → (r s : Report) → IsReportTo runs name purpose source r → IsReportTo runs name purpose source s → r ≡ s
+  purpose_one explain name (OfProgram p) source within r s a b = source_one source (of_program (program_aim p)) (short_for (of_program (program_aim p)) source within) r s a b
+  purpose_one explain name (Explain a) source within r s p q =
+      explained_one answers explain runs ran name source (wanted_of a) (λ t u. source_one source (of_program (simulates (wanted_of a))) tt t u) r s p q
+  purpose_one explain name LayOut source within r s a b = source_one source lays_out tt r s a b
+
+  wish_one : ExplainLaw → LogLaw → (w : Wish) (files : Files) (r s : Report) → IsReportOfWish runs w files r → IsReportOfWish runs w files s → r ≡ s
+  wish_one explain log_law nothing files r s p q = p ∙ sym q
+  wish_one explain log_law (of_task (OfFile name purpose)) files r s p q = file_one MOST_BYTES (IsReportTo runs name purpose)
+      (λ source within. purpose_one explain name purpose source within) (files name) r s p q
+  wish_one explain log_law (of_task (OfPair pair)) files r s p q =
       file_one MOST_BYTES (λ source. IsReportOfFile MOST_BESIDE (λ text. IsReportOfSource runs source (pair_aim pair.purpose text)) (files pair.beside))
       (λ source within. file_one MOST_BESIDE (λ text. IsReportOfSource runs source (pair_aim pair.purpose text))
       (λ text also. checked_one source (pair_aim pair.purpose text) (short_for (of_program (pair_aim pair.purpose text)) source within)) (files pair.beside))
       (files pair.file) r s p q
-  wish_one log_law (of_task (OfLog name)) files r s p q = file_one MOST_LOG_BYTES IsReportOfLog (λ text within. log_one log_law text) (files name) r s p q
-  wish_one log_law (of_task (OfFactory size)) files r s p q = source_one (factory_source size) (of_program (simulates (wanted_of plain))) tt r s p q
-  wish_one log_law (of_task (OfTopic topic)) files r s p q = p ∙ sym q
+  wish_one explain log_law (of_task (OfLog name)) files r s p q = file_one MOST_LOG_BYTES IsReportOfLog (λ text within. log_one log_law text) (files name) r s p q
+  wish_one explain log_law (of_task (OfFactory size)) files r s p q = source_one (factory_source size) (of_program (simulates (wanted_of plain))) tt r s p q
+  wish_one explain log_law (of_task (OfTopic topic)) files r s p q = p ∙ sym q
 
-  pub report_one : LogLaw → (words : List (List ℕ)) (files : Files) (r s : Report) → IsReport runs words files r → IsReport runs words files s → r ≡ s
-  report_one log_law words files r s p q = wish_one log_law (wish_of words) files r s p q
+  pub report_one : ExplainLaw → LogLaw → (words : List (List ℕ)) (files : Files) (r s : Report) → IsReport runs words files r → IsReport runs words files s → r ≡ s
+  report_one explain log_law words files r s p q = wish_one explain log_law (wish_of words) files r s p q

@@ -1,7 +1,6 @@
 -- What is asked for with a run, and that one thing comes of it.
 use Rattle.std.proofs.Common.{◌≡◌, ℕ, ◌≤◌, List, length, true, Some, refl, sym, subst}
 use Rattle.std.specs.Prelude.{slice_get, Result, Ok, Err, IfOk}
-use Rattle.chi_base.specs.declared.no_memory.NoMemory.{NoMemory}
 use Rattle.chi_cli.specs.declared.args.ArgFault.{ArgFault}
 use Rattle.chi_cli.specs.declared.args.ArgFault.TheVariants as arg
 use Rattle.chi_cli.specs.Arguments.{values_of, IsRefused}
@@ -17,16 +16,14 @@ use Rattle.chi_engine.specs.Courses.{Course, Runs, MayHave, IsRunOf, ComesToOne,
 use Rattle.chi_engine.specs.Settings.{Settings}
 use Rattle.chi_sched.specs.Formulas.{listed_below}
 use Rattle.chi_sched.specs.Policies.{listed}
-use Rattle.chi_tool.specs.declared.report.Reported.{Reported}
 use Rattle.chi_tool.specs.declared.task.PairPurpose.{PairPurpose}
 use Rattle.chi_tool.specs.declared.task.PairPurpose.TheVariants.{Replay, OnLog}
 use Rattle.chi_tool.specs.declared.task.Purpose.{Purpose}
-use Rattle.chi_tool.specs.declared.task.Purpose.TheVariants.{OfProgram, LayOut}
+use Rattle.chi_tool.specs.declared.task.Purpose.TheVariants.{OfProgram, Explain, LayOut}
 use Rattle.chi_tool.specs.declared.task.ProgramPurpose.{ProgramPurpose}
 use Rattle.chi_tool.specs.declared.task.ProgramPurpose.TheVariants.{Simulate, Check, ListCode}
 use Rattle.chi_tool.specs.Arguments.{Misfits, is_misfit}
 use Rattle.chi_tool.specs.Headline.{IsRunAsked}
-use Rattle.chi_tool.specs.Refusals.{Report, unfit_arguments}
 use Rattle.chi_tool.specs.Running.{runs_for}
 use Rattle.chi_tool.specs.Settings.{Wanted, simulates, replays, judges, checks, lists, Aim, of_program, lays_out, program_aim, aim_of, pair_aim, IsBoundedFor, IsBoundedPair, IsBounded, MayBeAimedAt, MayBeAimed, settings_with}
 use Rattle.chi_tool.specs.Sources.{ComesTo}
@@ -40,6 +37,7 @@ may_be_aimed_at ListCode bounded = tt
 
 pub may_be_aimed : (purpose : Purpose) → IsBounded purpose → MayBeAimed (aim_of purpose)
 may_be_aimed (OfProgram purpose) bounded = may_be_aimed_at purpose bounded
+may_be_aimed (Explain a) bounded = (bounded, named_lawful a.terms.policy)
 may_be_aimed LayOut bounded = tt
 
 -- the numbers of a list are such a policy
@@ -94,7 +92,7 @@ asked_runs runs check some one its_some its_one = record { some = some_for; one 
     one_for lays_out = its_one
 
 -- what follows of a result, where there is one
-pub if_ok : {P Q : Reported → Type 0} (result : Result Reported NoMemory) → ((r : Reported) → P r → Q r) → IfOk result P → IfOk result Q
+pub if_ok : {A E : Type 0} {P Q : A → Type 0} (result : Result A E) → ((a : A) → P a → Q a) → IfOk result P → IfOk result Q
 if_ok (Ok r) follows is = follows r is
 if_ok (Err lost) follows is = tt
 
@@ -107,15 +105,14 @@ module _ (core : Core) (texts : List (List ℕ)) (d : ProcDef) (is : slice_get c
       let same : d ≡ e = cc (is, there) in
       kinded core.names.kinds e.params texts values (subst (λ (x : ProcDef). values_of x.params texts ≡ Ok values) same read)
 
-  abbrev Misread : Report → Type 0
-  Misread r = (wanted : ℕ) × (fault : ArgFault) × Misfits core texts wanted fault × (r ≡ unfit_arguments wanted (length texts) fault)
+  abbrev Misread : ArgFault → Type 0
+  Misread fault = Misfits core texts (length d.params) fault
 
-  misread : (fault : ArgFault) → values_of d.params texts ≡ Err fault → (r : Report) → r ≡ unfit_arguments (length d.params) (length texts) fault → Misread r
-  misread fault read r told = (length d.params, fault, record { model = d; is = is; read = read; count = refl }, told)
+  misread : (fault : ArgFault) → values_of d.params texts ≡ Err fault → Misread fault
+  misread fault read = record { model = d; is = is; read = read; count = refl }
 
-  pub arguments_refused : (fault : ArgFault) → is_misfit fault ≡ true → IsRefused (values_of d.params texts) fault
-      → (r : Report) → r ≡ unfit_arguments (length d.params) (length texts) fault → Misread r
-  arguments_refused arg.Count other refused r told = misread arg.Count refused r told
-  arguments_refused (arg.Kind k) other refused r told = misread (arg.Kind k) refused r told
-  arguments_refused (arg.Text k) other refused r told = misread (arg.Text k) refused r told
-  arguments_refused arg.NoMemory other refused r told = absurd (cc)
+  pub arguments_refused : (fault : ArgFault) → is_misfit fault ≡ true → IsRefused (values_of d.params texts) fault → Misread fault
+  arguments_refused arg.Count other refused = misread arg.Count refused
+  arguments_refused (arg.Kind k) other refused = misread (arg.Kind k) refused
+  arguments_refused (arg.Text k) other refused = misread (arg.Text k) refused
+  arguments_refused arg.NoMemory other refused = absurd (cc)

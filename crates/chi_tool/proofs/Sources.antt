@@ -78,7 +78,7 @@ source_comes law check source = by (source_parses law source)
 
 -- and nothing else
 
-fault_answer : (tokens : List Spanned) (e : ParseFault) → HasFault tokens e → IsAnswer tokens (Err e)
+pub fault_answer : (tokens : List Spanned) (e : ParseFault) → HasFault tokens e → IsAnswer tokens (Err e)
 fault_answer tokens (Syntax k) h = h
 fault_answer tokens (TooDeep k) h = h
 fault_answer tokens NoMemory h = h
@@ -103,7 +103,7 @@ module _ (law : AnswerLaw) (source : List ℕ) where
       let same : ◌≡◌ {A = Result Program ParseFault} (Ok t) (Err f) = law.one p.tokens (Ok t) (Err f) p.parsed (fault_answer p.tokens f there) in
       cc
 
-  one_rule : (e f : Fault) → BreaksRule source e → BreaksRule source f → e ≡ f
+  pub one_rule : (e f : Fault) → BreaksRule source e → BreaksRule source f → e ≡ f
   one_rule e f p q =
       let there : first (checked q.tree).faults ≡ Some e = subst (λ t. first (checked t).faults ≡ Some e) (one_written p.tree q.tree p.written q.written) p.first in
       let both : Some e ≡ Some f = sym there ∙ q.first in

@@ -11,6 +11,7 @@ pub mod OnLogs
 pub mod Report
 pub mod Reported
 pub mod Readings
+pub mod Explaining
 pub mod Call
 pub mod Delivery
 pub mod Headline

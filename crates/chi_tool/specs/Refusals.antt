@@ -31,6 +31,10 @@ line text = text ++ 10 ∷ []
 abbrev pub refused : ℕ → List ℕ → Report
 refused status text = record { status = status; out = []; log = line text }
 
+-- the same, with this text in place of its log
+abbrev pub at_length : Report → List ℕ → Report
+at_length r text = record { status = r.status; out = r.out; log = text }
+
 abbrev pub usage : Report
 usage = refused statuses.no_request (codes "usage: chi COMMAND [OPTIONS] FILE [ARGS]")
 

@@ -1,5 +1,5 @@
 -- The report of words and files: the status, and every byte that is written.
-use Rattle.std.specs.Prelude.{◌≡◌, ℕ, ◌<◌, ◌≤◌, List, length, Option, Some, None}
+use Rattle.std.specs.Prelude.{◌≡◌, ℕ, ◌<◌, ◌≤◌, List, ◌++◌, length, Option, Some, None}
 use Rattle.chi_cli.specs.declared.args.ArgFault.{ArgFault}
 use Rattle.chi_code.specs.declared.code.Code.{Code}
 use Rattle.chi_code.specs.Codes.{Codes}
@@ -8,6 +8,11 @@ use Rattle.chi_load.specs.Factory.{factory_source}
 use Rattle.chi_lex.specs.declared.lexer.TheConstants.{MOST_BYTES}
 use Rattle.chi_core.specs.declared.program.Core.{Core}
 use Rattle.chi_engine.specs.Courses.{Runs, IsRunOf}
+use Rattle.chi_explain.specs.Explanations.{explained}
+use Rattle.chi_explain.specs.Lexical as lexical
+use Rattle.chi_explain_endings.specs.Endings.{ending_text}
+use Rattle.chi_explain_syntax.specs.Syntax.{IsSyntaxExplanation}
+use Rattle.chi_explain_typing.specs.Rules.{broken_words}
 use Rattle.chi_trace.specs.declared.log.TheConstants.{MOST_LOG_BYTES}
 use Rattle.chi_trace.specs.Logs as logs
 use Rattle.chi_value.specs.declared.value.Value.{Value}
@@ -16,16 +21,18 @@ use Rattle.chi_sched.specs.Policies.{listed}
 use Rattle.chi_tool.specs.declared.task.TheConstants.{MOST_BESIDE}
 use Rattle.chi_tool.specs.declared.task.LogPurpose.{LogPurpose}
 use Rattle.chi_tool.specs.declared.task.Pair.{Pair}
+use Rattle.chi_tool.specs.declared.task.Purpose.{Purpose}
+use Rattle.chi_tool.specs.declared.task.Purpose.TheVariants.{OfProgram, Explain, LayOut}
 use Rattle.chi_tool.specs.declared.task.Task.{Task}
 use Rattle.chi_tool.specs.declared.task.Task.TheVariants.{OfFile, OfPair, OfLog, OfFactory, OfTopic}
-use Rattle.chi_tool.specs.Arguments.{Means, Misfits}
+use Rattle.chi_tool.specs.Arguments.{Means, Misfits, IsMisfitExplained}
 use Rattle.chi_tool.specs.Refusals as refusal
 use Rattle.chi_tool.specs.Layouts.{HasLayout}
 use Rattle.chi_tool.specs.Refusals.{Report, usage, no_such_file, file_too_long, unfit_arguments, brought_up, accepted}
 use Rattle.chi_tool.specs.OnLogs.{IsLogWith, IsNoLogWith}
 use Rattle.chi_tool.specs.Running.{IsRunReport}
-use Rattle.chi_tool.specs.Settings.{Wanted, Unpicked, picked_by, ProgramAim, simulates, replays, judges, checks, lists, Aim, of_program, lays_out, wanted_of, aim_of, pair_aim, settings_with, plain}
-use Rattle.chi_tool.specs.Sources.{IsUnparsed, IsRefused, ComesTo}
+use Rattle.chi_tool.specs.Settings.{Wanted, Unpicked, picked_by, ProgramAim, simulates, replays, judges, checks, lists, Aim, of_program, program_aim, lays_out, wanted_of, pair_aim, settings_with, plain}
+use Rattle.chi_tool.specs.Sources.{IsUnparsed, by_lexer, by_parser, IsRefused, unparsed, by_checker, ComesTo}
 use Rattle.chi_tool.specs.Words.{Wish, nothing, of_task, wish_of}
 
 -- a program with which something is done by arguments: these are refused, or P says what comes of them
@@ -74,6 +81,24 @@ pub data IsReportOfSource (runs : Runs) (source : List ℕ) (aim : ProgramAim) (
   refused : IsRefused source r → IsReportOfSource runs source aim r
   program : (core : Core) → ComesTo source core → IsReportOfProgram runs core aim r → IsReportOfSource runs source aim r
 
+-- What is told at length of a simulation, in place of the log of its report: where the source of this file is refused, and why; why its
+-- arguments are; or what is logged of its run, and how that ended.
+abbrev pub IsExplanation : (runs : Runs) (file source : List ℕ) (w : Wanted) (r : Report) → IsReportOfSource runs source (simulates w) r → List ℕ → Type 0
+IsExplanation runs file source w r (refused (unparsed (by_lexer fault has is))) text = lexical.IsExplanation file source fault text
+IsExplanation runs file source w r (refused (unparsed (by_parser tokens fault has is))) text = IsSyntaxExplanation file source tokens fault text
+IsExplanation runs file source w r (refused (by_checker fault has is)) text = text ≡ explained file source fault.place (broken_words fault.rule)
+IsExplanation runs file source w r (program core comes (unfit wanted fault misfits is)) text = IsMisfitExplained misfits.model.params w.texts fault text
+IsExplanation runs file source w r (program core comes (fit values means of)) text =
+    text ≡ of.course.log ++ ending_text source core.names.kinds of.course.ending.verdict of.course.ending.clock
+
+-- a source's report where its simulation is told at length: that of the simulation, with the explanation in place of its log
+pub record IsExplained (runs : Runs) (file : List ℕ) (w : Wanted) (source : List ℕ) (r : Report) : Type 0 where
+  pub plain : Report
+  pub is : IsReportOfSource runs source (simulates w) plain
+  pub text : List ℕ
+  pub explains : IsExplanation runs file source w plain is text
+  pub told : r ≡ refusal.at_length plain text
+
 -- its report where it is laid out, as it is written: its refusal, its layout, or that this has more bytes than a source may have
 pub data IsReportOfLayout (source : List ℕ) (r : Report) : Type 0 where
   faulty : IsUnparsed source r → IsReportOfLayout source r
@@ -96,6 +121,12 @@ abbrev pub IsReportFor : Runs → Aim → List ℕ → Report → Type 0
 IsReportFor runs (of_program aim) source = IsReportOfSource runs source aim
 IsReportFor runs lays_out source = IsReportOfLayout source
 
+-- the same of a file of this name, as words ask
+abbrev pub IsReportTo : Runs → List ℕ → Purpose → List ℕ → Report → Type 0
+IsReportTo runs file (OfProgram p) source = IsReportFor runs (of_program (program_aim p)) source
+IsReportTo runs file (Explain a) source = IsExplained runs file (wanted_of a) source
+IsReportTo runs file LayOut source = IsReportFor runs lays_out source
+
 -- what is said of two files, the source and the text: the first refusal of one is told, in this order
 abbrev pub IsReportOfPair : Runs → Pair → Files → Report → Type 0
 IsReportOfPair runs pair files r =
@@ -103,7 +134,7 @@ IsReportOfPair runs pair files r =
 
 -- a factory is run like its source, with nothing asked for
 abbrev pub IsReportOfTask : Runs → Task → Files → Report → Type 0
-IsReportOfTask runs (OfFile file purpose) files r = IsReportOfFile MOST_BYTES (IsReportFor runs (aim_of purpose)) (files file) r
+IsReportOfTask runs (OfFile file purpose) files r = IsReportOfFile MOST_BYTES (IsReportTo runs file purpose) (files file) r
 IsReportOfTask runs (OfPair pair) files r = IsReportOfPair runs pair files r
 IsReportOfTask runs (OfLog file) files r = IsReportOfFile MOST_LOG_BYTES IsReportOfLog (files file) r
 IsReportOfTask runs (OfFactory size) files r = IsReportOfSource runs (factory_source size) (simulates (wanted_of plain)) r
@@ -115,7 +146,7 @@ IsReportOfWish runs (of_task t) files r = IsReportOfTask runs t files r
 
 -- r is the report of these words and files, with what comes of the runs that words ask to be simulated: the first refusal among
 -- words, files, bytes, tokens, program, arguments, and picks or log,
--- or what was asked for: the output, trace and verdict of the run, that a text is a log that the program can give, with its run's output
+-- or what was asked for: the output, trace and verdict of the run, or the same told at length, as its refusals then are, that a text is a log that the program can give, with its run's output
 -- or its picks, that the program is accepted, the listing of its code, the layout of the source, what the log of old is brought up to, or
 -- the text of help
 abbrev pub IsReport : Runs → List (List ℕ) → Files → Report → Type 0

@@ -1,10 +1,16 @@
 -- Private to proofs: the ways in which a report is made and told, and in which a file is served.
 use Rattle.std.specs.Prelude.{◌≡◌, ◌≢◌, ℕ, ◌≤◌, ◌<◌, ◌⊎◌, List, [], length, Option, Some, None, IfSome, IsSomeAnd, Result, Ok, Err}
+use Rattle.chi_core.specs.declared.program.Core.{Core}
+use Rattle.chi_io.specs.Counts.{Rose}
 use Rattle.chi_io.specs.Shelf.{Files}
+use Rattle.chi_io.specs.Sink.{Grew}
 use Rattle.chi_lex.specs.declared.lexer.TheConstants.{MOST_BYTES}
 use Rattle.chi_machine_traces.specs.declared.passing.PassFault.{PassFault}
 use Rattle.chi_machine_traces.specs.declared.passing.PassFault.TheVariants.{Stopped, NoMemory}
-use Rattle.chi_engine.specs.Courses.{IsRunOf}
+use Rattle.chi_engine.specs.Courses.{Runs, IsRunOf}
+use Rattle.chi_engine.specs.Running.{RunsTo}
+use Rattle.chi_engine.specs.Settings.{Settings}
+use Rattle.chi_tool.specs.declared.by_engine.Ran.{Ran}
 use Rattle.chi_tool.specs.declared.report.Reported.{Reported}
 use Rattle.chi_tool.specs.declared.task.TheConstants.{MOST_BESIDE}
 use Rattle.chi_tool.specs.declared.task.Pair.{Pair}
@@ -22,6 +28,15 @@ abbrev pub Makes : (Report → Type 0) → SinkUse → Result Reported PassFault
 Makes P out (Ok r) = (passed : List ℕ) × TookWhole out passed × (out.faults_before ≤ out.faults_after) × P (report_after passed r)
 Makes P out (Err Stopped) = (r : Report) × P r × BrokeOff out r.out
 Makes P out (Err NoMemory) = TookWhole out [] ⊎ ((r : Report) × P r × TookPart out r.out)
+
+-- A run has ended so, and this is logged of it; or the sink broke off, or memory was wanting, before the run began or in its course.
+abbrev pub RunsAs : Runs → Core → Settings → SinkUse → Result Ran PassFault → Type 0
+RunsAs runs core s out (Ok ran) =
+    (out.faults_before ≤ out.faults_after)
+    × RunsTo (runs core s) core (Grew out.before out.after) (λ lines. ran.log.items ≡ lines) (Rose out.faults_before out.faults_after) out.stopped (Ok ran.ending)
+RunsAs runs core s out (Err lost) =
+    ((lost ≡ NoMemory) × TookWhole out [])
+    ⊎ RunsTo (runs core s) core (Grew out.before out.after) (λ lines. ⊥) (Rose out.faults_before out.faults_after) out.stopped (Err lost)
 
 -- the status where no report is made
 abbrev pub status_without : PassFault → ℕ

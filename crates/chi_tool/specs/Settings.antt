@@ -14,7 +14,7 @@ use Rattle.chi_tool.specs.declared.task.LogPurpose.{LogPurpose}
 use Rattle.chi_tool.specs.declared.task.PairPurpose.{PairPurpose}
 use Rattle.chi_tool.specs.declared.task.PairPurpose.TheVariants.{Replay, OnLog}
 use Rattle.chi_tool.specs.declared.task.Purpose.{Purpose}
-use Rattle.chi_tool.specs.declared.task.Purpose.TheVariants.{OfProgram, LayOut}
+use Rattle.chi_tool.specs.declared.task.Purpose.TheVariants.{OfProgram, Explain, LayOut}
 use Rattle.chi_tool.specs.declared.task.ProgramPurpose.{ProgramPurpose}
 use Rattle.chi_tool.specs.declared.task.ProgramPurpose.TheVariants.{Simulate, Check, ListCode}
 
@@ -69,8 +69,10 @@ program_aim (Simulate a) = simulates (wanted_of a)
 program_aim Check = checks
 program_aim ListCode = lists
 
+-- what is told at length is simulated, as words ask
 abbrev pub aim_of : Purpose → Aim
 aim_of (OfProgram p) = of_program (program_aim p)
+aim_of (Explain a) = of_program (simulates (wanted_of a))
 aim_of LayOut = lays_out
 
 -- what is done with a program by the text of a second file
@@ -98,6 +100,7 @@ IsBoundedPair (OnLog purpose a) = Unit {0}
 
 abbrev pub IsBounded : Purpose → Type 0
 IsBounded (OfProgram p) = IsBoundedFor p
+IsBounded (Explain a) = a.terms.bound < 2 ^ 63
 IsBounded LayOut = Unit {0}
 
 -- the same, by a policy that picks one of the choices

@@ -4,7 +4,7 @@ ghost use Rattle.std.specs.Prelude.{◌≡◌, ◌++◌, Some, codes, OnOk, IfOk
 ghost use Rattle.std.specs.Fmt.{decimal};
 ghost use Rattle.chi_core.specs.Sound.{Sound};
 ghost use Rattle.chi_tool.specs.Arguments.{is_misfit};
-ghost use Rattle.chi_tool.specs.Readings.{AreReadAs};
+ghost use Rattle.chi_tool.specs.Readings.{AreFittedAs, AreReadAs};
 ghost use Rattle.chi_tool.specs.Refusals.{arguments_text, unfit_arguments};
 ghost use Rattle.chi_tool.specs.Reported.{report_in};
 
@@ -18,7 +18,22 @@ use chi_token::Bytes;
 use chi_value::Value;
 use std::alloc::Global;
 
+/// How texts don't fit a model's parameters, of which there are so many.
+#[derive(Clone, Copy, Debug)]
+pub struct Misfit {
+    pub wanted: usize,
+    pub fault: ArgFault,
+}
+
 /// What the texts of arguments come to.
+#[derive(Debug, Drop)]
+pub enum Fitting {
+    Unfit(Misfit),
+    /// They mean these values, as the parameters want them.
+    Fit(Vec<Value>),
+}
+
+/// The same, with the line of the refusal.
 #[derive(Debug, Drop)]
 pub enum Arguments {
     Unfit(Reported),
@@ -26,25 +41,25 @@ pub enum Arguments {
     Fit(Vec<Value>),
 }
 
-/// The arguments of a program's model that the texts mean, or their refusal.
-pub fn arguments_of(alloc: Global, core: &Core, texts: &[Bytes]) -> Result<Arguments, NoMemory>
+/// The arguments of a program's model that the texts mean, or how they don't fit.
+pub fn fitting_of(alloc: Global, core: &Core, texts: &[Bytes]) -> Result<Fitting, NoMemory>
     requires sound { Sound core.now }
-    ensures { IfOk result (AreReadAs core.now texts.now) }
+    ensures { IfOk result (AreFittedAs core.now texts.now) }
 {
     match core.procs.as_slice().get(core.model as usize) {
-        Some(model) => arguments_for(alloc, core, model, texts),
+        Some(model) => fitting_for(alloc, core, model, texts),
         None => unreachable!(),
     }
 }
 
-fn arguments_for(
+fn fitting_for(
     alloc: Global,
     core: &Core,
     model: &ProcDef,
     texts: &[Bytes],
-) -> Result<Arguments, NoMemory>
+) -> Result<Fitting, NoMemory>
     requires model { slice_get core.now.procs core.now.model ≡ Some model.now }
-    ensures { IfOk result (AreReadAs core.now texts.now) }
+    ensures { IfOk result (AreFittedAs core.now texts.now) }
 {
     let _core = core;
     values_are_of_parameters();
@@ -53,13 +68,30 @@ fn arguments_for(
         return Err(NoMemory);
     }
     match read_args(alloc, params, texts) {
-        Ok(arguments) => Ok(Arguments::Fit(arguments)),
+        Ok(arguments) => Ok(Fitting::Fit(arguments)),
         Err(fault) => {
             if !is_misfit(fault) {
                 return Err(NoMemory);
             }
-            Ok(Arguments::Unfit(unfit(alloc, params.len(), texts.len(), fault)?))
+            Ok(Fitting::Unfit(Misfit {
+                wanted: params.len(),
+                fault,
+            }))
         }
+    }
+}
+
+/// The arguments of a program's model that the texts mean, or their refusal.
+pub fn arguments_of(alloc: Global, core: &Core, texts: &[Bytes]) -> Result<Arguments, NoMemory>
+    requires sound { Sound core.now }
+    ensures { IfOk result (AreReadAs core.now texts.now) }
+{
+    match fitting_of(alloc, core, texts)? {
+        Fitting::Unfit(misfit) => {
+            let refusal = unfit(alloc, misfit.wanted, texts.len(), misfit.fault)?;
+            Ok(Arguments::Unfit(refusal))
+        }
+        Fitting::Fit(arguments) => Ok(Arguments::Fit(arguments)),
     }
 }
 

@@ -10,7 +10,7 @@ ghost use Rattle.chi_engine.specs.Settings.{settings_of};
 ghost use Rattle.chi_tool.specs.Call.{sink_use};
 ghost use Rattle.chi_tool.specs.Report.{IsReportOfRun};
 ghost use Rattle.chi_tool.specs.Running.{IsRunReport};
-ghost use Rattle.chi_tool.specs.Serving.{Makes};
+ghost use Rattle.chi_tool.specs.Serving.{Makes, RunsAs};
 ghost use Rattle.chi_tool.specs.Settings.{settings_with, wanted_of};
 
 use crate::arguments::{Arguments, arguments_of};
@@ -23,11 +23,19 @@ use chi_core::Core;
 use chi_engine::{Engine, Job};
 use chi_gen::generate;
 use chi_io::Sink;
+use chi_machine_agenda::Ending;
 use chi_machine_traces::PassFault;
 use chi_value::Value;
 use std::alloc::Global;
 
-/// The report of a run of a program's code by an engine.
+/// How a run has ended, and what was logged of it.
+#[derive(Drop)]
+pub struct Ran {
+    pub ending: Ending,
+    pub log: Vec<u8>,
+}
+
+/// Runs a program's code by an engine.
 fn run_job<E: Engine, O: Sink>(
     alloc: Global,
     core: &Core,
@@ -35,22 +43,55 @@ fn run_job<E: Engine, O: Sink>(
     job: Job,
     out: &mut O,
     engine: &mut E,
-) -> Result<Reported, PassFault>
+) -> Result<Ran, PassFault>
     requires sound { Sound core.now }
     requires codes { Codes core.now code.now }
     requires arguments { (d : ProcDef) → slice_get core.now.procs core.now.model ≡ Some d
         → AreOf (at_start core.now.names.kinds) job.arguments.items (kinds_of d.params) }
     requires bound { job.bound < 2 ^ 63 }
     requires out_goes { O.stopped out.old ≡ false }
-    ensures { Makes (IsRunReport (E.outcome engine.old) core.now (settings_of job)) (sink_use O.taken O.faults O.stopped out.old out.new) result }
+    ensures { RunsAs (E.outcome engine.old) core.now (settings_of job) (sink_use O.taken O.faults O.stopped out.old out.new) result }
 {
+    let _core = core;
     let mut log = Vec::new(alloc);
     let ending = engine.run(alloc, code, job, &mut log, out)?;
-    unpassed(reported(alloc, core, ending, log))
+    Ok(Ran { ending, log })
+}
+
+/// Runs a program by an engine as words ask, with these arguments.
+pub fn run_with<E: Engine, O: Sink>(
+    alloc: Global,
+    core: &Core,
+    arguments: Vec<Value>,
+    asked: &Asked<Pick>,
+    out: &mut O,
+    engine: &mut E,
+) -> Result<Ran, PassFault>
+    requires sound { Sound core.now }
+    requires arguments { (d : ProcDef) → slice_get core.now.procs core.now.model ≡ Some d
+        → AreOf (at_start core.now.names.kinds) arguments.items (kinds_of d.params) }
+    requires bound { asked.now.terms.bound < 2 ^ 63 }
+    requires out_goes { O.stopped out.old ≡ false }
+    ensures { RunsAs (E.outcome engine.old) core.now (settings_with (wanted_of asked.now) arguments.items)
+        (sink_use O.taken O.faults O.stopped out.old out.new) result }
+{
+    let code = generate(alloc, core)?;
+    let terms = &asked.terms;
+    let job = Job {
+        arguments,
+        seed: terms.seed,
+        bound: terms.bound,
+        until: terms.until,
+        pick: terms.policy,
+        trace: terms.trace,
+    };
+    let ran = run_job(alloc, core, &code, job, out, engine);
+    drop(code);
+    ran
 }
 
 /// The report of a program that is run by an engine as words ask, with these arguments.
-fn run_with<E: Engine, O: Sink>(
+fn report_with<E: Engine, O: Sink>(
     alloc: Global,
     core: &Core,
     arguments: Vec<Value>,
@@ -66,19 +107,8 @@ fn run_with<E: Engine, O: Sink>(
     ensures { Makes (IsRunReport (E.outcome engine.old) core.now (settings_with (wanted_of asked.now) arguments.items))
         (sink_use O.taken O.faults O.stopped out.old out.new) result }
 {
-    let code = generate(alloc, core)?;
-    let terms = &asked.terms;
-    let job = Job {
-        arguments,
-        seed: terms.seed,
-        bound: terms.bound,
-        until: terms.until,
-        pick: terms.policy,
-        trace: terms.trace,
-    };
-    let report = run_job(alloc, core, &code, job, out, engine);
-    drop(code);
-    report
+    let ran = run_with(alloc, core, arguments, asked, out, engine)?;
+    unpassed(reported(alloc, core, ran.ending, ran.log))
 }
 
 /// The report of a program that words ask to be run.
@@ -96,6 +126,6 @@ pub fn report_by_engine<E: Engine, O: Sink>(
 {
     match arguments_of(alloc, core, asked.texts.as_slice())? {
         Arguments::Unfit(refusal) => Ok(refusal),
-        Arguments::Fit(arguments) => run_with(alloc, core, arguments, asked, out, engine),
+        Arguments::Fit(arguments) => report_with(alloc, core, arguments, asked, out, engine),
     }
 }

@@ -18,9 +18,9 @@ ghost use Rattle.chi_tool.specs.Headline.{Follows, Meets};
 ghost use Rattle.chi_tool.specs.Layouts.{HasLayout};
 ghost use Rattle.chi_tool.specs.Limits.{LimitsAre};
 ghost use Rattle.chi_tool.specs.Refusals.{Report};
-ghost use Rattle.chi_tool.specs.Report.{IsReport, IsReportFor};
+ghost use Rattle.chi_tool.specs.Report.{IsExplained, IsReport, IsReportFor, IsReportOfSource};
 ghost use Rattle.chi_tool.specs.Running.{runs_for};
-ghost use Rattle.chi_tool.specs.Settings.{Aim, IsShortFor, MayBeAimed};
+ghost use Rattle.chi_tool.specs.Settings.{Aim, IsShortFor, MayBeAimed, Wanted, simulates};
 ghost use Rattle.chi_tool.specs.Simulations.{AreOwnPicks, IsDerived, course_of};
 ghost use Rattle.chi_tool.specs.Sources.{ComesTo, IsWritten};
 ghost use Rattle.chi_tree.specs.declared.definition.Program.{Program};
@@ -28,10 +28,12 @@ ghost use Rattle.chi_tree_laws.specs.UnplacedStatements.{unplaced};
 ghost use Rattle.chi_fmt.specs.Kept.{kept};
 
 use chi_check_parsed::parsed_programs_are_sound;
-use chi_cli::{numbers_are_in_range, values_are_of_parameters};
+use chi_cli::{faults_of_arguments_name_them, numbers_are_in_range, values_are_of_parameters};
 use chi_code::code_is_unique;
 use chi_core_runs::own_numbers_law;
 use chi_engine::{Engine, Machines, course_law};
+use chi_explain::lexical_explanation_law;
+use chi_explain_syntax::syntax_explanation_law;
 use chi_gen_laws::sound_programs_have_one_code;
 use chi_log::{judging_law, one_log_law};
 use chi_picks::picks_law;
@@ -92,11 +94,13 @@ pub fn source_law()
     one_log_law();
 }
 
-/// Words and files have exactly one report with an engine.
+/// Words and files have exactly one report with an engine, and each report of a simulation can be told at length.
 pub fn report_law<E: Engine>(engine: &E)
     ensures some { (words : List (List ℕ)) (files : Files) → (r : Report) × IsReport (E.outcome engine.now) words files r }
     ensures one { (words : List (List ℕ)) (files : Files) (r other : Report)
         → IsReport (E.outcome engine.now) words files r → IsReport (E.outcome engine.now) words files other → r ≡ other }
+    ensures explained { (file : List ℕ) (source : List ℕ) (w : Wanted) (plain : Report) → IsReportOfSource (E.outcome engine.now) source (simulates w) plain
+        → (r : Report) × IsExplained (E.outcome engine.now) file w source r × (r.status ≡ plain.status) }
 {
     answer_law();
     parsed_programs_are_sound();
@@ -104,6 +108,9 @@ pub fn report_law<E: Engine>(engine: &E)
     one_code_law();
     numbers_are_in_range();
     values_are_of_parameters();
+    faults_of_arguments_name_them();
+    lexical_explanation_law();
+    syntax_explanation_law();
     logs_law();
     picks_law();
     judging_law();

@@ -1,14 +1,21 @@
-ghost use Rattle.std.specs.Prelude.{◌≡◌, ◌++◌, IfOk};
+//! The lines of refusals.
+
+ghost use Rattle.std.specs.Prelude.{◌≡◌, ◌≤◌, ◌++◌, IfOk, length};
 ghost use Rattle.std.specs.Fmt.{decimal};
 ghost use Rattle.chi_tool.specs.Syntax.{placed};
 ghost use Rattle.chi_tool.specs.Reported.{report_in};
 ghost use Rattle.chi_check_types.specs.Faults.{fault};
-ghost use Rattle.chi_tool.specs.Refusals.{refused, typing};
+ghost use Rattle.chi_tool.specs.Readings.{refusal_report, unparsed_report};
+ghost use Rattle.chi_tool.specs.Refusals.{lexical, refused, syntax, typing};
 
+use crate::reading::{Refusal, Unparsed};
 use crate::report::Reported;
-use crate::status::TYPING;
+use crate::status::{LEXICAL, TYPING};
+use crate::syntax::refused_token;
 use chi_base::NoMemory;
-use chi_token::Place;
+use chi_grammar::ParseFault;
+use chi_lex::{LexFault, MOST_BYTES};
+use chi_token::{Place, Spanned};
 use std::alloc::Global;
 
 /// What is wrong, with the place of it in a source.
@@ -61,9 +68,60 @@ pub fn refused_at(
 }
 
 /// The report of a program that breaks this rule first, there.
-pub fn refused_rule(alloc: Global, place: Place, rule: u8) -> Result<Reported, NoMemory>
+fn refused_rule(alloc: Global, place: Place, rule: u8) -> Result<Reported, NoMemory>
     ensures { IfOk result (λ r. report_in r ≡ typing (fault rule place)) }
 {
     let what = format!(in alloc; "rule {rule}")?;
     refused_at(alloc, TYPING, place, what.as_bytes())
+}
+
+/// The report of a source with this fault of its bytes.
+fn told_lexical(alloc: Global, fault: LexFault) -> Result<Reported, NoMemory>
+    ensures { IfOk result (λ r. report_in r ≡ lexical fault) }
+{
+    match fault {
+        LexFault::BadByte(place) => refused_at(alloc, LEXICAL, place, b"bad byte"),
+        LexFault::OpenString(place) => refused_at(alloc, LEXICAL, place, b"open string"),
+        LexFault::BadEscape(place) => refused_at(alloc, LEXICAL, place, b"bad escape"),
+        LexFault::NoMemory => Err(NoMemory),
+    }
+}
+
+/// The report of a source with this fault of its tokens.
+fn told_syntax(
+    alloc: Global,
+    source: &[u8],
+    tokens: &[Spanned],
+    fault: ParseFault,
+) -> Result<Reported, NoMemory>
+    requires { length source.now ≤ MOST_BYTES }
+    ensures { IfOk result (λ r. report_in r ≡ syntax source.now tokens.now fault) }
+{
+    match fault {
+        ParseFault::Syntax(index) => refused_token(alloc, source, tokens, "syntax", index),
+        ParseFault::TooDeep(index) => refused_token(alloc, source, tokens, "too deep", index),
+        ParseFault::NoMemory => Err(NoMemory),
+    }
+}
+
+/// The report of a source that has no tree.
+pub fn told_unparsed(alloc: Global, source: &[u8], unparsed: Unparsed) -> Result<Reported, NoMemory>
+    requires { length source.now ≤ MOST_BYTES }
+    ensures { IfOk result (λ r. report_in r ≡ unparsed_report source.now unparsed) }
+{
+    match unparsed {
+        Unparsed::Lexical(fault) => told_lexical(alloc, fault),
+        Unparsed::Syntax { tokens, fault } => told_syntax(alloc, source, &tokens, fault),
+    }
+}
+
+/// The report of a source that is no program which can be run.
+pub fn told(alloc: Global, source: &[u8], refusal: Refusal) -> Result<Reported, NoMemory>
+    requires { length source.now ≤ MOST_BYTES }
+    ensures { IfOk result (λ r. report_in r ≡ refusal_report source.now refusal) }
+{
+    match refusal {
+        Refusal::Unparsed(unparsed) => told_unparsed(alloc, source, unparsed),
+        Refusal::Broken { rule, place } => refused_rule(alloc, place, rule),
+    }
 }

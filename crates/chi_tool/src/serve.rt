@@ -2,10 +2,11 @@ ghost use Rattle.std.specs.Prelude.{◌≡◌, ◌≤◌, false, length};
 ghost use Rattle.chi_tool.specs.Call.{sink_use, shelf_use};
 ghost use Rattle.chi_load.specs.Factory.{factory_source};
 ghost use Rattle.chi_tool.specs.Serving.{Makes, Serves, Tells};
-ghost use Rattle.chi_tool.specs.Report.{IsReportFor, IsReportOfSource};
-ghost use Rattle.chi_tool.specs.Settings.{IsBounded, IsBoundedFor, aim_of, plain, program_aim, simulates, wanted_of};
+ghost use Rattle.chi_tool.specs.Report.{IsReportOfSource, IsReportTo};
+ghost use Rattle.chi_tool.specs.Settings.{IsBounded, IsBoundedFor, plain, program_aim, simulates, wanted_of};
 
 use crate::deliver::deliver;
+use crate::explain::report_at_length;
 use crate::fetching::fetched;
 use crate::layout::report_of_layout;
 use crate::program::report_of_program;
@@ -39,9 +40,10 @@ fn report_of_source<E: Engine, O: Sink>(
     }
 }
 
-/// The report of a source.
+/// The report of a source, that of a file of this name.
 fn report_of<E: Engine, O: Sink>(
     alloc: Global,
+    file: &[u8],
     source: &[u8],
     purpose: &Purpose,
     out: &mut O,
@@ -50,10 +52,11 @@ fn report_of<E: Engine, O: Sink>(
     requires within { length source.now ≤ MOST_BYTES }
     requires bounded { IsBounded purpose.now }
     requires out_goes { O.stopped out.old ≡ false }
-    ensures { Makes (IsReportFor (E.outcome engine.old) (aim_of purpose.now) source.now) (sink_use O.taken O.faults O.stopped out.old out.new) result }
+    ensures { Makes (IsReportTo (E.outcome engine.old) file.now purpose.now source.now) (sink_use O.taken O.faults O.stopped out.old out.new) result }
 {
     match purpose {
         Purpose::OfProgram(purpose) => report_of_source(alloc, source, purpose, out, engine),
+        Purpose::Explain(asked) => report_at_length(alloc, file, source, asked, out, engine),
         Purpose::LayOut => unpassed(report_of_layout(alloc, source)),
     }
 }
@@ -62,7 +65,7 @@ fn report_of<E: Engine, O: Sink>(
 fn tell<E: Engine, O: Sink, L: Sink>(
     alloc: Global,
     source: &[u8],
-    purpose: &Purpose,
+    asked: &FileTask,
     out: &mut O,
     log: &mut L,
     engine: &mut E,
@@ -70,11 +73,34 @@ fn tell<E: Engine, O: Sink, L: Sink>(
     requires out_goes { O.stopped out.old ≡ false }
     requires log_goes { L.stopped log.old ≡ false }
     requires within { length source.now ≤ MOST_BYTES }
-    requires bounded { IsBounded purpose.now }
-    ensures { Tells (IsReportFor (E.outcome engine.old) (aim_of purpose.now) source.now) result
+    requires bounded { IsBounded asked.now.purpose }
+    ensures { Tells (IsReportTo (E.outcome engine.old) asked.now.file asked.now.purpose source.now) result
         (sink_use O.taken O.faults O.stopped out.old out.new) (sink_use L.taken L.faults L.stopped log.old log.new) }
 {
-    match report_of(alloc, source, purpose, out, engine) {
+    let file = asked.file.as_slice();
+    match report_of(alloc, file, source, &asked.purpose, out, engine) {
+        Ok(report) => deliver(report.status, out, &report.out, log, &report.log),
+        Err(fault) => status_without(fault),
+    }
+}
+
+/// The same of a source with whose program something is done.
+fn tell_source<E: Engine, O: Sink, L: Sink>(
+    alloc: Global,
+    source: &[u8],
+    purpose: &ProgramPurpose,
+    out: &mut O,
+    log: &mut L,
+    engine: &mut E,
+) -> u8
+    requires out_goes { O.stopped out.old ≡ false }
+    requires log_goes { L.stopped log.old ≡ false }
+    requires within { length source.now ≤ MOST_BYTES }
+    requires bounded { IsBoundedFor purpose.now }
+    ensures { Tells (IsReportOfSource (E.outcome engine.old) source.now (program_aim purpose.now)) result
+        (sink_use O.taken O.faults O.stopped out.old out.new) (sink_use L.taken L.faults L.stopped log.old log.new) }
+{
+    match report_of_source(alloc, source, purpose, out, engine) {
         Ok(report) => deliver(report.status, out, &report.out, log, &report.log),
         Err(fault) => status_without(fault),
     }
@@ -101,8 +127,8 @@ pub fn serve_factory<E: Engine, O: Sink, L: Sink>(
     let Ok(asked) = unasked(alloc) else {
         return NO_MEMORY;
     };
-    let purpose = Purpose::OfProgram(ProgramPurpose::Simulate(asked));
-    tell(alloc, &source, &purpose, out, log, engine)
+    let purpose = ProgramPurpose::Simulate(asked);
+    tell_source(alloc, &source, &purpose, out, log, engine)
 }
 
 /// Fetches a file, and delivers its report or its refusal.
@@ -117,12 +143,12 @@ pub fn serve<E: Engine, H: Shelf, O: Sink, L: Sink>(
     requires out_goes { O.stopped out.old ≡ false }
     requires log_goes { L.stopped log.old ≡ false }
     requires bounded { IsBounded asked.now.purpose }
-    ensures { Serves MOST_BYTES (IsReportFor (E.outcome engine.old) (aim_of asked.now.purpose)) asked.now.file (shelf_use H.files H.faults shelf.old shelf.new) result
+    ensures { Serves MOST_BYTES (IsReportTo (E.outcome engine.old) asked.now.file asked.now.purpose) asked.now.file (shelf_use H.files H.faults shelf.old shelf.new) result
         (sink_use O.taken O.faults O.stopped out.old out.new) (sink_use L.taken L.faults L.stopped log.old log.new) }
 {
     let name = asked.file.as_slice();
     match fetched(alloc, name, MOST_BYTES as u64, shelf, out, log) {
-        Ok(source) => tell(alloc, &source, &asked.purpose, out, log, engine),
+        Ok(source) => tell(alloc, &source, asked, out, log, engine),
         Err(status) => status,
     }
 }

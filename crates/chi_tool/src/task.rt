@@ -51,6 +51,8 @@ pub enum ProgramPurpose {
 pub enum Purpose {
     /// Something is done with its program.
     OfProgram(ProgramPurpose),
+    /// Its program is simulated, and what comes of that is told at length.
+    Explain(Asked<Pick>),
     /// It is laid out, as it is written.
     LayOut,
 }

@@ -37,6 +37,26 @@ pub fn task_of(request: Request) -> Task
                 purpose: Purpose::OfProgram(ProgramPurpose::Simulate(asked)),
             }
         }
+        Request::Explain {
+            file,
+            args,
+            seed,
+            bound,
+            until,
+            pick,
+        } => {
+            let terms = Terms {
+                seed,
+                bound,
+                policy: pick,
+                until,
+                trace: None,
+            };
+            Task::OfFile {
+                file,
+                purpose: Purpose::Explain(Asked { terms, texts: args }),
+            }
+        }
         Request::Check { file } => Task::OfFile {
             file,
             purpose: Purpose::OfProgram(ProgramPurpose::Check),

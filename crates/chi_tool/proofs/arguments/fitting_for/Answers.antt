@@ -1,5 +1,5 @@
 use Rattle.chi_tool.proofs.Runs.{arguments_fit}
-use Rattle.chi_tool.proofs.arguments.arguments_for.Goals as goal
+use Rattle.chi_tool.proofs.arguments.fitting_for.Goals as goal
 
 pub returns-in-Ok : goal.returns-in-Ok
 returns-in-Ok c =

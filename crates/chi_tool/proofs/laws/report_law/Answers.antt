@@ -1,4 +1,5 @@
-use Rattle.chi_tool.proofs.LawClauses.{AnswerLaw, RunLaw, CodeLaw, CheckLaw, JudgeLaw, LogLaw, PicksLaw}
+use Rattle.chi_tool.proofs.LawClauses.{AnswerLaw, RunLaw, CodeLaw, CheckLaw, ExplainLaw, JudgeLaw, LogLaw, PicksLaw}
+use Rattle.chi_tool.proofs.Explained.{explained_some}
 use Rattle.chi_tool.proofs.Reports.{report_some, report_one}
 use Rattle.chi_tool.proofs.laws.report_law.Goals as goal
 
@@ -11,7 +12,17 @@ returns g c =
     let log_law : LogLaw = record { some = c.logs_law.ensures.some; one_log = c.logs_law.ensures.one_log; one_line = c.logs_law.ensures.one_line; apart = c.logs_law.ensures.apart } in
     let picks : PicksLaw = record { some = c.picks_law.ensures.some; one_list = c.picks_law.ensures.one_list; one_line = c.picks_law.ensures.one_line; apart = c.picks_law.ensures.apart } in
     let judging : JudgeLaw = record { some = c.judging_law.ensures; one_log = c.one_log_law.ensures.one_log; one_line = c.one_log_law.ensures.one_line } in
+    let explain : ExplainLaw = record {
+      lexical_some = c.lexical_explanation_law.ensures.some;
+      lexical_one = c.lexical_explanation_law.ensures.one;
+      syntax_some = c.syntax_explanation_law.ensures.some;
+      syntax_one = c.syntax_explanation_law.ensures.one;
+      kind = c.faults_of_arguments_name_them.ensures.kind;
+      text = c.faults_of_arguments_name_them.ensures.text;
+      memory = c.faults_of_arguments_name_them.ensures.memory;
+    } in
     record {
-      some = report_some (g.E.Engine.outcome c.args.engine.now) answers ran coded check c.values_are_of_parameters.ensures picks judging log_law c.numbers_are_in_range.ensures;
-      one = report_one (g.E.Engine.outcome c.args.engine.now) answers ran coded check c.values_are_of_parameters.ensures picks judging log_law;
+      some = report_some (g.E.Engine.outcome c.args.engine.now) answers ran coded check c.values_are_of_parameters.ensures picks judging explain log_law c.numbers_are_in_range.ensures;
+      one = report_one (g.E.Engine.outcome c.args.engine.now) answers ran coded check c.values_are_of_parameters.ensures picks judging explain log_law;
+      explained = explained_some answers explain (g.E.Engine.outcome c.args.engine.now);
     }

@@ -1,0 +1,55 @@
+use Rattle.std.proofs.Common.{◌≡◌, ℕ, List, subst, refl}
+use Rattle.chi_core.specs.Options.{Ending}
+use Rattle.chi_explain_endings.specs.Endings.{ending_text}
+use Rattle.chi_tool.specs.Call.{sink_use}
+use Rattle.chi_tool.specs.Explaining.{IsProgramTold, misfit, ran}
+use Rattle.chi_tool.specs.Readings.{AreFittedAs}
+use Rattle.chi_tool.specs.Settings.{settings_with, wanted_of}
+use Rattle.chi_tool.proofs.Made.{makes_apart, makes_fault, makes_lost, told_makes, runs_fault}
+use Rattle.chi_tool.proofs.Runs.{if_ok}
+use Rattle.chi_tool.proofs.explain.program_told.Goals as goal
+
+pub misfit_told-requires : goal.misfit_told-requires
+misfit_told-requires g c = subst (AreFittedAs c.args.core.now c.as_slice-texts.result.now) c.in-Unfit.is c.in_ok-misfit.ensures
+
+pub run_with-requires-clause-arguments : goal.run_with-requires-clause-arguments
+run_with-requires-clause-arguments g c =
+    let means = subst (AreFittedAs c.args.core.now c.as_slice-texts.result.now) c.in-Fit.is c.in_ok-misfit.ensures in means.1
+
+pub ending_told-requires : goal.ending_told-requires
+ending_told-requires g c = c.in_ok-ran-in-Fit.ensures.1.1.may
+
+pub returns-in-Unfit : goal.returns-in-Unfit
+returns-in-Unfit g c =
+    makes_apart g.O.Sink.taken g.O.Sink.faults g.O.Sink.stopped c.args.out.now c.requires.out_goes
+    (IsProgramTold (g.E.Engine.outcome c.args.engine.now) c.args.source.now c.args.core.now (wanted_of c.args.asked.now)) c.misfit_told.result c.unpassed.result c.unpassed.ensures
+    (if_ok c.misfit_told.result (λ r told. misfit c.in-Unfit.misfit.wanted c.in-Unfit.misfit.fault told) (rw (c.as_slice-texts.ensures.same) at c.misfit_told.ensures))
+
+pub returns-in_ok-ran-in-Fit : goal.returns-in_ok-ran-in-Fit
+returns-in_ok-ran-in-Fit g c =
+    let means = rw (c.as_slice-texts.ensures.same) at (subst (AreFittedAs c.args.core.now c.as_slice-texts.result.now) c.in-Fit.is c.in_ok-misfit.ensures) in
+    let runs = g.E.Engine.outcome c.args.engine.now in
+    let core = c.args.core.now in
+    let w = wanted_of c.args.asked.now in
+    let text : Ending → List ℕ = λ ending. ending_text c.args.source.now core.names.kinds ending.verdict ending.clock in
+    told_makes runs core (settings_with w c.in-Fit.arguments.items) (sink_use g.O.Sink.taken g.O.Sink.faults g.O.Sink.stopped c.args.out.now c.run_with.new.out)
+    (λ lines. c.in_ok-ran-in-Fit.ran.log.items ≡ lines) text (IsProgramTold runs c.args.source.now core w) c.in_ok-ran-in-Fit.ran.ending c.in_ok-ran-in-Fit.ran.log.items (λ lines e. e) c.in_ok-ran-in-Fit.ensures.0
+    c.in_ok-ran-in-Fit.ensures.1 (ran c.in-Fit.arguments.items means.0 c.in_ok-ran-in-Fit.ensures.1.1.course c.in_ok-ran-in-Fit.ensures.1.1.run refl) c.ending_told.result c.unpassed-in-Fit.result
+    c.unpassed-in-Fit.ensures c.ending_told.ensures
+
+pub returns-in_err-ran-in-Fit : goal.returns-in_err-ran-in-Fit
+returns-in_err-ran-in-Fit g c =
+    let means = rw (c.as_slice-texts.ensures.same) at (subst (AreFittedAs c.args.core.now c.as_slice-texts.result.now) c.in-Fit.is c.in_ok-misfit.ensures) in
+    let runs = g.E.Engine.outcome c.args.engine.now in
+    let core = c.args.core.now in
+    let w = wanted_of c.args.asked.now in
+    let out = sink_use g.O.Sink.taken g.O.Sink.faults g.O.Sink.stopped c.args.out.now c.run_with.new.out in
+    let text : Ending → List ℕ = λ ending. ending_text c.args.source.now core.names.kinds ending.verdict ending.clock in
+    makes_fault (IsProgramTold runs c.args.source.now core w) out c.from_residual-in_err-ran-in-Fit.result c.in_err-ran-in-Fit.field-0.0 c.from_residual-in_err-ran-in-Fit.ensures.1
+    (runs_fault runs core (settings_with w c.in-Fit.arguments.items) out text (IsProgramTold runs c.args.source.now core w)
+    (λ course run. ran c.in-Fit.arguments.items means.0 course run refl) c.in_err-ran-in-Fit.field-0.0 c.in_err-ran-in-Fit.ensures)
+
+pub returns-in_err-misfit : goal.returns-in_err-misfit
+returns-in_err-misfit g c =
+    makes_lost g.O.Sink.taken g.O.Sink.faults g.O.Sink.stopped c.args.out.now c.requires.out_goes
+    (IsProgramTold (g.E.Engine.outcome c.args.engine.now) c.args.source.now c.args.core.now (wanted_of c.args.asked.now)) c.from_residual.result c.from_residual.ensures.1
