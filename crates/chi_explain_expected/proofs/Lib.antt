@@ -1,0 +1,4 @@
+mod LastOfClass
+mod Fronts
+mod Asked
+mod Choices
