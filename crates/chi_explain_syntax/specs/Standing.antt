@@ -1,5 +1,5 @@
 -- What stands at a token of a source, and where.
-use Rattle.std.specs.Prelude.{ℕ, List, ◌++◌, length, codes, Option, Some, None}
+use Rattle.std.specs.Prelude.{ℕ, ◌-◌, ◌==◌, nat_lt, Bool, true, false, List, ◌++◌, length, slice_get, codes, Option, Some, None, if◌then◌else◌}
 use Rattle.chi_token.specs.declared.place.Place.{Place}
 use Rattle.chi_token.specs.declared.place.Spanned.{Spanned}
 use Rattle.chi_token.specs.declared.token.Token.{Token}
@@ -28,3 +28,22 @@ token_words token = kind_words token ++ codes "`" ++ canonical_spelling token ++
 abbrev pub standing_words : Option Spanned → List ℕ
 standing_words (Some x) = token_words x.token
 standing_words None = codes "the end of the file"
+
+abbrev pub is_keyword : Token → Bool
+is_keyword (Word _) = true
+is_keyword _ = false
+
+-- whether a word of the language stands there
+abbrev pub is_word : Option Spanned → Bool
+is_word (Some x) = is_keyword x.token
+is_word None = false
+
+-- the token before token k
+abbrev pub token_before : List Spanned → ℕ → Option Spanned
+token_before tokens k = if k == 0 then None else slice_get tokens (k - 1)
+
+-- The line of a token that stands on an earlier line than a place. Where it is the one before the place, the place begins its
+-- line.
+abbrev pub earlier_line : Option Spanned → Place → Option ℕ
+earlier_line (Some x) place = if nat_lt x.place.line place.line then Some x.place.line else None
+earlier_line None place = None

@@ -1,5 +1,5 @@
-ghost use Rattle.std.specs.Prelude.{◌≡◌, ◌≤◌, ◌++◌, length, slice_get, OnOk};
-ghost use Rattle.chi_explain_syntax.specs.Standing.{kind_words, place_at, standing_words, token_words};
+ghost use Rattle.std.specs.Prelude.{◌≡◌, ◌≤◌, ◌++◌, length, slice_get, option_map, OnOk};
+ghost use Rattle.chi_explain_syntax.specs.Standing.{earlier_line, is_word, kind_words, place_at, standing_words, token_before, token_words};
 
 use chi_base::NoMemory;
 use chi_lex::{MOST_BYTES, end_place};
@@ -55,4 +55,35 @@ pub fn put_standing(
         None => words.extend_from_slice(b"the end of the file")?,
     }
     Ok(())
+}
+
+/// Whether a word of the language stands at this index.
+pub fn is_word(tokens: &[Spanned], at: u32) -> bool
+    ensures { result ≡ is_word (slice_get tokens.now at) }
+{
+    match tokens.get(at as usize) {
+        Some(there) => matches!(there.token, Token::Word(_)),
+        None => false,
+    }
+}
+
+/// The token before the one of this index.
+fn token_before(tokens: &[Spanned], at: u32) -> Option<&Spanned>
+    ensures { option_map (λ before. before.now) result ≡ token_before tokens.now at }
+{
+    if at == 0 {
+        None
+    } else {
+        tokens.get(at as usize - 1)
+    }
+}
+
+/// The line of the token before the one of this index, where it is an earlier one than that of a place.
+pub fn earlier_line(tokens: &[Spanned], at: u32, place: Place) -> Option<u32>
+    ensures { result ≡ earlier_line (token_before tokens.now at) place }
+{
+    match token_before(tokens, at) {
+        Some(before) if before.place.line < place.line => Some(before.place.line),
+        _ => None,
+    }
 }
