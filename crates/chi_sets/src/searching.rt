@@ -1,4 +1,4 @@
-ghost use Rattle.std.specs.Prelude.{◌≡◌, ◌<◌, length, find, slice_get, slice_set, option_and_then, option_copied, IfOk, IsTrue};
+ghost use Rattle.std.specs.Prelude.{◌≡◌, ◌<◌, length, find, slice_get, slice_set, option_and_then, option_copied, IfOk, IfSome, IsTrue};
 ghost use Rattle.std.specs.List.{list_any};
 ghost use Rattle.std.specs.List.Sorted.{IsBinarySearchResult, IsSearchInRange};
 ghost use Rattle.chi_sets.specs.By.{order_by};
@@ -22,6 +22,7 @@ pub fn has(items: &[Value], x: &Value) -> bool
 pub fn find(items: &[Value], x: &Value) -> Option<usize>
     requires ascending { IsTrue (is_ascending items.now) }
     ensures value { option_and_then (slice_get items.now) result ≡ find (ties x.now) items.now }
+    ensures within { IfSome result (λ at. at < length items.now) }
 {
     search(By::Itself, items, x).ok()
 }
@@ -38,6 +39,7 @@ pub fn has_key(entries: &[Value], key: &Value) -> bool
 pub fn find_key(entries: &[Value], key: &Value) -> Option<usize>
     requires ascending { IsTrue (ascending_by_key entries.now) }
     ensures value { option_and_then (slice_get entries.now) result ≡ find (has_key key.now) entries.now }
+    ensures within { IfSome result (λ at. at < length entries.now) }
 {
     search_key(entries, key).ok()
 }
