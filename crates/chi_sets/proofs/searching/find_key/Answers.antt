@@ -6,8 +6,7 @@ use Rattle.chi_sets.proofs.Orders.{keys_total}
 use Rattle.chi_sets.proofs.Searches.{found_one}
 use Rattle.chi_sets.proofs.searching.find_key.Goals as goal
 
-pub returns : goal.returns
-returns c = record {
-  value = ap (option_and_then (slice_get c.args.entries.now)) c.ok.ensures.value
-      ∙ found_one key_of (option_cmp order) keys_total (Some c.args.key.now) _ _ c.requires.ascending c.search_key.ensures.bound c.search_key.ensures.place;
-}
+pub returns-clause-value : goal.returns-clause-value
+returns-clause-value c =
+    ap (option_and_then (slice_get c.args.entries.now)) c.ok.ensures.value
+    ∙ found_one key_of (option_cmp order) keys_total (Some c.args.key.now) _ _ c.requires.ascending c.search_key.ensures.bound c.search_key.ensures.place
