@@ -22,7 +22,7 @@ use Rattle.chi_check_types.specs.Typed.{Typed}
 use Rattle.chi_check_expr_rules.specs.Calls as rule
 use Rattle.chi_check_expr_rules.specs.Calls.{function_call, untyped_call, call_of}
 use Rattle.chi_check_expr_rules.specs.Nodes.{all_made}
-use Rattle.chi_check_expr_rules.specs.PredefinedCalls.{is_count, predefined, is_untyped_function, inserted_in, insertion, insertion_of, predefined_rule, before_third, insert_parts, insert_call, plain_call, is_insert, predefined_made, predefined_call}
+use Rattle.chi_check_expr_rules.specs.PredefinedCalls.{is_count, predefined, is_untyped_function, inserted_in, insertion, insertion_of, predefined_rule, before_third, insert_parts, is_insert, predefined_made, predefined_call}
 use Rattle.chi_check_expr_rules.specs.Sites.{calling_rule}
 use Rattle.chi_check_expr.specs.Reads.{Read, typed_of, made_of, all_faults}
 use Rattle.chi_check_expr.specs.Calls.{is_insertion, function_known, inserted, call_by, called_with, called, call}

@@ -1,5 +1,5 @@
 -- What an expression comes to, of what its parts come to, is the same without places.
-use Rattle.std.proofs.Common.{◌≡◌, Bool, false, List, [], ◌∷◌, ◌++◌, map, Option, Some, None, refl, ap, ◌∙◌}
+use Rattle.std.proofs.Common.{◌≡◌, false, List, [], ◌∷◌, ◌++◌, map, Option, refl, ap, ◌∙◌}
 use Rattle.std.specs.Prelude.{is_some}
 use Rattle.std.specs.Option.{option_map}
 use Rattle.chi_token.specs.declared.place.Place.{Place}
@@ -21,7 +21,7 @@ use Rattle.chi_check_expr_rules.specs.Parts.{Bounds, given, indexed, sliced, ind
 use Rattle.chi_check_expr.specs.Expressions.{chained, part_of, parted, name_alone, expr_typed, expr_step}
 use Rattle.chi_check_expr.specs.Reads.{Read, Taken, index, slice, field, Reading, Paired, Linked, Field, typed_of, made_of, all_faults, entry_faults, key_made, value_made, each_bound}
 use Rattle.chi_check_places.specs.UnplacedTyped.{unplaced_faults, unplaced_typed}
-use Rattle.chi_check_places.proofs.Faults.{faults-append, after-unplaced, after-both, settled-unplaced, two-unplaced}
+use Rattle.chi_check_places.proofs.Faults.{faults-append, after-both, settled-unplaced, two-unplaced}
 use Rattle.chi_check_places.proofs.Rules.{named-value-unplaced, time-unplaced, prefix-unplaced, cast-unplaced, field-unplaced, tuple-unplaced, list-unplaced, set-unplaced, dict-unplaced, empty-list-unplaced, empty-set-unplaced, empty-dict-unplaced}
 use Rattle.chi_check_places.proofs.Calls.{call-unplaced}
 use Rattle.chi_check_places.proofs.ReadParts.{unplaced_read, unplaced_linked, unplaced_taken, unplaced_paired, typed-unplaced, made-unplaced, faults-unplaced, entry-faults-unplaced, keys-made, values-made, given-each, bounds-made, unplaced_layer}

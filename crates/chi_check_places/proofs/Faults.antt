@@ -1,12 +1,12 @@
 -- What is made of places by the rules that all others use is made without them too.
-use Rattle.std.proofs.Common.{◌≡◌, ℕ, Bool, true, false, List, [], ◌∷◌, ◌++◌, map, Option, Some, None, refl, ap, sym, ◌∙◌}
+use Rattle.std.proofs.Common.{◌≡◌, ℕ, Bool, true, false, List, [], ◌∷◌, ◌++◌, Option, Some, None, refl, sym, ◌∙◌}
 use Rattle.std.specs.Prelude.{if◌then◌else◌}
 use Rattle.std.proofs.lemmas.List.{map-append}
 use Rattle.chi_token.specs.declared.place.Place.{Place}
 use Rattle.chi_tree.specs.View.{nowhere}
 use Rattle.chi_check_types.specs.declared.fault.Fault.{Fault}
 use Rattle.chi_check_types.specs.declared.meant.Made.{Made}
-use Rattle.chi_check_types.specs.Typed.{Typed, broken_if, unless, after, refused}
+use Rattle.chi_check_types.specs.Typed.{Typed, broken_if, unless, after}
 use Rattle.chi_check_expr_rules.specs.Nodes.{settled, of_one, of_two, of_all, barred}
 use Rattle.chi_check_places.specs.UnplacedTyped.{unplaced_fault, unplaced_faults, unplaced_typed}
 

@@ -1,6 +1,5 @@
 -- What an expression or a type comes to is the same without places: the induction over trees.
 use Rattle.std.proofs.Common.{◌≡◌, Bool, false, List, [], ◌∷◌, map, Option, Some, None, refl, sym, ap, subst, ◌∙◌}
-use Rattle.std.specs.Option.{option_map}
 use Rattle.chi_tree.specs.declared.type_tree.Name.{Name}
 use Rattle.chi_tree.specs.declared.type_tree.TypeTree.{TypeTree, TypeTree-F, roll-TypeTree, map-TypeTree, fold-roll-TypeTree, ind-TypeTree}
 use Rattle.chi_tree.specs.declared.type_tree.TypeTree.TheVariants as type
@@ -13,10 +12,8 @@ use Rattle.chi_tree.specs.declared.expr.Entry.{Entry, Entry-F, out-Entry, roll-E
 use Rattle.chi_tree.specs.declared.expr.Link.{Link, Link-F, out-Link, roll-Link, map-Link, fold-roll-Link, fold_out-Link}
 use Rattle.chi_tree.specs.View.{nowhere}
 use Rattle.chi_tree_laws.specs.Unplaced.{unplaced_name, expr_without, postfix_without, type_without, entry_without, link_without, formal_without, unplaced_expr, unplaced_postfix, unplaced_type, unplaced_entry, unplaced_link, unplaced_formal}
-use Rattle.chi_check_types.specs.declared.meant.Made.{Made}
 use Rattle.chi_check_types.specs.declared.site.Site.{Site}
 use Rattle.chi_check_types.specs.Names.{Names}
-use Rattle.chi_check_types.specs.Typed.{Typed}
 use Rattle.chi_check_expr.specs.Expressions.{expr_step, postfix_step, entry_step, link_step}
 use Rattle.chi_check_expr.specs.Reads.{Read, Taken, index, slice, field, Reading, Paired, Linked, Field}
 use Rattle.chi_check_expr.specs.TypeTrees.{type_step, formal_step}

@@ -1,5 +1,5 @@
 -- What each part of a tree comes to, without its places: of expressions, and of what stands in them.
-use Rattle.std.proofs.Common.{◌≡◌, Bool, List, [], ◌∷◌, ◌++◌, map, Option, Some, None, refl, ap, ◌∙◌}
+use Rattle.std.proofs.Common.{◌≡◌, List, [], ◌∷◌, ◌++◌, map, Option, Some, None, refl, ap, ◌∙◌}
 use Rattle.std.specs.Option.{option_map}
 use Rattle.chi_tree.specs.declared.expr.Expr.{Expr-F}
 use Rattle.chi_tree.specs.declared.type_tree.TypeTree.{TypeTree-F}

@@ -1,12 +1,10 @@
 -- What an expression comes to where its parts are known is the same without places.
-use Rattle.std.proofs.Common.{◌≡◌, ℕ, Bool, true, false, List, [], ◌∷◌, ◌++◌, map, Option, Some, None, refl, ap, ◌∙◌}
+use Rattle.std.proofs.Common.{◌≡◌, Bool, true, false, List, [], ◌++◌, map, Option, Some, None, refl, ap, ◌∙◌}
 use Rattle.chi_token.specs.declared.place.Place.{Place}
 use Rattle.chi_tree.specs.declared.operator.CastWord.{CastWord}
 use Rattle.chi_tree.specs.declared.operator.CastWord.TheVariants as word
-use Rattle.chi_tree.specs.declared.operator.Operator.{Operator}
 use Rattle.chi_tree.specs.declared.operator.PrefixSign.{PrefixSign}
 use Rattle.chi_tree.specs.declared.operator.PrefixSign.TheVariants as prefix
-use Rattle.chi_tree.specs.declared.operator.RelationSign.{RelationSign}
 use Rattle.chi_tree.specs.declared.type_tree.Name.{Name}
 use Rattle.chi_tree.specs.View.{nowhere}
 use Rattle.chi_tree_laws.specs.Unplaced.{unplaced_name}
@@ -25,23 +23,22 @@ use Rattle.chi_check_types.specs.declared.known.NameKind.{NameKind}
 use Rattle.chi_check_types.specs.declared.known.NameKind.TheVariants as kind
 use Rattle.chi_check_types.specs.declared.meant.Made.{Made}
 use Rattle.chi_check_types.specs.declared.meant.Meant.{Meant}
-use Rattle.chi_check_types.specs.declared.rules.TheConstants.{OPERATOR, INDEX, FIELD, PREDEFINED, JOINED_PARTS}
+use Rattle.chi_check_types.specs.declared.rules.TheConstants.{OPERATOR, FIELD, PREDEFINED}
 use Rattle.chi_check_types.specs.declared.site.Site.{Site}
 use Rattle.chi_check_types.specs.declared.site.Site.TheVariants as site
-use Rattle.chi_check_types.specs.Faults.{fault}
 use Rattle.chi_check_types.specs.Names.{Names, known_in}
 use Rattle.chi_check_types.specs.Predefined.{is_predefined}
-use Rattle.chi_check_types.specs.Typed.{Typed, unless}
+use Rattle.chi_check_types.specs.Typed.{unless}
 use Rattle.chi_check_types.specs.TypeRules.{depth_rule, meaning}
-use Rattle.chi_check_expr_rules.specs.Casts.{cast, is_timer, from_timer_rule, timer_rule, cast_made, cast_of}
-use Rattle.chi_check_expr_rules.specs.Containers.{joined_all, all_converted, literal_of, plain_type_rule, tuple_literal, tuple_parts, tuple_of, list_joined, list_parts, list_of, set_joined, set_parts, set_of, entries, keys_rule, values_rule, dict_joined, dict_parts, dict_of, empty_list, empty_set, empty_dict}
+use Rattle.chi_check_expr_rules.specs.Casts.{cast, is_timer, timer_rule, cast_made, cast_of}
+use Rattle.chi_check_expr_rules.specs.Containers.{joined_all, all_converted, literal_of, plain_type_rule, tuple_parts, tuple_of, list_joined, list_parts, list_of, set_joined, set_parts, set_of, entries, keys_rule, values_rule, dict_joined, dict_parts, dict_of, empty_list, empty_set, empty_dict}
 use Rattle.chi_check_expr_rules.specs.Conversions.{made}
 use Rattle.chi_check_expr_rules.specs.Named.{untyped_value, visible_value, named_value, time_of}
 use Rattle.chi_check_expr_rules.specs.Nodes.{all_made}
 use Rattle.chi_check_expr_rules.specs.Operators.{prefixed, prefix_rule, prefix_made, prefix_of}
 use Rattle.chi_check_expr_rules.specs.Parts.{field, field_of}
 use Rattle.chi_check_expr_rules.specs.Sites.{calling_rule, running_rule, running_rule_if}
-use Rattle.chi_check_places.specs.UnplacedTyped.{unplaced_fault, unplaced_faults, unplaced_typed}
+use Rattle.chi_check_places.specs.UnplacedTyped.{unplaced_faults, unplaced_typed}
 use Rattle.chi_check_places.proofs.Faults.{both-faults, tested, unless-unplaced, barred-both, one-unplaced}
 use Rattle.chi_check_places.proofs.Types.{depth-unplaced, plain-unplaced}
 

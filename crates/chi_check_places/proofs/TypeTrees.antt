@@ -1,5 +1,5 @@
 -- What a type means, of what its parts mean, is the same without places.
-use Rattle.std.proofs.Common.{◌≡◌, ℕ, Bool, false, List, [], ◌∷◌, ◌++◌, map, Option, Some, None, refl, ap, ◌∙◌}
+use Rattle.std.proofs.Common.{◌≡◌, Bool, false, List, [], ◌∷◌, ◌++◌, map, Option, Some, None, refl, ap, ◌∙◌}
 use Rattle.std.specs.Option.{option_map, option_and_then}
 use Rattle.chi_tree.specs.declared.type_tree.Name.{Name}
 use Rattle.chi_tree.specs.declared.type_tree.TypeTree.{TypeTree-F}
@@ -8,7 +8,7 @@ use Rattle.chi_tree_laws.specs.Unplaced.{unplaced_name}
 use Rattle.chi_types.specs.declared.ty.Ty.{Ty}
 use Rattle.chi_check_types.specs.declared.meant.Meant.{Meant}
 use Rattle.chi_check_types.specs.Names.{Names}
-use Rattle.chi_check_types.specs.Typed.{Typed, after}
+use Rattle.chi_check_types.specs.Typed.{Typed}
 use Rattle.chi_check_types.specs.TypeRules.{word_type, meaning, way_of, list_of, sized_list_of, set_of, dict_of, dist_of, chan_of, tuple_of}
 use Rattle.chi_types.specs.declared.ty.Ty.TheVariants as ty
 use Rattle.chi_check_expr.specs.Reads.{Read, Taken, Reading, Paired, Linked, Field}
@@ -16,7 +16,7 @@ use Rattle.chi_check_expr.specs.TypeTrees.{faults_of, each_field_faults, untyped
 use Rattle.chi_check_places.specs.UnplacedTyped.{unplaced_faults, unplaced_typed}
 use Rattle.chi_check_places.proofs.Faults.{faults-append, both-faults, after-both}
 use Rattle.chi_check_places.proofs.Types.{of-type-unplaced, named-type-unplaced, list-type-unplaced, set-type-unplaced, dict-type-unplaced, dist-type-unplaced, chan-type-unplaced, sized-list-unplaced, tuple-type-unplaced}
-use Rattle.chi_check_places.proofs.ReadParts.{unplaced_field, unplaced_reading, unplaced_type_layer}
+use Rattle.chi_check_places.proofs.ReadParts.{unplaced_field, unplaced_type_layer}
 
 -- ---- the fields of a tuple
 

@@ -1,5 +1,5 @@
 -- What a type means where the types of its parts are known is the same without places.
-use Rattle.std.proofs.Common.{◌≡◌, Bool, true, false, not, List, [], ◌∷◌, ◌++◌, map, Option, Some, None, refl, ap, ◌∙◌}
+use Rattle.std.proofs.Common.{◌≡◌, Bool, not, List, [], ◌∷◌, ◌++◌, map, Option, Some, None, refl, ap, ◌∙◌}
 use Rattle.std.specs.Prelude.{ℕ, nat_lt}
 use Rattle.chi_token.specs.declared.place.Place.{Place}
 use Rattle.chi_tree.specs.declared.type_tree.Name.{Name}
@@ -21,8 +21,8 @@ use Rattle.chi_check_types.specs.declared.rules.TheConstants.{TYPE_DEPTH, PLAIN_
 use Rattle.chi_check_types.specs.declared.type_rules.TheConstants.{MOST_TYPE_DEPTH}
 use Rattle.chi_check_types.specs.Names.{Names, known_in, is_among}
 use Rattle.chi_check_types.specs.Predefined.{is_predefined}
-use Rattle.chi_check_types.specs.Typed.{Typed, unless, broken_if}
-use Rattle.chi_check_types.specs.TypeRules.{depth_rule, of_type, meaning, untyped_name, visible_type, named_type, list_of, plain_rule, set_of, dict_of, is_drawn, dist_of, way_of, chan_of, void_chan_of, size_holds, size_rule, with_size, sized_list_of, names_rule, tuple_of}
+use Rattle.chi_check_types.specs.Typed.{unless, broken_if}
+use Rattle.chi_check_types.specs.TypeRules.{depth_rule, of_type, meaning, untyped_name, visible_type, named_type, list_of, plain_rule, set_of, dict_of, is_drawn, dist_of, way_of, chan_of, size_holds, size_rule, with_size, sized_list_of, names_rule, tuple_of}
 use Rattle.chi_check_places.specs.UnplacedTyped.{unplaced_fault, unplaced_faults, unplaced_typed}
 use Rattle.chi_check_places.proofs.Faults.{both-faults, broken-unplaced, tested, unless-unplaced}
 
