@@ -1,0 +1,16 @@
+pub mod Without
+pub mod By
+pub mod Parts
+pub mod LineRules
+pub mod Places
+pub mod Values
+pub mod Lines
+pub mod Declarations
+pub mod Elements
+pub mod Blocks
+pub mod Statements
+pub mod Headers
+pub mod Definitions
+pub mod Bodies
+pub mod Programs
+pub mod Streams
