@@ -1,0 +1,3 @@
+pub mod KeptStatements
+pub mod KeptPrograms
+pub mod Alike
