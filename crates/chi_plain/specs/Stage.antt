@@ -47,6 +47,12 @@ enabled_at (At config) = enabled config
 enabled_at (Ended end) = []
 enabled_at Lost = []
 
+-- the configuration in which it is
+abbrev pub configuration_at : Stage → Option Config
+configuration_at (At config) = Some config
+configuration_at (Ended end) = None
+configuration_at Lost = None
+
 -- how the run has ended, or ends there where nothing can happen
 abbrev pub ending_at : Stage → Option Ending
 ending_at (At config) = ending config

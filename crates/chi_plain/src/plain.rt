@@ -7,7 +7,7 @@ ghost use Rattle.chi_core.specs.Kinds.{kinds_of};
 ghost use Rattle.chi_core.specs.Of.{at_start, AreOf};
 ghost use Rattle.chi_core.specs.Sound.{Sound};
 ghost use Rattle.chi_core.specs.VerdictLine.{MayTell};
-ghost use Rattle.chi_plain.specs.Stage.{Begun, IsEventAt, actors_at, options_at, enabled_at, verdict_at, clock_at, MayStep, TellsSpent, Steps, Appends};
+ghost use Rattle.chi_plain.specs.Stage.{Begun, IsEventAt, configuration_at, actors_at, options_at, enabled_at, verdict_at, clock_at, MayStep, TellsSpent, Steps, Appends};
 ghost use Rattle.chi_trace.specs.declared.event.Event.{Event as AnEvent};
 ghost use Rattle.chi_trace.specs.Events.{Fits};
 ghost use Rattle.chi_trace.specs.Filters.{where_shown};
@@ -18,7 +18,7 @@ use chi_base::NoMemory;
 use chi_core::{Core, Label, Verdict};
 use chi_core_kinds::kinded_law;
 use chi_plain_events::event_of;
-use chi_plain_steps::begin;
+use chi_plain_steps::{Configuration, begin};
 use chi_trace::{Event, Filter};
 use chi_value::Value;
 use std::alloc::Global;
@@ -75,6 +75,17 @@ impl<'a> Plain<'a> {
             core,
             standing,
         })
+    }
+
+    /// The configuration in which the run is; none where it is over, or memory was wanting.
+    pub fn configuration(&self) -> Option<&Configuration<'a>>
+        ensures { option_copied result ≡ configuration_at self.now.stage }
+    {
+        match &self.standing {
+            Standing::At(watched, _) => Some(watched.configuration()),
+            Standing::Ended(_) => None,
+            Standing::Lost => None,
+        }
     }
 
     /// How many instances have an option.

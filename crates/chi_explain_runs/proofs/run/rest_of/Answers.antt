@@ -1,0 +1,7 @@
+use Rattle.chi_explain_runs.proofs.Turns.{if_ok, rest_told}
+use Rattle.chi_explain_runs.proofs.run.rest_of.Goals as goal
+
+pub returns : goal.returns
+returns g c =
+    if_ok c.told_in.result (λ text e. rest_told (g.P.Chooser.gives c.args.policy.now) _ _ _ _ _ c.run_on.new.runner.stage c.in_ok-lines.lines.items _ c.requires.same_core c.in_ok-lines.ensures.ran e)
+    (rw (c.deref.ensures.value) at c.told_in.ensures)

@@ -1,0 +1,9 @@
+//! Explanations of what waits where a run comes to rest: the plain runner makes the run that a policy picks.
+#![tactic(auto)]
+
+mod laws;
+mod lines;
+mod run;
+
+pub use laws::waiting_law;
+pub use run::{Terms, explain_rest};

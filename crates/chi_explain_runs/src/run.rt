@@ -1,0 +1,146 @@
+ghost use Rattle.std.specs.Prelude.{◌≡◌, ◌<◌, ◌^◌, ℕ, List, Some, IfOk, slice_get};
+ghost use Rattle.chi_core.specs.declared.program.ProcDef.{ProcDef};
+ghost use Rattle.chi_core.specs.Beginning.{Beginning, start};
+ghost use Rattle.chi_core.specs.Kinds.{kinds_of};
+ghost use Rattle.chi_core.specs.Of.{at_start, AreOf};
+ghost use Rattle.chi_core.specs.Picks.{Pick};
+ghost use Rattle.chi_core.specs.Sound.{Sound};
+ghost use Rattle.chi_explain_runs.specs.Turns.{GoesOn, HasRun, IsThere, PicksAt, told_in};
+ghost use Rattle.chi_explain_runs.specs.Waits.{IsWaitingTold};
+ghost use Rattle.chi_plain.specs.Stage.{Begun, MayStep};
+ghost use Rattle.chi_sched.specs.Policies.{Answers};
+
+use crate::lines::{done_at, note};
+use chi_base::NoMemory;
+use chi_core::{Core, Label};
+use chi_core_runs::{choice_law, options_law, time_law, turn_law};
+use chi_explain_waiting::explain_waiting;
+use chi_plain::{Plain, Stepped};
+use chi_sched::Chooser;
+use chi_value::Value;
+use std::alloc::Global;
+
+/// With what a program is run, beside its arguments and its policy.
+#[derive(Clone, Copy, Debug)]
+pub struct Terms {
+    /// The seed of its draws.
+    pub seed: u64,
+    /// The most that its labels may cost, all in all.
+    pub bound: u64,
+    /// The time at which it is stopped, in units of a real, where there is one.
+    pub until: Option<i64>,
+}
+
+/// The label that the policy picks at a turn.
+fn picked_label<P: Chooser>(runner: &Plain<'_>, policy: &P, turn: u64) -> Label
+    requires goes_on { GoesOn runner.now.stage }
+    requires early { turn < 2 ^ 63 }
+    ensures picks { PicksAt (P.gives policy.now) turn runner.now.stage result }
+    ensures may { MayStep runner.now.stage result }
+{
+    options_law();
+    choice_law();
+    let actors = runner.actor_count();
+    if actors == 0 {
+        return Label::Advance;
+    }
+    let actor = runner.actor_at(policy.choose(2 * turn, actors as u64) as u32);
+    let options = runner.option_count(actor);
+    runner.option_at(actor, policy.choose(2 * turn + 1, options))
+}
+
+/// Runs from the beginning: a label is picked at each turn, until the run is over, nothing can happen, or the next label costs
+/// more than is left of the bound. The lines that instances did last are the answer; what the program writes is let go of.
+fn run_on<P: Chooser>(
+    alloc: Global,
+    runner: &mut Plain<'_>,
+    policy: &P,
+    bound: u64,
+) -> Result<Vec<u32>, NoMemory>
+    requires there { IsThere runner.old.stage }
+    requires bound { bound < 2 ^ 63 }
+    ensures ran { IfOk result (λ lines. HasRun (P.gives policy.now) runner.old.core runner.old.stage bound runner.new.stage lines.items) }
+{
+    time_law();
+    turn_law();
+    let mut left = bound;
+    let mut turn = 0;
+    let mut lines = Vec::new(alloc);
+    let mut out = Vec::new(alloc);
+    'turn: loop {
+        let label = match runner.ending() {
+            Some(_) => return Ok(lines),
+            None => picked_label(runner, policy, turn),
+        };
+        let done = done_at(runner, &label);
+        out.clear();
+        match runner.plain_step(&label, left, &mut out) {
+            Stepped::Next(cost) => {
+                note(&mut lines, done)?;
+                left -= cost;
+                turn += 1;
+            }
+            Stepped::Over => {}
+            Stepped::Spent => return Ok(lines),
+            Stepped::NoMemory => return Err(NoMemory),
+        }
+    }
+}
+
+/// What is told of the instances that haven't finished, where a runner is.
+fn told_in(
+    alloc: Global,
+    core: &Core,
+    source: &[u8],
+    runner: &Plain<'_>,
+    lines: &[u32],
+) -> Result<Vec<u8>, NoMemory>
+    ensures { IfOk result (λ text. text.items ≡ told_in core.now source.now runner.now.stage lines.now) }
+{
+    match runner.configuration() {
+        Some(configuration) => explain_waiting(alloc, core, source, lines, configuration),
+        None => Ok(Vec::new(alloc)),
+    }
+}
+
+/// Runs from the beginning to where the run comes to rest: what is told of that.
+fn rest_of<P: Chooser>(
+    alloc: Global,
+    core: &Core,
+    source: &[u8],
+    runner: &mut Plain<'_>,
+    policy: &P,
+    bound: u64,
+) -> Result<Vec<u8>, NoMemory>
+    requires same_core { runner.old.core ≡ core.now }
+    requires there { IsThere runner.old.stage }
+    requires bound { bound < 2 ^ 63 }
+    ensures { IfOk result (λ text. (beginning : Beginning) → Begun beginning runner.old.stage → (pick : Pick) → Answers (P.gives policy.now) pick
+        → IsWaitingTold core.now source.now beginning pick bound text.items) }
+{
+    let lines = run_on(alloc, runner, policy, bound)?;
+    told_in(alloc, core, source, runner, &lines)
+}
+
+/// The text that says which instances haven't finished where the run that a policy picks comes to rest, and who waits for what;
+/// nothing of a run that is over. The core is that of the source.
+pub fn explain_rest<P: Chooser>(
+    alloc: Global,
+    core: &Core,
+    source: &[u8],
+    arguments: Vec<Value>,
+    terms: Terms,
+    policy: &P,
+) -> Result<Vec<u8>, NoMemory>
+    requires sound { Sound core.now }
+    requires arguments { (d : ProcDef) → slice_get core.now.procs core.now.model ≡ Some d
+        → AreOf (at_start core.now.names.kinds) arguments.items (kinds_of d.params) }
+    requires bound { terms.bound < 2 ^ 63 }
+    ensures { IfOk result (λ text. (pick : Pick) → Answers (P.gives policy.now) pick
+        → IsWaitingTold core.now source.now (start core.now arguments.items terms.seed terms.until) pick terms.bound text.items) }
+{
+    let mut runner = Plain::new(alloc, core, arguments, terms.seed, terms.until)?;
+    let text = rest_of(alloc, core, source, &mut runner, policy, terms.bound);
+    drop(runner);
+    text
+}

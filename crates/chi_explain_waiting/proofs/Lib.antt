@@ -1,0 +1,9 @@
+mod Trims
+mod Findings
+mod Rings
+mod Answering
+mod Numbers
+mod Lines
+mod Telling
+mod Writing
+mod Rows

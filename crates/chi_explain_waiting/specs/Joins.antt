@@ -1,0 +1,32 @@
+-- For whom instances wait that join, and whether one waits for itself.
+use Rattle.std.specs.Prelude.{ℕ, zero, suc, nat_eq, Bool, List, [], ◌++◌, length, filter, Option, Some, None, slice_get}
+use Rattle.std.specs.List.{flat_map, list_any}
+use Rattle.chi_core.specs.Config.{Config, Instance, State, Running, Waiting, Joining, Finished}
+use Rattle.chi_core.specs.Options.{is_under_way}
+
+-- those of these instances that haven't finished
+abbrev pub under_way : Config → List ℕ → List ℕ
+under_way config numbers = filter (λ q. is_under_way (slice_get config.instances q)) numbers
+
+abbrev pub waited_in : Config → State → List ℕ
+waited_in config Running = []
+waited_in config (Waiting offers) = []
+waited_in config (Joining numbers) = under_way config numbers
+waited_in config Finished = []
+
+abbrev pub waited_by : Config → Option Instance → List ℕ
+waited_by config None = []
+waited_by config (Some i) = waited_in config i.state
+
+-- the instances for which instance p waits, and that haven't finished
+abbrev pub waited : Config → ℕ → List ℕ
+waited config p = waited_by config (slice_get config.instances p)
+
+-- what a step reaches from p, and from each of these, and so on: with at most so many between
+unfoldable pub through : (ℕ → List ℕ) → ℕ → ℕ → List ℕ
+through step zero p = step p
+through step (suc n) p = through step n p ++ flat_map step (through step n p)
+
+-- instance p waits for itself, in a ring: between p and p there are no more than there are instances
+abbrev pub is_in_ring : Config → ℕ → Bool
+is_in_ring config p = list_any (λ q. nat_eq q p) (through (waited config) (length config.instances) p)

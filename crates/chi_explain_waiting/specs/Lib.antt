@@ -1,0 +1,5 @@
+pub mod Whereabouts
+pub mod Partners
+pub mod Joins
+pub mod Finding
+pub mod WaitingText

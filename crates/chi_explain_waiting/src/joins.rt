@@ -1,0 +1,159 @@
+//! For whom instances wait that join, and whether one waits for itself.
+
+ghost use Rattle.std.specs.Prelude.{◌≡◌, ◌≤◌, ◌<◌, [], ◌∷◌, length, All, IfOk, OnOk};
+ghost use Rattle.chi_plain_open.specs.Instances.{state_of};
+ghost use Rattle.chi_explain_waiting.specs.Finding.{Adds, IsMarked, Reaches};
+ghost use Rattle.chi_explain_waiting.specs.Joins.{is_in_ring, under_way, waited, waited_in};
+
+use chi_base::NoMemory;
+use chi_plain_open::State;
+use chi_plain_steps::Configuration;
+use std::alloc::Global;
+
+/// Instances that were found: their numbers, each once, and a mark for each number.
+#[derive(Drop)]
+pub struct Found {
+    numbers: Vec<u32>,
+    marks: Vec<bool>,
+}
+
+impl Found {
+    /// None is found, of so many.
+    #[tactic(auto, using(crate::proofs::Findings::finding))]
+    fn new(alloc: Global, count: usize) -> Result<Found, NoMemory>
+        ensures none { IfOk result (λ found. found.numbers.items ≡ []) }
+        ensures marked { IfOk result (λ found. IsMarked found.numbers.items found.marks.items) }
+        ensures room { IfOk result (λ found. length found.marks.items ≡ count) }
+    {
+        Ok(Found {
+            numbers: Vec::new(alloc),
+            marks: vec![in alloc; false; count]?,
+        })
+    }
+
+    /// Adds an instance, where it isn't found yet.
+    #[tactic(auto, using(crate::proofs::Findings::finding))]
+    fn add(&mut self, pid: u32) -> Result<(), NoMemory>
+        requires marked { IsMarked self.old.numbers.items self.old.marks.items }
+        requires within { pid < length self.old.marks.items }
+        ensures marked { OnOk result (IsMarked self.new.numbers.items self.new.marks.items) }
+        ensures room { OnOk result (length self.new.marks.items ≡ length self.old.marks.items) }
+        ensures adds { OnOk result (Adds self.old.numbers.items self.new.numbers.items (pid ∷ [])) }
+    {
+        if !self.marks[pid as usize] {
+            self.numbers.push(pid)?;
+            self.marks[pid as usize] = true;
+        }
+        Ok(())
+    }
+
+    /// Adds those of these instances that aren't found yet.
+    #[tactic(auto, using(crate::proofs::Findings::finding))]
+    fn add_all(&mut self, pids: &[u32]) -> Result<(), NoMemory>
+        requires marked { IsMarked self.old.numbers.items self.old.marks.items }
+        requires within { All (λ p. p < length self.old.marks.items) pids.now }
+        ensures marked { OnOk result (IsMarked self.new.numbers.items self.new.marks.items) }
+        ensures room { OnOk result (length self.new.marks.items ≡ length self.old.marks.items) }
+        ensures adds { OnOk result (Adds self.old.numbers.items self.new.numbers.items pids.now) }
+    {
+        for pid in pids {
+            self.add(*pid)?;
+        }
+        Ok(())
+    }
+}
+
+/// Those of these instances that haven't finished.
+#[tactic(auto, using(crate::proofs::Numbers::numbering, crate::proofs::Rings::rings))]
+pub fn under_way(
+    alloc: Global,
+    configuration: &Configuration<'_>,
+    pids: &[u32],
+) -> Result<Vec<u32>, NoMemory>
+    ensures under_way { IfOk result (λ some. some.items ≡ under_way configuration.now pids.now) }
+    ensures within { IfOk result (λ some. All (λ q. q < length configuration.now.instances) some.items) }
+{
+    let mut some = Vec::new(alloc);
+    for pid in pids {
+        if configuration.is_under_way(*pid) {
+            some.push(*pid)?;
+        }
+    }
+    Ok(some)
+}
+
+/// Those for which an instance waits that is in this state.
+#[tactic(auto, using(crate::proofs::Rings::rings))]
+fn waited_in(
+    alloc: Global,
+    configuration: &Configuration<'_>,
+    state: &State<'_>,
+) -> Result<Vec<u32>, NoMemory>
+    ensures waited { IfOk result (λ some. some.items ≡ waited_in configuration.now (state_of state.now)) }
+    ensures within { IfOk result (λ some. All (λ q. q < length configuration.now.instances) some.items) }
+{
+    match state {
+        State::Joining(pids) => under_way(alloc, configuration, pids.as_slice()),
+        State::Running | State::Waiting(_) | State::Finished => Ok(Vec::new(alloc)),
+    }
+}
+
+/// The instances for which instance `pid` waits, and that haven't finished.
+#[tactic(auto, using(crate::proofs::Rings::rings))]
+fn waited(alloc: Global, configuration: &Configuration<'_>, pid: u32) -> Result<Vec<u32>, NoMemory>
+    ensures waited { IfOk result (λ some. some.items ≡ waited configuration.now pid) }
+    ensures within { IfOk result (λ some. All (λ q. q < length configuration.now.instances) some.items) }
+{
+    match configuration.instances().get(pid as usize) {
+        Some(instance) => waited_in(alloc, configuration, instance.state()),
+        None => Ok(Vec::new(alloc)),
+    }
+}
+
+/// Adds those for which the instances wait that were found as this number on, before another.
+#[tactic(auto, using(crate::proofs::Findings::reaching))]
+fn reach(
+    alloc: Global,
+    configuration: &Configuration<'_>,
+    from: usize,
+    to: usize,
+    found: &mut Found,
+) -> Result<(), NoMemory>
+    requires marked { IsMarked found.old.numbers.items found.old.marks.items }
+    requires room { length found.old.marks.items ≡ length configuration.now.instances }
+    requires order { from ≤ to }
+    requires within { to ≤ length found.old.numbers.items }
+    ensures marked { OnOk result (IsMarked found.new.numbers.items found.new.marks.items) }
+    ensures room { OnOk result (length found.new.marks.items ≡ length found.old.marks.items) }
+    ensures reaches { OnOk result (Reaches (waited configuration.now) from to found.old.numbers.items found.new.numbers.items) }
+{
+    for at in from..to {
+        let pid = found.numbers[at];
+        let more = waited(alloc, configuration, pid)?;
+        found.add_all(&more)?;
+    }
+    Ok(())
+}
+
+/// Whether instance `pid` waits for itself, in a ring.
+#[tactic(auto, using(crate::proofs::Rings::rings))]
+pub fn is_in_ring(
+    alloc: Global,
+    configuration: &Configuration<'_>,
+    pid: u32,
+) -> Result<bool, NoMemory>
+    requires { pid < length configuration.now.instances }
+    ensures { IfOk result (λ ring. ring ≡ is_in_ring configuration.now pid) }
+{
+    let count = configuration.instances().len();
+    let mut found = Found::new(alloc, count)?;
+    let first = waited(alloc, configuration, pid)?;
+    found.add_all(&first)?;
+    let mut from = 0;
+    for _round in 0..count {
+        let to = found.numbers.len();
+        reach(alloc, configuration, from, to, &mut found)?;
+        from = to;
+    }
+    Ok(found.marks[pid as usize])
+}
