@@ -62,16 +62,17 @@ case_of runs call files r is = wish_case runs call files r (wish_of call.words) 
 -- the other way round
 
 -- what words ask of a file is told so
-told_so : (runs : Runs) → ReportLaw runs → (name : List ℕ) (purpose : Purpose) (source : List ℕ) (plain : Report) → IsReportFor runs (aim_of purpose) source plain
+told_so : (runs : Runs) → ReportLaw runs → (words : List (List ℕ)) (name : List ℕ) (purpose : Purpose) → wish_of words ≡ of_task (OfFile name purpose)
+    → (source : List ℕ) → length source ≤ MOST_BYTES → (plain : Report) → IsReportFor runs (aim_of purpose) source plain
     → (r : Report) × IsReportTo runs name purpose source r × (r.status ≡ plain.status)
-told_so runs law name (OfProgram p) source plain is = (plain, is, refl)
-told_so runs law name (Explain a) source plain is = law.explained name source (wanted_of a) plain is
-told_so runs law name LayOut source plain is = (plain, is, refl)
+told_so runs law words name (OfProgram p) asked source within plain is = (plain, is, refl)
+told_so runs law words name (Explain a) asked source within plain is = law.explained words name a asked source within plain is
+told_so runs law words name LayOut asked source within plain is = (plain, is, refl)
 
 pub asked_report : (runs : Runs) → ReportLaw runs → (call : Call) (files : Files) (aim : Aim) (source : List ℕ) (plain : Report) → IsAskedSource call files aim source
     → IsReportFor runs aim source plain → (r : Report) × IsReport runs call.words files r × (r.status ≡ plain.status)
 asked_report runs law call files aim source plain (held name purpose asked there within same) is =
-    let it = told_so runs law name purpose source plain (subst (λ (a : Aim). IsReportFor runs a source plain) same is) in (
+    let it = told_so runs law call.words name purpose asked source within plain (subst (λ (a : Aim). IsReportFor runs a source plain) same is) in (
       it.0,
       is_report runs (OfFile name purpose) name MOST_BYTES (IsReportTo runs name purpose) (source_of_file runs name purpose) call asked files (Some source) it.0 there
           (fetched source refl within it.1),

@@ -6,16 +6,18 @@ use Rattle.chi_cli.specs.declared.args.ArgFault.TheVariants as arg
 use Rattle.chi_cli.specs.Arguments.{values_of}
 use Rattle.chi_core.specs.declared.program.Core.{Core}
 use Rattle.chi_core.specs.declared.program.ProcDef.{ProcDef}
+use Rattle.chi_core.specs.Beginning.{start}
+use Rattle.chi_core_runs.specs.Picked.{IsBeginning}
 use Rattle.chi_engine.specs.Courses.{Course, Runs}
 use Rattle.chi_explain.specs.Explanations.{explained}
 use Rattle.chi_explain.specs.Lexical as lexical_told
 use Rattle.chi_explain_arguments.specs.Arguments.{argument_text, kind_text}
-use Rattle.chi_explain_endings.specs.Endings.{ending_text}
 use Rattle.chi_explain_syntax.specs.Syntax.{IsSyntaxExplanation}
 use Rattle.chi_explain_typing.specs.Rules.{broken_words}
 use Rattle.chi_check_types.specs.declared.fault.Fault.{Fault}
 use Rattle.chi_grammar.specs.declared.fault.ParseFault.{ParseFault}
 use Rattle.chi_lex.specs.declared.fault.LexFault.{LexFault}
+use Rattle.chi_lex.specs.declared.lexer.TheConstants.{MOST_BYTES}
 use Rattle.chi_lex.proofs.LawLemmas.{one_list, one_fault, never_both}
 use Rattle.chi_token.specs.declared.place.Spanned.{Spanned}
 use Rattle.chi_tree.specs.declared.definition.Program.{Program}
@@ -30,11 +32,11 @@ use Rattle.chi_tool.specs.Readings.{IsRefusedAs}
 use Rattle.chi_tool.specs.Refusals as refusal
 use Rattle.chi_tool.specs.Refusals.{Report, at_length, unfit_arguments}
 use Rattle.chi_tool.specs.Report.{unfit, fit, IsReportOfProgram, IsReportOfSource, refused, program, IsExplanation, IsExplained}
-use Rattle.chi_tool.specs.Running.{IsRunReport, run_report}
-use Rattle.chi_tool.specs.Settings.{Wanted, simulates, of_program, settings_with}
+use Rattle.chi_tool.specs.Running.{IsRunReport, IsRestTold, end_told, run_report}
+use Rattle.chi_tool.specs.Settings.{Wanted, MayBeAimedAt, simulates, of_program, settings_with}
 use Rattle.chi_tool.specs.Sources.{by_lexer, by_parser, unparsed, by_checker, IsNoProgram, BreaksRule, ComesTo}
 use Rattle.chi_tool.specs.Syntax.{HasFault}
-use Rattle.chi_tool.proofs.LawClauses.{AnswerLaw, ExplainLaw, RunLaw}
+use Rattle.chi_tool.proofs.LawClauses.{AnswerLaw, CheckLaw, ExplainLaw, RunLaw, ValuesLaw, comes_sound}
 use Rattle.chi_tool.proofs.Sources.{fault_answer, one_rule, unparsed_or_written, refused_or_comes, one_core}
 
 -- the text of a misfit
@@ -82,19 +84,29 @@ misfit_one params texts (arg.Text k) text other p q =
 misfit_one params texts arg.NoMemory text other p q = absurd p
 
 module _ (answers : AnswerLaw) (law : ExplainLaw) (runs : Runs) where
-  explanation_some : (file source : List ℕ) (w : Wanted) (r : Report) (is : IsReportOfSource runs source (simulates w) r)
-      → (text : List ℕ) × IsExplanation runs file source w r is text
-  explanation_some file source w r (refused (unparsed (by_lexer fault has is))) = law.lexical_some file source fault has
-  explanation_some file source w r (refused (unparsed (by_parser tokens fault has is))) = law.syntax_some file source tokens fault (fault_answer tokens fault has.has)
-  explanation_some file source w r (refused (by_checker fault has is)) = (explained file source fault.place (broken_words fault.rule), refl)
-  explanation_some file source w r (program core comes (unfit wanted fault misfits is)) = misfit_some law misfits.model.params w.texts fault misfits.read
-  explanation_some file source w r (program core comes (fit values means of)) =
-      (of.course.log ++ ending_text source core.names.kinds of.course.ending.verdict of.course.ending.clock, refl)
+  explanation_some : CheckLaw → ValuesLaw → (file source : List ℕ) → length source ≤ MOST_BYTES → (w : Wanted) → MayBeAimedAt (simulates w)
+      → (r : Report) (is : IsReportOfSource runs source (simulates w) r) → (text : List ℕ) × IsExplanation runs file source w r is text
+  explanation_some check values_law file source within w bounded r (refused (unparsed (by_lexer fault has is))) = law.lexical_some file source fault has
+  explanation_some check values_law file source within w bounded r (refused (unparsed (by_parser tokens fault has is))) = law.syntax_some file source tokens fault (fault_answer tokens fault has.has)
+  explanation_some check values_law file source within w bounded r (refused (by_checker fault has is)) = (explained file source fault.place (broken_words fault.rule), refl)
+  explanation_some check values_law file source within w bounded r (program core comes (unfit wanted fault misfits is)) = misfit_some law misfits.model.params w.texts fault misfits.read
+  explanation_some check values_law file source within w bounded r (program core comes (fit values means of)) =
+      let begins : IsBeginning core (start core values w.seed w.until) = record {
+        model = means.model;
+        is = means.is;
+        arguments = values;
+        fit = values_law core.names.kinds means.model.params w.texts values means.read;
+        seed = w.seed;
+        until = w.until;
+        begins = refl;
+      } in
+      let rest = law.waits_some core (comes_sound check source core within comes) (start core values w.seed w.until) begins w.pick bounded.1 w.bound bounded.0 source in
+      (of.course.log ++ end_told source core rest.0 of.course.ending, (rest.0, rest.1, refl))
 
-  pub explained_some : (file source : List ℕ) (w : Wanted) (plain : Report) → IsReportOfSource runs source (simulates w) plain
-      → (r : Report) × IsExplained runs file w source r × (r.status ≡ plain.status)
-  explained_some file source w plain is =
-      let told = explanation_some file source w plain is in
+  pub explained_some : CheckLaw → ValuesLaw → (file source : List ℕ) → length source ≤ MOST_BYTES → (w : Wanted) → MayBeAimedAt (simulates w)
+      → (plain : Report) → IsReportOfSource runs source (simulates w) plain → (r : Report) × IsExplained runs file w source r × (r.status ≡ plain.status)
+  explained_some check values_law file source within w bounded plain is =
+      let told = explanation_some check values_law file source within w bounded plain is in
       (at_length plain told.0, record { plain = plain; is = is; text = told.0; explains = told.1; told = refl }, refl)
 
   module _ (runs_one : RunLaw runs) (file source : List ℕ) (w : Wanted) where
@@ -134,7 +146,10 @@ module _ (answers : AnswerLaw) (law : ExplainLaw) (runs : Runs) where
         let alike : given ≡ values = cc in
         let run : runs core (settings_with w values) also.course = subst (λ (vs : List Value). runs core (settings_with w vs) also.course) alike also.run in
         let courses : of.course ≡ also.course = runs_one.one (of_program (simulates w)) core (settings_with w values) of.course also.course of.run run in
-        x ∙ ap (λ (c : Course). c.log ++ ending_text source core.names.kinds c.ending.verdict c.ending.clock) courses ∙ sym y
+        let rests : x.0 ≡ y.0 =
+        law.waits_one core source (start core values w.seed w.until) w.pick w.bound x.0 y.0 x.1
+        (subst (λ (vs : List Value). IsRestTold core source (settings_with w vs) y.0) alike y.1) in
+        x.2 ∙ (λ i. (courses i).log ++ end_told source core (rests i) (courses i).ending) ∙ sym y.2
 
     explanation_one : (r s : Report) (a : IsReportOfSource runs source (simulates w) r) (b : IsReportOfSource runs source (simulates w) s) → (text other : List ℕ)
         → IsExplanation runs file source w r a text → IsExplanation runs file source w s b other → text ≡ other
@@ -187,10 +202,10 @@ program_explained runs file source w core comes r (misfit wanted fault told) = r
   explains = told.2;
   told = told.3;
 }
-program_explained runs file source w core comes r (ran values means course run told) = record {
+program_explained runs file source w core comes r (ran values means course run rest waits told) = record {
   plain = run_report core course;
   is = program core comes (fit values means (record { course = course; run = run; is = refl }));
-  text = course.log ++ ending_text source core.names.kinds course.ending.verdict course.ending.clock;
-  explains = refl;
+  text = course.log ++ end_told source core rest course.ending;
+  explains = (rest, waits, refl);
   told = told;
 }

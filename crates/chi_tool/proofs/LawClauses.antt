@@ -1,6 +1,7 @@
 -- The laws that the promises rest on, as their functions' contracts give them.
 use Rattle.std.proofs.Common.{◌≡◌, ◌≢◌, ℕ, ◌≤◌, List, length, Result, ◌⊎◌}
 use Rattle.std.specs.Prelude.{Ok, Err}
+use Rattle.chi_cli.specs.declared.request.Pick as request
 use Rattle.chi_cli.specs.declared.request.Request.{Request}
 use Rattle.chi_cli.specs.declared.args.ArgFault.TheVariants as arg
 use Rattle.chi_cli.specs.Arguments.{IsNumber, values_of}
@@ -22,6 +23,7 @@ use Rattle.chi_engine.specs.Courses.{Course, Runs, MayHave, IsRunOf, ComesToOne}
 use Rattle.chi_engine.specs.Settings.{Settings}
 use Rattle.chi_lex.specs.declared.lexer.TheConstants.{MOST_BYTES}
 use Rattle.chi_explain.specs.Lexical as lexical_told
+use Rattle.chi_explain_runs.specs.Laws.{WaitingToldAlways, WaitingToldOnce}
 use Rattle.chi_explain_syntax.specs.Syntax.{IsSyntaxExplanation}
 use Rattle.chi_lex.specs.declared.fault.LexFault.{LexFault}
 use Rattle.chi_lex.specs.Reading as lexical
@@ -35,12 +37,16 @@ use Rattle.chi_trace.specs.Logs.{IsUp}
 use Rattle.chi_sched.specs.Policies.{listed}
 use Rattle.chi_types.specs.declared.ty.Ty.{Ty}
 use Rattle.chi_value.specs.declared.value.Value.{Value}
+use Rattle.chi_tool.specs.declared.task.Asked.{Asked}
+use Rattle.chi_tool.specs.declared.task.Purpose.TheVariants.{Explain}
+use Rattle.chi_tool.specs.declared.task.Task.TheVariants.{OfFile}
 use Rattle.chi_tool.specs.Refusals.{Report}
 use Rattle.chi_tool.specs.Report.{IsReportOfSource, IsExplained, IsReportFor, IsReport}
 use Rattle.chi_tool.specs.Running.{runs_for}
-use Rattle.chi_tool.specs.Settings.{Wanted, simulates, Aim, IsShortFor, MayBeAimed}
+use Rattle.chi_tool.specs.Settings.{Wanted, simulates, wanted_of, Aim, IsShortFor, MayBeAimed}
 use Rattle.chi_tool.specs.Simulations.{AreOwnPicks, IsDerived, course_of}
 use Rattle.chi_tool.specs.Sources.{ComesTo}
+use Rattle.chi_tool.specs.Words.{of_task, wish_of}
 
 -- tokens are one program, or have one fault
 pub record AnswerLaw : Type 0 where
@@ -126,10 +132,13 @@ pub record ExplainLaw : Type 0 where
   pub kind : (params : List Ty) (args : List (List ℕ)) (k : ℕ) → values_of params args ≡ Err (arg.Kind k) → IsNumber params k
   pub text : (params : List Ty) (args : List (List ℕ)) (k : ℕ) → values_of params args ≡ Err (arg.Text k) → IsNumber params k × IsNumber args k
   pub memory : (params : List Ty) (args : List (List ℕ)) → values_of params args ≢ Err arg.NoMemory
+  pub waits_one : WaitingToldOnce
+  pub waits_some : WaitingToldAlways
 
--- words and files have one report, and each report of a simulation can be told at length
+-- words and files have one report, and each report of a simulation that words ask to be told at length can be told so
 pub record ReportLaw (runs : Runs) : Type 0 where
   pub some : (words : List (List ℕ)) (files : Files) → (r : Report) × IsReport runs words files r
   pub one : (words : List (List ℕ)) (files : Files) (r other : Report) → IsReport runs words files r → IsReport runs words files other → r ≡ other
-  pub explained : (file source : List ℕ) (w : Wanted) (plain : Report) → IsReportOfSource runs source (simulates w) plain
-      → (r : Report) × IsExplained runs file w source r × (r.status ≡ plain.status)
+  pub explained : (words : List (List ℕ)) (file : List ℕ) (a : Asked request.Pick) → wish_of words ≡ of_task (OfFile file (Explain a))
+      → (source : List ℕ) → length source ≤ MOST_BYTES → (plain : Report) → IsReportOfSource runs source (simulates (wanted_of a)) plain
+      → (r : Report) × IsExplained runs file (wanted_of a) source r × (r.status ≡ plain.status)

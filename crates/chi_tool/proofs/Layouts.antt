@@ -11,16 +11,20 @@ use Rattle.chi_fmt.specs.Kept.{kept}
 use Rattle.chi_fmt.specs.Laws.{IsOfSource, IsReread}
 use Rattle.chi_fmt.specs.Layout.{layout}
 use Rattle.chi_fmt.specs.Reread.{AreComments}
+use Rattle.chi_fmt_laws.specs.CheckedAlike.{IsAcceptedAs}
 use Rattle.chi_token.specs.declared.place.Spanned.{Spanned}
 use Rattle.chi_tree.specs.declared.definition.Program.{Program}
+use Rattle.chi_tree_laws.specs.Answers.{IsProgram}
 use Rattle.chi_tree_laws.specs.UnplacedStatements.{unplaced}
+use Rattle.chi_check.specs.Programs.{checked, Answers}
+use Rattle.chi_core.specs.declared.program.Core.{Core}
 use Rattle.chi_tool.specs.declared.report.Reported.{Reported}
 use Rattle.chi_tool.specs.Layouts.{HasLayout}
 use Rattle.chi_tool.specs.Refusals as refusal
 use Rattle.chi_tool.specs.Refusals.{Report}
 use Rattle.chi_tool.specs.Report.{IsReportOfLayout, faulty, laid_out, too_long}
 use Rattle.chi_tool.specs.Reported.{report_in}
-use Rattle.chi_tool.specs.Sources.{IsWritten}
+use Rattle.chi_tool.specs.Sources.{ComesTo, IsWritten}
 use Rattle.chi_tool.specs.Syntax.{HasTree}
 use Rattle.chi_tool.proofs.LawClauses.{AnswerLaw}
 use Rattle.chi_tool.proofs.Sources.{Parses, source_parses, one_written, one_unparsed, unparsed_or_written}
@@ -92,3 +96,13 @@ module _ (comments : (source : List ℕ) (tokens : List Spanned) → AreComments
   laid_out_same answers source text has tree written =
       let r = reread source text has in
       ap unplaced (one_written answers text tree r.tree written (record { tokens = r.tokens; read = r.reads; parsed = r.is })) ∙ r.same
+
+-- the layout of a source that comes to a core comes to the same, but for its lines
+pub laid_out_core : AnswerLaw
+    → ((source : List ℕ) (tokens : List Spanned) (tree : Program) (core : Core) → Reads source tokens → IsProgram tokens tree
+    → Answers (Ok core) (checked tree) → IsAcceptedAs (layout tree (comments_of source tokens)) core)
+    → (source text : List ℕ) → HasLayout source text → (core : Core) → ComesTo source core → IsAcceptedAs text core
+laid_out_core answers law source text has core comes =
+    let trees : comes.tree ≡ has.tree = one_written answers source comes.tree has.tree comes.written has.written in
+    let there : Answers (Ok core) (checked has.tree) = subst (λ (t : Program). Answers (Ok core) (checked t)) trees (comes.unbroken, comes.made) in
+    subst (λ (x : List ℕ). IsAcceptedAs x core) (sym has.is) (law source has.written.tokens has.tree core has.written.read has.written.parsed there)

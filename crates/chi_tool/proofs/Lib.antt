@@ -7,6 +7,7 @@ pub mod Layouts
 pub mod Runs
 pub mod Made
 pub mod Wishes
+pub mod Rests
 pub mod Explained
 pub mod Reports
 pub mod Verdicts

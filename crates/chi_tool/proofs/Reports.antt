@@ -166,7 +166,7 @@ module _ (runs : Runs) (answers : AnswerLaw) (ran : RunLaw runs) (coded : CodeLa
   purpose_some explain name (OfProgram p) bounded source within = source_some (of_program (program_aim p)) (may_be_aimed (OfProgram p) bounded) source within
   purpose_some explain name (Explain a) bounded source within =
       let p = source_some (of_program (simulates (wanted_of a))) (may_be_aimed (Explain a) bounded) source within in
-      let told = explained_some answers explain runs name source (wanted_of a) p.0 p.1 in
+      let told = explained_some answers explain runs check values_law name source within (wanted_of a) (may_be_aimed (Explain a) bounded) p.0 p.1 in
       (told.0, told.1)
   purpose_some explain name LayOut bounded source within = source_some lays_out tt source within
 

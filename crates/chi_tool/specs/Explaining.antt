@@ -6,7 +6,6 @@ use Rattle.chi_core.specs.Options.{Ending}
 use Rattle.chi_engine.specs.Courses.{Course, Runs}
 use Rattle.chi_explain.specs.Explanations.{explained}
 use Rattle.chi_explain.specs.Lexical as lexical
-use Rattle.chi_explain_endings.specs.Endings.{ending_text}
 use Rattle.chi_explain_syntax.specs.Syntax.{IsSyntaxExplanation}
 use Rattle.chi_explain_typing.specs.Rules.{broken_words}
 use Rattle.chi_value.specs.declared.value.Value.{Value}
@@ -16,6 +15,7 @@ use Rattle.chi_tool.specs.declared.reading.Refusal.{Refusal}
 use Rattle.chi_tool.specs.declared.reading.Refusal.TheVariants as refused
 use Rattle.chi_tool.specs.Arguments.{Means, Misfits, IsMisfitExplained}
 use Rattle.chi_tool.specs.Refusals.{Report}
+use Rattle.chi_tool.specs.Running.{IsRestTold, end_told}
 use Rattle.chi_tool.specs.Settings.{Wanted, settings_with}
 use Rattle.chi_tool.specs.Statuses as statuses
 use Rattle.chi_tool.specs.Statuses.{status_of}
@@ -54,11 +54,11 @@ abbrev pub told_with : (Ending → List ℕ) → Course → Report
 told_with text course = record { status = status_of course.ending.verdict; out = course.output; log = course.log ++ text course.ending }
 
 -- at length
-abbrev pub run_told : List ℕ → Core → Course → Report
-run_told source core = told_with (λ ending. ending_text source core.names.kinds ending.verdict ending.clock)
+abbrev pub run_told : List ℕ → Core → List ℕ → Course → Report
+run_told source core rest = told_with (end_told source core rest)
 
 -- a program whose simulation is told at length: its arguments are refused, or it is run with them
 pub data IsProgramTold (runs : Runs) (source : List ℕ) (core : Core) (w : Wanted) (r : Report) : Type 0 where
   misfit : (wanted : ℕ) (fault : ArgFault) → IsMisfitTold core w.texts wanted fault r → IsProgramTold runs source core w r
   ran : (values : List Value) → Means core w.texts values → (course : Course) → runs core (settings_with w values) course
-      → r ≡ run_told source core course → IsProgramTold runs source core w r
+      → (rest : List ℕ) → IsRestTold core source (settings_with w values) rest → r ≡ run_told source core rest course → IsProgramTold runs source core w r

@@ -18,3 +18,4 @@ pub mod Headline
 pub mod Simulations
 pub mod Serving
 pub mod Limits
+pub mod RuleNumbers

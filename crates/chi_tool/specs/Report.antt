@@ -10,7 +10,6 @@ use Rattle.chi_core.specs.declared.program.Core.{Core}
 use Rattle.chi_engine.specs.Courses.{Runs, IsRunOf}
 use Rattle.chi_explain.specs.Explanations.{explained}
 use Rattle.chi_explain.specs.Lexical as lexical
-use Rattle.chi_explain_endings.specs.Endings.{ending_text}
 use Rattle.chi_explain_syntax.specs.Syntax.{IsSyntaxExplanation}
 use Rattle.chi_explain_typing.specs.Rules.{broken_words}
 use Rattle.chi_trace.specs.declared.log.TheConstants.{MOST_LOG_BYTES}
@@ -30,7 +29,7 @@ use Rattle.chi_tool.specs.Refusals as refusal
 use Rattle.chi_tool.specs.Layouts.{HasLayout}
 use Rattle.chi_tool.specs.Refusals.{Report, usage, no_such_file, file_too_long, unfit_arguments, brought_up, accepted}
 use Rattle.chi_tool.specs.OnLogs.{IsLogWith, IsNoLogWith}
-use Rattle.chi_tool.specs.Running.{IsRunReport}
+use Rattle.chi_tool.specs.Running.{IsRunReport, IsRestTold, end_told}
 use Rattle.chi_tool.specs.Settings.{Wanted, Unpicked, picked_by, ProgramAim, simulates, replays, judges, checks, lists, Aim, of_program, program_aim, lays_out, wanted_of, pair_aim, settings_with, plain}
 use Rattle.chi_tool.specs.Sources.{IsUnparsed, by_lexer, by_parser, IsRefused, unparsed, by_checker, ComesTo}
 use Rattle.chi_tool.specs.Words.{Wish, nothing, of_task, wish_of}
@@ -82,14 +81,14 @@ pub data IsReportOfSource (runs : Runs) (source : List ℕ) (aim : ProgramAim) (
   program : (core : Core) → ComesTo source core → IsReportOfProgram runs core aim r → IsReportOfSource runs source aim r
 
 -- What is told at length of a simulation, in place of the log of its report: where the source of this file is refused, and why; why its
--- arguments are; or what is logged of its run, and how that ended.
+-- arguments are; or what is logged of its run, how that ended, and who waits for what where it came to rest.
 abbrev pub IsExplanation : (runs : Runs) (file source : List ℕ) (w : Wanted) (r : Report) → IsReportOfSource runs source (simulates w) r → List ℕ → Type 0
 IsExplanation runs file source w r (refused (unparsed (by_lexer fault has is))) text = lexical.IsExplanation file source fault text
 IsExplanation runs file source w r (refused (unparsed (by_parser tokens fault has is))) text = IsSyntaxExplanation file source tokens fault text
 IsExplanation runs file source w r (refused (by_checker fault has is)) text = text ≡ explained file source fault.place (broken_words fault.rule)
 IsExplanation runs file source w r (program core comes (unfit wanted fault misfits is)) text = IsMisfitExplained misfits.model.params w.texts fault text
 IsExplanation runs file source w r (program core comes (fit values means of)) text =
-    text ≡ of.course.log ++ ending_text source core.names.kinds of.course.ending.verdict of.course.ending.clock
+    (rest : List ℕ) × IsRestTold core source (settings_with w values) rest × (text ≡ of.course.log ++ end_told source core rest of.course.ending)
 
 -- a source's report where its simulation is told at length: that of the simulation, with the explanation in place of its log
 pub record IsExplained (runs : Runs) (file : List ℕ) (w : Wanted) (source : List ℕ) (r : Report) : Type 0 where

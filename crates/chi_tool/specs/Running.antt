@@ -1,9 +1,13 @@
 -- The report of a program's run.
-use Rattle.std.specs.Prelude.{◌≡◌, ◌++◌}
+use Rattle.std.specs.Prelude.{◌≡◌, ℕ, List, ◌++◌}
 use Rattle.chi_core.specs.declared.program.Core.{Core}
+use Rattle.chi_core.specs.Beginning.{start}
+use Rattle.chi_core.specs.Options.{Ending}
 use Rattle.chi_core.specs.VerdictLine.{verdict_line_of}
 use Rattle.chi_engine.specs.Courses.{Course, Runs, IsRunOf}
 use Rattle.chi_engine.specs.Settings.{Settings}
+use Rattle.chi_explain_endings.specs.Endings.{ending_text}
+use Rattle.chi_explain_runs.specs.Waits.{IsWaitingTold}
 use Rattle.chi_tool.specs.Refusals.{Report}
 use Rattle.chi_tool.specs.Settings.{Aim, of_program, simulates}
 use Rattle.chi_tool.specs.Statuses.{status_of}
@@ -27,3 +31,11 @@ pub record IsRunReport (runs : Runs) (core : Core) (settings : Settings) (r : Re
   pub course : Course
   pub run : runs core settings course
   pub is : r ≡ run_report core course
+
+-- what is told, by the meaning, of the instances that haven't finished where a run comes to rest
+abbrev pub IsRestTold : Core → List ℕ → Settings → List ℕ → Type 0
+IsRestTold core source s text = IsWaitingTold core source (start core s.arguments s.seed s.until) s.pick s.bound text
+
+-- how a run ended, at length, and what is told of where it came to rest
+abbrev pub end_told : List ℕ → Core → List ℕ → Ending → List ℕ
+end_told source core rest ending = ending_text source core.names.kinds ending.verdict ending.clock ++ rest

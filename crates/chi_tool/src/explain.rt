@@ -2,6 +2,9 @@
 
 ghost use Rattle.std.specs.Prelude.{◌≡◌, ◌≤◌, ◌<◌, ◌^◌, ◌-◌, ℕ, List, [], false, Some, Err, IfOk, length, slice_get};
 ghost use Rattle.chi_cli.specs.Arguments.{IsNumber, values_of};
+ghost use Rattle.chi_core.specs.declared.program.ProcDef.{ProcDef as AProcDef};
+ghost use Rattle.chi_core.specs.Kinds.{kinds_of};
+ghost use Rattle.chi_core.specs.Of.{at_start, AreOf};
 ghost use Rattle.chi_core.specs.Sound.{Sound};
 ghost use Rattle.chi_core.specs.VerdictLine.{MayTell};
 ghost use Rattle.chi_explain_arguments.specs.Arguments.{argument_text, kind_text};
@@ -12,13 +15,15 @@ ghost use Rattle.chi_tool.specs.Explaining.{IsMisfitTold, IsProgramTold, IsRefus
 ghost use Rattle.chi_tool.specs.Readings.{IsRefusedAs, IsUnparsedAs};
 ghost use Rattle.chi_tool.specs.Report.{IsExplained};
 ghost use Rattle.chi_tool.specs.Reported.{report_in};
+ghost use Rattle.chi_tool.specs.Running.{IsRestTold};
 ghost use Rattle.chi_tool.specs.Serving.{Makes};
-ghost use Rattle.chi_tool.specs.Settings.{wanted_of};
+ghost use Rattle.chi_tool.specs.Settings.{settings_with, wanted_of};
 
 use crate::arguments::{Fitting, Misfit, fitting_of};
-use crate::by_engine::run_with;
+use crate::by_engine::{Ran, run_with};
 use crate::reading::{Reading, Refusal, Unparsed, reading_of};
 use crate::report::{Reported, unpassed};
+use crate::rest::{copies_of, rest_told};
 use crate::status::{ARGUMENTS, LEXICAL, SYNTAX, TYPING, status_of};
 use crate::task::Asked;
 use chi_base::NoMemory;
@@ -28,6 +33,7 @@ use chi_engine::Engine;
 use chi_explain::explain_lexical;
 use chi_explain_arguments::{explain_argument, explain_count, explain_kind};
 use chi_explain_endings::explain_ending;
+use chi_explain_runs::waiting_law;
 use chi_explain_syntax::explain_syntax;
 use chi_explain_typing::explain_typing;
 use chi_io::Sink;
@@ -36,6 +42,7 @@ use chi_machine_agenda::Ending;
 use chi_machine_traces::PassFault;
 use chi_token::Bytes;
 use chi_types::Ty;
+use chi_value::Value;
 use std::alloc::Global;
 
 /// A report that is nothing but a text, in the log.
@@ -193,28 +200,53 @@ fn misfit_of(
     Ok(alone(alloc, ARGUMENTS, text))
 }
 
-/// The report of a run that has ended, but for its output, which was passed on, with what is logged of it.
+/// The report of a run that has ended, but for its output, which was passed on, with what is logged of it, and what is told of
+/// where it came to rest.
 fn ending_told(
     alloc: Global,
     source: &[u8],
     core: &Core,
     ending: Ending,
     lines: Vec<u8>,
+    rest: &[u8],
 ) -> Result<Reported, NoMemory>
     requires { MayTell core.now ending.verdict }
-    ensures { IfOk result (λ r. report_in r ≡ run_told source.now core.now (record { output = []; log = lines.items; ending = ending })) }
+    ensures { IfOk result (λ r. report_in r ≡ run_told source.now core.now rest.now (record { output = []; log = lines.items; ending = ending })) }
 {
     let mut log = lines;
     let status = status_of(ending.verdict());
     let told = explain_ending(alloc, source, ending.verdict(), ending.clock(), &core.names);
     drop(ending);
-    let text = told?;
+    let mut text = told?;
+    text.extend_from_slice(rest)?;
     log.extend_from_slice(&text)?;
     Ok(Reported {
         status,
         out: Vec::new(alloc),
         log,
     })
+}
+
+/// The report of a run that an engine made with these arguments, but for its output.
+fn course_told(
+    alloc: Global,
+    source: &[u8],
+    core: &Core,
+    arguments: Vec<Value>,
+    asked: &Asked<Pick>,
+    ran: Ran,
+) -> Result<Reported, NoMemory>
+    requires sound { Sound core.now }
+    requires arguments { (d : AProcDef) → slice_get core.now.procs core.now.model ≡ Some d
+        → AreOf (at_start core.now.names.kinds) arguments.items (kinds_of d.params) }
+    requires bound { asked.now.terms.bound < 2 ^ 63 }
+    requires may { MayTell core.now ran.ending.verdict }
+    ensures { IfOk result (λ r. (rest : List ℕ) × IsRestTold core.now source.now (settings_with (wanted_of asked.now) arguments.items) rest
+        × (report_in r ≡ run_told source.now core.now rest (record { output = []; log = ran.log.items; ending = ran.ending }))) }
+{
+    let rest = rest_told(alloc, source, core, arguments, asked)?;
+    let Ran { ending, log } = ran;
+    ending_told(alloc, source, core, ending, log, &rest)
 }
 
 /// The report of a program: that its arguments are refused, or of its run by an engine.
@@ -231,12 +263,14 @@ fn program_told<E: Engine, O: Sink>(
     requires out_goes { O.stopped out.old ≡ false }
     ensures { Makes (IsProgramTold (E.outcome engine.old) source.now core.now (wanted_of asked.now)) (sink_use O.taken O.faults O.stopped out.old out.new) result }
 {
+    waiting_law();
     let texts = asked.texts.as_slice();
     match fitting_of(alloc, core, texts)? {
         Fitting::Unfit(misfit) => unpassed(misfit_told(alloc, core, texts, misfit)),
         Fitting::Fit(arguments) => {
+            let again = copies_of(alloc, &arguments)?;
             let ran = run_with(alloc, core, arguments, asked, out, engine)?;
-            unpassed(ending_told(alloc, source, core, ran.ending, ran.log))
+            unpassed(course_told(alloc, source, core, again, asked, ran))
         }
     }
 }

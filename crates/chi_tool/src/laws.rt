@@ -1,4 +1,5 @@
 ghost use Rattle.std.specs.Prelude.{◌≡◌, ◌≤◌, ℕ, All, List, length};
+ghost use Rattle.chi_cli.specs.declared.request.Pick.{Pick};
 ghost use Rattle.chi_code.specs.declared.code.Code.{Code};
 ghost use Rattle.chi_code.specs.Codes.{Codes};
 ghost use Rattle.chi_io.specs.Shelf.{Files};
@@ -19,13 +20,19 @@ ghost use Rattle.chi_tool.specs.Layouts.{HasLayout};
 ghost use Rattle.chi_tool.specs.Limits.{LimitsAre};
 ghost use Rattle.chi_tool.specs.Refusals.{Report};
 ghost use Rattle.chi_tool.specs.Report.{IsExplained, IsReport, IsReportFor, IsReportOfSource};
+ghost use Rattle.chi_tool.specs.RuleNumbers.{RulesAre};
 ghost use Rattle.chi_tool.specs.Running.{runs_for};
-ghost use Rattle.chi_tool.specs.Settings.{Aim, IsShortFor, MayBeAimed, Wanted, simulates};
+ghost use Rattle.chi_tool.specs.declared.task.Asked.{Asked};
+ghost use Rattle.chi_tool.specs.declared.task.Purpose.TheVariants.{Explain};
+ghost use Rattle.chi_tool.specs.declared.task.Task.TheVariants.{OfFile};
+ghost use Rattle.chi_tool.specs.Settings.{Aim, IsShortFor, MayBeAimed, simulates, wanted_of};
+ghost use Rattle.chi_tool.specs.Words.{of_task, wish_of};
 ghost use Rattle.chi_tool.specs.Simulations.{AreOwnPicks, IsDerived, course_of};
 ghost use Rattle.chi_tool.specs.Sources.{ComesTo, IsWritten};
 ghost use Rattle.chi_tree.specs.declared.definition.Program.{Program};
 ghost use Rattle.chi_tree_laws.specs.UnplacedStatements.{unplaced};
 ghost use Rattle.chi_fmt.specs.Kept.{kept};
+ghost use Rattle.chi_fmt_laws.specs.CheckedAlike.{IsAcceptedAs};
 
 use chi_check_parsed::parsed_programs_are_sound;
 use chi_cli::{faults_of_arguments_name_them, numbers_are_in_range, values_are_of_parameters};
@@ -33,7 +40,9 @@ use chi_code::code_is_unique;
 use chi_core_runs::own_numbers_law;
 use chi_engine::{Engine, Machines, course_law};
 use chi_explain::lexical_explanation_law;
+use chi_explain_runs::waiting_law;
 use chi_explain_syntax::syntax_explanation_law;
+use chi_fmt_laws::laid_out_core_law;
 use chi_gen_laws::sound_programs_have_one_code;
 use chi_log::{judging_law, one_log_law};
 use chi_picks::picks_law;
@@ -94,14 +103,17 @@ pub fn source_law()
     one_log_law();
 }
 
-/// Words and files have exactly one report with an engine, and each report of a simulation can be told at length.
+/// Words and files have exactly one report with an engine; and where words ask that a simulation be told at length, each report of
+/// it can be told so.
 pub fn report_law<E: Engine>(engine: &E)
     ensures some { (words : List (List ℕ)) (files : Files) → (r : Report) × IsReport (E.outcome engine.now) words files r }
     ensures one { (words : List (List ℕ)) (files : Files) (r other : Report)
         → IsReport (E.outcome engine.now) words files r → IsReport (E.outcome engine.now) words files other → r ≡ other }
-    ensures explained { (file : List ℕ) (source : List ℕ) (w : Wanted) (plain : Report) → IsReportOfSource (E.outcome engine.now) source (simulates w) plain
-        → (r : Report) × IsExplained (E.outcome engine.now) file w source r × (r.status ≡ plain.status) }
+    ensures explained { (words : List (List ℕ)) (file : List ℕ) (a : Asked Pick) → wish_of words ≡ of_task (OfFile file (Explain a))
+        → (source : List ℕ) → length source ≤ MOST_BYTES → (plain : Report) → IsReportOfSource (E.outcome engine.now) source (simulates (wanted_of a)) plain
+        → (r : Report) × IsExplained (E.outcome engine.now) file (wanted_of a) source r × (r.status ≡ plain.status) }
 {
+    waiting_law();
     answer_law();
     parsed_programs_are_sound();
     asked_runs_law(engine);
@@ -118,12 +130,14 @@ pub fn report_law<E: Engine>(engine: &E)
 }
 
 /// The layout of a source is its own layout, and what it is read as is the program of the source, but for places, and with those
-/// `;` alone that the layout keeps.
+/// `;` alone that the layout keeps; and where the source comes to a core, the layout comes to the same, but for its lines.
 pub fn layout_law()
     ensures again { (source text : List ℕ) → HasLayout source text → HasLayout text text }
     ensures same { (source text : List ℕ) (has : HasLayout source text) (tree : Program) → IsWritten text tree → unplaced tree ≡ unplaced (kept has.tree) }
+    ensures core { (source text : List ℕ) → HasLayout source text → (core : Core) → ComesTo source core → IsAcceptedAs text core }
 {
     answer_law();
+    laid_out_core_law();
     chi_fmt::comments_law();
     chi_fmt::layout_law();
 }
@@ -146,3 +160,8 @@ pub fn limits_law()
 {
     chi_core::limits_law();
 }
+
+/// The numbers of the rules of typing, which the definitions cite by their constants, and that each has its words.
+pub fn rules_law()
+    ensures { RulesAre }
+{}

@@ -19,6 +19,7 @@ mod program;
 mod reading;
 mod refusal;
 mod report;
+mod rest;
 mod run;
 mod serve;
 mod settings;
@@ -31,7 +32,7 @@ mod words;
 
 pub use laws::{
     layout_law, limits_law, meets_law, one_code_law, one_run_law, own_picks_law, report_law,
-    source_law, tokens_law,
+    rules_law, source_law, tokens_law,
 };
 pub use library::{replay, simulate, simulate_probed};
 pub use top::chi;

@@ -10,4 +10,4 @@ if exists(":CompilerSet") != 2
 endif
 let s:program = get(g:, "chi_program", "chi")
 execute "CompilerSet makeprg=" . escape(s:program . " explain --steps 0 -- %:S", ' \|"')
-CompilerSet errorformat=%-C\ \ \ \ %.%#,%-G\ \ \ \ %.%#,%-Gout\ of\ steps\ at\ time\ %.%#,%-Gthe\ model's\ parameters\ are\ %.%#,%-Gparameter\ %*[0-9]\ of\ the\ model\ is\ %.%#,%f:%l:%c:\ %m,%E%m\ in\ const\ line\ %l\ at\ time\ %.%#,%Z%m
+CompilerSet errorformat=%-C\ \ \ \ %.%#,%-G\ \ %.%#,%-Gout\ of\ steps\ at\ time\ %.%#,%-Ginstance\ %*[0-9]\ %.%#,%-Gthe\ model's\ parameters\ are\ %.%#,%-Gparameter\ %*[0-9]\ of\ the\ model\ is\ %.%#,%f:%l:%c:\ %m,%E%m\ in\ const\ line\ %l\ at\ time\ %.%#,%Z%m

@@ -14,4 +14,7 @@ returns c = record {
   log = refl;
   beside = refl;
   machines = refl;
+  line_shown = refl;
+  line_before = refl;
+  explained = refl;
 }

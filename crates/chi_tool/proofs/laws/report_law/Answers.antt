@@ -1,6 +1,11 @@
 use Rattle.chi_tool.proofs.LawClauses.{AnswerLaw, RunLaw, CodeLaw, CheckLaw, ExplainLaw, JudgeLaw, LogLaw, PicksLaw}
+use Rattle.std.proofs.Common.{subst}
+use Rattle.chi_tool.specs.declared.task.Purpose.TheVariants.{Explain}
+use Rattle.chi_tool.specs.Settings.{wanted_of}
 use Rattle.chi_tool.proofs.Explained.{explained_some}
 use Rattle.chi_tool.proofs.Reports.{report_some, report_one}
+use Rattle.chi_tool.proofs.Runs.{may_be_aimed}
+use Rattle.chi_tool.proofs.Wishes.{IsBoundedWish, bounded_wish}
 use Rattle.chi_tool.proofs.laws.report_law.Goals as goal
 
 pub returns : goal.returns
@@ -20,9 +25,13 @@ returns g c =
       kind = c.faults_of_arguments_name_them.ensures.kind;
       text = c.faults_of_arguments_name_them.ensures.text;
       memory = c.faults_of_arguments_name_them.ensures.memory;
+      waits_one = c.waiting_law.ensures.one;
+      waits_some = c.waiting_law.ensures.some;
     } in
     record {
       some = report_some (g.E.Engine.outcome c.args.engine.now) answers ran coded check c.values_are_of_parameters.ensures picks judging explain log_law c.numbers_are_in_range.ensures;
       one = report_one (g.E.Engine.outcome c.args.engine.now) answers ran coded check c.values_are_of_parameters.ensures picks judging explain log_law;
-      explained = explained_some answers explain (g.E.Engine.outcome c.args.engine.now);
+      explained = λ words name a asked source within plain is.
+          explained_some answers explain (g.E.Engine.outcome c.args.engine.now) check c.values_are_of_parameters.ensures name source within (wanted_of a)
+          (may_be_aimed (Explain a) (subst IsBoundedWish asked (bounded_wish c.numbers_are_in_range.ensures words))) plain is;
     }
