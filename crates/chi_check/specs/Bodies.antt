@@ -1,5 +1,5 @@
--- The bodies of functions, processes and models, and what these come to.
-use Rattle.std.specs.Prelude.{ℕ, false, List, [], ◌∷◌, ◌++◌, length, take, Option, Some, None, option_map}
+-- The bodies of functions, processes, models and experiments, and what these come to.
+use Rattle.std.specs.Prelude.{ℕ, false, List, [], ◌∷◌, ◌++◌, length, map, take, Option, Some, None, option_map}
 use Rattle.std.specs.Option.{option_and_then}
 use Rattle.chi_tree.specs.declared.definition.Definition.{Definition}
 use Rattle.chi_tree.specs.declared.definition.Definition.TheVariants as definition
@@ -9,6 +9,8 @@ use Rattle.chi_tree.specs.declared.type_tree.Name.{Name}
 use Rattle.chi_types.specs.declared.ty.Ty.{Ty}
 use Rattle.chi_core.specs.declared.program.FuncDef.{FuncDef}
 use Rattle.chi_core.specs.declared.program.ProcDef.{ProcDef}
+use Rattle.chi_core.specs.declared.experiment.XStat.{XStat}
+use Rattle.chi_core.specs.declared.experiment.XperDef.{XperDef}
 use Rattle.chi_core.specs.declared.statement.CStat.{CStat}
 use Rattle.chi_check_types.specs.Names.{Names}
 use Rattle.chi_check_stat_rules.specs.declared.home.ExitType.{ExitType}
@@ -20,6 +22,7 @@ use Rattle.chi_check_stat_lines.specs.declared.state.State.{State}
 use Rattle.chi_check_stat_lines.specs.Stated.{Stated, Turn, both, done, in_turn}
 use Rattle.chi_check_stat_lines.specs.States.{binding}
 use Rattle.chi_check_stat.specs.Statements.{stating_all}
+use Rattle.chi_check_experiments.specs.Experiments.{trying_all}
 use Rattle.chi_check_headers.specs.declared.header.Header.{Header}
 use Rattle.chi_check_headers.specs.Headers.{all_types}
 
@@ -52,6 +55,7 @@ process name params e body = record { name = name; params = params; exit = e; sl
 abbrev pub result_of : Home → Option Ty
 result_of (home.Function result) = result
 result_of (home.Process own) = None
+result_of home.Experiment = None
 
 -- the exit type of a process whose header has types, if it has an exit type
 abbrev pub exit_known : ExitType → Option (Option Ty)
@@ -62,6 +66,7 @@ exit_known (exit.Given t) = Some (Some t)
 abbrev pub exit_of : Home → Option (Option Ty)
 exit_of (home.Function result) = None
 exit_of (home.Process own) = exit_known own
+exit_of home.Experiment = None
 
 abbrev pub function_made : List ℕ → Header → Option (List CStat × List Ty) → Option (List FuncDef)
 function_made name h body =
@@ -97,3 +102,20 @@ functions_of _ _ = []
 abbrev pub processes_of : List Definition → List (Option Header) → List (Turn Names ProcDef)
 processes_of (d ∷ ds) (h ∷ hs) = process_of d h ∷ processes_of ds hs
 processes_of _ _ = []
+
+-- ---- experiments
+
+abbrev pub experiment : List ℕ → List Ty → List XStat → List XperDef
+experiment name slots body = record { name = name; slots = slots; body = body } ∷ []
+
+abbrev pub experiment_defined : Name → List Step → Turn Names XperDef
+experiment_defined name steps names =
+    let body = trying_all false steps (record { names = names; slots = [] }) in
+    record { next = take (length names) body.next.names; faults = body.faults; made = option_map (experiment name.text body.next.slots) body.made }
+
+abbrev pub experiment_of : Definition → Turn Names XperDef
+experiment_of (definition.Xper place name steps) names = experiment_defined name steps names
+experiment_of _ names = done names
+
+abbrev pub experiments_of : List Definition → List (Turn Names XperDef)
+experiments_of ds = map experiment_of ds

@@ -9,6 +9,7 @@ use Rattle.chi_core.specs.declared.program.ConstDef.{ConstDef}
 use Rattle.chi_core.specs.declared.program.Core.{Core}
 use Rattle.chi_core.specs.declared.program.FuncDef.{FuncDef}
 use Rattle.chi_core.specs.declared.program.ProcDef.{ProcDef}
+use Rattle.chi_core.specs.declared.experiment.XperDef.{XperDef}
 use Rattle.chi_check_types.specs.declared.fault.Fault.{Fault}
 use Rattle.chi_check_types.specs.declared.fault.TypeFault.{TypeFault}
 use Rattle.chi_check_types.specs.declared.fault.TypeFault.TheVariants.{Broken, NoMemory}
@@ -23,7 +24,7 @@ use Rattle.chi_check_headers.specs.declared.sketch.Early.{Early}
 use Rattle.chi_check_headers.specs.declared.sketch.Named.{Named}
 use Rattle.chi_check_headers.specs.Headers.{header_in, header_faults}
 use Rattle.chi_check_headers.specs.Definitions.{sketching, early_defined, with_all_late, with_all_headed}
-use Rattle.chi_check.specs.Bodies.{functions_of, processes_of}
+use Rattle.chi_check.specs.Bodies.{functions_of, processes_of, experiments_of}
 
 abbrev pub no_names : Sketch
 no_names = record { all = []; early = []; enumerations = 0; processes = 0; experiments = 0 }
@@ -53,12 +54,12 @@ model_rule last (Some number) = []
 
 -- ---- programs
 
-abbrev pub core : List (List (List ℕ)) → List ConstDef → List FuncDef → List ProcDef → ℕ → Core
-core enumerations consts funcs procs model = record { consts = consts; funcs = funcs; procs = procs; model = model; names = record { kinds = enumerations } }
+abbrev pub core : List (List (List ℕ)) → List ConstDef → List FuncDef → List ProcDef → List XperDef → ℕ → Core
+core enumerations consts funcs procs xpers model = record { consts = consts; funcs = funcs; procs = procs; model = model; names = record { kinds = enumerations }; xpers = xpers }
 
-abbrev pub core_of : Option (List (List (List ℕ))) → Option (List ConstDef) → Option (List FuncDef) → Option (List ProcDef) → Option ℕ → Option Core
-core_of enumerations consts funcs procs model =
-    option_and_then (λ es. option_and_then (λ cs. option_and_then (λ fs. option_and_then (λ ps. option_map (core es cs fs ps) model) procs) funcs) consts) enumerations
+abbrev pub core_of : Option (List (List (List ℕ))) → Option (List ConstDef) → Option (List FuncDef) → Option (List ProcDef) → Option (List XperDef) → Option ℕ → Option Core
+core_of enumerations consts funcs procs xpers model =
+    option_and_then (λ es. option_and_then (λ cs. option_and_then (λ fs. option_and_then (λ ps. option_and_then (λ xs. option_map (core es cs fs ps xs) model) xpers) procs) funcs) consts) enumerations
 
 -- the names of all definitions; then types and constants; then the headers; then the bodies
 abbrev pub definitions_checked : List Definition → Place → Typed Core
@@ -71,10 +72,11 @@ definitions_checked ds last =
     let named = with_all_headed sketch.next.all ds given (first_named (take (length early.next.names) late)) in
     let funcs = in_turn (functions_of ds given) named.names in
     let procs = in_turn (processes_of ds given) funcs.next in
+    let xpers = in_turn (experiments_of ds) procs.next in
     let model = first_model 0 ds in
     record {
-      faults = sketch.faults ++ early.faults ++ header_faults headers ++ funcs.faults ++ procs.faults ++ model_rule last model;
-      made = core_of sketch.made early.made funcs.made procs.made model;
+      faults = sketch.faults ++ early.faults ++ header_faults headers ++ funcs.faults ++ procs.faults ++ xpers.faults ++ model_rule last model;
+      made = core_of sketch.made early.made funcs.made procs.made xpers.made model;
     }
 
 -- the broken rules of a program, and what it comes to

@@ -152,7 +152,10 @@ fn check_body(
 }
 
 /// The names as they are, with no definition.
-fn none_in<T: Drop>(alloc: Global, names: Scope) -> Result<(Scope, Option<Items<T>>), NoMemory>
+pub(crate) fn none_in<T: Drop>(
+    alloc: Global,
+    names: Scope,
+) -> Result<(Scope, Option<Items<T>>), NoMemory>
     ensures next { IfOk result (λ r. r.0 ≡ names) }
     ensures made { IfOk result (λ r. r.1 ≡ Some []) }
 {

@@ -1,14 +1,14 @@
-//! What functions, processes and models come to, by what their headers and their bodies come to.
+//! What functions, processes, models and experiments come to, by what their headers and their bodies come to.
 
-ghost use Rattle.std.specs.Prelude.{◌≡◌, length, option_map, IfOk};
+ghost use Rattle.std.specs.Prelude.{◌≡◌, Some, length, option_map, IfOk};
 ghost use Rattle.std.specs.Option.{option_and_then};
 ghost use Rattle.chi_check.specs.Bodies as spec;
 
 use chi_base::{Items, NoMemory};
 use chi_check_headers::{Header, all_types};
-use chi_check_stat_lines::one;
+use chi_check_stat_lines::{Growing, one};
 use chi_check_stat_rules::{ExitType, Home};
-use chi_core::{CStat, FuncDef, ProcDef};
+use chi_core::{CStat, FuncDef, ProcDef, XStat, XperDef};
 use chi_token::Bytes;
 use chi_types::Ty;
 use std::alloc::Global;
@@ -18,7 +18,7 @@ fn result_of(alloc: Global, home: &Home) -> Result<Option<Ty>, NoMemory>
 {
     match home {
         Home::Function(Some(outcome)) => Ok(Some(outcome.copy(alloc)?)),
-        Home::Function(None) | Home::Process(_) => Ok(None),
+        Home::Function(None) | Home::Process(_) | Home::Experiment => Ok(None),
     }
 }
 
@@ -28,7 +28,7 @@ fn exit_of(alloc: Global, home: &Home) -> Result<Option<Option<Ty>>, NoMemory>
     match home {
         Home::Process(ExitType::Nothing) => Ok(Some(None)),
         Home::Process(ExitType::Given(ty)) => Ok(Some(Some(ty.copy(alloc)?))),
-        Home::Process(ExitType::Untyped) | Home::Function(_) => Ok(None),
+        Home::Process(ExitType::Untyped) | Home::Function(_) | Home::Experiment => Ok(None),
     }
 }
 
@@ -208,6 +208,46 @@ pub(crate) fn process_made(
             drop(body);
             Ok(None)
         }
+        Err(refusal) => {
+            drop(body);
+            Err(refusal)
+        }
+    }
+}
+
+fn experiment_with(
+    alloc: Global,
+    name: &Bytes,
+    slots: Items<Ty>,
+    body: Items<XStat>,
+) -> Result<Option<Items<XperDef>>, NoMemory>
+    ensures { IfOk result (λ x. x ≡ Some (spec.experiment name.now slots body)) }
+{
+    match Bytes::copy_of(alloc, name.as_slice()) {
+        Ok(name) => one(alloc, Some(XperDef { name, slots, body })),
+        Err(refusal) => {
+            drop(slots);
+            drop(body);
+            Err(refusal)
+        }
+    }
+}
+
+/// An experiment of this name, whose body comes to this.
+pub(crate) fn experiment_made(
+    alloc: Global,
+    name: &Bytes,
+    slots: Growing<Ty>,
+    body: Option<Items<XStat>>,
+) -> Result<Option<Items<XperDef>>, NoMemory>
+    ensures { IfOk result (λ x. x ≡ option_map (spec.experiment name.now slots) body) }
+{
+    let Some(body) = body else {
+        drop(slots);
+        return Ok(None);
+    };
+    match slots.into_items(alloc) {
+        Ok(slots) => experiment_with(alloc, name, slots, body),
         Err(refusal) => {
             drop(body);
             Err(refusal)

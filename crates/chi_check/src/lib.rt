@@ -3,6 +3,8 @@
 
 mod bodies;
 mod definitions;
+mod experiments;
+mod late;
 mod programs;
 
 pub use chi_check_types::TypeFault;

@@ -43,7 +43,7 @@ value_exact place (known.Untyped n) h = absurd (h n refl)
 value_exact place (known.Kind t) h = refused_exact Made _ place
 value_exact place (known.Func number params result) h = refused_exact Made _ place
 value_exact place (known.Proc number params exit) h = refused_exact Made _ place
-value_exact place (known.Model number) h = refused_exact Made _ place
+value_exact place (known.Model number params exit) h = refused_exact Made _ place
 value_exact place (known.Xper number) h = refused_exact Made _ place
 
 type_exact : (place : Place) (k : Known) → Has k → ExactTyped (types.visible_type place (Some k))
@@ -55,7 +55,7 @@ type_exact place (known.Const number t) h = refused_exact Meant _ place
 type_exact place (known.Value enumeration position) h = refused_exact Meant _ place
 type_exact place (known.Func number params result) h = refused_exact Meant _ place
 type_exact place (known.Proc number params exit) h = refused_exact Meant _ place
-type_exact place (known.Model number) h = refused_exact Meant _ place
+type_exact place (known.Model number params exit) h = refused_exact Meant _ place
 type_exact place (known.Xper number) h = refused_exact Meant _ place
 
 call_exact : (site : Site) (place : Place) (k : Known) (ms : List Made) → Has k → ExactTyped (call_of site place (Some k) (typed_parts ms))
@@ -69,7 +69,7 @@ call_exact site place (known.Fixed slot t) ms h = refused_exact Made _ place
 call_exact site place (known.Const number t) ms h = refused_exact Made _ place
 call_exact site place (known.Value enumeration position) ms h = refused_exact Made _ place
 call_exact site place (known.Proc number params exit) ms h = refused_exact Made _ place
-call_exact site place (known.Model number) ms h = refused_exact Made _ place
+call_exact site place (known.Model number params exit) ms h = refused_exact Made _ place
 call_exact site place (known.Xper number) ms h = refused_exact Made _ place
 
 call_none : (site : Site) (place : Place) (k : Known) (ms : List (Option Made)) → Has k → all_made ms ≡ None → (call_of site place (Some k) ms).made ≡ None
@@ -82,7 +82,7 @@ call_none site place (known.Fixed slot t) ms h e = refl
 call_none site place (known.Const number t) ms h e = refl
 call_none site place (known.Value enumeration position) ms h e = refl
 call_none site place (known.Proc number params exit) ms h e = refl
-call_none site place (known.Model number) ms h e = refl
+call_none site place (known.Model number params exit) ms h e = refl
 call_none site place (known.Xper number) ms h e = refl
 
 -- an insertion whose third argument isn't known

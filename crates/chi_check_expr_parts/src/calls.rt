@@ -10,7 +10,7 @@ ghost use Rattle.chi_check_expr_rules.specs.Calls as spec;
 ghost use Rattle.chi_check_expr_rules.specs.Conversions as conversion;
 
 use chi_base::{Items, NoMemory};
-use chi_check_expr_rules::{all_made, note_calling, passed, settle, unless};
+use chi_check_expr_rules::{all_made, model_call_rule, note_calling, passed, settle, unless};
 use chi_check_types::{Fault, Known, Made, NameKind, Site, note, rules};
 use chi_core::CExpr;
 use chi_token::Place;
@@ -76,6 +76,7 @@ fn untyped_call(site: Site, place: Place, kind: NameKind, kept: &mut Option<Faul
         NameKind::Function => {
             note_calling(site, place, kept);
         }
+        NameKind::Model => note(kept, model_call_rule(site), place),
         _ => note(kept, rules::NAME_KIND, place),
     }
 }
@@ -106,6 +107,11 @@ pub fn call_of(
         }
         Some(Known::Untyped(kind)) => {
             untyped_call(site, place, *kind, kept);
+            drop(arguments);
+            Ok(None)
+        }
+        Some(Known::Model(..)) => {
+            note(kept, model_call_rule(site), place);
             drop(arguments);
             Ok(None)
         }

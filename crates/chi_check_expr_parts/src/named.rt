@@ -23,7 +23,7 @@ fn untyped_value(place: Place, kind: NameKind, kept: &mut Option<Fault>) -> Opti
 {
     match kind {
         NameKind::Variable | NameKind::Unwound | NameKind::Constant => None,
-        NameKind::Type | NameKind::Function | NameKind::Process => {
+        NameKind::Type | NameKind::Function | NameKind::Process | NameKind::Model => {
             note(kept, rules::NAME_KIND, place);
             None
         }

@@ -13,7 +13,7 @@ use Rattle.chi_check_types.specs.declared.site.Site.{Site}
 use Rattle.chi_check_types.specs.Typed.{Typed, untyped, refused}
 use Rattle.chi_check_expr_rules.specs.Conversions.{made, passed}
 use Rattle.chi_check_expr_rules.specs.Nodes.{of_all, barred, all_made}
-use Rattle.chi_check_expr_rules.specs.Sites.{calling_rule}
+use Rattle.chi_check_expr_rules.specs.Sites.{calling_rule, model_call_rule}
 
 -- an argument for each parameter, each of which fits and is converted
 abbrev pub called : ℕ → List Ty → Ty → List Made → Option Made
@@ -32,6 +32,7 @@ untyped_call site place kind.Unwound = refused NAME_KIND place
 untyped_call site place kind.Constant = refused NAME_KIND place
 untyped_call site place kind.Type = refused NAME_KIND place
 untyped_call site place kind.Process = refused NAME_KIND place
+untyped_call site place kind.Model = refused (model_call_rule site) place
 
 -- a call of what is known of the name, which isn't predefined
 abbrev pub call_of : Site → Place → Option Known → List (Option Made) → Typed Made
@@ -45,5 +46,5 @@ call_of site place (Some (known.Const number t)) arguments = refused NAME_KIND p
 call_of site place (Some (known.Kind t)) arguments = refused NAME_KIND place
 call_of site place (Some (known.Value enumeration position)) arguments = refused NAME_KIND place
 call_of site place (Some (known.Proc number params exit)) arguments = refused NAME_KIND place
-call_of site place (Some (known.Model number)) arguments = refused NAME_KIND place
+call_of site place (Some (known.Model number params exit)) arguments = refused (model_call_rule site) place
 call_of site place (Some (known.Xper number)) arguments = refused NAME_KIND place

@@ -27,6 +27,7 @@ untyped_value place kind.Constant = untyped []
 untyped_value place kind.Type = refused NAME_KIND place
 untyped_value place kind.Function = refused NAME_KIND place
 untyped_value place kind.Process = refused NAME_KIND place
+untyped_value place kind.Model = refused NAME_KIND place
 
 -- what is known of the name where it stands
 abbrev pub visible_value : Place → Option Known → Typed Made
@@ -40,7 +41,7 @@ visible_value place (Some (known.Untyped k)) = untyped_value place k
 visible_value place (Some (known.Kind t)) = refused NAME_KIND place
 visible_value place (Some (known.Func number params result)) = refused NAME_KIND place
 visible_value place (Some (known.Proc number params exit)) = refused NAME_KIND place
-visible_value place (Some (known.Model number)) = refused NAME_KIND place
+visible_value place (Some (known.Model number params exit)) = refused NAME_KIND place
 visible_value place (Some (known.Xper number)) = refused NAME_KIND place
 
 -- a predefined name is of another kind

@@ -21,6 +21,6 @@ pub use lists::{list_of_one, list_of_two, one_more};
 pub use nodes::{all_made, settle};
 pub use parts::Contents;
 pub use refusals::{both_refused, refused, unless};
-pub use sites::{note_calling, note_running, note_running_if};
+pub use sites::{model_call_rule, note_calling, note_running, note_running_if};
 pub use taking::{core_and_type, core_of, on_it, type_meant, type_of};
 pub use types::{are_ints, number_of};

@@ -1,4 +1,4 @@
-//! What may not stand in a constant's expression, and what may not stand in a function either.
+//! What may not stand in a constant's expression, in a function and in an experiment.
 
 #![tactic(auto, using(chi_check_types::proofs::Firsts::first_of_none))]
 
@@ -19,7 +19,7 @@ pub fn note_calling(site: Site, place: Place, kept: &mut Option<Fault>) -> bool
             note(kept, rules::IN_CONSTANT, place);
             true
         }
-        Site::Function | Site::Process => false,
+        Site::Function | Site::Process | Site::Experiment => false,
     }
 }
 
@@ -38,6 +38,10 @@ pub fn note_running(site: Site, place: Place, kept: &mut Option<Fault>) -> bool
             true
         }
         Site::Process => false,
+        Site::Experiment => {
+            note(kept, rules::IN_EXPERIMENT, place);
+            true
+        }
     }
 }
 
@@ -50,5 +54,15 @@ pub fn note_running_if(runs: bool, site: Site, place: Place, kept: &mut Option<F
         note_running(site, place, kept)
     } else {
         false
+    }
+}
+
+/// The rule that a call of a model breaks in an expression.
+pub fn model_call_rule(site: Site) -> u8
+    ensures { result ≡ spec.model_call_rule site }
+{
+    match site {
+        Site::Constant | Site::Function | Site::Process => rules::NAME_KIND,
+        Site::Experiment => rules::MODEL_CALL,
     }
 }

@@ -10,15 +10,12 @@ use Rattle.chi_types.specs.declared.ty.Ty.{Ty}
 use Rattle.chi_types.specs.declared.ty.Ty.TheVariants as ty
 use Rattle.chi_core.specs.declared.expression.CExpr.{CExpr}
 use Rattle.chi_core.specs.declared.program.ConstDef.{ConstDef}
-use Rattle.chi_check_types.specs.declared.fault.Fault.{Fault}
 use Rattle.chi_check_types.specs.declared.known.Known.{Known}
 use Rattle.chi_check_types.specs.declared.known.Known.TheVariants as known
 use Rattle.chi_check_types.specs.declared.known.NameKind.{NameKind}
 use Rattle.chi_check_types.specs.declared.known.NameKind.TheVariants as kind
-use Rattle.chi_check_types.specs.declared.rules.TheConstants.{MODEL}
 use Rattle.chi_check_types.specs.declared.site.Site.TheVariants as site
 use Rattle.chi_check_types.specs.Names.{Names, known_in}
-use Rattle.chi_check_types.specs.Typed.{broken_if}
 use Rattle.chi_check_expr.specs.Typing.{typing}
 use Rattle.chi_check_stat_rules.specs.Values.{constant_value}
 use Rattle.chi_check_stat_lines.specs.Stated.{Turn, both, done, in_turn}
@@ -27,7 +24,7 @@ use Rattle.chi_check_headers.specs.declared.header.Header.{Header}
 use Rattle.chi_check_headers.specs.declared.sketch.Sketch.{Sketch}
 use Rattle.chi_check_headers.specs.declared.sketch.Early.{Early}
 use Rattle.chi_check_headers.specs.declared.sketch.Named.{Named}
-use Rattle.chi_check_headers.specs.Headers.{type_in, all_types, home_known}
+use Rattle.chi_check_headers.specs.Headers.{type_in, function_headed, process_headed, model_headed}
 
 -- ---- the names of all definitions, in the order of the text
 
@@ -79,18 +76,18 @@ enumeration_named name values s =
       made = option_map (λ names. names ∷ []) each.made;
     }
 
-abbrev pub late_named : Name → Known → List Fault → (Sketch → Sketch) → Turn Sketch (List (List ℕ))
-late_named name k own counted s = record { next = counted (named_late name k s); faults = new_name_rule s.all name ++ own; made = Some [] }
+abbrev pub late_named : Name → Known → (Sketch → Sketch) → Turn Sketch (List (List ℕ))
+late_named name k counted s = record { next = counted (named_late name k s); faults = new_name_rule s.all name; made = Some [] }
 
--- What it comes to are the names of an enumeration's values. An experiment isn't accepted.
+-- What it comes to are the names of an enumeration's values.
 abbrev pub sketching : Definition → Turn Sketch (List (List ℕ))
 sketching (definition.Enum place name values) s = enumeration_named name values s
-sketching (definition.Const place tree name equals value) s = late_named name (known.Untyped kind.Constant) [] (λ s. s) s
-sketching (definition.TypeWord place name tree) s = late_named name (known.Untyped kind.Type) [] (λ s. s) s
-sketching (definition.Func place tree name formals steps) s = late_named name (known.Untyped kind.Function) [] (λ s. s) s
-sketching (definition.Proc place tree name formals steps) s = late_named name (known.Untyped kind.Process) [] one_process s
-sketching (definition.Model place tree name formals steps) s = late_named name (known.Model s.processes) [] one_process s
-sketching (definition.Xper place name steps) s = late_named name (known.Xper s.experiments) (broken_if true MODEL place) one_experiment s
+sketching (definition.Const place tree name equals value) s = late_named name (known.Untyped kind.Constant) (λ s. s) s
+sketching (definition.TypeWord place name tree) s = late_named name (known.Untyped kind.Type) (λ s. s) s
+sketching (definition.Func place tree name formals steps) s = late_named name (known.Untyped kind.Function) (λ s. s) s
+sketching (definition.Proc place tree name formals steps) s = late_named name (known.Untyped kind.Process) one_process s
+sketching (definition.Model place tree name formals steps) s = late_named name (known.Untyped kind.Model) one_process s
+sketching (definition.Xper place name steps) s = late_named name (known.Xper s.experiments) one_experiment s
 
 -- ---- types and constants: each sees those before it, and all enumerations
 
@@ -99,6 +96,7 @@ is_kind kind.Constant kind.Constant = true
 is_kind kind.Type kind.Type = true
 is_kind kind.Function kind.Function = true
 is_kind kind.Process kind.Process = true
+is_kind kind.Model kind.Model = true
 is_kind _ _ = false
 
 -- the name means a definition of the kind
@@ -161,7 +159,6 @@ early_defined all (definition.Xper place name steps) s = done s
 -- what a name means that isn't visible early: it is visible in headers, without its types
 abbrev pub with_meaning : Names → Name → Option Known → Names
 with_meaning names name (Some (known.Untyped k)) = with_name names name.text (known.Untyped k)
-with_meaning names name (Some (known.Model number)) = with_name names name.text (known.Model number)
 with_meaning names name (Some (known.Xper number)) = with_name names name.text (known.Xper number)
 with_meaning names name _ = names
 
@@ -186,20 +183,24 @@ with_all_late all names (d ∷ ds) = with_all_late all (with_late all names (lat
 -- the names that bodies see: now with the types of the headers
 abbrev pub with_function : Names → Name → Header → Named → Named
 with_function all name h s = record {
-  names = with_definition all kind.Function s.names name (home_known s.functions s.processes (all_types h.formals) h.home);
+  names = with_definition all kind.Function s.names name (function_headed s.functions h);
   functions = s.functions + 1;
   processes = s.processes;
 }
 
 abbrev pub with_process : Names → Name → Header → Named → Named
 with_process all name h s = record {
-  names = with_definition all kind.Process s.names name (home_known s.functions s.processes (all_types h.formals) h.home);
+  names = with_definition all kind.Process s.names name (process_headed s.processes h);
   functions = s.functions;
   processes = s.processes + 1;
 }
 
-abbrev pub with_model : Names → Name → Named → Named
-with_model all name s = record { names = with_late all s.names (Some name); functions = s.functions; processes = s.processes + 1 }
+abbrev pub with_model : Names → Name → Header → Named → Named
+with_model all name h s = record {
+  names = with_definition all kind.Model s.names name (model_headed s.processes h);
+  functions = s.functions;
+  processes = s.processes + 1;
+}
 
 abbrev pub with_experiment : Names → Name → Named → Named
 with_experiment all name s = record { names = with_late all s.names (Some name); functions = s.functions; processes = s.processes }
@@ -207,7 +208,7 @@ with_experiment all name s = record { names = with_late all s.names (Some name);
 abbrev pub with_headed : Names → Definition → Option Header → Named → Named
 with_headed all (definition.Func place tree name formals steps) (Some h) s = with_function all name h s
 with_headed all (definition.Proc place tree name formals steps) (Some h) s = with_process all name h s
-with_headed all (definition.Model place tree name formals steps) h s = with_model all name s
+with_headed all (definition.Model place tree name formals steps) (Some h) s = with_model all name h s
 with_headed all (definition.Xper place name steps) h s = with_experiment all name s
 with_headed all _ _ s = s
 

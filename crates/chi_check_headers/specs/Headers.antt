@@ -101,7 +101,30 @@ process_known number (Some params) exit.Nothing = known.Proc number params None
 process_known number (Some params) (exit.Given t) = known.Proc number params (Some t)
 process_known number _ _ = known.Untyped kind.Process
 
--- a function or a process that has no type is visible all the same
-abbrev pub home_known : ℕ → ℕ → Option (List Ty) → Home → Known
-home_known functions processes params (home.Function result) = function_known functions params result
-home_known functions processes params (home.Process own) = process_known processes params own
+abbrev pub model_known : ℕ → Option (List Ty) → ExitType → Known
+model_known number (Some params) exit.Nothing = known.Model number params None
+model_known number (Some params) (exit.Given t) = known.Model number params (Some t)
+model_known number _ _ = known.Untyped kind.Model
+
+-- the result of a function, where what has the header is one
+abbrev pub result_in : Home → Option Ty
+result_in (home.Function result) = result
+result_in (home.Process own) = None
+result_in home.Experiment = None
+
+-- the exit type of a process or a model, where what has the header is one
+abbrev pub exit_in : Home → ExitType
+exit_in (home.Function result) = exit.Untyped
+exit_in (home.Process own) = own
+exit_in home.Experiment = exit.Untyped
+
+-- what has no type is visible all the same
+
+abbrev pub function_headed : ℕ → Header → Known
+function_headed number h = function_known number (all_types h.formals) (result_in h.home)
+
+abbrev pub process_headed : ℕ → Header → Known
+process_headed number h = process_known number (all_types h.formals) (exit_in h.home)
+
+abbrev pub model_headed : ℕ → Header → Known
+model_headed number h = model_known number (all_types h.formals) (exit_in h.home)

@@ -33,7 +33,8 @@ fn is_kind(a: NameKind, b: NameKind) -> bool
         (NameKind::Constant, NameKind::Constant)
         | (NameKind::Type, NameKind::Type)
         | (NameKind::Function, NameKind::Function)
-        | (NameKind::Process, NameKind::Process) => true,
+        | (NameKind::Process, NameKind::Process)
+        | (NameKind::Model, NameKind::Model) => true,
         (_, _) => false,
     }
 }

@@ -188,23 +188,88 @@ pub fn all_types(alloc: Global, types: &[Option<Ty>]) -> Result<Option<Items<Ty>
     Ok(Some(Items::of(alloc, all)?))
 }
 
-fn function_known(
-    alloc: Global,
-    number: u32,
-    params: Option<Items<Ty>>,
-    outcome: &Option<Ty>,
-) -> Result<Known, NoMemory>
-    ensures { IfOk result (λ k. k ≡ spec.function_known number params outcome.now) }
+/// The result of a function, where what has the header is one.
+fn result_in(alloc: Global, home: &Home) -> Result<Option<Ty>, NoMemory>
+    ensures { IfOk result (λ t. t ≡ spec.result_in home.now) }
+{
+    match home {
+        Home::Function(outcome) => copied(alloc, outcome.as_ref()),
+        Home::Process(_) | Home::Experiment => Ok(None),
+    }
+}
+
+/// The exit type of a process or a model, where what has the header is one.
+fn exit_in(alloc: Global, home: &Home) -> Result<ExitType, NoMemory>
+    ensures { IfOk result (λ e. e ≡ spec.exit_in home.now) }
+{
+    match home {
+        Home::Process(ExitType::Nothing) => Ok(ExitType::Nothing),
+        Home::Process(ExitType::Given(ty)) => Ok(ExitType::Given(ty.copy(alloc)?)),
+        Home::Process(ExitType::Untyped) | Home::Function(_) | Home::Experiment => {
+            Ok(ExitType::Untyped)
+        }
+    }
+}
+
+fn function_known(number: u32, params: Option<Items<Ty>>, outcome: Option<Ty>) -> Known
+    ensures { result ≡ spec.function_known number params outcome }
 {
     let Some(params) = params else {
-        return Ok(Known::Untyped(NameKind::Function));
+        drop(outcome);
+        return Known::Untyped(NameKind::Function);
     };
     let Some(outcome) = outcome else {
         drop(params);
-        return Ok(Known::Untyped(NameKind::Function));
+        return Known::Untyped(NameKind::Function);
     };
-    match outcome.copy(alloc) {
-        Ok(outcome) => Ok(Known::Func(number, params, outcome)),
+    Known::Func(number, params, outcome)
+}
+
+fn process_known(number: u32, params: Option<Items<Ty>>, exit: ExitType) -> Known
+    ensures { result ≡ spec.process_known number params exit }
+{
+    let Some(params) = params else {
+        drop(exit);
+        return Known::Untyped(NameKind::Process);
+    };
+    match exit {
+        ExitType::Nothing => Known::Proc(number, params, None),
+        ExitType::Given(ty) => Known::Proc(number, params, Some(ty)),
+        ExitType::Untyped => {
+            drop(params);
+            Known::Untyped(NameKind::Process)
+        }
+    }
+}
+
+fn model_known(number: u32, params: Option<Items<Ty>>, exit: ExitType) -> Known
+    ensures { result ≡ spec.model_known number params exit }
+{
+    let Some(params) = params else {
+        drop(exit);
+        return Known::Untyped(NameKind::Model);
+    };
+    match exit {
+        ExitType::Nothing => Known::Model(number, params, None),
+        ExitType::Given(ty) => Known::Model(number, params, Some(ty)),
+        ExitType::Untyped => {
+            drop(params);
+            Known::Untyped(NameKind::Model)
+        }
+    }
+}
+
+/// What is known of the name of a function with this header.
+pub(crate) fn function_headed(
+    alloc: Global,
+    number: u32,
+    header: &Header,
+) -> Result<Known, NoMemory>
+    ensures { IfOk result (λ k. k ≡ spec.function_headed number header.now) }
+{
+    let params = all_types(alloc, header.formals.as_slice())?;
+    match result_in(alloc, &header.home) {
+        Ok(outcome) => Ok(function_known(number, params, outcome)),
         Err(refusal) => {
             drop(params);
             Err(refusal)
@@ -212,45 +277,30 @@ fn function_known(
     }
 }
 
-fn process_known(
-    alloc: Global,
-    number: u32,
-    params: Option<Items<Ty>>,
-    exit: &ExitType,
-) -> Result<Known, NoMemory>
-    ensures { IfOk result (λ k. k ≡ spec.process_known number params exit.now) }
+/// What is known of the name of a process with this header.
+pub(crate) fn process_headed(alloc: Global, number: u32, header: &Header) -> Result<Known, NoMemory>
+    ensures { IfOk result (λ k. k ≡ spec.process_headed number header.now) }
 {
-    let Some(params) = params else {
-        return Ok(Known::Untyped(NameKind::Process));
-    };
-    match exit {
-        ExitType::Nothing => Ok(Known::Proc(number, params, None)),
-        ExitType::Untyped => {
+    let params = all_types(alloc, header.formals.as_slice())?;
+    match exit_in(alloc, &header.home) {
+        Ok(exit) => Ok(process_known(number, params, exit)),
+        Err(refusal) => {
             drop(params);
-            Ok(Known::Untyped(NameKind::Process))
+            Err(refusal)
         }
-        ExitType::Given(ty) => match ty.copy(alloc) {
-            Ok(ty) => Ok(Known::Proc(number, params, Some(ty))),
-            Err(refusal) => {
-                drop(params);
-                Err(refusal)
-            }
-        },
     }
 }
 
-/// What is known of the name of a definition with this header.
-pub(crate) fn home_known(
-    alloc: Global,
-    functions: u32,
-    processes: u32,
-    params: Option<Items<Ty>>,
-    home: &Home,
-) -> Result<Known, NoMemory>
-    ensures { IfOk result (λ k. k ≡ spec.home_known functions processes params home.now) }
+/// What is known of the name of a model with this header.
+pub(crate) fn model_headed(alloc: Global, number: u32, header: &Header) -> Result<Known, NoMemory>
+    ensures { IfOk result (λ k. k ≡ spec.model_headed number header.now) }
 {
-    match home {
-        Home::Function(outcome) => function_known(alloc, functions, params, outcome),
-        Home::Process(exit) => process_known(alloc, processes, params, exit),
+    let params = all_types(alloc, header.formals.as_slice())?;
+    match exit_in(alloc, &header.home) {
+        Ok(exit) => Ok(model_known(number, params, exit)),
+        Err(refusal) => {
+            drop(params);
+            Err(refusal)
+        }
     }
 }

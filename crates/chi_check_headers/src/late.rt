@@ -10,7 +10,7 @@ ghost use Rattle.chi_check_headers.specs.Definitions as spec;
 
 use crate::early::add_definition;
 use crate::header::Header;
-use crate::headers::{all_types, header_in, home_known};
+use crate::headers::{function_headed, header_in, model_headed, process_headed};
 use crate::naming::after;
 use crate::sketch::Named;
 use chi_base::NoMemory;
@@ -25,7 +25,6 @@ fn add_meaning(scope: &mut Scope, name: &Name, known: Option<&Known>) -> Result<
 {
     match known {
         Some(Known::Untyped(kind)) => add_name(scope, &name.text, Known::Untyped(*kind)),
-        Some(Known::Model(number)) => add_name(scope, &name.text, Known::Model(*number)),
         Some(Known::Xper(number)) => add_name(scope, &name.text, Known::Xper(*number)),
         _ => Ok(()),
     }
@@ -89,14 +88,7 @@ fn add_function(
 ) -> Result<(), NoMemory>
     ensures { OnOk result (named.new ≡ spec.with_function all.now name.now header.now named.old) }
 {
-    let params = all_types(alloc, header.formals.as_slice())?;
-    let known = home_known(
-        alloc,
-        named.functions,
-        named.processes,
-        params,
-        &header.home,
-    )?;
+    let known = function_headed(alloc, named.functions, header)?;
     add_definition(all, NameKind::Function, &mut named.names, name, known)?;
     named.functions = after(named.functions)?;
     Ok(())
@@ -111,15 +103,23 @@ fn add_process(
 ) -> Result<(), NoMemory>
     ensures { OnOk result (named.new ≡ spec.with_process all.now name.now header.now named.old) }
 {
-    let params = all_types(alloc, header.formals.as_slice())?;
-    let known = home_known(
-        alloc,
-        named.functions,
-        named.processes,
-        params,
-        &header.home,
-    )?;
+    let known = process_headed(alloc, named.processes, header)?;
     add_definition(all, NameKind::Process, &mut named.names, name, known)?;
+    named.processes = after(named.processes)?;
+    Ok(())
+}
+
+fn add_model(
+    alloc: Global,
+    all: &Scope,
+    name: &Name,
+    header: &Header,
+    named: &mut Named,
+) -> Result<(), NoMemory>
+    ensures { OnOk result (named.new ≡ spec.with_model all.now name.now header.now named.old) }
+{
+    let known = model_headed(alloc, named.processes, header)?;
+    add_definition(all, NameKind::Model, &mut named.names, name, known)?;
     named.processes = after(named.processes)?;
     Ok(())
 }
@@ -140,10 +140,8 @@ fn add_headed(
         (Definition::Proc { name, .. }, Some(header)) => {
             add_process(alloc, all, name, header, named)
         }
-        (Definition::Model { name, .. }, _) => {
-            add_late(all, &mut named.names, Some(name))?;
-            named.processes = after(named.processes)?;
-            Ok(())
+        (Definition::Model { name, .. }, Some(header)) => {
+            add_model(alloc, all, name, header, named)
         }
         (Definition::Xper { name, .. }, _) => add_late(all, &mut named.names, Some(name)),
         (_, _) => Ok(()),

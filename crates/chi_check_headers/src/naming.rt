@@ -11,8 +11,8 @@ ghost use Rattle.chi_check_headers.specs.Definitions as spec;
 use crate::sketch::Sketch;
 use chi_base::{Items, NoMemory};
 use chi_check_stat_lines::{add_name, joined, note_new_name, nothing, one};
-use chi_check_types::{Fault, Known, NameKind, note, rules};
-use chi_token::{Bytes, Place};
+use chi_check_types::{Fault, Known, NameKind};
+use chi_token::Bytes;
 use chi_tree::{Definition, Item, Name};
 use chi_types::Ty;
 use std::alloc::Global;
@@ -160,12 +160,11 @@ fn name_definition(
             sketch.processes = after(sketch.processes)?;
         }
         Definition::Model { name, .. } => {
-            name_late(name, Known::Model(sketch.processes), sketch, kept)?;
+            name_late(name, Known::Untyped(NameKind::Model), sketch, kept)?;
             sketch.processes = after(sketch.processes)?;
         }
-        Definition::Xper { place, name, .. } => {
+        Definition::Xper { name, .. } => {
             name_late(name, Known::Xper(sketch.experiments), sketch, kept)?;
-            note(kept, rules::MODEL, *place);
             sketch.experiments = after(sketch.experiments)?;
         }
     }

@@ -29,7 +29,7 @@ use Rattle.chi_check_laws.specs.Parts.{SoundAim}
 use Rattle.chi_check_laws.proofs.Targets.{aims_take}
 use Rattle.chi_check_stat_lines.specs.Stated.{alone}
 use Rattle.chi_check_stat_lines.specs.Values.{made_of, assignment_place, values_in, target_in, assignment_in}
-use Rattle.chi_check_laws.specs.Bodies.{role_of}
+use Rattle.chi_check_laws.specs.Bodies.{reads_as}
 use Rattle.chi_check_laws.specs.Whole.{has_any}
 use Rattle.chi_check_laws.proofs.Bodies.{SoundOne, StatementKept, statements_by_parts}
 use Rattle.chi_check_laws.proofs.Communications.{target_aim}
@@ -121,7 +121,7 @@ module _ (scope : Scope) (loop : Bool) (set : Set) (line : ℕ) where
         stored_sound f.0 f.1 x (all f.0 f.2) (aims_sound f.1 f.3) f.4
     assigned_by false values x is all s some e = uneven_by values (only_one values) x refl s some is e
 
-module _ (h : Home) (scope : Scope) (role : role_of h ≡ Some scope.role) (set : Set) (names : Names) (all : AllStand scope set names) where
+module _ (h : Home) (scope : Scope) (role : reads_as h ≡ Some scope.role) (set : Set) (names : Names) (all : AllStand scope set names) where
   aims_in : (targets : List Target) (aims : List Aim) → all_aims (map made_of (map (target_in h names) targets)) ≡ Some aims → Each (SoundAim scope set) aims
   aims_in [] aims e = subst (Each (SoundAim scope set)) (some_is [] aims e) tt
   aims_in (t ∷ targets) aims e =
@@ -141,13 +141,13 @@ module _ (h : Home) (scope : Scope) (role : role_of h ≡ Some scope.role) (set 
       suc_never : (n : ℕ) → suc n ≡ 0 → ⊥
       suc_never n e = absurd (omega (arith, e))
 
-  assignment_sound : (loop : Bool) (targets : List Target) (equals : Place) (values : List Expr) (x : CStat) → has_any targets ≡ true → (assignment_in h names targets equals values).made ≡ Some x → SoundOne scope loop set x
+  pub assignment_sound : (loop : Bool) (targets : List Target) (equals : Place) (values : List Expr) (x : CStat) → has_any targets ≡ true → (assignment_in h names targets equals values).made ≡ Some x → SoundOne scope loop set x
   assignment_sound loop targets equals values x w e =
       let os = map made_of (map (target_in h names) targets) in
       let ms = map made_of (values_in h names values) in
       assigned_by scope loop set (assignment_place targets equals).line equals os (aims_in targets) (nat_eq (length ms) (length os)) ms x refl (values_sound h scope role set names all values) (only_in values) (some_targets targets w) e
 
-pub assign_kept : (h : Home) (scope : Scope) → role_of h ≡ Some scope.role → (loop : Bool) (targets : List Target) (equals : Place) (values : List Expr) → has_any targets ≡ true
+pub assign_kept : (h : Home) (scope : Scope) → reads_as h ≡ Some scope.role → (loop : Bool) (targets : List Target) (equals : Place) (values : List Expr) → has_any targets ≡ true
     → StatementKept scope loop (λ s. alone s (assignment_in h s.names targets equals values))
 assign_kept h scope role loop targets equals values w = alone_kept scope _ _ (statements_by_parts scope loop) (λ names. assignment_in h names targets equals values) (λ set names x all e.
     (assignment_sound h scope role set names all loop targets equals values x w e, tt))

@@ -24,7 +24,7 @@ use Rattle.chi_check_expr.proofs.Kept.{Good, Each}
 use Rattle.chi_check_expr.proofs.Nodes.{left_nil, right_nil, cons_nil}
 use Rattle.chi_check_stat_rules.specs.declared.home.Home.{Home}
 use Rattle.chi_check_stat_rules.specs.declared.parts.Walked.{Walked}
-use Rattle.chi_check_stat_rules.specs.Homes.{site_of, channel_rule}
+use Rattle.chi_check_stat_rules.specs.Homes.{site_of, local_rule}
 use Rattle.chi_check_stat_rules.specs.Places.{expr_place, type_place}
 use Rattle.chi_check_stat_rules.specs.Values.{fitted, initial_value}
 use Rattle.chi_check_stat_rules.specs.Walks.{element_type, types_of_parts, name_types, walked, walk_over, walk_of}
@@ -68,7 +68,7 @@ initial_whole home s m (Some initial) fine h e =
     then_whole v.faults v.made (λ v. initial_value initial.equals v (Some m.ty)) (value_whole home s.names fine initial.value) (λ a. of_two_whole INITIAL_VALUE initial.equals fitted (Some a) (Some m.ty) tt tt) e
 
 module _ (home : Home) (P : State → Type 0) (fine : (s : State) → P s → FineState s) where
-  declared_keeps : (line : ℕ) (m : Meant) → Shaped m → Takes P binder.Variable m.ty → (v : Variable) → Keeps P (declared home line (Some m) v)
+  pub declared_keeps : (line : ℕ) (m : Meant) → Shaped m → Takes P binder.Variable m.ty → (v : Variable) → Keeps P (declared home line (Some m) v)
   declared_keeps line m h takes v s p =
       let value = initial_in home s.names (Some m) v.initial in
       let inner : Stated State (List CStat) = record { next = with_variable binder.Variable v.name (Some m.ty) s; faults = value.faults; made = declaration line (next_slot s) value.made } in
@@ -78,11 +78,11 @@ module _ (home : Home) (P : State → Type 0) (fine : (s : State) → P s → Fi
       ))
 
   typed_leaves : (place : Place) (variables : List Variable) (s : State) → P s → (fs : List Fault) (o : Option Meant) → Good Shaped fs o → ((m : Meant) → o ≡ Some m → Takes P binder.Variable m.ty)
-      → Leaves P (preceded fs (held_by (channel_rule home place (option_map (λ m. m.ty) o)) (in_turn (map (declared home place.line o) variables) s)))
+      → Leaves P (preceded fs (held_by (local_rule home place (option_map (λ m. m.ty) o)) (in_turn (map (declared home place.line o) variables) s)))
   typed_leaves place variables s p fs None g takes = λ e. absurd (g (left_nil fs _ e))
   typed_leaves place variables s p fs (Some m) g takes =
       let inner = in_turn (map (declared home place.line (Some m)) variables) s in
-      preceded_leaves P fs (held_by (channel_rule home place (Some m.ty)) inner) (held_leaves P (channel_rule home place (Some m.ty)) inner
+      preceded_leaves P fs (held_by (local_rule home place (Some m.ty)) inner) (held_leaves P (local_rule home place (Some m.ty)) inner
       (turns_keep P (map (declared home place.line (Some m)) variables) (each_keeps P (declared home place.line (Some m)) (declared_keeps place.line m g.1 (takes m refl)) variables) s p))
 
   pub declaration_leaves : (tree : TypeTree) (variables : List Variable) (s : State) → P s → ((m : Meant) → (reading (site_of home) s.names tree true).made ≡ Some m → Takes P binder.Variable m.ty)

@@ -32,13 +32,13 @@ use Rattle.chi_check_stat_rules.specs.Homes.{running_rule}
 use Rattle.chi_check_stat_lines.specs.declared.state.Binder.TheVariants as binder
 use Rattle.chi_check_stat_lines.specs.declared.state.State.{State}
 use Rattle.chi_check_stat_lines.specs.Stated.{Turn, both, in_turn}
-use Rattle.chi_check_stat_lines.specs.States.{block}
+use Rattle.chi_check_stat_lines.specs.States.{block, Going, each_in}
 use Rattle.chi_check_stat_lines.specs.Values.{test_in, guard_in}
 use Rattle.chi_check_stat_lines.specs.Declarations.{walk_in}
 use Rattle.chi_check_stat_lines.specs.Lines.{communication_in}
 use Rattle.chi_check_stat_lines.specs.Blocks.{offers, runs, starts}
-use Rattle.chi_check_stat.specs.Statements.{Going, each_in, starting, element_step, statement_step, branch_step, alternative_step}
-use Rattle.chi_check_laws.specs.Bodies.{Agrees, role_of, set_by}
+use Rattle.chi_check_stat.specs.Statements.{starting, element_step, statement_step, branch_step, alternative_step}
+use Rattle.chi_check_laws.specs.Bodies.{Agrees, reads_as, set_by}
 use Rattle.chi_check_laws.specs.Whole.{has_any}
 use Rattle.chi_check_laws.proofs.Bodies.{SoundOne, BranchAt, SoundBranch, SoundOffer, SoundMake, AllSound, StatementKept, BranchKept, OfferKept, MakeKept, nothing_more, statements_by_parts, each_by_parts, branch_at, offer_at, make_at, body_sound, offers_sound, makes_sound}
 use Rattle.chi_check_laws.proofs.Communications.{offer_sound, communication_sound, guard_sound}
@@ -51,11 +51,11 @@ use Rattle.chi_check_laws.proofs.Turns.{both_made, held_made, in_turn_kept, bloc
 use Rattle.chi_check_laws.proofs.Values.{test_has}
 use Rattle.chi_check_laws.proofs.Walks.{walk_grows, walk_sound}
 
-each_going : {A : Type 0} (P : Bool → Turn State A → Type 0) (loop : Bool) (gs : List (Going A)) → Each (Goes P) gs → Each (P loop) (each_in loop gs)
+pub each_going : {A : Type 0} (P : Bool → Turn State A → Type 0) (loop : Bool) (gs : List (Going A)) → Each (Goes P) gs → Each (P loop) (each_in loop gs)
 each_going P loop [] h = tt
 each_going P loop (g ∷ gs) h = (h.0 loop, each_going P loop gs h.1)
 
-module _ (h : Home) (scope : Scope) (role : role_of h ≡ Some scope.role) where
+module _ (h : Home) (scope : Scope) (role : reads_as h ≡ Some scope.role) where
   -- one statement, after which as many names agree with the program as before it
   alone_in : (loop : Bool) (set : Set) (s : State) (x : CStat) (xs : List CStat) → x ∷ [] ≡ xs → SoundOne scope loop set x → Agrees scope set s → AllSound scope loop set xs × Agrees scope (set_by xs set) s
   alone_in loop set s x xs is h all = (subst (AllSound scope loop set) is (h, tt), agrees_more scope set (set_by xs set) s (set_by_more xs set) all)

@@ -51,7 +51,7 @@ use Rattle.chi_check_laws.proofs.Targets.{target_name_sound, target_index_sound,
 use Rattle.chi_check_stat_lines.specs.Stated.{alone}
 use Rattle.chi_check_stat_lines.specs.Values.{made_if, value_in, step_in, steps_in, target_in, guard_in, test_in}
 use Rattle.chi_check_stat_lines.specs.Lines.{communication_place, selected, receiver_in, parts_in, communication_in, communicating}
-use Rattle.chi_check_laws.specs.Bodies.{role_of}
+use Rattle.chi_check_laws.specs.Bodies.{reads_as}
 use Rattle.chi_check_laws.proofs.Bodies.{SoundOne, SoundOffer, AllSound, StatementKept, offer_at, body_sound, statements_by_parts}
 use Rattle.chi_check_laws.proofs.Endings.{runs_in}
 use Rattle.chi_check_laws.proofs.Statements.{one_select}
@@ -149,7 +149,7 @@ module _ (scope : Scope) (set : Set) where
       subst (SoundAlternative scope loop set) (sym (alternative.outs-Guarded _ _ _))
       (sound.guarded loop set _ _ _ (guard_counted guard h first.0 count) (k rest.0 counted.next) (body_sound scope loop set block b rest.1 _)))
 
-module _ (h : Home) (scope : Scope) (role : role_of h ≡ Some scope.role) (set : Set) (names : Names) (all : AllStand scope set names) where
+module _ (h : Home) (scope : Scope) (role : reads_as h ≡ Some scope.role) (set : Set) (names : Names) (all : AllStand scope set names) where
   named_by : (b : Bool) (name : Name) → AimIf scope set (if b then refused TARGET name.place else visible_target name.place (known_in names name.text)).made
   named_by true name a e = absurd (cc)
   named_by false name a e = visible_aim scope set name.place (known_in names name.text) (all name.text) a e
@@ -203,5 +203,5 @@ module _ (h : Home) (scope : Scope) (role : role_of h ≡ Some scope.role) (set 
       subst (SoundOne scope loop set) m.2
       (one_select scope loop set (communication_place c).line (alternative.Guarded None m.0 [] ∷ []) p.0 p.1 (offer_sound scope set loop None m.0 [] none (communication_sound c m.0 m.1) tt, tt))
 
-pub communicate_kept : (h : Home) (scope : Scope) → role_of h ≡ Some scope.role → (loop : Bool) (c : Communication) → StatementKept scope loop (λ s. alone s (communicating h s.names c))
+pub communicate_kept : (h : Home) (scope : Scope) → reads_as h ≡ Some scope.role → (loop : Bool) (c : Communication) → StatementKept scope loop (λ s. alone s (communicating h s.names c))
 communicate_kept h scope role loop c = alone_kept scope _ _ (statements_by_parts scope loop) (λ names. communicating h names c) (λ set names x all e. (communicating_sound h scope role set names all loop c x e, tt))

@@ -1,5 +1,5 @@
 -- What the signs between two sums make is sound.
-use Rattle.std.proofs.Common.{◌≡◌, true, false, cond, List, [], ◌∷◌, Some, None, refl, sym, ap, subst, ◌∙◌}
+use Rattle.std.proofs.Common.{◌≡◌, true, false, List, [], ◌∷◌, Some, refl, sym, ap, subst, ◌∙◌}
 use Rattle.std.proofs.lemmas.Bool.{and_parts}
 use Rattle.std.specs.Option.{option_and_then}
 use Rattle.std.specs.Prelude.{◌&&◌}
@@ -11,7 +11,6 @@ use Rattle.chi_types.specs.Fits.{fits}
 use Rattle.chi_types.specs.Joined.{joined}
 use Rattle.chi_types.specs.Plain.{is_plain}
 use Rattle.chi_types.specs.Same.{same}
-use Rattle.chi_core.specs.declared.expression.CExpr.TheVariants as expression
 use Rattle.chi_core.specs.declared.op_name.OpName.{OpName}
 use Rattle.chi_core.specs.declared.op_name.OpName.TheVariants as op
 use Rattle.chi_core.specs.Kinds.{Kind, kind_of, erased, without_ways_and_names, is_plain_kind}
@@ -21,7 +20,7 @@ use Rattle.chi_core.specs.Scopes.{Scope}
 use Rattle.chi_core.specs.SetSlots.{Known as Set}
 use Rattle.chi_core.proofs.Erased.{kind_at, same_kind}
 use Rattle.chi_check_types.specs.declared.meant.Made.{Made}
-use Rattle.chi_check_expr_rules.specs.Conversions.{made, converted, as_they_are, both_as}
+use Rattle.chi_check_expr_rules.specs.Conversions.{converted, as_they_are, both_as}
 use Rattle.chi_check_expr_rules.specs.Comparisons.{if_plain, equality, has_order, if_ordered, ordering, member_type, if_member, member_of, membership, is_set, subset, related}
 use Rattle.chi_check_laws.specs.KnownNames.{Has}
 use Rattle.chi_check_laws.proofs.TypeKinds.{kind_bool, sound_bool, joined_serves, plain_kind, plain_erased}

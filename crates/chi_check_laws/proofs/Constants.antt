@@ -62,7 +62,7 @@ module _ (core : Core) where
   still_stands count more l (known.Fixed slot t) h = absurd h
   still_stands count more l (known.Func number params result) h = absurd h
   still_stands count more l (known.Proc number params exit) h = absurd h
-  still_stands count more l (known.Model number) h = absurd h
+  still_stands count more l (known.Model number params exit) h = absurd h
   still_stands count more l (known.Xper number) h = absurd h
   still_stands count more l (known.Untyped k) h = absurd h
 
@@ -77,7 +77,7 @@ module _ (core : Core) where
   in_scope count (known.Fixed slot t) h = absurd h
   in_scope count (known.Func number params result) h = absurd h
   in_scope count (known.Proc number params exit) h = absurd h
-  in_scope count (known.Model number) h = absurd h
+  in_scope count (known.Model number params exit) h = absurd h
   in_scope count (known.Xper number) h = absurd h
   in_scope count (known.Untyped k) h = absurd h
 

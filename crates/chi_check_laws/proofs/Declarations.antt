@@ -5,7 +5,8 @@ use Rattle.chi_token.specs.declared.place.Place.{Place}
 use Rattle.chi_tree.specs.declared.statement.Initial.{Initial}
 use Rattle.chi_tree.specs.declared.statement.Variable.{Variable}
 use Rattle.chi_tree.specs.declared.type_tree.TypeTree.{TypeTree}
-use Rattle.chi_types.specs.declared.ty.Ty.{Ty}
+use Rattle.chi_types.specs.declared.ty.Ty.{Ty, Ty-F}
+use Rattle.chi_types.specs.Plain.{is_plain}
 use Rattle.chi_core.specs.declared.expression.CExpr.{CExpr}
 use Rattle.chi_core.specs.declared.statement.CStat.{CStat, out-CStat}
 use Rattle.chi_core.specs.declared.statement.CStat.TheVariants as statement
@@ -13,7 +14,7 @@ use Rattle.chi_core.specs.Kinds.{kind_of, holds_channel}
 use Rattle.chi_core.specs.Scopes.{Role, function, process, Scope, may_declare}
 use Rattle.chi_core.specs.SetSlots.{Known as Set, also, sets}
 use Rattle.chi_check_types.specs.declared.meant.Meant.{Meant}
-use Rattle.chi_check_types.specs.declared.rules.TheConstants.{NEW_NAME, INITIAL_VALUE, CHANNEL_IN_FUNCTION}
+use Rattle.chi_check_types.specs.declared.rules.TheConstants.{NEW_NAME, INITIAL_VALUE, CHANNEL_IN_FUNCTION, IN_EXPERIMENT}
 use Rattle.chi_check_types.specs.Names.{Names}
 use Rattle.chi_check_expr.specs.Typing.{reading}
 use Rattle.chi_check_laws.specs.KnownNames.{AllStand, Has, SoundMeant, may_make_default}
@@ -22,7 +23,7 @@ use Rattle.chi_check_laws.proofs.Types.{default_sound}
 use Rattle.chi_check_stat_rules.specs.declared.home.ExitType.TheVariants as exit
 use Rattle.chi_check_stat_rules.specs.declared.home.Home.{Home}
 use Rattle.chi_check_stat_rules.specs.declared.home.Home.TheVariants as home
-use Rattle.chi_check_stat_rules.specs.Homes.{site_of, has_channel, channel_rule}
+use Rattle.chi_check_stat_rules.specs.Homes.{site_of, has_channel, local_rule}
 use Rattle.chi_check_stat_rules.specs.Places.{type_place}
 use Rattle.chi_check_stat_rules.specs.Values.{fitted}
 use Rattle.chi_check_laws.proofs.SoundValues.{fitted_has}
@@ -32,9 +33,9 @@ use Rattle.chi_check_stat_lines.specs.Stated.{in_turn}
 use Rattle.chi_check_stat_lines.specs.States.{is_taken, next_slot, new_name_rule}
 use Rattle.chi_check_stat_lines.specs.Values.{value_in}
 use Rattle.chi_check_stat_lines.specs.Declarations.{declaration, initial_in, declared, declaration_in}
-use Rattle.chi_check_laws.specs.Bodies.{role_of, SlotsHave, set_by, Agrees, Grows}
+use Rattle.chi_check_laws.specs.Bodies.{reads_as, SlotsHave, set_by, Agrees, Grows}
 use Rattle.chi_check_laws.proofs.Bodies.{AllSound, StatementKept, all_append, set_append}
-use Rattle.chi_check_laws.proofs.Channels.{channel_kind}
+use Rattle.chi_check_laws.proofs.Channels.{channel_kind, plain_holds_none}
 use Rattle.chi_check_laws.proofs.More.{also_more, meant_more}
 use Rattle.chi_check_laws.proofs.States.{grows_none, grows_on, slots_before, variable_grows}
 use Rattle.chi_check_laws.proofs.Statements.{one_declare}
@@ -42,11 +43,11 @@ use Rattle.chi_check_laws.proofs.Turns.{both_made, held_made, unbroken}
 use Rattle.chi_check_laws.proofs.Values.{two_made, value_sound, read_sound}
 use Rattle.chi_check_laws.proofs.Walks.{variable_stands}
 
--- no local variable of a function has a type with a channel in it
+-- no local variable of a function or of an experiment has a type with a channel in it
 not_held : (t : Ty) → has_channel t ≡ false → not (holds_channel (kind_of t)) ≡ true
 not_held t h = ap not (channel_kind t ∙ h)
 
-may_hold : (h : Home) (r : Role) (place : Place) (t : Ty) → role_of h ≡ Some r → channel_rule h place (Some t) ≡ [] → (may_declare r (kind_of t) ≡ true) × (may_make_default r (kind_of t) ≡ true)
+pub may_hold : (h : Home) (r : Role) (place : Place) (t : Ty) → reads_as h ≡ Some r → local_rule h place (Some t) ≡ [] → (may_declare r (kind_of t) ≡ true) × (may_make_default r (kind_of t) ≡ true)
 may_hold (home.Function None) r place t role e = absurd (cc)
 may_hold (home.Function (Some result)) r place t role e =
     let none = not_held t (unbroken (has_channel t) CHANNEL_IN_FUNCTION place e) in
@@ -57,6 +58,9 @@ may_hold (home.Process exit.Nothing) r place t role e =
 may_hold (home.Process exit.Untyped) r place t role e = absurd (cc)
 may_hold (home.Process (exit.Given own)) r place t role e =
     subst (λ r. (may_declare r (kind_of t) ≡ true) × (may_make_default r (kind_of t) ≡ true)) (some_is (process (Some (kind_of own))) r role) (refl, refl)
+may_hold home.Experiment r place t role e =
+    let none = not_held t (plain_holds_none t (unbroken (not (is_plain t)) IN_EXPERIMENT place e)) in
+    subst (λ r. (may_declare r (kind_of t) ≡ true) × (may_make_default r (kind_of t) ≡ true)) (some_is (function Ty-F.Void) r role) (none, none)
 
 -- the set slots after a declaration
 declare_sets : (line slot : ℕ) (e : CExpr) (set : Set) → sets (out-CStat (statement.Declare line slot e)) set ≡ also slot set
@@ -72,14 +76,14 @@ no_initial h names (Some initial) e is =
     never : (t : Ty) → None ≡ Some t → ⊥
     never t e = cc
 
-module _ (h : Home) (scope : Scope) (role : role_of h ≡ Some scope.role) (loop : Bool) (line : ℕ) where
+module _ (h : Home) (scope : Scope) (role : reads_as h ≡ Some scope.role) (loop : Bool) (line : ℕ) where
   -- what the type means, and what may be of it
-  record Declares (set : Set) (m : Meant) : Type 0 where
-    meant : SoundMeant scope set m
-    may : may_declare scope.role (kind_of m.ty) ≡ true
-    default : may_make_default scope.role (kind_of m.ty) ≡ true
+  pub record Declares (set : Set) (m : Meant) : Type 0 where
+    pub meant : SoundMeant scope set m
+    pub may : may_declare scope.role (kind_of m.ty) ≡ true
+    pub default : may_make_default scope.role (kind_of m.ty) ≡ true
 
-  declares_more : (slot : ℕ) (set : Set) (m : Meant) → Declares set m → Declares (also slot set) m
+  pub declares_more : (slot : ℕ) (set : Set) (m : Meant) → Declares set m → Declares (also slot set) m
   declares_more slot set m d = record { meant = meant_more scope set (also slot set) (also_more slot set) m d.meant; may = d.may; default = d.default }
 
   initial_has : (set : Set) (names : Names) (all : AllStand scope set names) (m : Meant) (o : Option Initial) (e : CExpr) → Declares set m → (initial_in h names (Some m) o).made ≡ Some e → Has scope set e (kind_of m.ty)
@@ -89,7 +93,7 @@ module _ (h : Home) (scope : Scope) (role : role_of h ≡ Some scope.role) (loop
       let same : m.ty ≡ f.1 = some_is m.ty f.1 f.3 in
       subst (λ t. Has scope set e (kind_of t)) (sym same) (fitted_has scope set f.0 f.1 e (value_sound h scope role set names all initial.value f.0 f.2) f.4)
 
-  declared_grows : (meant : Option Meant) (v : Variable) (s : State) → Grows s (declared h line meant v s).next
+  pub declared_grows : (meant : Option Meant) (v : Variable) (s : State) → Grows s (declared h line meant v s).next
   declared_grows meant v s = variable_grows binder.Variable v.name (option_map (λ m. m.ty) meant) s
 
   all_grow : (meant : Option Meant) (vs : List Variable) (s : State) → Grows s (in_turn (map (declared h line meant) vs) s).next
@@ -98,7 +102,7 @@ module _ (h : Home) (scope : Scope) (role : role_of h ≡ Some scope.role) (loop
       let middle = (declared h line meant v s).next in
       grows_on s middle (in_turn (map (declared h line meant) vs) middle).next (declared_grows meant v s) (all_grow meant vs middle)
 
-  declared_sound : (meant : Option Meant) (v : Variable) (set : Set) (s : State) (xs : List CStat) → ((m : Meant) → meant ≡ Some m → Declares set m) → SlotsHave scope (declared h line meant v s).next.slots → Agrees scope set s
+  pub declared_sound : (meant : Option Meant) (v : Variable) (set : Set) (s : State) (xs : List CStat) → ((m : Meant) → meant ≡ Some m → Declares set m) → SlotsHave scope (declared h line meant v s).next.slots → Agrees scope set s
       → (declared h line meant v s).made ≡ Some xs → AllSound scope loop set xs × Agrees scope (set_by xs set) (declared h line meant v s).next × (set_by xs set ≡ also (next_slot s) set)
   declared_sound None v set s xs d have all e =
       let b = held_made (new_name_rule s.names v.name) (declaration line (next_slot s) (initial_in h s.names None v.initial).made) xs e in
@@ -134,15 +138,15 @@ module _ (h : Home) (scope : Scope) (role : role_of h ≡ Some scope.role) (loop
         subst (λ xs. Agrees scope (set_by xs set) last) m.4 (subst (λ set. Agrees scope set last) (sym (set_append scope loop set m.0 m.1)) rest.1),
       )
 
-pub declare_kept : (h : Home) (scope : Scope) → role_of h ≡ Some scope.role → (loop : Bool) (tree : TypeTree) (variables : List Variable) → StatementKept scope loop (declaration_in h tree variables)
+pub declare_kept : (h : Home) (scope : Scope) → reads_as h ≡ Some scope.role → (loop : Bool) (tree : TypeTree) (variables : List Variable) → StatementKept scope loop (declaration_in h tree variables)
 declare_kept h scope role loop tree variables = record {
   grows = λ s. all_grow h scope role loop (type_place tree).line (reading (site_of h) s.names tree true).made variables s;
   sound = λ set s xs have all e.
       let meant = (reading (site_of h) s.names tree true).made in
       let place = type_place tree in
-      let b = held_made (channel_rule h place (option_map (λ m. m.ty) meant)) (in_turn (map (declared h place.line meant) variables) s).made xs e in
+      let b = held_made (local_rule h place (option_map (λ m. m.ty) meant)) (in_turn (map (declared h place.line meant) variables) s).made xs e in
       let own : (m : Meant) → meant ≡ Some m → Declares h scope role loop place.line set m = λ m is.
-      let may = may_hold h scope.role place m.ty role (ap (λ o. channel_rule h place (option_map (λ m. m.ty) o)) (sym is) ∙ b.0) in
+      let may = may_hold h scope.role place m.ty role (ap (λ o. local_rule h place (option_map (λ m. m.ty) o)) (sym is) ∙ b.0) in
       record { meant = read_sound h scope role set s.names all.names tree true m is; may = may.0; default = may.1 }
       in
       all_declared h scope role loop place.line meant variables set s xs own have all b.1;

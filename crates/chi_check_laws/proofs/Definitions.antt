@@ -103,7 +103,6 @@ all_early_keep all ds = turns_keep FineEarly (map (early_defined all) ds) (each_
 meaning_continues : (names : Names) (name : Name) (o : Option Known) → Continues names (with_meaning names name o)
 meaning_continues names name None = continues_same names
 meaning_continues names name (Some (known.Untyped k)) = continues_with names name.text (known.Untyped k)
-meaning_continues names name (Some (known.Model number)) = continues_with names name.text (known.Model number)
 meaning_continues names name (Some (known.Xper number)) = continues_with names name.text (known.Xper number)
 meaning_continues names name (Some (known.Var slot t)) = continues_same names
 meaning_continues names name (Some (known.Fixed slot t)) = continues_same names
@@ -112,6 +111,7 @@ meaning_continues names name (Some (known.Kind t)) = continues_same names
 meaning_continues names name (Some (known.Value enumeration position)) = continues_same names
 meaning_continues names name (Some (known.Func number params result)) = continues_same names
 meaning_continues names name (Some (known.Proc number params exit)) = continues_same names
+meaning_continues names name (Some (known.Model number params exit)) = continues_same names
 
 late_continues : (all names : Names) (o : Option Name) → Continues names (with_late all names o)
 late_continues all names None = continues_same names
@@ -128,11 +128,11 @@ module _ (P : Known → Type 0) where
   pub meant_as : (names : Names) (name : Name) (o : Option Known) (k : Known) → o ≡ Some k → Kept names name (Some k) → Kept names name o
   meant_as names name o k e h = subst (Kept names name) (sym e) h
 
-  module _ (function : P (known.Untyped kind.Function)) (process : P (known.Untyped kind.Process)) (model : (number : ℕ) → P (known.Model number)) (xper : (number : ℕ) → P (known.Xper number)) (all : Names) where
+  module _ (function : P (known.Untyped kind.Function)) (process : P (known.Untyped kind.Process)) (model : P (known.Untyped kind.Model)) (xper : (number : ℕ) → P (known.Xper number)) (all : Names) where
     late_entries : (names : Names) (d : Definition) → Named all d → Entries P names → Entries P (with_late all names (late_name d))
     late_entries names (definition.Func place tree name formals steps) n h = meant_as names name (known_in all name.text) (known.Untyped kind.Function) n (entries_with P names name.text (known.Untyped kind.Function) h function)
     late_entries names (definition.Proc place tree name formals steps) n h = meant_as names name (known_in all name.text) (known.Untyped kind.Process) n (entries_with P names name.text (known.Untyped kind.Process) h process)
-    late_entries names (definition.Model place tree name formals steps) n h = meant_as names name (known_in all name.text) (known.Model n.0) n.1 (entries_with P names name.text (known.Model n.0) h (model n.0))
+    late_entries names (definition.Model place tree name formals steps) n h = meant_as names name (known_in all name.text) (known.Untyped kind.Model) n (entries_with P names name.text (known.Untyped kind.Model) h model)
     late_entries names (definition.Xper place name steps) n h = meant_as names name (known_in all name.text) (known.Xper n.0) n.1 (entries_with P names name.text (known.Xper n.0) h (xper n.0))
     late_entries names (definition.Enum place name values) n h = h
     late_entries names (definition.Const place tree name equals value) n h = h
@@ -151,5 +151,5 @@ stands_for_one (known.Const number t) h = tt
 stands_for_one (known.Value enumeration position) h = tt
 stands_for_one (known.Func number params result) h = tt
 stands_for_one (known.Proc number params exit) h = tt
-stands_for_one (known.Model number) h = tt
+stands_for_one (known.Model number params exit) h = tt
 stands_for_one (known.Xper number) h = tt

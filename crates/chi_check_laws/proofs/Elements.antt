@@ -1,5 +1,5 @@
 -- What is run and started.
-use Rattle.std.proofs.Common.{◌≡◌, ℕ, Bool, true, false, not, List, [], map, length, Option, Some, None, refl, sym, ap, subst, ◌∙◌}
+use Rattle.std.proofs.Common.{◌≡◌, ℕ, Bool, true, false, List, [], map, length, Option, Some, None, refl, sym, ap, subst, ◌∙◌}
 use Rattle.std.proofs.lemmas.Bool.{and_parts}
 use Rattle.std.specs.Prelude.{nat_eq, option_map, if◌then◌else◌}
 use Rattle.chi_token.specs.declared.place.Place.{Place}
@@ -12,7 +12,7 @@ use Rattle.chi_core.specs.declared.element.CElem.{CElem}
 use Rattle.chi_core.specs.declared.element.CElem.TheVariants as element
 use Rattle.chi_core.specs.declared.target.CTarget.{CTarget}
 use Rattle.chi_core.specs.Kinds.{Kind, kind_of, kinds_of}
-use Rattle.chi_core.specs.Scopes.{Role, process, Scope}
+use Rattle.chi_core.specs.Scopes.{Role, function, process, Scope}
 use Rattle.chi_core.specs.SetSlots.{Known as Set}
 use Rattle.chi_core.specs.SoundExpressions.{HaveKinds}
 use Rattle.chi_core.specs.SoundParts as part
@@ -48,11 +48,11 @@ use Rattle.chi_check_laws.proofs.Targets.{aim_takes}
 use Rattle.chi_check_stat_lines.specs.Stated.{alone}
 use Rattle.chi_check_stat_lines.specs.Values.{made_of, made_if, values_in, goal_in, target_in}
 use Rattle.chi_check_stat_lines.specs.Lines.{element_in}
-use Rattle.chi_check_laws.specs.Bodies.{role_of}
+use Rattle.chi_check_laws.specs.Bodies.{reads_as}
 use Rattle.chi_check_laws.specs.Texts.{target_texts_if}
 use Rattle.chi_check_laws.proofs.Bodies.{SoundMake, MakeKept, make_at, nothing_more, each_by_parts}
 use Rattle.chi_check_laws.proofs.Communications.{target_aim}
-use Rattle.chi_check_laws.proofs.Turns.{alone_kept, unbroken}
+use Rattle.chi_check_laws.proofs.Turns.{alone_kept, unbroken, not_false}
 use Rattle.chi_check_laws.proofs.Values.{one_made, values_sound}
 
 instance_layer : (t : Ty) (layer : Ty-F Ty) → out-Ty t ≡ layer → is_inst layer ≡ true → kind_of t ≡ Ty-F.Inst
@@ -61,11 +61,7 @@ instance_layer t _ p h = absurd (cc)
 
 -- ---- exits
 
-not_false : (b : Bool) → not b ≡ false → b ≡ true
-not_false true e = refl
-not_false false e = absurd (cc)
-
-own_exit : (own : ExitType) (r : Role) (e : Option Kind) (t : Ty) → role_of (home.Process own) ≡ Some r → r ≡ process e → is_other_exit own t ≡ false → e ≡ Some (kind_of t)
+own_exit : (own : ExitType) (r : Role) (e : Option Kind) (t : Ty) → reads_as (home.Process own) ≡ Some r → r ≡ process e → is_other_exit own t ≡ false → e ≡ Some (kind_of t)
 own_exit exit.Nothing r e t role is h = absurd (cc)
 own_exit exit.Untyped r e t role is h = absurd (cc)
 own_exit (exit.Given own) r e t role is h =
@@ -73,17 +69,20 @@ own_exit (exit.Given own) r e t role is h =
     let exits : Some (kind_of own) ≡ e = cc in
     sym exits ∙ ap Some (sym (same_kind t own (not_false (same t own) h)))
 
-may_start : (h : Home) (r : Role) (e : Option Kind) (place : Place) (t : Option Ty) → role_of h ≡ Some r → r ≡ process e → exit_rule h place t ≡ [] → MayStart e (option_map kind_of t)
+may_start : (h : Home) (r : Role) (e : Option Kind) (place : Place) (t : Option Ty) → reads_as h ≡ Some r → r ≡ process e → exit_rule h place t ≡ [] → MayStart e (option_map kind_of t)
 may_start h r e place None role is none = part.none e
 may_start (home.Function (Some result)) r e place (Some t) role is none = absurd (cc)
 may_start (home.Function None) r e place (Some t) role is none = absurd (cc)
+may_start home.Experiment r e place (Some t) role is none =
+    let never : function Ty-F.Void ≡ process e = some_is (function Ty-F.Void) r role ∙ is in
+    absurd (cc)
 may_start (home.Process own) r e place (Some t) role is none =
     let same = own_exit own r e t role is (unbroken (is_other_exit own t) STARTED_EXIT place none) in
     subst (λ o. MayStart e o) same (part.its_own e)
 
 -- ---- arguments
 
-module _ (h : Home) (scope : Scope) (role : role_of h ≡ Some scope.role) (set : Set) where
+module _ (h : Home) (scope : Scope) (role : reads_as h ≡ Some scope.role) (set : Set) where
   -- what is started, with its arguments
   record StartedBy (x : Started) : Type 0 where
     params : List Ty
@@ -166,6 +165,6 @@ module _ (h : Home) (scope : Scope) (role : role_of h ≡ Some scope.role) (set 
     element_sound target name arguments x e = element_by (made_if (option_map (goal_in h names) target)) _ x (goal_by target)
         (λ y is. named_by (is_predefined name.text) name (known_in names name.text) (map made_of (values_in h names arguments)) y (all name.text) (values_sound h scope role set names all arguments) is) e
 
-pub make_kept : (h : Home) (scope : Scope) → role_of h ≡ Some scope.role → (target : Option Target) (name : Name) (arguments : List Expr) → MakeKept scope (λ s. alone s (element_in h s.names target name arguments))
+pub make_kept : (h : Home) (scope : Scope) → reads_as h ≡ Some scope.role → (target : Option Target) (name : Name) (arguments : List Expr) → MakeKept scope (λ s. alone s (element_in h s.names target name arguments))
 make_kept h scope role target name arguments = alone_kept scope _ nothing_more (each_by_parts scope CElem (SoundMake scope)) (λ names. element_in h names target name arguments) (λ set names x all e.
     (element_sound h scope role set names all target name arguments x e, tt))

@@ -28,30 +28,33 @@ use Rattle.chi_check_laws.proofs.SoundValues.{fitted_has, exiting_sound}
 use Rattle.chi_check_stat_lines.specs.Stated.{alone}
 use Rattle.chi_check_stat_lines.specs.Values.{value_in, instance_in, all_of, made_if}
 use Rattle.chi_check_stat_lines.specs.Lines.{return_in, exit_in, finish_in}
-use Rattle.chi_check_laws.specs.Bodies.{role_of}
+use Rattle.chi_check_laws.specs.Bodies.{reads_as}
 use Rattle.chi_check_laws.proofs.Bodies.{SoundOne, StatementKept, statements_by_parts}
 use Rattle.chi_check_laws.proofs.Statements.{one_pass, one_break, one_continue, one_return, one_exit, one_exit_with, one_finish}
 use Rattle.chi_check_laws.proofs.Turns.{both_made, alone_kept}
 use Rattle.chi_check_laws.proofs.Values.{one_made, value_sound, waited_has}
 
--- what communicates, waits, starts or writes stands in a process
-pub runs_in : (h : Home) (role : Role) (place : Place) → role_of h ≡ Some role → running_rule h place ≡ [] → (exit : Option Kind) × (role ≡ process exit)
+-- what communicates, waits or starts stands in a process
+pub runs_in : (h : Home) (role : Role) (place : Place) → reads_as h ≡ Some role → running_rule h place ≡ [] → (exit : Option Kind) × (role ≡ process exit)
 runs_in (home.Function t) role place r e = absurd (cc)
 runs_in (home.Process exit.Nothing) role place r e = (None, sym (some_is (process None) role r))
 runs_in (home.Process exit.Untyped) role place r e = absurd (cc)
 runs_in (home.Process (exit.Given t)) role place r e = (Some (kind_of t), sym (some_is (process (Some (kind_of t))) role r))
+runs_in home.Experiment role place r e = absurd (cc)
 
 module _ (scope : Scope) (loop : Bool) (set : Set) where
-  return_by : (h : Home) → role_of h ≡ Some scope.role → (place : Place) (o : Option Made) (x : CStat) → ((m : Made) → o ≡ Some m → SoundMade scope set m) → (return_of h place o).made ≡ Some x → SoundOne scope loop set x
+  return_by : (h : Home) → reads_as h ≡ Some scope.role → (place : Place) (o : Option Made) (x : CStat) → ((m : Made) → o ≡ Some m → SoundMade scope set m) → (return_of h place o).made ≡ Some x → SoundOne scope loop set x
   return_by (home.Function None) role place o x s e = absurd (cc)
   return_by (home.Function (Some t)) role place o x s e =
       let f = one_made RETURN place (returning place.line t) o x e in
       let g = mapped (statement.Return place.line) (fitted f.0 t) x f.2 in
       subst (SoundOne scope loop set) g.2 (one_return scope loop set place.line g.0 (kind_of t) (sym (some_is (function (kind_of t)) scope.role role)) (fitted_has scope set f.0 t g.0 (s f.0 f.1) g.1))
   return_by (home.Process own) role place o x s e = absurd (cc)
+  return_by home.Experiment role place o x s e = absurd (cc)
 
-  exit_by : (h : Home) → role_of h ≡ Some scope.role → (place : Place) (o : Option (Option Made)) (x : CStat) → ((m : Made) → o ≡ Some (Some m) → SoundMade scope set m) → (exit_of h place o).made ≡ Some x → SoundOne scope loop set x
+  exit_by : (h : Home) → reads_as h ≡ Some scope.role → (place : Place) (o : Option (Option Made)) (x : CStat) → ((m : Made) → o ≡ Some (Some m) → SoundMade scope set m) → (exit_of h place o).made ≡ Some x → SoundOne scope loop set x
   exit_by (home.Function t) role place o x s e = absurd (cc)
+  exit_by home.Experiment role place o x s e = absurd (cc)
   exit_by (home.Process exit.Nothing) role place None x s e =
       subst (SoundOne scope loop set) (some_is _ x e) (one_exit scope loop set place.line (sym (some_is (process None) scope.role role)))
   exit_by (home.Process exit.Nothing) role place (Some m) x s e = absurd (cc)
@@ -73,7 +76,7 @@ continue_by : (scope : Scope) (set : Set) (loop : Bool) (place : Place) (x : CSt
 continue_by scope set true place x e = subst (SoundOne scope true set) (some_is _ x e) (one_continue scope true set place.line refl)
 continue_by scope set false place x e = absurd (cc)
 
-module _ (h : Home) (scope : Scope) (role : role_of h ≡ Some scope.role) (loop : Bool) where
+module _ (h : Home) (scope : Scope) (role : reads_as h ≡ Some scope.role) (loop : Bool) where
   given_sound : (set : Set) (names : Names) (all : AllStand scope set names) (o : Option Expr) (m : Made) → made_if (option_map (value_in h names) o) ≡ Some (Some m) → SoundMade scope set m
   given_sound set names all None m e = absurd (cc)
   given_sound set names all (Some x) m e = value_sound h scope role set names all x m (some_is _ (Some m) e)

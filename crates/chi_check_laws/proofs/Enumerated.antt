@@ -47,7 +47,7 @@ in_more es more (known.Fixed slot t) h = absurd h
 in_more es more (known.Const number t) h = absurd h
 in_more es more (known.Func number params result) h = absurd h
 in_more es more (known.Proc number params exit) h = absurd h
-in_more es more (known.Model number) h = absurd h
+in_more es more (known.Model number params exit) h = absurd h
 in_more es more (known.Xper number) h = absurd h
 in_more es more (known.Untyped kind) h = absurd h
 

@@ -30,12 +30,12 @@ use Rattle.chi_check_stat_lines.specs.declared.state.Binder.TheVariants as binde
 use Rattle.chi_check_stat_lines.specs.declared.state.Opened.{Opened}
 use Rattle.chi_check_stat_lines.specs.declared.state.State.{State}
 use Rattle.chi_check_stat_lines.specs.Stated.{Turn, both, in_turn}
-use Rattle.chi_check_stat_lines.specs.States.{bindings, block}
+use Rattle.chi_check_stat_lines.specs.States.{bindings, block, Going, each_in}
 use Rattle.chi_check_stat_lines.specs.Values.{value_in, test_in, guard_in}
 use Rattle.chi_check_stat_lines.specs.Declarations.{opened, types_of, walk_place, walk_in}
 use Rattle.chi_check_stat_lines.specs.Lines.{communication_in}
 use Rattle.chi_check_stat_lines.specs.Blocks.{offers, runs, starts}
-use Rattle.chi_check_stat.specs.Statements.{Going, each_in, starting, element_step, statement_step, branch_step, alternative_step}
+use Rattle.chi_check_stat.specs.Statements.{starting, element_step, statement_step, branch_step, alternative_step}
 use Rattle.chi_check_laws.specs.Bodies.{Grows}
 use Rattle.chi_check_laws.specs.Whole.{has_any}
 use Rattle.chi_check_laws.proofs.Filled.{Below, Filled, Filling, still_below, filled_on, filled_old, filled_cut, in_turn_filling, block_filling}

@@ -45,7 +45,7 @@ use Rattle.chi_check_stat_rules.specs.Assignments.{all_aims, assign, stored, par
 use Rattle.chi_check_stat_rules.specs.Channels.{sent_type, send_void, sending, send_value, send_on, send_of, received_type, receive_void, receiving, receive_value, receive_on, receive_of, delayed, delaying}
 use Rattle.chi_check_stat_rules.specs.Elements.{as_instance_target, make, element_made}
 use Rattle.chi_check_stat_rules.specs.Endings.{returning, return_of, exiting, exit_of, loop_rule}
-use Rattle.chi_check_stat_rules.specs.Homes.{site_of, running_rule, channel_rule}
+use Rattle.chi_check_stat_rules.specs.Homes.{site_of, running_rule, writing_rule, local_rule}
 use Rattle.chi_check_stat_rules.specs.Places.{type_place}
 use Rattle.chi_check_stat_rules.specs.Values.{is_inst, fitted}
 use Rattle.chi_check_stat_rules.specs.Writes.{ended, pieces_of, shown_count, Written, all_shown, written, write_of}
@@ -77,9 +77,11 @@ return_nothing (home.Function (Some t)) place o x e =
     let g = mapped (statement.Return place.line) (fitted f.0 t) x f.2 in
     ap by_statement (sym g.2) ∙ return_sets place.line g.0
 return_nothing (home.Process own) place o x e = absurd (cc)
+return_nothing home.Experiment place o x e = absurd (cc)
 
 exit_nothing : (h : Home) (place : Place) (o : Option (Option Made)) (x : CStat) → (exit_of h place o).made ≡ Some x → by_statement x ≡ []
 exit_nothing (home.Function t) place o x e = absurd (cc)
+exit_nothing home.Experiment place o x e = absurd (cc)
 exit_nothing (home.Process exit.Nothing) place None x e = ap by_statement (sym (some_is (statement.Exit place.line None) x e)) ∙ exit_sets place.line None
 exit_nothing (home.Process exit.Nothing) place (Some m) x e = absurd (cc)
 exit_nothing (home.Process exit.Untyped) place None x e = absurd (cc)
@@ -115,7 +117,7 @@ write_nothing line place (Some pieces) vs x e = by (nat_eq (shown_count pieces) 
 -- ---- assignments
 
 -- what it assigns to
-abbrev Assigns : List (Option Aim) → CStat → Type 0
+abbrev pub Assigns : List (Option Aim) → CStat → Type 0
 Assigns os x = (aims : List Aim) × (line : ℕ) × (es : List CExpr) × (all_aims os ≡ Some aims) × (assign line aims es ≡ x)
 
 module _ (line : ℕ) (equals : Place) (os : List (Option Aim)) where
@@ -135,7 +137,7 @@ module _ (line : ℕ) (equals : Place) (os : List (Option Aim)) where
   uneven_assigns (Some None) x e = absurd (cc)
   uneven_assigns (Some (Some m)) x e = value_assigns m.core (out-Ty m.ty) x e
 
-  assigned_assigns : (b : Bool) (values : List (Option Made)) (x : CStat) → (if b then even line equals os values else uneven line equals os (only_one values)).made ≡ Some x → Assigns os x
+  pub assigned_assigns : (b : Bool) (values : List (Option Made)) (x : CStat) → (if b then even line equals os values else uneven line equals os (only_one values)).made ≡ Some x → Assigns os x
   assigned_assigns true values x e =
       let f = two_made ASSIGNED_VALUE equals (stored line) (all_made values) (all_aims os) x e in
       let m = mapped (assign line f.1) (passed f.0 (map (λ a. a.ty) f.1)) x f.4 in
@@ -269,7 +271,7 @@ module _ (h : Home) where
 
   pub write_filling : (place : Place) (ends_line : Bool) (format : List ℕ) (format_place : Place) (values : List Expr) → Filling by_statement (λ s. alone s (write_in h s.names place ends_line format format_place values))
   write_filling place ends_line format format_place values = alone_filling by_statement (λ names. write_in h names place ends_line format format_place values) (λ names x e.
-      let b = barred_made (running_rule h place) _ x e in
+      let b = barred_made (writing_rule h place) _ x e in
       nothing names x (write_nothing place.line format_place (pieces_of (ended ends_line format)) (placed values (map made_of (values_in h names values))) x b.1))
 
   pub make_filling : (target : Option Target) (name : Name) (arguments : List Expr) → Filling by_element (λ s. alone s (element_in h s.names target name arguments))
@@ -299,6 +301,6 @@ module _ (h : Home) where
     fills = λ s xs low e.
         let meant = (reading (site_of h) s.names tree true).made in
         let place = type_place tree in
-        let b = held_made (channel_rule h place (option_map (λ m. m.ty) meant)) (in_turn (map (declared h place.line meant) variables) s).made xs e in
+        let b = held_made (local_rule h place (option_map (λ m. m.ty) meant)) (in_turn (map (declared h place.line meant) variables) s).made xs e in
         (in_turn_filling by_statement _ (all_declaring place.line meant variables)).fills s xs low b.1;
   }

@@ -173,6 +173,11 @@ one_remains (definition.Const place tree name equals value) h names w = refl
 one_remains (definition.TypeWord place name tree) h names w = refl
 one_remains (definition.Xper place name steps) h names w = refl
 
+pub processes_stay : (ds : List Definition) (hs : List (Option Header)) (names : Names) → EachIsWhole ds → (in_turn (processes_of ds hs) names).next ≡ names
+processes_stay [] hs names w = refl
+processes_stay (d ∷ ds) [] names w = refl
+processes_stay (d ∷ ds) (h ∷ hs) names w = processes_stay ds hs (process_of d h names).next w.1 ∙ one_remains d h names w.0
+
 pub processes_run : (ds : List Definition) (hs : List (Option Header)) (names : Names) (ps : List ProcDef) → EachIsWhole ds → (in_turn (processes_of ds hs) names).made ≡ Some ps → Runs names ds hs ps
 processes_run [] hs names ps w m = some_same [] ps m
 processes_run (d ∷ ds) [] names ps w m = some_same [] ps m

@@ -48,6 +48,7 @@ kind_exact place kind.Unwound h = refused_exact Meant NAME_KIND place
 kind_exact place kind.Constant h = refused_exact Meant NAME_KIND place
 kind_exact place kind.Function h = refused_exact Meant NAME_KIND place
 kind_exact place kind.Process h = refused_exact Meant NAME_KIND place
+kind_exact place kind.Model h = refused_exact Meant NAME_KIND place
 
 known_exact : (place : Place) (k : Known) → StandsForOne k → ExactTyped (visible_type place (Some k))
 known_exact place (known.Kind t) h = unless_exact _ _
@@ -58,7 +59,7 @@ known_exact place (known.Const number t) h = refused_exact Meant NAME_KIND place
 known_exact place (known.Value enumeration position) h = refused_exact Meant NAME_KIND place
 known_exact place (known.Func number params result) h = refused_exact Meant NAME_KIND place
 known_exact place (known.Proc number params exit) h = refused_exact Meant NAME_KIND place
-known_exact place (known.Model number) h = refused_exact Meant NAME_KIND place
+known_exact place (known.Model number params exit) h = refused_exact Meant NAME_KIND place
 known_exact place (known.Xper number) h = refused_exact Meant NAME_KIND place
 
 visible_exact : (place : Place) (o : Option Known) → ((k : Known) → o ≡ Some k → StandsForOne k) → ExactTyped (visible_type place o)

@@ -95,7 +95,7 @@ length_kinds : (ts : List Ty) → length (kinds_of ts) ≡ length ts
 length_kinds [] = refl
 length_kinds (t ∷ ts) = ap suc (length_kinds ts)
 
-get_kind : (ts : List Ty) (k : ℕ) (t : Ty) → slice_get ts k ≡ Some t → slice_get (kinds_of ts) k ≡ Some (kind_of t)
+pub get_kind : (ts : List Ty) (k : ℕ) (t : Ty) → slice_get ts k ≡ Some t → slice_get (kinds_of ts) k ≡ Some (kind_of t)
 get_kind [] k t e = absurd (cc)
 get_kind (u ∷ ts) zero t e = ap (λ t. Some (kind_of t)) (some_is u t e)
 get_kind (u ∷ ts) (suc k) t e = get_kind ts k t e

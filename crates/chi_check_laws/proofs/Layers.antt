@@ -80,7 +80,7 @@ whole_counted : (steps : List CStep) (slot : ℕ) (slots : List ℕ) (count : �
 whole_counted [] slot slots count = refl
 whole_counted (s ∷ steps) slot slots count = refl
 
-wholes_counted : (targets : List CTarget) (count : ℕ) → wholes (each (map of_target targets) count).part ≡ wholes targets
+pub wholes_counted : (targets : List CTarget) (count : ℕ) → wholes (each (map of_target targets) count).part ≡ wholes targets
 wholes_counted [] count = refl
 wholes_counted (t ∷ targets) count =
     whole_counted t.steps t.slot (wholes (each (map of_target targets) (of_target t count).next).part) count

@@ -57,6 +57,15 @@ pub mod Sounds
 pub mod Statements
 pub mod States
 pub mod Targets
+pub mod TrialBlocks
+pub mod TrialBodies
+pub mod TrialDeclarations
+pub mod TrialLayers
+pub mod TrialLines
+pub mod TrialMade
+pub mod TrialPrograms
+pub mod TrialRuns
+pub mod TrialTrees
 pub mod Turns
 pub mod TypeKinds
 pub mod Types

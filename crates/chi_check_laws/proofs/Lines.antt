@@ -8,7 +8,7 @@ use Rattle.chi_value.specs.declared.format.Piece.{Piece}
 use Rattle.chi_core.specs.declared.expression.CExpr.{CExpr}
 use Rattle.chi_core.specs.declared.statement.CStat.TheVariants as statement
 use Rattle.chi_check_types.specs.declared.meant.Made.{Made}
-use Rattle.chi_check_types.specs.declared.rules.TheConstants.{IN_FUNCTION, RETURN, EXIT, FORMAT, FORMAT_VALUE}
+use Rattle.chi_check_types.specs.declared.rules.TheConstants.{IN_FUNCTION, IN_EXPERIMENT, RETURN, EXIT, FORMAT, FORMAT_VALUE}
 use Rattle.chi_check_types.specs.Names.{Names}
 use Rattle.chi_check_types.specs.Typed.{Typed, refused}
 use Rattle.chi_check_expr.proofs.Nodes.{left_nil, right_nil}
@@ -17,7 +17,7 @@ use Rattle.chi_check_stat_rules.specs.declared.home.ExitType.TheVariants as exit
 use Rattle.chi_check_stat_rules.specs.declared.home.Home.{Home}
 use Rattle.chi_check_stat_rules.specs.declared.home.Home.TheVariants as home
 use Rattle.chi_check_stat_rules.specs.Endings.{returning, return_as, return_of, exiting, exit_with, exit_of}
-use Rattle.chi_check_stat_rules.specs.Homes.{running_rule}
+use Rattle.chi_check_stat_rules.specs.Homes.{running_rule, writing_rule}
 use Rattle.chi_check_stat_rules.specs.Writes.{Written, ended, pieces_of, shown_count, next_shown, showing, shown_one, with_first, shown_then, all_shown, written, write_of}
 use Rattle.chi_check_stat_lines.specs.Values.{made_of, all_faults, faults_if, made_if, all_of, value_in, values_in, instance_in}
 use Rattle.chi_check_stat_lines.specs.Lines.{placed, return_in, exit_in, finish_in, write_in}
@@ -36,6 +36,7 @@ TypedExit (exit.Given t) = Unit {0}
 abbrev pub TypedHome : Home → Type 0
 TypedHome (home.Function result) = Comes result
 TypedHome (home.Process own) = TypedExit own
+TypedHome home.Experiment = Unit {0}
 
 -- ---- return and exit
 
@@ -46,6 +47,7 @@ return_as_whole place (Some t) m h c = of_one_whole RETURN place (returning plac
 return_whole : (h : Home) (place : Place) (m : Option Made) → TypedHome h → Comes m → WholeTyped (return_of h place m)
 return_whole (home.Function result) place m h c = return_as_whole place result m h c
 return_whole (home.Process own) place m h c = refused_whole RETURN place
+return_whole home.Experiment place m h c = refused_whole RETURN place
 
 exit_with_whole : (own : ExitType) (place : Place) (value : Option (Option Made)) → TypedExit own → GivenComes value → WholeTyped (exit_with own place value)
 exit_with_whole exit.Nothing place None h g = λ e. tt
@@ -57,6 +59,7 @@ exit_with_whole (exit.Given t) place (Some m) h g = of_one_whole EXIT place (exi
 exit_of_whole : (h : Home) (place : Place) (value : Option (Option Made)) → TypedHome h → GivenComes value → WholeTyped (exit_of h place value)
 exit_of_whole (home.Function result) place value h g = refused_whole IN_FUNCTION place
 exit_of_whole (home.Process own) place value h g = exit_with_whole own place value h g
+exit_of_whole home.Experiment place value h g = refused_whole IN_EXPERIMENT place
 
 -- ---- writes
 
@@ -111,6 +114,6 @@ module _ (h : Home) (typed : TypedHome h) (names : Names) (fine : Entries Fine n
   write_in_whole place ends_line format format_place values =
       let given = values_in h names values in
       let made = write_of place.line format_place (pieces_of (ended ends_line format)) (placed values (map made_of given)) in
-      barred_whole (running_rule h place) (record { faults = all_faults given ++ made.faults; made = made.made })
+      barred_whole (writing_rule h place) (record { faults = all_faults given ++ made.faults; made = made.made })
       (λ e. write_whole place.line format_place (pieces_of (ended ends_line format)) (placed values (map made_of given))
       (placed_written values (map made_of given) (values_come h names fine values (left_nil (all_faults given) _ e))) (right_nil (all_faults given) _ e))

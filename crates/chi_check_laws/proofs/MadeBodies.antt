@@ -22,7 +22,7 @@ use Rattle.chi_check_stat_lines.specs.Stated.{in_turn}
 use Rattle.chi_check_stat.specs.Statements.{stating_all}
 use Rattle.chi_check_headers.specs.declared.header.Header.{Header}
 use Rattle.chi_check_headers.specs.declared.sketch.Named.{Named as Bodies}
-use Rattle.chi_check_headers.specs.Headers.{all_types, function_known, process_known, home_known}
+use Rattle.chi_check_headers.specs.Headers.{all_types, function_known, process_known, model_known, result_in, exit_in, function_headed, process_headed, model_headed}
 use Rattle.chi_check_headers.specs.Definitions.{with_headed, with_all_headed}
 use Rattle.chi_check.specs.Bodies.{formals_bound, body_in, function, process, result_of, exit_known, exit_of, process_made, function_of, process_of, functions_of, processes_of}
 use Rattle.chi_check_laws.proofs.Bindings.{binding_keeps, fine_takes, fine_holds}
@@ -41,6 +41,7 @@ use Rattle.chi_check_laws.proofs.WholeHeaders.{Comes, EachComes, mapped_comes, b
 result_typed : (h : Home) → Comes (result_of h) → TypedHome h
 result_typed (home.Function result) c = c
 result_typed (home.Process own) c = absurd c
+result_typed home.Experiment c = absurd c
 
 own_typed : (own : ExitType) → Comes (exit_known own) → TypedExit own
 own_typed exit.Nothing c = tt
@@ -50,6 +51,7 @@ own_typed (exit.Given t) c = tt
 exit_typed : (h : Home) → Comes (exit_of h) → TypedHome h
 exit_typed (home.Function result) c = absurd c
 exit_typed (home.Process own) c = own_typed own c
+exit_typed home.Experiment c = absurd c
 
 pub all_types_come : (types : List (Option Ty)) → EachComes types → Comes (all_types types)
 all_types_come [] h = tt
@@ -66,9 +68,21 @@ process_fine number (Some params) exit.Nothing c d = tt
 process_fine number (Some params) exit.Untyped c d = absurd d
 process_fine number (Some params) (exit.Given t) c d = tt
 
-home_fine : (functions processes : ℕ) (params : Option (List Ty)) (h : Home) → Comes params → TypedHome h → Fine (home_known functions processes params h)
-home_fine functions processes params (home.Function result) c d = function_fine functions params result c d
-home_fine functions processes params (home.Process own) c d = process_fine processes params own c d
+model_fine : (number : ℕ) (params : Option (List Ty)) (own : ExitType) → Comes params → TypedExit own → Fine (model_known number params own)
+model_fine number None own c d = absurd c
+model_fine number (Some params) exit.Nothing c d = tt
+model_fine number (Some params) exit.Untyped c d = absurd d
+model_fine number (Some params) (exit.Given t) c d = tt
+
+result_comes : (h : Home) → Comes (result_of h) → Comes (result_in h)
+result_comes (home.Function result) c = c
+result_comes (home.Process own) c = absurd c
+result_comes home.Experiment c = absurd c
+
+exit_comes : (h : Home) → Comes (exit_of h) → TypedExit (exit_in h)
+exit_comes (home.Function result) c = absurd c
+exit_comes (home.Process own) c = own_typed own c
+exit_comes home.Experiment c = absurd c
 
 -- ---- the names that bodies see
 
@@ -79,11 +93,13 @@ module _ (all : Names) where
   headed_fine : (d : Definition) (h : Option Header) (s : Bodies) → Named all d → HeaderTyped d h → FineBodies s → FineBodies (with_headed all d h s)
   headed_fine (definition.Func place tree name formals steps) None s n t f = absurd t
   headed_fine (definition.Func place tree name formals steps) (Some h) s n t f =
-      definition_fine all kind.Function s.names name (home_known s.functions s.processes (all_types h.formals) h.home) f (home_fine s.functions s.processes (all_types h.formals) h.home (all_types_come h.formals t.0) (result_typed h.home t.1))
+      definition_fine all kind.Function s.names name (function_headed s.functions h) f (function_fine s.functions (all_types h.formals) (result_in h.home) (all_types_come h.formals t.0) (result_comes h.home t.1))
   headed_fine (definition.Proc place tree name formals steps) None s n t f = absurd t
   headed_fine (definition.Proc place tree name formals steps) (Some h) s n t f =
-      definition_fine all kind.Process s.names name (home_known s.functions s.processes (all_types h.formals) h.home) f (home_fine s.functions s.processes (all_types h.formals) h.home (all_types_come h.formals t.0) (exit_typed h.home t.1))
-  headed_fine (definition.Model place tree name formals steps) h s n t f = meant_as Fine s.names name (known_in all name.text) (known.Model n.0) n.1 (entries_with Fine s.names name.text (known.Model n.0) f tt)
+      definition_fine all kind.Process s.names name (process_headed s.processes h) f (process_fine s.processes (all_types h.formals) (exit_in h.home) (all_types_come h.formals t.0) (exit_comes h.home t.1))
+  headed_fine (definition.Model place tree name formals steps) None s n t f = absurd t
+  headed_fine (definition.Model place tree name formals steps) (Some h) s n t f =
+      definition_fine all kind.Model s.names name (model_headed s.processes h) f (model_fine s.processes (all_types h.formals) (exit_in h.home) (all_types_come h.formals t.0) (exit_comes h.home t.1))
   headed_fine (definition.Xper place name steps) h s n t f = meant_as Fine s.names name (known_in all name.text) (known.Xper n.0) n.1 (entries_with Fine s.names name.text (known.Xper n.0) f tt)
   headed_fine (definition.Enum place name values) h s n t f = f
   headed_fine (definition.Const place tree name equals value) h s n t f = f

@@ -62,7 +62,7 @@ known_receiver place name (known.Kind t) h = refused_whole RECEIVING_NAME place
 known_receiver place name (known.Value enumeration position) h = refused_whole RECEIVING_NAME place
 known_receiver place name (known.Func number params result) h = refused_whole RECEIVING_NAME place
 known_receiver place name (known.Proc number params exit) h = refused_whole RECEIVING_NAME place
-known_receiver place name (known.Model number) h = refused_whole RECEIVING_NAME place
+known_receiver place name (known.Model number params exit) h = refused_whole RECEIVING_NAME place
 known_receiver place name (known.Xper number) h = refused_whole RECEIVING_NAME place
 
 visible_receiver_whole : (place name : Place) (o : Option Known) → ((k : Known) → o ≡ Some k → Fine k) → WholeTyped (visible_receiver place name o)
@@ -87,7 +87,7 @@ receive_whole place (Some a) r c g = receive_on_whole place a (received_type (ou
 
 -- ---- starts
 
-of_all_whole : {B : Type 0} (rule : ℕ) (place : Place) (right : Bool) (f : List Made → Option B) (o : Option (List Made)) → Comes o → WholeTyped (of_all rule place right f o)
+pub of_all_whole : {B : Type 0} (rule : ℕ) (place : Place) (right : Bool) (f : List Made → Option B) (o : Option (List Made)) → Comes o → WholeTyped (of_all rule place right f o)
 of_all_whole rule place false f o c = refused_whole rule place
 of_all_whole rule place true f None c = absurd c
 of_all_whole rule place true f (Some ms) c = settled_whole rule place (f ms)
@@ -103,7 +103,7 @@ known_start home place (known.Const number t) arguments h c = refused_whole NAME
 known_start home place (known.Kind t) arguments h c = refused_whole NAME_KIND place
 known_start home place (known.Value enumeration position) arguments h c = refused_whole NAME_KIND place
 known_start home place (known.Func number params result) arguments h c = refused_whole NAME_KIND place
-known_start home place (known.Model number) arguments h c = refused_whole NAME_KIND place
+known_start home place (known.Model number params exit) arguments h c = refused_whole NAME_KIND place
 known_start home place (known.Xper number) arguments h c = refused_whole NAME_KIND place
 
 visible_start_whole : (home : Home) (place : Place) (o : Option Known) (arguments : List (Option Made)) → ((k : Known) → o ≡ Some k → Fine k) → EachComes arguments → WholeTyped (visible_start home place o arguments)

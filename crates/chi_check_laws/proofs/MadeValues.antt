@@ -76,7 +76,7 @@ known_target place (known.Kind t) h = refused_whole TARGET place
 known_target place (known.Value enumeration position) h = refused_whole TARGET place
 known_target place (known.Func number params result) h = refused_whole TARGET place
 known_target place (known.Proc number params exit) h = refused_whole TARGET place
-known_target place (known.Model number) h = refused_whole TARGET place
+known_target place (known.Model number params exit) h = refused_whole TARGET place
 known_target place (known.Xper number) h = refused_whole TARGET place
 
 visible_target_whole : (place : Place) (o : Option Known) → ((k : Known) → o ≡ Some k → Fine k) → WholeTyped (visible_target place o)

@@ -97,7 +97,7 @@ module _ (scope : Scope) (a b : Set) (more : Within a b) where
   stands_more (known.Value enumeration position) h = h
   stands_more (known.Func number params result) h = h
   stands_more (known.Proc number params exit) h = h
-  stands_more (known.Model number) h = h
+  stands_more (known.Model number params exit) h = h
   stands_more (known.Xper number) h = h
   stands_more (known.Untyped kind) h = h
 

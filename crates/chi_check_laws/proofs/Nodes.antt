@@ -20,7 +20,8 @@ use Rattle.chi_check_stat_rules.specs.declared.home.Home.{Home}
 use Rattle.chi_check_expr.proofs.Kept.{Each}
 use Rattle.chi_check_stat_lines.specs.declared.state.State.{State}
 use Rattle.chi_check_stat_lines.specs.Stated.{Turn}
-use Rattle.chi_check_stat.specs.Statements.{Going, element_step, starting, statement_step, branch_step, alternative_step}
+use Rattle.chi_check_stat_lines.specs.States.{Going}
+use Rattle.chi_check_stat.specs.Statements.{element_step, starting, statement_step, branch_step, alternative_step}
 use Rattle.chi_check_laws.specs.Whole.{has_any}
 
 -- where a loop stands around it or not

@@ -10,9 +10,8 @@ use Rattle.chi_check_stat_rules.specs.declared.home.Home.{Home}
 use Rattle.chi_check_stat_lines.specs.declared.state.Binder.{Binder}
 use Rattle.chi_check_stat_lines.specs.declared.state.State.{State}
 use Rattle.chi_check_stat_lines.specs.Stated.{Stated, Turn, in_turn, alone, preceded, held_by}
-use Rattle.chi_check_stat_lines.specs.States.{cut, closed, block}
+use Rattle.chi_check_stat_lines.specs.States.{cut, closed, block, Going, each_in}
 use Rattle.chi_check_stat_lines.specs.Declarations.{declaration_in, walk_in}
-use Rattle.chi_check_stat.specs.Statements.{Going, each_in}
 use Rattle.chi_check_laws.proofs.Entries.{Entries}
 use Rattle.chi_check_laws.proofs.Shaped.{Fine}
 use Rattle.chi_check_laws.proofs.WholeHeaders.{Comes, WholeTyped, mapped_comes, both_comes}

@@ -28,7 +28,7 @@ use Rattle.chi_check_laws.specs.KnownNames.{Stands}
 use Rattle.chi_check_stat_lines.specs.States.{with_name}
 use Rattle.chi_check_headers.specs.declared.header.Header.{Header}
 use Rattle.chi_check_headers.specs.declared.sketch.Named.{Named as Bodies}
-use Rattle.chi_check_headers.specs.Headers.{all_types, process_known, home_known}
+use Rattle.chi_check_headers.specs.Headers.{all_types, function_known, process_known, model_known, result_in, exit_in, function_headed, process_headed, model_headed}
 use Rattle.chi_check_headers.specs.Definitions.{means, with_definition, with_headed, with_all_headed}
 use Rattle.chi_check.specs.Bodies.{result_of, exit_known, exit_of}
 use Rattle.chi_check_laws.proofs.Constants.{ConstantIs}
@@ -36,11 +36,11 @@ use Rattle.chi_check_laws.proofs.Definitions.{meant_as}
 use Rattle.chi_check_laws.proofs.Entries.{Entries, entries_with}
 use Rattle.chi_check_laws.proofs.Fitting.{More, slots_begin, ProcessFits, FitsOne, Fits, RunsOne, Runs}
 use Rattle.chi_check_laws.proofs.Positions.{length_join, get_seam, get_counted}
-use Rattle.chi_check_laws.proofs.Shaped.{Fine, HasShape}
+use Rattle.chi_check_laws.proofs.Shaped.{HasShape}
 use Rattle.chi_check_laws.proofs.Signatures.{SoundTypes, HeaderSound, HeadersSound}
 use Rattle.chi_check_laws.proofs.Sketches.{Named, EachNamed}
 
--- a function has these types, and a process
+-- a function has these types, and a process or a model
 pub record FunctionIs (core : Core) (number : ℕ) (params : List Ty) (result : Ty) : Type 0 where
   pub f : FuncDef
   pub is : slice_get core.funcs number ≡ Some f
@@ -61,7 +61,7 @@ Seen core (known.Value enumeration position) = (name : List ℕ) × (name_at cor
 Seen core (known.Const number t) = ConstantIs core number t
 Seen core (known.Func number params result) = FunctionIs core number params result
 Seen core (known.Proc number params exit) = ProcessIs core number params exit
-Seen core (known.Model number) = Unit {0}
+Seen core (known.Model number params exit) = ProcessIs core number params exit
 Seen core (known.Xper number) = Unit {0}
 Seen core (known.Var slot t) = ⊥
 Seen core (known.Fixed slot t) = ⊥
@@ -76,7 +76,7 @@ module _ (scope : Scope) (set : Set) (reads : (number : ℕ) → IsTrue (may_rea
   seen_stands (known.Const number t) h = record { c = h.c; is = h.is; read = reads number; typed = h.typed; ty = h.ty }
   seen_stands (known.Func number params result) h = record { f = h.f; is = h.is; takes = h.takes; gives = h.gives; ty = h.ty }
   seen_stands (known.Proc number params exit) h = record { d = h.d; is = h.is; takes = h.takes; exits = h.exits }
-  seen_stands (known.Model number) h = tt
+  seen_stands (known.Model number params exit) h = record { d = h.d; is = h.is; takes = h.takes; exits = h.exits }
   seen_stands (known.Xper number) h = tt
   seen_stands (known.Var slot t) h = absurd h
   seen_stands (known.Fixed slot t) h = absurd h
@@ -89,19 +89,34 @@ kinds_first (t ∷ params) others = ap (λ rest. kind_of t ∷ rest) (kinds_firs
 pub result_home : (h : Home) (t : Ty) → result_of h ≡ Some t → h ≡ home.Function (Some t)
 result_home (home.Function result) t e = ap home.Function e
 result_home (home.Process own) t e = absurd (cc)
+result_home home.Experiment t e = absurd (cc)
 
-own_exit : (number : ℕ) (params : List Ty) (own : ExitType) (t : Option Ty) → exit_known own ≡ Some t → process_known number (Some params) own ≡ known.Proc number params t
-own_exit number params exit.Nothing t e =
+-- the exit type of a header that has types
+abbrev own_of : Option Ty → ExitType
+own_of None = exit.Nothing
+own_of (Some t) = exit.Given t
+
+own_is : (own : ExitType) (t : Option Ty) → exit_known own ≡ Some t → own ≡ own_of t
+own_is exit.Nothing t e =
     let same : None ≡ t = cc in
-    ap (known.Proc number params) same
-own_exit number params exit.Untyped t e = absurd (cc)
-own_exit number params (exit.Given u) t e =
+    ap own_of same
+own_is exit.Untyped t e = absurd (cc)
+own_is (exit.Given u) t e =
     let same : Some u ≡ t = cc in
-    ap (known.Proc number params) same
+    ap own_of same
 
-home_exit : (functions processes : ℕ) (params : List Ty) (h : Home) (t : Option Ty) → exit_of h ≡ Some t → home_known functions processes (Some params) h ≡ known.Proc processes params t
-home_exit functions processes params (home.Function result) t e = absurd (cc)
-home_exit functions processes params (home.Process own) t e = own_exit processes params own t e
+exit_is : (h : Home) (t : Option Ty) → exit_of h ≡ Some t → exit_in h ≡ own_of t
+exit_is (home.Function result) t e = absurd (cc)
+exit_is (home.Process own) t e = own_is own t e
+exit_is home.Experiment t e = absurd (cc)
+
+known_process : (number : ℕ) (params : List Ty) (t : Option Ty) → process_known number (Some params) (own_of t) ≡ known.Proc number params t
+known_process number params None = refl
+known_process number params (Some t) = refl
+
+known_model : (number : ℕ) (params : List Ty) (t : Option Ty) → model_known number (Some params) (own_of t) ≡ known.Model number params t
+known_model number params None = refl
+known_model number params (Some t) = refl
 
 module _ (core : Core) (funcs : List FuncDef) (procs : List ProcDef) (calls runs : ℕ)
     (functions : core.funcs ≡ (each (map of_function funcs) calls).part) (processes : core.procs ≡ (each (map of_process procs) runs).part) where
@@ -136,20 +151,28 @@ module _ (core : Core) (funcs : List FuncDef) (procs : List ProcDef) (calls runs
   abbrev pub Before : List FuncDef → List ProcDef → Bodies → Type 0
   Before fs ps s = (s.functions ≡ length fs) × (s.processes ≡ length ps) × Entries (Seen core) s.names
 
-  known_result : (number : ℕ) (n : ℕ) (types : Option (List Ty)) (h : Home) (params : List Ty) (result : Ty) → types ≡ Some params → h ≡ home.Function (Some result) → home_known number n types h ≡ known.Func number params result
-  known_result number n types h params result e f = (λ i. home_known number n (e i) (f i))
+  known_result : (number : ℕ) (types : Option (List Ty)) (h : Home) (params : List Ty) (result : Ty) → types ≡ Some params → h ≡ home.Function (Some result) → function_known number types (result_in h) ≡ known.Func number params result
+  known_result number types h params result e f = (λ i. function_known number (e i) (result_in (f i)))
 
   seen_function : (all : Names) (name : Name) (h : Header) (s : Bodies) (params : List Ty) (result : Ty) → all_types h.formals ≡ Some params → result_of h.home ≡ Some result → FunctionIs core s.functions params result → Entries (Seen core) s.names
-      → Entries (Seen core) (with_definition all kind.Function s.names name (home_known s.functions s.processes (all_types h.formals) h.home))
+      → Entries (Seen core) (with_definition all kind.Function s.names name (function_headed s.functions h))
   seen_function all name h s params result e r is seen =
-      either_definition (means kind.Function (known_in all name.text)) s.names name.text (home_known s.functions s.processes (all_types h.formals) h.home) seen
-      (subst (Seen core) (sym (known_result s.functions s.processes (all_types h.formals) h.home params result e (result_home h.home result r))) is)
+      either_definition (means kind.Function (known_in all name.text)) s.names name.text (function_headed s.functions h) seen
+      (subst (Seen core) (sym (known_result s.functions (all_types h.formals) h.home params result e (result_home h.home result r))) is)
 
   seen_process : (all : Names) (name : Name) (h : Header) (s : Bodies) (params : List Ty) (exit : Option Ty) → all_types h.formals ≡ Some params → exit_of h.home ≡ Some exit → ProcessIs core s.processes params exit → Entries (Seen core) s.names
-      → Entries (Seen core) (with_definition all kind.Process s.names name (home_known s.functions s.processes (all_types h.formals) h.home))
+      → Entries (Seen core) (with_definition all kind.Process s.names name (process_headed s.processes h))
   seen_process all name h s params exit e x is seen =
-      either_definition (means kind.Process (known_in all name.text)) s.names name.text (home_known s.functions s.processes (all_types h.formals) h.home) seen
-      (subst (Seen core) (sym (ap (λ types. home_known s.functions s.processes types h.home) e ∙ home_exit s.functions s.processes params h.home exit x)) is)
+      let own = exit_is h.home exit x in
+      let same : process_headed s.processes h ≡ known.Proc s.processes params exit = (λ i. process_known s.processes (e i) (own i)) ∙ known_process s.processes params exit in
+      either_definition (means kind.Process (known_in all name.text)) s.names name.text (process_headed s.processes h) seen (subst (Seen core) (sym same) is)
+
+  seen_model : (all : Names) (name : Name) (h : Header) (s : Bodies) (params : List Ty) (exit : Option Ty) → all_types h.formals ≡ Some params → exit_of h.home ≡ Some exit → ProcessIs core s.processes params exit → Entries (Seen core) s.names
+      → Entries (Seen core) (with_definition all kind.Model s.names name (model_headed s.processes h))
+  seen_model all name h s params exit e x is seen =
+      let own = exit_is h.home exit x in
+      let same : model_headed s.processes h ≡ known.Model s.processes params exit = (λ i. model_known s.processes (e i) (own i)) ∙ known_model s.processes params exit in
+      either_definition (means kind.Model (known_in all name.text)) s.names name.text (model_headed s.processes h) seen (subst (Seen core) (sym same) is)
 
   sound_result : (h : Home) (t : Ty) → result_of h ≡ Some t → SoundTypes N h → SoundIn core t
   sound_result (home.Function None) t e h = absurd (cc)
@@ -157,6 +180,7 @@ module _ (core : Core) (funcs : List FuncDef) (procs : List ProcDef) (calls runs
       let same : u ≡ t = cc in
       subst (SoundIn core) same h
   sound_result (home.Process own) t e h = absurd (cc)
+  sound_result home.Experiment t e h = absurd (cc)
 
   none_after : {A : Type 0} (xs x : List A) → [] ≡ x → length xs ≡ length (xs ++ x)
   none_after xs x e = ap length (sym (append-nil xs) ∙ ap (λ x. xs ++ x) e)
@@ -188,11 +212,9 @@ module _ (core : Core) (funcs : List FuncDef) (procs : List ProcDef) (calls runs
       let there = after_process all name formals steps h names s ps y rest runs f b.1 in
       (b.0 ∙ none_after fs x fits, one_after s.processes ps y runs.0 b.1 runs.1, seen_process all name h s there.0.params there.0.exit there.1 there.2 there.3 b.2)
   headed_before all names (definition.Model place tree name formals steps) None s fs x more ps y rest fits runs sound n e f b = absurd sound
-  headed_before all names (definition.Model place tree name formals steps) (Some h) s fs x more ps y rest fits runs sound n e f b = (
-    b.0 ∙ none_after fs x fits,
-    one_after s.processes ps y runs.0 b.1 runs.1,
-    meant_as (Seen core) s.names name (known_in all name.text) (known.Model n.0) n.1 (entries_with (Seen core) s.names name.text (known.Model n.0) b.2 tt),
-  )
+  headed_before all names (definition.Model place tree name formals steps) (Some h) s fs x more ps y rest fits runs sound n e f b =
+      let there = after_process all name formals steps h names s ps y rest runs f b.1 in
+      (b.0 ∙ none_after fs x fits, one_after s.processes ps y runs.0 b.1 runs.1, seen_model all name h s there.0.params there.0.exit there.1 there.2 there.3 b.2)
   headed_before all names (definition.Xper place name steps) h s fs x more ps y rest fits runs sound n e f b =
       (b.0 ∙ none_after fs x fits, b.1 ∙ none_after ps y runs, meant_as (Seen core) s.names name (known_in all name.text) (known.Xper n.0) n.1 (entries_with (Seen core) s.names name.text (known.Xper n.0) b.2 tt))
   headed_before all names (definition.Enum place name values) h s fs x more ps y rest fits runs sound n e f b = (b.0 ∙ none_after fs x fits, b.1 ∙ none_after ps y runs, b.2)

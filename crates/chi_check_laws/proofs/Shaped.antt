@@ -48,7 +48,7 @@ Fine (known.Const number t) = Unit {0}
 Fine (known.Value enumeration position) = Unit {0}
 Fine (known.Func number params result) = Unit {0}
 Fine (known.Proc number params exit) = Unit {0}
-Fine (known.Model number) = Unit {0}
+Fine (known.Model number params exit) = Unit {0}
 Fine (known.Xper number) = Unit {0}
 
 pub clean_of : (names : Names) → Entries Fine names → Clean names

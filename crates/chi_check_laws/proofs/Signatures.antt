@@ -48,6 +48,7 @@ untyped_for_one n kind.Unwound h = tt
 untyped_for_one n kind.Constant h = tt
 untyped_for_one n kind.Function h = tt
 untyped_for_one n kind.Process h = tt
+untyped_for_one n kind.Model h = tt
 
 for_one : (n : ℕ) (k : Known) → StandsForSound n k → StandsForOne k
 for_one n (known.Kind t) h = tt
@@ -58,7 +59,7 @@ for_one n (known.Const number t) h = tt
 for_one n (known.Value enumeration position) h = tt
 for_one n (known.Func number params result) h = tt
 for_one n (known.Proc number params exit) h = tt
-for_one n (known.Model number) h = tt
+for_one n (known.Model number params exit) h = tt
 for_one n (known.Xper number) h = tt
 
 -- ---- headers with sound types
@@ -75,6 +76,7 @@ SoundOwn n (exit.Given t) = SoundType n (out-Ty t)
 abbrev pub SoundTypes : ℕ → Home → Type 0
 SoundTypes n (home.Function result) = SoundGiven n result
 SoundTypes n (home.Process own) = SoundOwn n own
+SoundTypes n home.Experiment = Unit {0}
 
 pub record SoundHeader (n : ℕ) (written : List Formal) (h : Header) : Type 0 where
   pub counted : length h.formals ≡ length written

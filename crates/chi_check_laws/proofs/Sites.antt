@@ -21,6 +21,7 @@ may_run site.Process (constant number) place name Ts h e = absurd h
 may_run site.Process (function result) place name Ts h e = absurd h
 may_run site.Constant role place name Ts h e = absurd (cc)
 may_run site.Function role place name Ts h e = absurd (cc)
+may_run site.Experiment role place name Ts h e = absurd (cc)
 
 pub may_call_there : (s : Site) (role : Role) (place : Place) → IsSite s role → calling_rule s place ≡ [] → may_call role ≡ true
 may_call_there site.Process (process exit) place h e = refl
@@ -29,6 +30,9 @@ may_call_there site.Process (function result) place h e = absurd h
 may_call_there site.Function (function result) place h e = refl
 may_call_there site.Function (constant number) place h e = absurd h
 may_call_there site.Function (process exit) place h e = absurd h
+may_call_there site.Experiment (function result) place h e = refl
+may_call_there site.Experiment (constant number) place h e = absurd h
+may_call_there site.Experiment (process exit) place h e = absurd h
 may_call_there site.Constant role place h e = absurd (cc)
 
 -- ---- nodes

@@ -46,7 +46,7 @@ sketching_leads (definition.Const place tree name equals value) s = extends_with
 sketching_leads (definition.TypeWord place name tree) s = extends_with s.all name.text (known.Untyped kind.Type)
 sketching_leads (definition.Func place tree name formals steps) s = extends_with s.all name.text (known.Untyped kind.Function)
 sketching_leads (definition.Proc place tree name formals steps) s = extends_with s.all name.text (known.Untyped kind.Process)
-sketching_leads (definition.Model place tree name formals steps) s = extends_with s.all name.text (known.Model s.processes)
+sketching_leads (definition.Model place tree name formals steps) s = extends_with s.all name.text (known.Untyped kind.Model)
 sketching_leads (definition.Xper place name steps) s = extends_with s.all name.text (known.Xper s.experiments)
 
 each_leads : (ds : List Definition) → EachLeads (map sketching ds)
@@ -61,7 +61,7 @@ Named all (definition.Const place tree name equals value) = Unit {0}
 Named all (definition.TypeWord place name tree) = Unit {0}
 Named all (definition.Func place tree name formals steps) = known_in all name.text ≡ Some (known.Untyped kind.Function)
 Named all (definition.Proc place tree name formals steps) = known_in all name.text ≡ Some (known.Untyped kind.Process)
-Named all (definition.Model place tree name formals steps) = (number : ℕ) × (known_in all name.text ≡ Some (known.Model number))
+Named all (definition.Model place tree name formals steps) = known_in all name.text ≡ Some (known.Untyped kind.Model)
 Named all (definition.Xper place name steps) = (number : ℕ) × (known_in all name.text ≡ Some (known.Xper number))
 
 abbrev pub EachNamed : Names → List Definition → Type 0
@@ -74,17 +74,17 @@ named_kept a b f (definition.Const place tree name equals value) h = tt
 named_kept a b f (definition.TypeWord place name tree) h = tt
 named_kept a b f (definition.Func place tree name formals steps) h = f name.text (known.Untyped kind.Function) h
 named_kept a b f (definition.Proc place tree name formals steps) h = f name.text (known.Untyped kind.Process) h
-named_kept a b f (definition.Model place tree name formals steps) h = (h.0, f name.text (known.Model h.0) h.1)
+named_kept a b f (definition.Model place tree name formals steps) h = f name.text (known.Untyped kind.Model) h
 named_kept a b f (definition.Xper place name steps) h = (h.0, f name.text (known.Xper h.0) h.1)
 
 named_now : (d : Definition) (s : Sketch) → (sketching d s).faults ≡ [] → Named (sketching d s).next.all d
 named_now (definition.Enum place name values) s e = tt
 named_now (definition.Const place tree name equals value) s e = tt
 named_now (definition.TypeWord place name tree) s e = tt
-named_now (definition.Func place tree name formals steps) s e = fresh_known s.all name (known.Untyped kind.Function) (left_nil (new_name_rule s.all name) _ e)
-named_now (definition.Proc place tree name formals steps) s e = fresh_known s.all name (known.Untyped kind.Process) (left_nil (new_name_rule s.all name) _ e)
-named_now (definition.Model place tree name formals steps) s e = (s.processes, fresh_known s.all name (known.Model s.processes) (left_nil (new_name_rule s.all name) _ e))
-named_now (definition.Xper place name steps) s e = (s.experiments, fresh_known s.all name (known.Xper s.experiments) (left_nil (new_name_rule s.all name) _ e))
+named_now (definition.Func place tree name formals steps) s e = fresh_known s.all name (known.Untyped kind.Function) e
+named_now (definition.Proc place tree name formals steps) s e = fresh_known s.all name (known.Untyped kind.Process) e
+named_now (definition.Model place tree name formals steps) s e = fresh_known s.all name (known.Untyped kind.Model) e
+named_now (definition.Xper place name steps) s e = (s.experiments, fresh_known s.all name (known.Xper s.experiments) e)
 
 pub each_named : (ds : List Definition) (s : Sketch) → (in_turn (map sketching ds) s).faults ≡ [] → EachNamed (in_turn (map sketching ds) s).next.all ds
 each_named [] s e = tt

@@ -5,18 +5,19 @@ use Rattle.chi_token.specs.declared.place.Place.{Place}
 use Rattle.chi_tree.specs.declared.definition.Definition.{Definition}
 use Rattle.chi_tree.specs.declared.definition.Definition.TheVariants as definition
 use Rattle.chi_tree.specs.declared.definition.Program.{Program}
+use Rattle.chi_core.specs.declared.experiment.XperDef.{XperDef}
 use Rattle.chi_core.specs.declared.program.ConstDef.{ConstDef}
 use Rattle.chi_core.specs.declared.program.Core.{Core}
 use Rattle.chi_core.specs.declared.program.FuncDef.{FuncDef}
 use Rattle.chi_core.specs.declared.program.ProcDef.{ProcDef}
 use Rattle.chi_core.specs.Kinds.{Every}
-use Rattle.chi_core.specs.Sound.{Sound, SoundConstant, SoundFunction, SoundProcess, SoundEnumeration}
+use Rattle.chi_core.specs.Sound.{Sound, SoundConstant, SoundFunction, SoundProcess, SoundExperiment, SoundEnumeration}
 use Rattle.chi_core.specs.SoundTypes.{SoundType, choice}
 use Rattle.chi_check_types.specs.declared.known.Known.{Known}
 use Rattle.chi_check_types.specs.declared.known.Known.TheVariants as known
 use Rattle.chi_check_types.specs.Names.{Names}
 use Rattle.chi_check_expr.proofs.Nodes.{left_nil, right_nil}
-use Rattle.chi_check_streams.specs.Streams.{each, of_constant, of_function, of_process, with_streams}
+use Rattle.chi_check_streams.specs.Streams.{each, of_constant, of_function, of_process, of_experiment, with_streams}
 use Rattle.chi_check_laws.specs.TypedTexts.{texts_are_short}
 use Rattle.chi_check_stat_lines.specs.Stated.{Stated, in_turn}
 use Rattle.chi_check_headers.specs.declared.header.Header.{Header}
@@ -24,16 +25,17 @@ use Rattle.chi_check_headers.specs.declared.sketch.Sketch.{Sketch}
 use Rattle.chi_check_headers.specs.declared.sketch.Early.{Early}
 use Rattle.chi_check_headers.specs.Headers.{header_in, header_faults}
 use Rattle.chi_check_headers.specs.Definitions.{sketching, early_defined, with_all_late, with_all_headed}
-use Rattle.chi_check.specs.Bodies.{functions_of, processes_of}
+use Rattle.chi_check.specs.Bodies.{functions_of, processes_of, experiments_of}
 use Rattle.chi_check.specs.Programs.{no_names, first_early, first_named, first_model, model_rule, core, core_of, definitions_checked, checked}
 use Rattle.chi_check_laws.specs.Texts.{body_texts}
+use Rattle.chi_check_laws.specs.Trials.{trials_texts}
 use Rattle.chi_check_laws.specs.CheckedBodies.{EachIsWhole, BodiesAreWhole, TextsAreShort}
 use Rattle.chi_check_laws.specs.Spelled.{EachSpelled, NamesAreNames}
 use Rattle.chi_check_laws.proofs.Constants.{EarlyStands, ConstantAt, ConstantsFrom, Next, constants_next}
 use Rattle.chi_check_laws.proofs.Definitions.{all_early_keep, all_late_continue, all_late_entries}
 use Rattle.chi_check_laws.proofs.Entries.{Entries, entries_both, entries_so}
 use Rattle.chi_check_laws.proofs.Enumerated.{Kinds, InKinds, Enumerated, all_enumerated, enumerations_sound}
-use Rattle.chi_check_laws.proofs.Fitting.{Fits, Runs, functions_fit, functions_stay, processes_run}
+use Rattle.chi_check_laws.proofs.Fitting.{Fits, Runs, functions_fit, functions_stay, processes_stay, processes_run}
 use Rattle.chi_check_laws.proofs.Lookups.{first_again}
 use Rattle.chi_check_laws.proofs.Positions.{length_join, get_seam, each_every, every_each, get_counted, counted_get, some_same}
 use Rattle.chi_check_laws.proofs.Seen.{Seen, all_seen}
@@ -41,25 +43,57 @@ use Rattle.chi_check_laws.proofs.Shaped.{Fine}
 use Rattle.chi_check_laws.proofs.Signatures.{StandsForSound, HeadersSound, headers_sound}
 use Rattle.chi_check_laws.proofs.Sketches.{EachNamed, each_named, sketch_keeps}
 use Rattle.chi_check_laws.proofs.Sounds.{functions_sound, processes_sound}
+use Rattle.chi_check_laws.proofs.TrialPrograms.{experiments_sound}
 
 -- ---- a core by its parts
 
-core_parts : (es : Option Kinds) (cs : Option (List ConstDef)) (fs : Option (List FuncDef)) (ps : Option (List ProcDef)) (m : Option ℕ) (c : Core) → core_of es cs fs ps m ≡ Some c
-    → (a : Kinds) × (b : List ConstDef) × (d : List FuncDef) × (e : List ProcDef) × (n : ℕ) × (es ≡ Some a) × (cs ≡ Some b) × (fs ≡ Some d) × (ps ≡ Some e) × (m ≡ Some n) × (core a b d e n ≡ c)
-core_parts None cs fs ps m c h = absurd (cc)
-core_parts (Some es) None fs ps m c h = absurd (cc)
-core_parts (Some es) (Some cs) None ps m c h = absurd (cc)
-core_parts (Some es) (Some cs) (Some fs) None m c h = absurd (cc)
-core_parts (Some es) (Some cs) (Some fs) (Some ps) None c h = absurd (cc)
-core_parts (Some es) (Some cs) (Some fs) (Some ps) (Some m) c h = (es, cs, fs, ps, m, refl, refl, refl, refl, refl, some_same (core es cs fs ps m) c h)
+record CoreParts (es : Option Kinds) (cs : Option (List ConstDef)) (fs : Option (List FuncDef)) (ps : Option (List ProcDef)) (xs : Option (List XperDef)) (m : Option ℕ) (c : Core) : Type 0 where
+  kinds : Kinds
+  consts : List ConstDef
+  funcs : List FuncDef
+  procs : List ProcDef
+  xpers : List XperDef
+  model : ℕ
+  made_kinds : es ≡ Some kinds
+  made_consts : cs ≡ Some consts
+  made_funcs : fs ≡ Some funcs
+  made_procs : ps ≡ Some procs
+  made_xpers : xs ≡ Some xpers
+  found_model : m ≡ Some model
+  is : core kinds consts funcs procs xpers model ≡ c
 
--- where the streams of functions and of processes begin
+core_parts : (es : Option Kinds) (cs : Option (List ConstDef)) (fs : Option (List FuncDef)) (ps : Option (List ProcDef)) (xs : Option (List XperDef)) (m : Option ℕ) (c : Core) → core_of es cs fs ps xs m ≡ Some c → CoreParts es cs fs ps xs m c
+core_parts None cs fs ps xs m c h = absurd (cc)
+core_parts (Some es) None fs ps xs m c h = absurd (cc)
+core_parts (Some es) (Some cs) None ps xs m c h = absurd (cc)
+core_parts (Some es) (Some cs) (Some fs) None xs m c h = absurd (cc)
+core_parts (Some es) (Some cs) (Some fs) (Some ps) None m c h = absurd (cc)
+core_parts (Some es) (Some cs) (Some fs) (Some ps) (Some xs) None c h = absurd (cc)
+core_parts (Some es) (Some cs) (Some fs) (Some ps) (Some xs) (Some m) c h = record {
+  kinds = es;
+  consts = cs;
+  funcs = fs;
+  procs = ps;
+  xpers = xs;
+  model = m;
+  made_kinds = refl;
+  made_consts = refl;
+  made_funcs = refl;
+  made_procs = refl;
+  made_xpers = refl;
+  found_model = refl;
+  is = some_same (core es cs fs ps xs m) c h;
+}
+
+-- where the streams of functions, of processes and of experiments begin
 record Streamed (c whole : Core) : Type 0 where
   pub calls : ℕ
   pub runs : ℕ
+  pub tries : ℕ
   pub consts : whole.consts ≡ (each (map of_constant c.consts) 0).part
   pub funcs : whole.funcs ≡ (each (map of_function c.funcs) calls).part
   pub procs : whole.procs ≡ (each (map of_process c.procs) runs).part
+  pub xpers : whole.xpers ≡ (each (map of_experiment c.xpers) tries).part
   pub model : whole.model ≡ c.model
   pub kinds : whole.names.kinds ≡ c.names.kinds
 
@@ -68,9 +102,11 @@ unfolding with_streams
 streamed c = record {
   calls = (each (map of_constant c.consts) 0).next;
   runs = (each (map of_function c.funcs) (each (map of_constant c.consts) 0).next).next;
+  tries = (each (map of_process c.procs) (each (map of_function c.funcs) (each (map of_constant c.consts) 0).next).next).next;
   consts = refl;
   funcs = refl;
   procs = refl;
+  xpers = refl;
   model = refl;
   kinds = refl;
 }
@@ -85,7 +121,7 @@ kinds_stand whole (known.Fixed slot t) h = absurd h
 kinds_stand whole (known.Const number t) h = absurd h
 kinds_stand whole (known.Func number params result) h = absurd h
 kinds_stand whole (known.Proc number params exit) h = absurd h
-kinds_stand whole (known.Model number) h = absurd h
+kinds_stand whole (known.Model number params exit) h = absurd h
 kinds_stand whole (known.Xper number) h = absurd h
 kinds_stand whole (known.Untyped k) h = absurd h
 
@@ -97,7 +133,7 @@ early_types whole count (known.Var slot t) h = tt
 early_types whole count (known.Fixed slot t) h = tt
 early_types whole count (known.Func number params result) h = tt
 early_types whole count (known.Proc number params exit) h = tt
-early_types whole count (known.Model number) h = tt
+early_types whole count (known.Model number params exit) h = tt
 early_types whole count (known.Xper number) h = tt
 early_types whole count (known.Untyped k) h = absurd h
 
@@ -109,7 +145,7 @@ early_seen whole count (known.Var slot t) h = absurd h.0
 early_seen whole count (known.Fixed slot t) h = absurd h.0
 early_seen whole count (known.Func number params result) h = absurd h.0
 early_seen whole count (known.Proc number params exit) h = absurd h.0
-early_seen whole count (known.Model number) h = absurd h.0
+early_seen whole count (known.Model number params exit) h = absurd h.0
 early_seen whole count (known.Xper number) h = absurd h.0
 early_seen whole count (known.Untyped k) h = absurd h.0
 
@@ -141,7 +177,7 @@ model_there names k (definition.Const place tree name equals value ∷ ds) (h �
 model_there names k (definition.TypeWord place name tree ∷ ds) (h ∷ hs) before ps n m c s r e = passed_by names ds hs before r.0 r.1 ps n m r.2 r.4 (model_there names k ds hs before r.1 n m c s.1 r.3 e)
 model_there names k (definition.Xper place name steps ∷ ds) (h ∷ hs) before ps n m c s r e = passed_by names ds hs before r.0 r.1 ps n m r.2 r.4 (model_there names k ds hs before r.1 n m c s.1 r.3 e)
 
--- ---- each constant, function and process with its streams
+-- ---- each constant, function, process and experiment with its streams
 
 constant_of : (whole : Core) (start : ℕ) (cs : List ConstDef) (k : ℕ) (c : ConstDef) → ConstantsFrom whole start cs → slice_get cs k ≡ Some c → ConstantAt whole (start + k) c
 constant_of whole start [] k c h e = absurd (cc)
@@ -164,6 +200,11 @@ processes_stand : (whole : Core) (ps : List ProcDef) (runs : ℕ) → whole.proc
 processes_stand whole ps runs streams sound k g e =
     let found = counted_get of_process ps runs k g (ap (λ ps. slice_get ps k) (sym streams) ∙ e) in
     subst (SoundProcess whole) found.3 (sound k found.0 found.2 found.1)
+
+experiments_stand : (whole : Core) (xs : List XperDef) (tries : ℕ) → whole.xpers ≡ (each (map of_experiment xs) tries).part → Every (λ x. (count : ℕ) → SoundExperiment whole (of_experiment x count).part) xs → Every (SoundExperiment whole) whole.xpers
+experiments_stand whole xs tries streams sound k g e =
+    let found = counted_get of_experiment xs tries k g (ap (λ xs. slice_get xs k) (sym streams) ∙ e) in
+    subst (SoundExperiment whole) found.3 (sound k found.0 found.2 found.1)
 
 -- ---- the stages of a program
 
@@ -188,6 +229,9 @@ functions_at ds = in_turn (functions_of ds (given_of ds)) (named_of ds)
 abbrev processes_at : List Definition → Stated Names (List ProcDef)
 processes_at ds = in_turn (processes_of ds (given_of ds)) (functions_at ds).next
 
+abbrev experiments_at : List Definition → Stated Names (List XperDef)
+experiments_at ds = in_turn (experiments_of ds) (processes_at ds).next
+
 -- no rule is broken in any of them
 record Unbroken (ds : List Definition) : Type 0 where
   pub sketch : (sketch_of ds).faults ≡ []
@@ -200,7 +244,9 @@ unbroken ds last e =
     let f2 = f1 ++ headers in
     let f3 = f2 ++ (functions_at ds).faults in
     let f4 = f3 ++ (processes_at ds).faults in
-    let e4 = left_nil f4 (model_rule last (first_model 0 ds)) e in
+    let f5 = f4 ++ (experiments_at ds).faults in
+    let e5 = left_nil f5 (model_rule last (first_model 0 ds)) e in
+    let e4 = left_nil f4 (experiments_at ds).faults e5 in
     let e3 = left_nil f3 (processes_at ds).faults e4 in
     let e2 = left_nil f2 (functions_at ds).faults e3 in
     let e1 = left_nil f1 headers e2 in
@@ -212,9 +258,9 @@ unbroken ds last e =
 -- ---- programs
 
 module _ (ds : List Definition) (spelled : EachSpelled ds) (wholes : EachIsWhole ds) (u : Unbroken ds)
-    (kinds : Kinds) (cs : List ConstDef) (fs : List FuncDef) (ps : List ProcDef) (m : ℕ) (named_kinds : (sketch_of ds).made ≡ Some kinds) (made_consts : (early_of ds).made ≡ Some cs)
-    (made_functions : (functions_at ds).made ≡ Some fs) (made_processes : (processes_at ds).made ≡ Some ps) (found_model : first_model 0 ds ≡ Some m)
-    (whole : Core) (s : Streamed (core kinds cs fs ps m) whole) where
+    (kinds : Kinds) (cs : List ConstDef) (fs : List FuncDef) (ps : List ProcDef) (xs : List XperDef) (m : ℕ) (named_kinds : (sketch_of ds).made ≡ Some kinds) (made_consts : (early_of ds).made ≡ Some cs)
+    (made_functions : (functions_at ds).made ≡ Some fs) (made_processes : (processes_at ds).made ≡ Some ps) (made_experiments : (experiments_at ds).made ≡ Some xs) (found_model : first_model 0 ds ≡ Some m)
+    (whole : Core) (s : Streamed (core kinds cs fs ps xs m) whole) where
   abbrev n : ℕ
   n = length whole.names.kinds
 
@@ -234,7 +280,7 @@ module _ (ds : List Definition) (spelled : EachSpelled ds) (wholes : EachIsWhole
   means = each_named ds no_names u.sketch
 
   heads : HeadersSound n ds (given_of ds)
-  heads = headers_sound n (late_of ds) (all_late_entries (StandsForSound n) tt tt (λ number. tt) (λ number. tt) (sketch_of ds).next.all (early_of ds).next.names ds means
+  heads = headers_sound n (late_of ds) (all_late_entries (StandsForSound n) tt tt tt (λ number. tt) (sketch_of ds).next.all (early_of ds).next.names ds means
       (entries_so (EarlyStands whole (length cs)) (StandsForSound n) (early_types whole (length cs)) (early_of ds).next.names next.visible)) ds
 
   fits : Fits (named_of ds) ds (given_of ds) fs
@@ -250,30 +296,36 @@ module _ (ds : List Definition) (spelled : EachSpelled ds) (wholes : EachIsWhole
   seen : Entries (Seen whole) (named_of ds)
   seen = all_seen whole fs ps s.calls s.runs s.funcs s.procs (sketch_of ds).next.all (named_of ds) ds (given_of ds) (first_named (take (length (early_of ds).next.names) (late_of ds))) [] fs [] ps fits runs heads means refl refl (refl, refl, before)
 
+  still_seen : Entries (Seen whole) (processes_at ds).next
+  still_seen = subst (Entries (Seen whole)) (sym (processes_stay ds (given_of ds) (functions_at ds).next wholes ∙ functions_stay ds (given_of ds) (named_of ds) wholes)) seen
+
   model_is : (d : ProcDef) × (slice_get whole.procs whole.model ≡ Some d)
   model_is =
       let model = model_there (named_of ds) n ds (given_of ds) [] ps 0 m refl heads runs found_model in
       let found = get_counted of_process ps s.runs m model.0 model.1 in
       ((of_process model.0 found.0).part, ap (λ ps. slice_get ps whole.model) s.procs ∙ ap (slice_get (each (map of_process ps) s.runs).part) s.model ∙ found.1)
 
-  sound_by_parts : TextsAreShort (core kinds cs fs ps m) → Sound whole
+  sound_by_parts : TextsAreShort (core kinds cs fs ps xs m) → Sound whole
   sound_by_parts texts =
       let short_functions = every_each (λ f. IsTrue (body_texts f.body)) fs texts.functions in
       let short_processes = every_each (λ d. IsTrue (body_texts d.body)) ps texts.processes in
+      let short_experiments = every_each (λ x. IsTrue (trials_texts x.body)) xs texts.experiments in
       record {
         enumerations = subst (Every SoundEnumeration) (sym s.kinds) (each_every SoundEnumeration kinds (enumerations_sound ds kinds no_names spelled named_kinds));
         constants = constant_sound whole cs next.sound texts.constants s.consts;
         functions = functions_stand whole fs s.calls s.funcs (each_every (λ f. (count : ℕ) → SoundFunction whole (of_function f count).part) fs (functions_sound whole (named_of ds) seen ds (given_of ds) fs spelled heads fits short_functions));
         processes = processes_stand whole ps s.runs s.procs (each_every (λ d. (count : ℕ) → SoundProcess whole (of_process d count).part) ps (processes_sound whole (named_of ds) seen ds (given_of ds) ps spelled heads runs short_processes));
+        experiments = experiments_stand whole xs s.tries s.xpers (each_every (λ x. (count : ℕ) → SoundExperiment whole (of_experiment x count).part) xs (experiments_sound whole ds (processes_at ds).next xs still_seen spelled wholes made_experiments short_experiments));
         model = model_is;
       }
 
 pub definitions_sound : (ds : List Definition) (last : Place) (c : Core) → EachSpelled ds → EachIsWhole ds → (definitions_checked ds last).faults ≡ []
     → (definitions_checked ds last).made ≡ Some c → TextsAreShort c → Sound (with_streams c)
 definitions_sound ds last c spelled wholes e made texts =
-    let p = core_parts (sketch_of ds).made (early_of ds).made (functions_at ds).made (processes_at ds).made (first_model 0 ds) c made in
-    subst (λ c. Sound (with_streams c)) p.10
-    (sound_by_parts ds spelled wholes (unbroken ds last e) p.0 p.1 p.2 p.3 p.4 p.5 p.6 p.7 p.8 p.9 (with_streams (core p.0 p.1 p.2 p.3 p.4)) (streamed (core p.0 p.1 p.2 p.3 p.4)) (subst TextsAreShort (sym p.10) texts))
+    let p = core_parts (sketch_of ds).made (early_of ds).made (functions_at ds).made (processes_at ds).made (experiments_at ds).made (first_model 0 ds) c made in
+    let whole = core p.kinds p.consts p.funcs p.procs p.xpers p.model in
+    subst (λ c. Sound (with_streams c)) p.is
+    (sound_by_parts ds spelled wholes (unbroken ds last e) p.kinds p.consts p.funcs p.procs p.xpers p.model p.made_kinds p.made_consts p.made_funcs p.made_procs p.made_xpers p.found_model (with_streams whole) (streamed whole) (subst TextsAreShort (sym p.is) texts))
 
 pub program_sound : (tree : Program) (c : Core) → NamesAreNames tree → BodiesAreWhole tree → (checked tree).faults ≡ [] → (checked tree).made ≡ Some c
     → TextsAreShort c → Sound (with_streams c)

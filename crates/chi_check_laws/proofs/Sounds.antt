@@ -85,6 +85,7 @@ module _ (core : Core) (names : Names) (seen : Entries (Seen core) names) where
   home_is : (h : Home) (t : Option Ty) → exit_of h ≡ Some t → role_of h ≡ Some (process (option_map kind_of t))
   home_is (home.Function result) t e = absurd (cc)
   home_is (home.Process own) t e = own_is own t e
+  home_is home.Experiment t e = absurd (cc)
 
   own_sound : (own : ExitType) (t : Option Ty) → exit_known own ≡ Some t → SoundTypes N (home.Process own) → SoundIfAny core t
   own_sound exit.Nothing t e h = subst (SoundIfAny core) (some_same None t e) tt
@@ -94,6 +95,7 @@ module _ (core : Core) (names : Names) (seen : Entries (Seen core) names) where
   exit_sound : (h : Home) (t : Option Ty) → exit_of h ≡ Some t → SoundTypes N h → SoundIfAny core t
   exit_sound (home.Function result) t e h = absurd (cc)
   exit_sound (home.Process own) t e h = own_sound own t e h
+  exit_sound home.Experiment t e h = absurd (cc)
 
   process_sound : (name : Name) (formals : List Formal) (steps : List Step) (h : Header) (d : ProcDef) → IsName name.text → SoundHeader N formals h → ProcessFits name formals steps h names d → IsTrue (body_texts d.body)
       → (count : ℕ) → SoundProcess core (of_process d count).part
@@ -111,6 +113,7 @@ module _ (core : Core) (names : Names) (seen : Entries (Seen core) names) where
   sound_result (home.Function None) t e h = absurd (cc)
   sound_result (home.Function (Some u)) t e h = subst (SoundIn core) (some_same u t e) h
   sound_result (home.Process own) t e h = absurd (cc)
+  sound_result home.Experiment t e h = absurd (cc)
 
   -- ---- all of them
 

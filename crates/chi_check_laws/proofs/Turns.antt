@@ -1,5 +1,5 @@
 -- What keeps the names in agreement with the program, and makes what is sound: one after another, alone, and in blocks.
-use Rattle.std.proofs.Common.{◌≡◌, ℕ, Bool, true, false, List, [], ◌∷◌, ◌++◌, Option, Some, None, refl, sym, subst}
+use Rattle.std.proofs.Common.{◌≡◌, ℕ, Bool, true, false, not, List, [], ◌∷◌, ◌++◌, Option, Some, None, refl, sym, subst}
 use Rattle.std.specs.Prelude.{option_map, if◌then◌else◌}
 use Rattle.chi_token.specs.declared.place.Place.{Place}
 use Rattle.chi_core.specs.Scopes.{Scope}
@@ -33,6 +33,10 @@ held_made (f ∷ fs) o a e = absurd (cc)
 pub unbroken : (b : Bool) (rule : ℕ) (place : Place) → broken_if b rule place ≡ [] → b ≡ false
 unbroken true rule place e = absurd (cc)
 unbroken false rule place e = refl
+
+pub not_false : (b : Bool) → not b ≡ false → b ≡ true
+not_false true e = refl
+not_false false e = absurd (cc)
 
 pub each_append : {A : Type 0} (P : A → Type 0) (xs ys : List A) → Each P xs → Each P ys → Each P (xs ++ ys)
 each_append P [] ys h k = k

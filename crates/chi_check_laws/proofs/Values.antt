@@ -26,7 +26,7 @@ use Rattle.chi_check_stat_rules.specs.Homes.{site_of}
 use Rattle.chi_check_stat_rules.specs.Values.{as_bool, as_instance}
 use Rattle.chi_check_laws.proofs.SoundValues.{condition_has, instance_has}
 use Rattle.chi_check_stat_lines.specs.Values.{made_of, value_in, values_in, test_in, instance_in}
-use Rattle.chi_check_laws.specs.Bodies.{role_of}
+use Rattle.chi_check_laws.specs.Bodies.{role_of, reads_as}
 
 -- ---- nodes that come to something
 
@@ -42,16 +42,22 @@ two_made rule place f (Some a) (Some b) c e = (a, b, refl, refl, settled_made ru
 
 -- ---- homes
 
-pub site_is : (h : Home) (r : Role) → role_of h ≡ Some r → IsSite (site_of h) r
+pub as_its_role : (h : Home) (r : Role) → role_of h ≡ Some r → reads_as h ≡ Some r
+as_its_role (home.Function result) r e = e
+as_its_role (home.Process own) r e = e
+as_its_role home.Experiment r e = absurd (cc)
+
+pub site_is : (h : Home) (r : Role) → reads_as h ≡ Some r → IsSite (site_of h) r
 site_is (home.Function None) r e = absurd (cc)
 site_is (home.Function (Some t)) r e = subst (IsSite (site_of (home.Function (Some t)))) (some_is (function (kind_of t)) r e) tt
 site_is (home.Process exit.Nothing) r e = subst (IsSite (site_of (home.Process exit.Nothing))) (some_is (process None) r e) tt
 site_is (home.Process exit.Untyped) r e = absurd (cc)
 site_is (home.Process (exit.Given t)) r e = subst (IsSite (site_of (home.Process (exit.Given t)))) (some_is (process (Some (kind_of t))) r e) tt
+site_is home.Experiment r e = subst (IsSite (site_of home.Experiment)) (some_is (function Ty-F.Void) r e) tt
 
 -- ---- expressions
 
-module _ (h : Home) (scope : Scope) (role : role_of h ≡ Some scope.role) (set : Set) (names : Names) (all : AllStand scope set names) where
+module _ (h : Home) (scope : Scope) (role : reads_as h ≡ Some scope.role) (set : Set) (names : Names) (all : AllStand scope set names) where
   pub value_sound : (e : Expr) (m : Made) → (value_in h names e).made ≡ Some m → SoundMade scope set m
   value_sound e m is = expression_sound scope set (site_of h) names (site_is h scope.role role) all e m is
 

@@ -37,7 +37,7 @@ use Rattle.chi_check_stat_lines.specs.States.{is_taken, bound, with_variable, ne
 use Rattle.chi_check_stat_lines.specs.Values.{value_in}
 use Rattle.chi_check_stat_lines.specs.Declarations.{opened, opening, types_of, walk_in, walk_place}
 use Rattle.chi_check_stat_rules.specs.Places.{expr_place}
-use Rattle.chi_check_laws.specs.Bodies.{role_of, SlotsHave, Agrees, Grows}
+use Rattle.chi_check_laws.specs.Bodies.{reads_as, SlotsHave, Agrees, Grows}
 use Rattle.chi_check_laws.specs.Whole.{has_any}
 use Rattle.chi_check_laws.proofs.More.{also_more, also_itself, names_more}
 use Rattle.chi_check_laws.proofs.States.{get_last, name_stands, slots_more, variable_grows, slots_before, grows_none, grows_on}
@@ -209,7 +209,7 @@ any_names (name ∷ names) w e = suc_never (length names) e
     suc_never : (n : ℕ) → suc n ≡ 0 → ⊥
     suc_never n e = absurd (omega (arith, e))
 
-module _ (h : Home) (scope : Scope) (role : role_of h ≡ Some scope.role) (b : Binder) (walk : Walk) where
+module _ (h : Home) (scope : Scope) (role : reads_as h ≡ Some scope.role) (b : Binder) (walk : Walk) where
   pub walk_grows : (s : State) → Grows s (walk_in h b walk s).next
   walk_grows s = bindings_grow scope b walk.names (types_of (walk_of (expr_place walk.container) (walk_place walk.names (expr_place walk.container)) (length walk.names) (value_in h s.names walk.container).made).made) s
 

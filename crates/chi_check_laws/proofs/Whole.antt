@@ -7,7 +7,7 @@ use Rattle.chi_core.specs.SetSlots.{Known as Set}
 use Rattle.chi_check_stat_rules.specs.declared.home.Home.{Home}
 use Rattle.chi_check_stat_lines.specs.declared.state.State.{State}
 use Rattle.chi_check_stat.specs.Statements.{stepping_in, stating_all}
-use Rattle.chi_check_laws.specs.Bodies.{role_of, SlotsHave, set_by, Agrees, SoundBody}
+use Rattle.chi_check_laws.specs.Bodies.{role_of, reads_as, SlotsHave, set_by, Agrees, SoundBody}
 use Rattle.chi_check_laws.specs.Whole.{steps_are_whole}
 use Rattle.chi_check_laws.proofs.Assignments.{assign_kept}
 use Rattle.chi_check_laws.proofs.Blocks.{select_kept, guarded_kept, offered_kept, choose_kept, branch_kept, while_kept, walk_kept, unwound_kept, run_kept, start_kept}
@@ -19,9 +19,13 @@ use Rattle.chi_check_laws.proofs.Endings.{return_kept, exit_kept, pass_kept, bre
 use Rattle.chi_check_laws.proofs.Induction.{all_stepping}
 use Rattle.chi_check_laws.proofs.Nodes.{Keeps}
 use Rattle.chi_check_laws.proofs.Turns.{in_turn_kept}
+use Rattle.chi_check_laws.proofs.Values.{as_its_role}
 use Rattle.chi_check_laws.proofs.Writes.{write_kept}
 
-module _ (h : Home) (scope : Scope) (role : role_of h ≡ Some scope.role) where
+module _ (h : Home) (scope : Scope) (own : role_of h ≡ Some scope.role) where
+  role : reads_as h ≡ Some scope.role
+  role = as_its_role h scope.role own
+
   keeps_sound : Keeps h (StatementKept scope) (BranchKept scope) (OfferKept scope) (MakeKept scope)
   keeps_sound = record {
     declare = λ tree variables loop. declare_kept h scope role loop tree variables;
@@ -39,7 +43,7 @@ module _ (h : Home) (scope : Scope) (role : role_of h ≡ Some scope.role) where
     run = run_kept h scope role;
     start = start_kept h scope role;
     finish = λ place instances loop. finish_kept h scope role loop place instances;
-    write = λ place ends_line format format_place values loop. write_kept h scope role loop place ends_line format format_place values;
+    write = λ place ends_line format format_place values loop. write_kept h scope role loop own place ends_line format format_place values;
     branch = branch_kept h scope role;
     guarded = guarded_kept h scope role;
     offered = offered_kept h scope role;

@@ -18,7 +18,7 @@ use Rattle.chi_core.specs.declared.expression.CExpr.{CExpr}
 use Rattle.chi_core.specs.declared.statement.CStat.{CStat}
 use Rattle.chi_core.specs.declared.statement.CStat.TheVariants as statement
 use Rattle.chi_core.specs.Kinds.{Kind, kind_of}
-use Rattle.chi_core.specs.Scopes.{process, Scope}
+use Rattle.chi_core.specs.Scopes.{Role, Scope}
 use Rattle.chi_core.specs.SetSlots.{Known as Set}
 use Rattle.chi_core.specs.SoundParts as part
 use Rattle.chi_core.specs.SoundParts.{Shows}
@@ -35,13 +35,14 @@ use Rattle.chi_check_laws.proofs.Has.{Have, have_none, have_one}
 use Rattle.chi_check_laws.proofs.Parts.{int_kind}
 use Rattle.chi_check_laws.proofs.TypeKinds.{kind_real, plain_kind}
 use Rattle.chi_check_stat_rules.specs.declared.home.Home.{Home}
-use Rattle.chi_check_stat_rules.specs.Homes.{running_rule}
+use Rattle.chi_check_stat_rules.specs.declared.home.Home.TheVariants as home
+use Rattle.chi_check_stat_rules.specs.Homes.{running_rule, writing_rule}
 use Rattle.chi_check_stat_rules.specs.Writes.{ended, read_pieces, pieces_of, is_shown, shown_count, showing, Written, shown_one, with_first, all_shown, written, write_of}
 use Rattle.chi_check_laws.proofs.SoundValues.{fitted_has}
 use Rattle.chi_check_stat_lines.specs.Stated.{alone}
 use Rattle.chi_check_stat_lines.specs.Values.{values_in, made_of}
 use Rattle.chi_check_stat_lines.specs.Lines.{placed, write_in}
-use Rattle.chi_check_laws.specs.Bodies.{role_of}
+use Rattle.chi_check_laws.specs.Bodies.{role_of, reads_as}
 use Rattle.chi_check_laws.proofs.Bodies.{SoundOne, StatementKept, statements_by_parts}
 use Rattle.chi_check_laws.proofs.Endings.{runs_in}
 use Rattle.chi_check_laws.proofs.Statements.{one_write}
@@ -152,21 +153,42 @@ module _ (scope : Scope) (set : Set) where
   counted_by true line place pieces vs x e = let m = mapped (statement.Write line pieces) (all_shown pieces vs).made x e in (refl, m.0, m.1, m.2)
   counted_by false line place pieces vs x e = absurd (cc)
 
-  write_by : (loop : Bool) (line : ℕ) (place : Place) (o : Option (List Piece)) (vs : List Written) (x : CStat) (exit : Option Kind) → scope.role ≡ process exit → ((pieces : List Piece) → o ≡ Some pieces → Few pieces)
-      → Each SoundWritten vs → (write_of line place o vs).made ≡ Some x → SoundOne scope loop set x
-  write_by loop line place None vs x exit role few s e = absurd (cc)
-  write_by loop line place (Some pieces) vs x exit role few s e =
+  -- what is written, with a value for each piece that shows one
+  pub record WrittenBy (line : ℕ) (x : CStat) : Type 0 where
+    pub pieces : List Piece
+    pub values : List CExpr
+    pub kinds : List Kind
+    pub is : statement.Write line pieces values ≡ x
+    pub have : Have scope set values kinds
+    pub shows : Shows pieces kinds
+
+  written_by : (line : ℕ) (place : Place) (o : Option (List Piece)) (vs : List Written) (x : CStat) → ((pieces : List Piece) → o ≡ Some pieces → Few pieces) → Each SoundWritten vs → (write_of line place o vs).made ≡ Some x → WrittenBy line x
+  written_by line place None vs x few s e = absurd (cc)
+  written_by line place (Some pieces) vs x few s e =
       let c = counted_by (nat_eq (shown_count pieces) (length vs)) line place pieces vs x e in
       let shown = shows pieces vs c.1 (few pieces refl) (shown_is pieces ∙ eqb-true _ _ c.0) s c.2 in
-      subst (SoundOne scope loop set) c.3 (one_write scope loop set line pieces c.1 exit shown.kinds role shown.have shown.shows)
+      record { pieces = pieces; values = c.1; kinds = shown.kinds; is = c.3; have = shown.have; shows = shown.shows }
 
-module _ (h : Home) (scope : Scope) (role : role_of h ≡ Some scope.role) (loop : Bool) where
+-- a function and an experiment don't write as a process does
+writing_runs : (h : Home) (role : Role) (place : Place) → role_of h ≡ Some role → writing_rule h place ≡ [] → running_rule h place ≡ []
+writing_runs (home.Function result) role place r e = absurd (cc)
+writing_runs (home.Process own) role place r e = refl
+writing_runs home.Experiment role place r e = absurd (cc)
+
+module _ (h : Home) (scope : Scope) (role : reads_as h ≡ Some scope.role) (loop : Bool) where
   placed_sound : (set : Set) (names : Names) → AllStand scope set names → (es : List Expr) → Each (SoundWritten scope set) (placed es (map made_of (values_in h names es)))
   placed_sound set names all [] = tt
   placed_sound set names all (e ∷ es) = (value_sound h scope role set names all e, placed_sound set names all es)
 
-  pub write_kept : (place : Place) (ends_line : Bool) (format : List ℕ) (format_place : Place) (values : List Expr) → StatementKept scope loop (λ s. alone s (write_in h s.names place ends_line format format_place values))
-  write_kept place ends_line format format_place values = alone_kept scope _ _ (statements_by_parts scope loop) (λ names. write_in h names place ends_line format format_place values) (λ set names x all e.
-      let b = barred_made (running_rule h place) _ x e in
-      let p = runs_in h scope.role place role b.0 in
-      (write_by scope set loop place.line format_place (pieces_of (ended ends_line format)) (placed values (map made_of (values_in h names values))) x p.0 p.1 (few_pieces (ended ends_line format)) (placed_sound set names all values) b.1, tt))
+  -- what is written, where the rule isn't broken
+  pub what_is_written : (set : Set) (names : Names) → AllStand scope set names → (place : Place) (ends_line : Bool) (format : List ℕ) (format_place : Place) (values : List Expr) (x : CStat)
+      → (write_in h names place ends_line format format_place values).made ≡ Some x → (writing_rule h place ≡ []) × WrittenBy scope set place.line x
+  what_is_written set names all place ends_line format format_place values x e =
+      let b = barred_made (writing_rule h place) _ x e in
+      (b.0, written_by scope set place.line format_place (pieces_of (ended ends_line format)) (placed values (map made_of (values_in h names values))) x (few_pieces (ended ends_line format)) (placed_sound set names all values) b.1)
+
+  pub write_kept : role_of h ≡ Some scope.role → (place : Place) (ends_line : Bool) (format : List ℕ) (format_place : Place) (values : List Expr) → StatementKept scope loop (λ s. alone s (write_in h s.names place ends_line format format_place values))
+  write_kept own place ends_line format format_place values = alone_kept scope _ _ (statements_by_parts scope loop) (λ names. write_in h names place ends_line format format_place values) (λ set names x all e.
+      let w = what_is_written set names all place ends_line format format_place values x e in
+      let p = runs_in h scope.role place role (writing_runs h scope.role place own w.0) in
+      (subst (SoundOne scope loop set) w.1.is (one_write scope loop set place.line w.1.pieces w.1.values p.0 w.1.kinds p.1 w.1.have w.1.shows), tt))

@@ -1,6 +1,6 @@
 -- When what the statements of a body come to is sound, and what is visible after them agrees with the program.
 use Rattle.std.specs.Prelude.{◌≡◌, ℕ, ◌<◌, Bool, Option, Some, None, List, [], ◌∷◌, ◌++◌, map, length, slice_get, IsTrue}
-use Rattle.chi_types.specs.declared.ty.Ty.{Ty}
+use Rattle.chi_types.specs.declared.ty.Ty.{Ty, Ty-F}
 use Rattle.chi_core.specs.declared.statement.CStat.{CStat, out-CStat}
 use Rattle.chi_core.specs.Kinds.{kind_of, kinds_of, Every}
 use Rattle.chi_core.specs.Scopes.{Role, function, process, Scope}
@@ -18,13 +18,20 @@ use Rattle.chi_check_laws.specs.KnownNames.{AllStand}
 use Rattle.chi_check_stat_lines.specs.declared.state.State.{State}
 use Rattle.chi_check_laws.specs.Texts.{body_texts}
 
--- the role of what a statement stands in, where that has all types
+-- the role of what a statement stands in, where that has all types; an experiment has statements of its own
 abbrev pub role_of : Home → Option Role
 role_of (home.Function None) = None
 role_of (home.Function (Some result)) = Some (function (kind_of result))
 role_of (home.Process exit.Nothing) = Some (process None)
 role_of (home.Process exit.Untyped) = None
 role_of (home.Process (exit.Given t)) = Some (process (Some (kind_of t)))
+role_of home.Experiment = None
+
+-- the role of what the parts of statements are read in: those of an experiment are read as in a function
+abbrev pub reads_as : Home → Option Role
+reads_as (home.Function result) = role_of (home.Function result)
+reads_as (home.Process own) = role_of (home.Process own)
+reads_as home.Experiment = Some (function Ty-F.Void)
 
 -- each slot is of the kind of its type
 abbrev pub SlotsHave : Scope → List Ty → Type 0

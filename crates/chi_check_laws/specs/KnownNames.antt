@@ -21,11 +21,12 @@ use Rattle.chi_check_types.specs.Names.{Names, known_in}
 use Rattle.chi_check_streams.specs.Streams.{of_expression}
 use Rattle.chi_check_laws.specs.TypedTexts.{texts_are_short}
 
--- a site is that of a definition
+-- a site is that of a definition; the expressions of an experiment are those of a function
 abbrev pub IsSite : Site → Role → Type 0
 IsSite site.Constant (constant number) = Unit {0}
 IsSite site.Function (function result) = Unit {0}
 IsSite site.Process (process exit) = Unit {0}
+IsSite site.Experiment (function result) = Unit {0}
 IsSite _ _ = ⊥
 
 -- a slot that counts as set has this type
@@ -50,7 +51,7 @@ pub record FunctionStands (scope : Scope) (number : ℕ) (params : List Ty) (res
   pub gives : f.result ≡ result
   pub ty : SoundIn scope.core result
 
--- a process has these parameters and this type of exits' values
+-- a process or a model has these parameters and this type of exits' values
 pub record ProcessStands (scope : Scope) (number : ℕ) (params : List Ty) (exit : Option Ty) : Type 0 where
   pub d : ProcDef
   pub is : slice_get scope.core.procs number ≡ Some d
@@ -71,7 +72,7 @@ Stands scope set (known.Kind t) = SoundIn scope.core t
 Stands scope set (known.Value enumeration position) = ValueStands scope enumeration position
 Stands scope set (known.Func number params result) = FunctionStands scope number params result
 Stands scope set (known.Proc number params exit) = ProcessStands scope number params exit
-Stands scope set (known.Model number) = Unit {0}
+Stands scope set (known.Model number params exit) = ProcessStands scope number params exit
 Stands scope set (known.Xper number) = Unit {0}
 Stands scope set (known.Untyped kind) = ⊥
 

@@ -6,5 +6,6 @@ pub mod Laws
 pub mod Parts
 pub mod Spelled
 pub mod Texts
+pub mod Trials
 pub mod TypedTexts
 pub mod Whole

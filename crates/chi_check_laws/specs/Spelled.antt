@@ -18,7 +18,7 @@ Spelled (definition.Proc place tree name formals steps) = IsName name.text
 Spelled (definition.Model place tree name formals steps) = IsName name.text
 Spelled (definition.Const place tree name equals value) = Unit {0}
 Spelled (definition.TypeWord place name tree) = Unit {0}
-Spelled (definition.Xper place name steps) = Unit {0}
+Spelled (definition.Xper place name steps) = IsName name.text
 
 abbrev pub EachSpelled : List Definition → Type 0
 EachSpelled [] = Unit {0}

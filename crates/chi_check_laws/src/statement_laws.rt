@@ -4,6 +4,7 @@ ghost use Rattle.std.specs.Prelude.{◌≡◌, ℕ, Bool, List, Some, IsTrue, le
 ghost use Rattle.chi_tree.specs.declared.statement.Step.{Step};
 ghost use Rattle.chi_tree.specs.declared.type_tree.Formal.{Formal};
 ghost use Rattle.chi_types.specs.declared.ty.Ty.{Ty};
+ghost use Rattle.chi_core.specs.declared.experiment.XStat.{XStat};
 ghost use Rattle.chi_core.specs.declared.statement.CStat.{CStat};
 ghost use Rattle.chi_core.specs.Fills.{UnwindsOwn, by_body};
 ghost use Rattle.chi_core.specs.Kinds.{kinds_of, Every};
@@ -13,13 +14,16 @@ ghost use Rattle.chi_core.specs.Sound.{SoundIn, nothing_known};
 ghost use Rattle.chi_check_streams.specs.Streams.{each, of_statement};
 ghost use Rattle.chi_check_types.specs.Names.{Names};
 ghost use Rattle.chi_check_stat_rules.specs.declared.home.Home.{Home};
+ghost use Rattle.chi_check_stat_rules.specs.declared.home.Home.TheVariants as home;
 ghost use Rattle.chi_check_laws.specs.KnownNames.{AllStand};
 ghost use Rattle.chi_check_stat_lines.specs.declared.state.State.{State};
 ghost use Rattle.chi_check_stat.specs.Statements.{stating_all};
+ghost use Rattle.chi_check_experiments.specs.Experiments.{trying_all};
 ghost use Rattle.chi_check_headers.specs.declared.header.Header.{Header};
 ghost use Rattle.chi_check_headers.specs.Headers.{all_types};
 ghost use Rattle.chi_check.specs.Bodies.{body_in};
-ghost use Rattle.chi_check_laws.specs.Bodies.{role_of, SlotsHave, set_by, Agrees, SoundBody, SoundBodyOf, Grows, HaveSlots};
+ghost use Rattle.chi_check_laws.specs.Bodies.{role_of, reads_as, SlotsHave, set_by, Agrees, SoundBody, SoundBodyOf, Grows, HaveSlots};
+ghost use Rattle.chi_check_laws.specs.Trials.{set_by_trials, SoundTrials};
 ghost use Rattle.chi_check_laws.specs.Whole.{steps_are_whole};
 
 /// Statements that come to something are sound with their streams, where their text literals are short,
@@ -29,6 +33,15 @@ pub fn statements_are_sound()
     ensures sound { (home : Home) (scope : Scope) (set : Set) (loop : Bool) (steps : List Step) (s : State) (body : List CStat) → role_of home ≡ Some scope.role
         → IsTrue (steps_are_whole steps) → SlotsHave scope (stating_all home loop steps s).next.slots → Agrees scope set s
         → (stating_all home loop steps s).made ≡ Some body → SoundBody scope loop set body × Agrees scope (set_by body set) (stating_all home loop steps s).next }
+{}
+
+/// Statements of an experiment that come to something are sound with their streams, where their text literals are
+/// short, all visible names agree with the program, the types of the slots are sound, and each slot is of the
+/// kind of its type. What is visible after them agrees too.
+pub fn trials_are_sound()
+    ensures sound { (scope : Scope) (set : Set) (loop : Bool) (steps : List Step) (s : State) (body : List XStat) → reads_as home.Experiment ≡ Some scope.role
+        → IsTrue (steps_are_whole steps) → SlotsHave scope (trying_all loop steps s).next.slots → Agrees scope set s
+        → (trying_all loop steps s).made ≡ Some body → SoundTrials scope loop set body × Agrees scope (set_by_trials body set) (trying_all loop steps s).next }
 {}
 
 /// Statements only add names and slots. A slot that an unwind binds is new, and nothing else in them sets it.

@@ -43,13 +43,13 @@ use Rattle.chi_check_stat_lines.specs.declared.state.Binder.TheVariants as binde
 use Rattle.chi_check_stat_lines.specs.declared.state.Opened.{Opened}
 use Rattle.chi_check_stat_lines.specs.declared.state.State.{State}
 use Rattle.chi_check_stat_lines.specs.Stated.{Turn, both, in_turn, alone}
-use Rattle.chi_check_stat_lines.specs.States.{block}
+use Rattle.chi_check_stat_lines.specs.States.{block, Going, each_in}
 use Rattle.chi_check_stat_lines.specs.Values.{test_in, guard_in, assignment_in}
 use Rattle.chi_check_stat_lines.specs.Declarations.{walk_in}
 use Rattle.chi_check_stat_lines.specs.Lines.{communication_in, communicating, element_in, return_in, exit_in, finish_in, write_in}
 use Rattle.chi_check_stat_lines.specs.Blocks.{offers, runs, starts}
 use Rattle.chi_check_stat.specs.Statements as check
-use Rattle.chi_check_stat.specs.Statements.{Going, each_in, starting, stating, stepping, branching, offering, stepping_in, stating_all}
+use Rattle.chi_check_stat.specs.Statements.{starting, stating, stepping, branching, offering, stepping_in, stating_all}
 use Rattle.chi_check_laws.proofs.Layers.{statement_short, alternative_short, branch_short, element_short}
 use Rattle.chi_check_laws.specs.Texts.{statement_texts, branch_texts, alternative_texts, element_texts}
 use Rattle.chi_check_parsed.proofs.Tokens.{AllFit, fit_left, fit_right}
@@ -66,10 +66,10 @@ all_in : {A : Type 0} (P : A → Type 0) (loop : Bool) (gs : List (Going A)) →
 all_in P loop [] h = tt
 all_in P loop (g ∷ gs) h = (h.0 loop, all_in P loop gs h.1)
 
-in_turn_short : {A : Type 0} (P : A → Type 0) (loop : Bool) (gs : List (Going A)) → Each (GoesShort P) gs → TurnShort P (in_turn (each_in loop gs))
+pub in_turn_short : {A : Type 0} (P : A → Type 0) (loop : Bool) (gs : List (Going A)) → Each (GoesShort P) gs → TurnShort P (in_turn (each_in loop gs))
 in_turn_short P loop gs h = turns_short P (each_in loop gs) (all_in P loop gs h)
 
-alone_short : {A : Type 0} (P : A → Type 0) (s : State) (t : Typed A) → IfGiven P t.made → IfGiven (Each P) (alone s t).made
+pub alone_short : {A : Type 0} (P : A → Type 0) (s : State) (t : Typed A) → IfGiven P t.made → IfGiven (Each P) (alone s t).made
 alone_short P s t h = one_of P t.made h
 
 -- ---- what statements with blocks come to
@@ -115,7 +115,7 @@ module _ (home : Home) where
       subst (TurnShort MakeShort) (sym (fold_out-Element (Turn State CElem) (check.element_step home) x ∙ ap (λ o. check.element_step home (map-Element Element (Turn State CElem) (starting home) o)) h))
       (k (subst AllFit (fold_out-Element Tokens (spell.element_step plain) x ∙ ap (λ o. spell.element_step plain (map-Element Element Tokens spelled_element o)) h) fit))
 
-  abbrev statement_tokens : Statement-F Alternative Statement Branch Step → Tokens
+  abbrev pub statement_tokens : Statement-F Alternative Statement Branch Step → Tokens
   statement_tokens o = spell.statement_step plain (map-Statement Alternative Statement Branch Step Tokens Tokens Tokens Tokens spelled_alternative spelled_statement spelled_branch spelled_step o)
 
   abbrev statement_made : Statement-F Alternative Statement Branch Step → Going CStat
@@ -125,7 +125,7 @@ module _ (home : Home) where
   unfolding stating stepping branching offering
   stating_is x o h = fold_out-Statement (Going CAlt) (Going CStat) (Going CBranch) (Going CStat) (check.alternative_step home) (check.statement_step home) (check.branch_step home) (check.step_step home) x ∙ ap statement_made h
 
-  spelled_is : (x : Statement) (o : Statement-F Alternative Statement Branch Step) → out-Statement x ≡ o → spelled_statement x ≡ statement_tokens o
+  pub spelled_is : (x : Statement) (o : Statement-F Alternative Statement Branch Step) → out-Statement x ≡ o → spelled_statement x ≡ statement_tokens o
   spelled_is x o h = fold_out-Statement Tokens Tokens Tokens Tokens (spell.alternative_step plain) (spell.statement_step plain) (spell.branch_step plain) (spell.step_step plain) x ∙ ap statement_tokens h
 
   at_statement : (x : Statement) (o : Statement-F Alternative Statement Branch Step) → out-Statement x ≡ o → (AllFit (statement_tokens o) → GoesShort StatementShort (statement_made o)) → StatesShort x
@@ -149,7 +149,7 @@ module _ (home : Home) where
   unfolding stating stepping branching offering
   stepping_is s semicolon = fold-roll-Step (Going CAlt) (Going CStat) (Going CBranch) (Going CStat) (check.alternative_step home) (check.statement_step home) (check.branch_step home) (check.step_step home) (record { statement = s; semicolon = semicolon })
 
-  step_spelled : (s : Statement) (semicolon : Bool) → spelled_step (step s semicolon) ≡ spelled_statement s ++ semicolon_if semicolon
+  pub step_spelled : (s : Statement) (semicolon : Bool) → spelled_step (step s semicolon) ≡ spelled_statement s ++ semicolon_if semicolon
   step_spelled s semicolon = fold-roll-Step Tokens Tokens Tokens Tokens (spell.alternative_step plain) (spell.statement_step plain) (spell.branch_step plain) (spell.step_step plain) (record { statement = s; semicolon = semicolon })
 
   step_short : (s : Statement) (semicolon : Bool) → StatesShort s → AllFit (spelled_step (step s semicolon)) → GoesShort StatementShort (stepping home (step s semicolon))
@@ -159,7 +159,7 @@ module _ (home : Home) where
   unfolding stating stepping branching offering
   branching_is e xs = fold-roll-Branch (Going CAlt) (Going CStat) (Going CBranch) (Going CStat) (check.alternative_step home) (check.statement_step home) (check.branch_step home) (check.step_step home) (record { condition = e; block = xs })
 
-  branch_spelled : (e : Expr) (xs : List Step) → spelled_branch (formed.branch e xs) ≡ spelled_expr e ++ token.Sign sign.Colon ∷ all (map spelled_step xs)
+  pub branch_spelled : (e : Expr) (xs : List Step) → spelled_branch (formed.branch e xs) ≡ spelled_expr e ++ token.Sign sign.Colon ∷ all (map spelled_step xs)
   branch_spelled e xs = fold-roll-Branch Tokens Tokens Tokens Tokens (spell.alternative_step plain) (spell.statement_step plain) (spell.branch_step plain) (spell.step_step plain) (record { condition = e; block = xs })
 
   -- ---- elements
@@ -199,7 +199,7 @@ module _ (home : Home) where
   body_fits [] fit = tt
   body_fits (x ∷ xs) fit = fit.1
 
-  else_fits : (xs : List Step) → AllFit (spell.else_tokens (map spelled_step xs)) → AllFit (all (map spelled_step xs))
+  pub else_fits : (xs : List Step) → AllFit (spell.else_tokens (map spelled_step xs)) → AllFit (all (map spelled_step xs))
   else_fits [] fit = tt
   else_fits (x ∷ xs) fit = fit.1.1
 

@@ -1,6 +1,7 @@
 pub mod Blocks
 pub mod Formed
 pub mod Lines
+pub mod ModelRuns
 pub mod Parsed
 pub mod Parts
 pub mod Predefined
@@ -10,3 +11,4 @@ pub mod Rules
 pub mod Short
 pub mod Tokens
 pub mod Trees
+pub mod Trials

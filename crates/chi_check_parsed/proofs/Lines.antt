@@ -106,7 +106,7 @@ pub all_mapped : {A : Type 0} (f : A → Bool) (xs : List A) → Each (λ x. f x
 all_mapped f [] h = refl
 all_mapped f (x ∷ xs) h = both_true (f x) (list_all itself (map f xs)) h.0 (all_mapped f xs h.1)
 
-target_true : (t : CTarget) → TargetShort t → target_texts t ≡ true
+pub target_true : (t : CTarget) → TargetShort t → target_texts t ≡ true
 target_true t h = all_true step_texts t.steps h
 
 targets_true : (ts : List CTarget) → Each TargetShort ts → list_all target_texts ts ≡ true
@@ -147,6 +147,7 @@ untyped_target_on place kind.Constant = tt
 untyped_target_on place kind.Type = tt
 untyped_target_on place kind.Function = tt
 untyped_target_on place kind.Process = tt
+untyped_target_on place kind.Model = tt
 
 visible_target_on : (place : Place) (o : Option Known) → IfGiven AimShort (visible_target place o).made
 visible_target_on place None = tt
@@ -158,7 +159,7 @@ visible_target_on place (Some (known.Kind t)) = tt
 visible_target_on place (Some (known.Value enumeration position)) = tt
 visible_target_on place (Some (known.Func number params result)) = tt
 visible_target_on place (Some (known.Proc number params exit)) = tt
-visible_target_on place (Some (known.Model number)) = tt
+visible_target_on place (Some (known.Model number params exit)) = tt
 visible_target_on place (Some (known.Xper number)) = tt
 
 pub named_target_on : (names : Names) (name : Name) → IfGiven AimShort (named_target names name).made
@@ -285,6 +286,7 @@ untyped_start_on place kind.Unwound = tt
 untyped_start_on place kind.Constant = tt
 untyped_start_on place kind.Type = tt
 untyped_start_on place kind.Function = tt
+untyped_start_on place kind.Model = tt
 
 visible_start_on : (h : Home) (place : Place) (o : Option Known) (arguments : List (Option Made)) → Each (IfGiven MadeShort) arguments → IfGiven StartShort (visible_start h place o arguments).made
 visible_start_on h place None arguments k = tt
@@ -299,7 +301,7 @@ visible_start_on h place (Some (known.Const number t)) arguments k = tt
 visible_start_on h place (Some (known.Kind t)) arguments k = tt
 visible_start_on h place (Some (known.Value enumeration position)) arguments k = tt
 visible_start_on h place (Some (known.Func number params result)) arguments k = tt
-visible_start_on h place (Some (known.Model number)) arguments k = tt
+visible_start_on h place (Some (known.Model number params exit)) arguments k = tt
 visible_start_on h place (Some (known.Xper number)) arguments k = tt
 
 pub start_on : (h : Home) (names : Names) (name : Name) (arguments : List (Option Made)) → Each (IfGiven MadeShort) arguments → IfGiven StartShort (start_of h names name arguments).made
@@ -325,6 +327,7 @@ return_on (home.Function None) place m k = tt
 return_on (home.Function (Some t)) place m k = one_on MadeShort StatementShort RETURN place (returning place.line t) m
     (λ m k. on_map Short StatementShort (statement.Return place.line) (fitted m t) (λ e l. statement_short _ _ (statement.outs-Return place.line e) ∙ l) (fitted_on m t k)) k
 return_on (home.Process own) place m k = tt
+return_on home.Experiment place m k = tt
 
 exit_short : (line : ℕ) (o : Option CExpr) → ShortIfAny o → StatementShort (statement.Exit line o)
 exit_short line o h = statement_short _ _ (statement.outs-Exit line o) ∙ if_any_true o h
@@ -349,6 +352,7 @@ exit_with_on (exit.Given t) place (Some m) k = one_on MadeShort StatementShort E
 pub exit_on : (h : Home) (place : Place) (o : Option (Option Made)) → IfGiven (IfGiven MadeShort) o → IfGiven StatementShort (exit_of h place o).made
 exit_on (home.Function result) place o k = tt
 exit_on (home.Process own) place o k = exit_with_on own place o k
+exit_on home.Experiment place o k = tt
 
 -- ---- walks
 

@@ -36,7 +36,7 @@ use Rattle.chi_check_types.specs.Typed.{after}
 use Rattle.chi_check_stat_rules.specs.declared.home.Home.{Home}
 use Rattle.chi_check_stat_rules.specs.declared.parts.Aim.{Aim}
 use Rattle.chi_check_stat_rules.specs.Elements.{start_of}
-use Rattle.chi_check_stat_rules.specs.Homes.{site_of, running_rule, channel_rule}
+use Rattle.chi_check_stat_rules.specs.Homes.{site_of, running_rule, writing_rule, local_rule}
 use Rattle.chi_check_stat_rules.specs.Places.{expr_place, type_place}
 use Rattle.chi_check_stat_rules.specs.Targets.{named_target}
 use Rattle.chi_check_stat_rules.specs.Walks.{walk_of}
@@ -124,7 +124,7 @@ module _ (home : Home) where
   pub target_short : (names : Names) (d : ℕ) (t : Target) → FormedTarget d t → AllFit (spelled_target t) → IfGiven AimShort (target_in home names t).made
   target_short names d t f fit = steps_short names d t.steps f fit.1 t.name.place (named_target names t.name).made (named_target_on names t.name)
 
-  after_targets : (names : Names) (d : ℕ) (ts : List Target) → FormedTargets d ts → AllFit (each_after (token.Sign sign.Comma) (map spelled_target ts)) → Each (IfGiven AimShort) (map made_of (map (target_in home names) ts))
+  pub after_targets : (names : Names) (d : ℕ) (ts : List Target) → FormedTargets d ts → AllFit (each_after (token.Sign sign.Comma) (map spelled_target ts)) → Each (IfGiven AimShort) (map made_of (map (target_in home names) ts))
   after_targets names _ _ (formed.one_target {d = d} {target = t} f) fit = (target_short names d t f (fit_left (spelled_target t) _ fit.1), tt)
   after_targets names _ _ (formed.targets {d = d} {target = t} {more = ts} f fs) fit = (target_short names d t f (fit_left (spelled_target t) _ fit.1), after_targets names d ts fs (fit_right (spelled_target t) _ fit.1))
 
@@ -141,7 +141,7 @@ module _ (home : Home) where
   initial_short names m _ _ formed.bare h fit = on_then SizesShort Short (λ m. default_of m.ty m.sizes) m (λ m h. default_on m.ty m.sizes h) h
   initial_short names m _ _ (formed.with_value {d = d} {place = place} {e = e} f) h fit = initial_on place (value_in home names e).made (option_map (λ m. m.ty) m) (value_short names d e f fit.1.1)
 
-  declared_short : (line : ℕ) (m : Option Meant) (d : ℕ) (v : Variable) → FormedVariable d v → IfGiven SizesShort m → AllFit (spelled_variable v) → TurnShort StatementShort (declared home line m v)
+  pub declared_short : (line : ℕ) (m : Option Meant) (d : ℕ) (v : Variable) → FormedVariable d v → IfGiven SizesShort m → AllFit (spelled_variable v) → TurnShort StatementShort (declared home line m v)
   declared_short line m d v f h fit s = held_on (Each StatementShort) (new_name_rule s.names v.name) (record { next = with_variable binder.Variable v.name (option_map (λ m. m.ty) m) s; faults = (initial_in home s.names m v.initial).faults; made = declaration line (next_slot s) (initial_in home s.names m v.initial).made })
       (on_map Short (Each StatementShort) (λ e. statement.Declare line (next_slot s) e ∷ []) (initial_in home s.names m v.initial).made
       (λ e k. (statement_short _ _ (statement.outs-Declare line (next_slot s) e) ∙ k, tt)) (initial_short s.names m d v f h fit))
@@ -154,7 +154,7 @@ module _ (home : Home) where
   declaration_short d t vs f g fit s =
       let m = (reading (site_of home) s.names t true).made in
       let sizes = type_short (site_of home) s.names d t f (fit_left (spelled_type t) _ fit) true in
-      held_on (Each StatementShort) (channel_rule home (type_place t) (option_map (λ m. m.ty) m)) (in_turn (map (declared home (type_place t).line m) vs) s)
+      held_on (Each StatementShort) (local_rule home (type_place t) (option_map (λ m. m.ty) m)) (in_turn (map (declared home (type_place t).line m) vs) s)
       (turns_short StatementShort (map (declared home (type_place t).line m) vs) (after_variables (type_place t).line m d vs g sizes (after_each (token.Sign sign.Comma) tt (map spelled_variable vs) (fit_right (spelled_type t) _ fit))) s)
 
   -- ---- walks
@@ -214,7 +214,7 @@ module _ (home : Home) where
 
   pub write_short : (names : Names) (place : Place) (ends_line : Bool) (format : List ℕ) (at : Place) (d : ℕ) (es : List Expr) → FormedExprs d es → AllFit (each_after (token.Sign sign.Comma) (map spelled_expr es))
       → IfGiven StatementShort (write_in home names place ends_line format at es).made
-  write_short names place ends_line format at d es f fit = barred_on StatementShort (running_rule home place) (after (all_faults (values_in home names es)) (write_of place.line at (pieces_of (ended ends_line format)) (placed es (map made_of (values_in home names es)))))
+  write_short names place ends_line format at d es f fit = barred_on StatementShort (writing_rule home place) (after (all_faults (values_in home names es)) (write_of place.line at (pieces_of (ended ends_line format)) (placed es (map made_of (values_in home names es)))))
       (write_on place.line at (pieces_of (ended ends_line format)) (placed es (map made_of (values_in home names es))) (placed_short es (map made_of (values_in home names es)) (after_values names d es f fit)))
 
   -- ---- endings

@@ -241,7 +241,7 @@ visible_type_on place (Some (known.Const number t)) = tt
 visible_type_on place (Some (known.Value enumeration position)) = tt
 visible_type_on place (Some (known.Func number params result)) = tt
 visible_type_on place (Some (known.Proc number params exit)) = tt
-visible_type_on place (Some (known.Model number)) = tt
+visible_type_on place (Some (known.Model number params exit)) = tt
 visible_type_on place (Some (known.Xper number)) = tt
 
 pub type_name_on : (names : Names) (n : Name) → IfGiven SizesShort (types.named_type names n).made

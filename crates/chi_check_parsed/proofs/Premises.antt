@@ -55,7 +55,7 @@ body_whole _ _ _ (formed.type_name t) = tt
 body_whole _ _ _ (formed.function {b = b} {d = d} {block = block} t f k) = inner_whole b d block k
 body_whole _ _ _ (formed.process {b = b} {d = d} {block = block} t f k) = inner_whole b d block k
 body_whole _ _ _ (formed.model {b = b} {d = d} {block = block} t f k) = inner_whole b d block k
-body_whole _ _ _ (formed.experiment k) = tt
+body_whole _ _ _ (formed.experiment {b = b} {block = block} k) = inner_whole b _ block k
 
 pub bodies_whole : (b d : ℕ) (items : List Item) → FormedItems b d items → EachIsWhole (definitions items)
 bodies_whole _ _ _ (formed.one_item {b = b} {d = d} {definition = x} f) = (body_whole b d x f, tt)
@@ -82,7 +82,7 @@ some_values _ _ _ (formed.type_name t) h = tt
 some_values _ _ _ (formed.function {t = t} f g k) h = (fit_right (spelled_type t) _ h.1).0
 some_values _ _ _ (formed.process {t = t} {name = name} f g k) h = head_name t name _ h.1
 some_values _ _ _ (formed.model {t = t} {name = name} f g k) h = head_name t name _ h.1
-some_values _ _ _ (formed.experiment k) h = tt
+some_values _ _ _ (formed.experiment k) h = h.1.0
 
 pub item_spelled : (x : Definition) (semicolon : Bool) (more : Tokens) → AllFit ((spelled.spelled_definition x ++ spelled.semicolon_if semicolon) ++ more) → AllFit (spelled.spelled_definition x)
 item_spelled x semicolon more h = fit_left (spelled.spelled_definition x) (spelled.semicolon_if semicolon) (fit_left (spelled.spelled_definition x ++ spelled.semicolon_if semicolon) more h)

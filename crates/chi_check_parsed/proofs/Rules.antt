@@ -220,6 +220,7 @@ untyped_on place kind.Constant = tt
 untyped_on place kind.Type = tt
 untyped_on place kind.Function = tt
 untyped_on place kind.Process = tt
+untyped_on place kind.Model = tt
 
 visible_on : (place : Place) (o : Option Known) → IfGiven MadeShort (visible_value place o).made
 visible_on place None = tt
@@ -231,7 +232,7 @@ visible_on place (Some (known.Untyped k)) = untyped_on place k
 visible_on place (Some (known.Kind t)) = tt
 visible_on place (Some (known.Func number params result)) = tt
 visible_on place (Some (known.Proc number params exit)) = tt
-visible_on place (Some (known.Model number)) = tt
+visible_on place (Some (known.Model number params exit)) = tt
 visible_on place (Some (known.Xper number)) = tt
 
 pub name_on : (names : Names) (name : Name) → IfGiven MadeShort (named_value names name).made
@@ -253,6 +254,7 @@ untyped_call_on site place kind.Unwound = tt
 untyped_call_on site place kind.Constant = tt
 untyped_call_on site place kind.Type = tt
 untyped_call_on site place kind.Process = tt
+untyped_call_on site place kind.Model = tt
 
 pub function_on : (site : Site) (place : Place) (o : Option Known) (arguments : List (Option Made)) → Each (IfGiven MadeShort) arguments → IfGiven MadeShort (call_of site place o arguments).made
 function_on site place None arguments h = tt
@@ -267,5 +269,5 @@ function_on site place (Some (known.Const number t)) arguments h = tt
 function_on site place (Some (known.Kind t)) arguments h = tt
 function_on site place (Some (known.Value enumeration position)) arguments h = tt
 function_on site place (Some (known.Proc number params exit)) arguments h = tt
-function_on site place (Some (known.Model number)) arguments h = tt
+function_on site place (Some (known.Model number params exit)) arguments h = tt
 function_on site place (Some (known.Xper number)) arguments h = tt

@@ -52,10 +52,10 @@ use Rattle.chi_check_parsed.proofs.Predefined.{predefined_on, tuple_on, list_on,
 
 -- ---- the tokens of each construct
 
-abbrev expr_tokens : Expr-F Expr Postfix TypeTree Entry Link Formal → Tokens
+abbrev pub expr_tokens : Expr-F Expr Postfix TypeTree Entry Link Formal → Tokens
 expr_tokens o = spell.expr_step plain (map-Expr Expr Postfix TypeTree Entry Link Formal Tokens Tokens Tokens Tokens Tokens (Declared Token) spelled_expr spelled_postfix spelled_type spelled_entry spelled_link declared o)
 
-expr_spelled : (e : Expr) (o : Expr-F Expr Postfix TypeTree Entry Link Formal) → out-Expr e ≡ o → spelled_expr e ≡ expr_tokens o
+pub expr_spelled : (e : Expr) (o : Expr-F Expr Postfix TypeTree Entry Link Formal) → out-Expr e ≡ o → spelled_expr e ≡ expr_tokens o
 expr_spelled e o h = fold_out-Expr Tokens Tokens Tokens Tokens Tokens (Declared Token) (spell.expr_step plain) (spell.postfix_step plain) (spell.type_step plain) (spell.entry_step plain) (spell.link_step plain) (spell.formal_step plain) e ∙ ap expr_tokens h
 
 abbrev pub postfix_tokens : Postfix-F Expr Postfix TypeTree Entry Link Formal → Tokens

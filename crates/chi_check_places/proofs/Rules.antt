@@ -48,11 +48,13 @@ pub calling-unplaced : (s : Site) (place : Place) → calling_rule s nowhere ≡
 calling-unplaced site.Constant place = refl
 calling-unplaced site.Function place = refl
 calling-unplaced site.Process place = refl
+calling-unplaced site.Experiment place = refl
 
 pub running-unplaced : (s : Site) (place : Place) → running_rule s nowhere ≡ unplaced_faults (running_rule s place)
 running-unplaced site.Constant place = refl
 running-unplaced site.Function place = refl
 running-unplaced site.Process place = refl
+running-unplaced site.Experiment place = refl
 
 running-if-unplaced : (b : Bool) (s : Site) (place : Place) → running_rule_if b s nowhere ≡ unplaced_faults (running_rule_if b s place)
 running-if-unplaced true s place = running-unplaced s place

@@ -24,12 +24,12 @@ use Rattle.chi_check_stat_lines.specs.declared.state.Binder.TheVariants as binde
 use Rattle.chi_check_stat_lines.specs.declared.state.Opened.{Opened}
 use Rattle.chi_check_stat_lines.specs.declared.state.State.{State}
 use Rattle.chi_check_stat_lines.specs.Stated.{in_turn, staying}
-use Rattle.chi_check_stat_lines.specs.States.{closed, block}
+use Rattle.chi_check_stat_lines.specs.States.{closed, block, Going, each_in}
 use Rattle.chi_check_stat_lines.specs.Values.{test_in, guard_in, assignment_in}
 use Rattle.chi_check_stat_lines.specs.Declarations.{walk_in}
 use Rattle.chi_check_stat_lines.specs.Lines.{communication_in, communicating, write_in, return_in, exit_in, finish_in}
 use Rattle.chi_check_stat_lines.specs.Blocks.{offers, runs, starts, chosen, looped, walked, branched, guarded, offered}
-use Rattle.chi_check_stat.specs.Statements.{Going, each_in, starting, statement_step, branch_step, alternative_step}
+use Rattle.chi_check_stat.specs.Statements.{starting, statement_step, branch_step, alternative_step}
 use Rattle.chi_check_places.specs.UnplacedTyped.{unplaced_faults}
 use Rattle.chi_check_places.proofs.Faults.{faults-append, both-faults}
 use Rattle.chi_check_program_places.specs.Lineless.{lineless_statement, lineless_branch, lineless_alternative}
@@ -125,7 +125,7 @@ module _ (home : Home) where
   unplaced_layer (Statement-F.Write place line text at es) = Statement-F.Write nowhere line text nowhere (map unplaced_expr es)
 
   -- a word alone, with a rule of its own
-  worded : (fs : List Fault) (x' x : CStat) {fs' : List Fault} → fs' ≡ unplaced_faults fs → x' ≡ lineless_statement x → unless fs' x' ≡ typed_by lineless_statement (unless fs x)
+  pub worded : (fs : List Fault) (x' x : CStat) {fs' : List Fault} → fs' ≡ unplaced_faults fs → x' ≡ lineless_statement x → unless fs' x' ≡ typed_by lineless_statement (unless fs x)
   worded fs x' x r h = (λ i. unless (r i) (h i)) ∙ unless-by lineless_statement fs x
 
   pub statement-layer : (o : Statement-F (Going CAlt) (Going CStat) (Going CBranch) (Going CStat)) (loop : Bool) (s : State)

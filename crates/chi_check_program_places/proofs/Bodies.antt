@@ -10,6 +10,7 @@ use Rattle.chi_tree.specs.declared.type_tree.Name.{Name}
 use Rattle.chi_tree_laws.specs.Unplaced.{unplaced_name, unplaced_formal}
 use Rattle.chi_tree_laws.specs.UnplacedStatements.{unplaced_block, unplaced_definition}
 use Rattle.chi_types.specs.declared.ty.Ty.{Ty}
+use Rattle.chi_core.specs.declared.experiment.XStat.{XStat}
 use Rattle.chi_core.specs.declared.statement.CStat.{CStat}
 use Rattle.chi_check_types.specs.Names.{Names}
 use Rattle.chi_check_stat_lines.specs.declared.state.Binder.TheVariants as binder
@@ -17,16 +18,18 @@ use Rattle.chi_check_stat_lines.specs.declared.state.State.{State}
 use Rattle.chi_check_stat_lines.specs.Stated.{in_turn}
 use Rattle.chi_check_stat_lines.specs.States.{binding}
 use Rattle.chi_check_stat.specs.Statements.{stating_all}
+use Rattle.chi_check_experiments.specs.Experiments.{trying_all}
 use Rattle.chi_check_headers.specs.declared.header.Header.{Header}
 use Rattle.chi_check_headers.specs.Headers.{all_types}
-use Rattle.chi_check.specs.Bodies.{formals_bound, body_made, body_in, function, process, result_of, exit_of, function_made, process_made, function_defined, process_defined, function_of, process_of, functions_of, processes_of}
+use Rattle.chi_check.specs.Bodies.{formals_bound, body_made, body_in, function, process, result_of, exit_of, function_made, process_made, function_defined, process_defined, function_of, process_of, functions_of, processes_of, experiment, experiment_defined, experiment_of, experiments_of}
 use Rattle.chi_check_places.specs.UnplacedTyped.{unplaced_faults}
 use Rattle.chi_check_places.proofs.Faults.{faults-append}
-use Rattle.chi_check_program_places.specs.Lineless.{lineless_statement, lineless_function, lineless_process}
+use Rattle.chi_check_program_places.specs.Lineless.{lineless_statement, lineless_xstat, lineless_function, lineless_process, lineless_experiment}
 use Rattle.chi_check_program_places.proofs.By.{stated_by, turn_by, unplaced_stated, unplaced_turn, both-second, in-turn-unplaced}
 use Rattle.chi_check_program_places.proofs.Declarations.{binding-unplaced}
 use Rattle.chi_check_program_places.proofs.Places.{formal-is}
 use Rattle.chi_check_program_places.proofs.Statements.{stating-all-by}
+use Rattle.chi_check_program_places.proofs.Trials.{trying-all-by}
 
 abbrev lineless_body : List CStat × List Ty → List CStat × List Ty
 lineless_body b = (map lineless_statement b.0, b.1)
@@ -140,3 +143,31 @@ processes-by [] [] = refl
 processes-by [] (h ∷ hs) = refl
 processes-by (d ∷ ds) [] = refl
 processes-by (d ∷ ds) (h ∷ hs) = λ i. (λ s. process-of-by d h s i) ∷ processes-by ds hs i
+
+-- ---- experiments
+
+experiment-same : (name : List ℕ) (slots : List Ty) (b : Option (List XStat))
+    → option_map (experiment name slots) (option_map (map lineless_xstat) b) ≡ option_map (map lineless_experiment) (option_map (experiment name slots) b)
+experiment-same name slots None = refl
+experiment-same name slots (Some b) = refl
+
+experiment-by : (name : Name) (steps : List Step) (names : Names) → experiment_defined (unplaced_name name) (unplaced_block steps) names ≡ stated_by (map lineless_experiment) (experiment_defined name steps names)
+experiment-by name steps names =
+    let start : State = record { names = names; slots = [] } in
+    let body = trying_all false steps start in
+    let same = trying-all-by false steps start in
+    (λ i. record { next = take (length names) (same i).next.names; faults = (same i).faults; made = option_map (experiment name.text (same i).next.slots) (same i).made })
+    ∙ (λ i. record { next = take (length names) body.next.names; faults = unplaced_faults body.faults; made = experiment-same name.text body.next.slots body.made i })
+
+experiment-of-by : (d : Definition) (names : Names) → experiment_of (unplaced_definition d) names ≡ stated_by (map lineless_experiment) (experiment_of d names)
+experiment-of-by (definition.Xper place name steps) names = experiment-by name steps names
+experiment-of-by (definition.Enum place name values) names = refl
+experiment-of-by (definition.Const place tree name equals value) names = refl
+experiment-of-by (definition.TypeWord place name tree) names = refl
+experiment-of-by (definition.Func place tree name fs steps) names = refl
+experiment-of-by (definition.Proc place tree name fs steps) names = refl
+experiment-of-by (definition.Model place tree name fs steps) names = refl
+
+pub experiments-by : (ds : List Definition) → experiments_of (map unplaced_definition ds) ≡ map (turn_by lineless_experiment) (experiments_of ds)
+experiments-by [] = refl
+experiments-by (d ∷ ds) = λ i. (λ s. experiment-of-by d s i) ∷ experiments-by ds i

@@ -106,7 +106,7 @@ module _ {A : Type 0} (f : A → A) where
   joined-by (Some xs) None = refl
   joined-by (Some xs) (Some ys) = ap Some (sym (map-append f xs ys))
 
-  one-mapped : (o : Option A) → one (option_map f o) ≡ option_map (map f) (one o)
+  pub one-mapped : (o : Option A) → one (option_map f o) ≡ option_map (map f) (one o)
   one-mapped None = refl
   one-mapped (Some a) = refl
 

@@ -19,7 +19,7 @@ use Rattle.chi_check_types.specs.Names.{Names}
 use Rattle.chi_check_types.specs.Typed.{after}
 use Rattle.chi_check_expr.specs.Typing.{reading}
 use Rattle.chi_check_stat_rules.specs.declared.home.Home.{Home}
-use Rattle.chi_check_stat_rules.specs.Homes.{site_of, channel_rule}
+use Rattle.chi_check_stat_rules.specs.Homes.{site_of, local_rule}
 use Rattle.chi_check_stat_rules.specs.Places.{expr_place, type_place}
 use Rattle.chi_check_stat_rules.specs.Values.{initial_value}
 use Rattle.chi_check_stat_rules.specs.Walks.{walk_of}
@@ -35,7 +35,7 @@ use Rattle.chi_check_places.proofs.Faults.{faults-append, both-faults, broken-un
 use Rattle.chi_check_places.proofs.Induction.{type-unplaced}
 use Rattle.chi_check_program_places.specs.Lineless.{lineless_statement}
 use Rattle.chi_check_program_places.proofs.By.{stated_by, turn_by, unplaced_stated, unplaced_turn, mapped, in-turn-unplaced, in-turn-by, held-by, preceded-by}
-use Rattle.chi_check_program_places.proofs.Parts.{channel-unplaced, initial-unplaced, walk-unplaced}
+use Rattle.chi_check_program_places.proofs.Parts.{local-unplaced, initial-unplaced, walk-unplaced}
 use Rattle.chi_check_program_places.proofs.Places.{expr-nowhere, type-nowhere}
 use Rattle.chi_check_program_places.proofs.Values.{value-unplaced}
 use Rattle.chi_check_program_places.proofs.Without.{without-Declare}
@@ -75,7 +75,7 @@ module _ (home : Home) where
       (λ i. after (value-unplaced home names initial.value i).faults (initial_value nowhere (value-unplaced home names initial.value i).made t))
       ∙ after-both v.faults (initial_value initial.equals v.made t) refl (initial-unplaced initial.equals v.made t)
 
-  declared-by : (line : ℕ) (m : Option Meant) (v : Variable) (s : State) → declared home 0 m (unplaced_variable v) s ≡ stated_by (map lineless_statement) (declared home line m v s)
+  pub declared-by : (line : ℕ) (m : Option Meant) (v : Variable) (s : State) → declared home 0 m (unplaced_variable v) s ≡ stated_by (map lineless_statement) (declared home line m v s)
   declared-by line m v s =
       let value = initial_in home s.names m v.initial in
       let next = with_variable binder.Variable v.name (option_map (λ m. m.ty) m) s in
@@ -98,9 +98,9 @@ module _ (home : Home) where
       let ty = option_map (λ m. m.ty) t.made in
       let without = type-unplaced (site_of home) s.names tree true in
       let turns = in_turn (map (declared home line t.made) vs) s in
-      (λ i. preceded (without i).faults (held_by (channel_rule home (type-nowhere tree i) (option_map (λ m. m.ty) (without i).made)) (in_turn (map (declared home (type-nowhere tree i).line (without i).made) (map unplaced_variable vs)) s)))
-      ∙ preceded-by (map lineless_statement) t.faults (held_by (channel_rule home (type_place tree) ty) turns)
-      (held-by (map lineless_statement) (channel_rule home (type_place tree) ty) turns (channel-unplaced home (type_place tree) ty)
+      (λ i. preceded (without i).faults (held_by (local_rule home (type-nowhere tree i) (option_map (λ m. m.ty) (without i).made)) (in_turn (map (declared home (type-nowhere tree i).line (without i).made) (map unplaced_variable vs)) s)))
+      ∙ preceded-by (map lineless_statement) t.faults (held_by (local_rule home (type_place tree) ty) turns)
+      (held-by (map lineless_statement) (local_rule home (type_place tree) ty) turns (local-unplaced home (type_place tree) ty)
       (ap (λ ts. in_turn ts s) (all-declared line t.made vs) ∙ in-turn-by lineless_statement (map (declared home line t.made) vs) s))
 
   pub walk-in-unplaced : (b : Binder) (w : Walk) (s : State) → walk_in home b (unplaced_walk w) s ≡ unplaced_stated (walk_in home b w s)

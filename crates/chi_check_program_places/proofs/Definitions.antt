@@ -12,11 +12,9 @@ use Rattle.chi_tree_laws.specs.Unplaced.{unplaced_name, unplaced_expr, unplaced_
 use Rattle.chi_tree_laws.specs.UnplacedStatements.{unplaced_definition}
 use Rattle.chi_types.specs.declared.ty.Ty.{Ty}
 use Rattle.chi_core.specs.declared.expression.CExpr.{CExpr}
-use Rattle.chi_check_types.specs.declared.fault.Fault.{Fault}
 use Rattle.chi_check_types.specs.declared.known.Known.{Known}
 use Rattle.chi_check_types.specs.declared.known.Known.TheVariants as known
 use Rattle.chi_check_types.specs.declared.known.NameKind.TheVariants as kind
-use Rattle.chi_check_types.specs.declared.rules.TheConstants.{MODEL}
 use Rattle.chi_check_types.specs.declared.site.Site.TheVariants as site
 use Rattle.chi_check_types.specs.Names.{Names}
 use Rattle.chi_check_expr.specs.Typing.{typing}
@@ -66,22 +64,21 @@ enumeration-unplaced name values s =
       made = option_map (λ names. names ∷ []) each.made;
     })
 
-late-unplaced : (name : Name) (k : Known) (own : List Fault) (counted : Sketch → Sketch) (s : Sketch)
-    → late_named (unplaced_name name) k (unplaced_faults own) counted s ≡ unplaced_stated (late_named name k own counted s)
-late-unplaced name k own counted s = λ i. record {
+late-unplaced : (name : Name) (k : Known) (counted : Sketch → Sketch) (s : Sketch) → late_named (unplaced_name name) k counted s ≡ unplaced_stated (late_named name k counted s)
+late-unplaced name k counted s = λ i. record {
   next = counted (named_late name k s);
-  faults = both-faults (new_name_rule s.all name) own (new-name-unplaced s.all name) refl i;
+  faults = new-name-unplaced s.all name i;
   made = Some [];
 }
 
 sketching-unplaced : (d : Definition) (s : Sketch) → sketching (unplaced_definition d) s ≡ unplaced_stated (sketching d s)
 sketching-unplaced (definition.Enum place name values) s = enumeration-unplaced name values s
-sketching-unplaced (definition.Const place tree name equals value) s = late-unplaced name (known.Untyped kind.Constant) [] (λ s. s) s
-sketching-unplaced (definition.TypeWord place name tree) s = late-unplaced name (known.Untyped kind.Type) [] (λ s. s) s
-sketching-unplaced (definition.Func place tree name formals steps) s = late-unplaced name (known.Untyped kind.Function) [] (λ s. s) s
-sketching-unplaced (definition.Proc place tree name formals steps) s = late-unplaced name (known.Untyped kind.Process) [] one_process s
-sketching-unplaced (definition.Model place tree name formals steps) s = late-unplaced name (known.Model s.processes) [] one_process s
-sketching-unplaced (definition.Xper place name steps) s = late-unplaced name (known.Xper s.experiments) (record { rule = MODEL; place = place } ∷ []) one_experiment s
+sketching-unplaced (definition.Const place tree name equals value) s = late-unplaced name (known.Untyped kind.Constant) (λ s. s) s
+sketching-unplaced (definition.TypeWord place name tree) s = late-unplaced name (known.Untyped kind.Type) (λ s. s) s
+sketching-unplaced (definition.Func place tree name formals steps) s = late-unplaced name (known.Untyped kind.Function) (λ s. s) s
+sketching-unplaced (definition.Proc place tree name formals steps) s = late-unplaced name (known.Untyped kind.Process) one_process s
+sketching-unplaced (definition.Model place tree name formals steps) s = late-unplaced name (known.Untyped kind.Model) one_process s
+sketching-unplaced (definition.Xper place name steps) s = late-unplaced name (known.Xper s.experiments) one_experiment s
 
 pub all-sketching : (ds : List Definition) → map sketching (map unplaced_definition ds) ≡ map unplaced_turn (map sketching ds)
 all-sketching [] = refl
@@ -162,7 +159,8 @@ headed-same all (definition.Func place tree name formals steps) None s = refl
 headed-same all (definition.Func place tree name formals steps) (Some h) s = refl
 headed-same all (definition.Proc place tree name formals steps) None s = refl
 headed-same all (definition.Proc place tree name formals steps) (Some h) s = refl
-headed-same all (definition.Model place tree name formals steps) h s = refl
+headed-same all (definition.Model place tree name formals steps) None s = refl
+headed-same all (definition.Model place tree name formals steps) (Some h) s = refl
 headed-same all (definition.Xper place name steps) h s = refl
 headed-same all (definition.Enum place name values) h s = refl
 headed-same all (definition.Const place tree name equals value) h s = refl

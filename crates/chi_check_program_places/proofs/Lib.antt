@@ -1,4 +1,5 @@
 pub mod Without
+pub mod WithoutTrials
 pub mod By
 pub mod Parts
 pub mod LineRules
@@ -9,8 +10,14 @@ pub mod Declarations
 pub mod Elements
 pub mod Blocks
 pub mod Statements
+pub mod ModelCalls
+pub mod TrialLines
+pub mod TrialBlocks
+pub mod Trials
 pub mod Headers
 pub mod Definitions
 pub mod Bodies
 pub mod Programs
 pub mod Streams
+pub mod TrialStreams
+pub mod ProgramStreams

@@ -71,6 +71,7 @@ pub return-by : (h : Home) (place : Place) (m : Option Made) → return_of h now
 return-by (home.Function None) place m = refl
 return-by (home.Function (Some t)) place m = one-by lineless_statement RETURN place (returning 0 t) (returning place.line t) (returning-same place.line t) m
 return-by (home.Process own) place m = refl
+return-by home.Experiment place m = refl
 
 exiting-same : (line : ℕ) (t : Ty) (m : Made) → exiting 0 t m ≡ option_map lineless_statement (exiting line t m)
 exiting-same line t m =
@@ -95,6 +96,7 @@ pub exit-by : (h : Home) (place : Place) (m : Option (Option Made)) → exit_of 
 exit-by (home.Function result) place m = refl
 exit-by (home.Process own) place None = exit-bare-by own place
 exit-by (home.Process own) place (Some m) = exit-value-by own place m
+exit-by home.Experiment place m = refl
 
 pub loop-unplaced : (b : Bool) (place : Place) → loop_rule b nowhere ≡ unplaced_faults (loop_rule b place)
 loop-unplaced true place = refl

@@ -20,7 +20,7 @@ use Rattle.chi_check_stat_rules.specs.declared.home.Home.{Home}
 use Rattle.chi_check_stat_rules.specs.Channels.{send_of, receive_of, delay_of}
 use Rattle.chi_check_stat_rules.specs.Elements.{start_of, element_made}
 use Rattle.chi_check_stat_rules.specs.Endings.{return_of, exit_of}
-use Rattle.chi_check_stat_rules.specs.Homes.{running_rule}
+use Rattle.chi_check_stat_rules.specs.Homes.{running_rule, writing_rule}
 use Rattle.chi_check_stat_rules.specs.Writes.{ended, pieces_of, write_of}
 use Rattle.chi_check_stat_lines.specs.Values.{made_of, all_faults, faults_if, made_if, all_of, value_in, values_in, instance_in, target_in, goal_in}
 use Rattle.chi_check_stat_lines.specs.Lines.{communication_place, receiver_in, placed, selected, parts_in, communication_in, communicating, element_in, write_in, return_in, exit_in, finish_in}
@@ -29,7 +29,7 @@ use Rattle.chi_check_places.proofs.Faults.{faults-append, both-faults, after-bot
 use Rattle.chi_check_program_places.specs.Lineless.{lineless_statement}
 use Rattle.chi_check_program_places.proofs.By.{typed_by, mapped, after-by, barred-by}
 use Rattle.chi_check_program_places.proofs.LineRules.{unplaced_written, return-by, exit-by, write-by}
-use Rattle.chi_check_program_places.proofs.Parts.{running-unplaced, send-unplaced, receiver-unplaced, receive-unplaced, delay-unplaced, start-unplaced}
+use Rattle.chi_check_program_places.proofs.Parts.{running-unplaced, writing-unplaced, send-unplaced, receiver-unplaced, receive-unplaced, delay-unplaced, start-unplaced}
 use Rattle.chi_check_program_places.proofs.Places.{expr-nowhere}
 use Rattle.chi_check_program_places.proofs.Values.{faults-all, made-all, faults-if, made-if, all-of, each-same, if-same, value-unplaced, values-unplaced, instance-unplaced, target-unplaced, goal-unplaced}
 use Rattle.chi_check_program_places.proofs.Without.{without-Guarded, without-Select, without-Finish}
@@ -116,7 +116,7 @@ module _ (home : Home) (names : Names) where
   write-in-by place ends_line text at es =
       let given = values_in home names es in
       let ps = pieces_of (ended ends_line text) in
-      barred-by lineless_statement (running_rule home place) (after (all_faults given) (write_of place.line at ps (placed es (map made_of given)))) (running-unplaced home place)
+      barred-by lineless_statement (writing_rule home place) (after (all_faults given) (write_of place.line at ps (placed es (map made_of given)))) (writing-unplaced home place)
       ((λ i. after (all_faults (values-unplaced home names es i)) (write_of 0 nowhere ps (placed (map unplaced_expr es) (map made_of (values-unplaced home names es i)))))
       ∙ after-by lineless_statement (all_faults given) (write_of place.line at ps (placed es (map made_of given))) (faults-all given)
       (ap (λ ms. write_of 0 nowhere ps (placed (map unplaced_expr es) ms)) (made-all given) ∙ ap (write_of 0 nowhere ps) (placed-unplaced es (map made_of given))

@@ -1,11 +1,12 @@
 -- What the parts of statements come to is the same without places: targets, communications, what is started, values and walks.
 use Rattle.std.proofs.Common.{◌≡◌, ℕ, List, length, Option, Some, None, refl}
-use Rattle.std.specs.Prelude.{nat_eq}
+use Rattle.std.specs.Prelude.{nat_eq, not}
 use Rattle.chi_token.specs.declared.place.Place.{Place}
 use Rattle.chi_tree.specs.declared.type_tree.Name.{Name}
 use Rattle.chi_tree.specs.View.{nowhere}
 use Rattle.chi_tree_laws.specs.Unplaced.{unplaced_name}
 use Rattle.chi_types.specs.declared.ty.Ty.{Ty, out-Ty}
+use Rattle.chi_types.specs.Plain.{is_plain}
 use Rattle.chi_core.specs.Kinds.{is_void}
 use Rattle.chi_core.specs.declared.expression.CExpr.{CExpr}
 use Rattle.chi_check_types.specs.declared.known.Known.{Known}
@@ -13,7 +14,7 @@ use Rattle.chi_check_types.specs.declared.known.Known.TheVariants as known
 use Rattle.chi_check_types.specs.declared.known.NameKind.{NameKind}
 use Rattle.chi_check_types.specs.declared.known.NameKind.TheVariants as kind
 use Rattle.chi_check_types.specs.declared.meant.Made.{Made}
-use Rattle.chi_check_types.specs.declared.rules.TheConstants.{INDEX, FIELD, SENT_VALUE, RECEIVING_NAME, DELAY, ELEMENT_ARGUMENTS, ELEMENT_TARGET, STARTED_EXIT, INITIAL_VALUE, CONDITION, FINISH, WALK_NAMES, CHANNEL_IN_FUNCTION}
+use Rattle.chi_check_types.specs.declared.rules.TheConstants.{INDEX, FIELD, SENT_VALUE, RECEIVING_NAME, DELAY, ELEMENT_ARGUMENTS, ELEMENT_TARGET, STARTED_EXIT, INITIAL_VALUE, CONDITION, FINISH, WALK_NAMES, CHANNEL_IN_FUNCTION, IN_EXPERIMENT}
 use Rattle.chi_check_types.specs.Names.{Names, known_in}
 use Rattle.chi_check_types.specs.Predefined.{is_predefined}
 use Rattle.chi_check_expr_rules.specs.Nodes.{all_made}
@@ -23,7 +24,7 @@ use Rattle.chi_check_stat_rules.specs.declared.parts.Aim.{Aim}
 use Rattle.chi_check_stat_rules.specs.declared.parts.Receiver.{Receiver}
 use Rattle.chi_check_stat_rules.specs.Channels.{sent_type, send_void, sending, send_value, send_on, send_of, received_type, untyped_receiver, visible_receiver, named_receiver, receive_void, receiving, receive_value, receive_on, receive_of, delaying, delay_of}
 use Rattle.chi_check_stat_rules.specs.Elements.{as_instance_target, instance_target, is_other_exit, exit_in, exit_rule, started, process_start, untyped_start, visible_start, start_of}
-use Rattle.chi_check_stat_rules.specs.Homes.{running_rule, has_channel, channel_in_rule, channel_rule}
+use Rattle.chi_check_stat_rules.specs.Homes.{running_rule, writing_rule, has_channel, local_in_rule, local_rule}
 use Rattle.chi_check_stat_rules.specs.Targets.{untyped_target, visible_target, named_target, is_text, indexed, index_step, field_of, field_step}
 use Rattle.chi_check_stat_rules.specs.Values.{fitted, initial_value, lives, constant_rule, constant_value, as_bool, condition, as_instance, finished_one}
 use Rattle.chi_check_stat_rules.specs.Walks.{element_type, walked_by, walk_over, walk_of}
@@ -35,14 +36,21 @@ use Rattle.chi_check_places.proofs.Faults.{broken-unplaced, tested, barred-both,
 pub running-unplaced : (h : Home) (place : Place) → running_rule h nowhere ≡ unplaced_faults (running_rule h place)
 running-unplaced (home.Function result) place = refl
 running-unplaced (home.Process own) place = refl
+running-unplaced home.Experiment place = refl
 
-channel-in-unplaced : (h : Home) (place : Place) (t : Ty) → channel_in_rule h nowhere t ≡ unplaced_faults (channel_in_rule h place t)
-channel-in-unplaced (home.Function result) place t = broken-unplaced (has_channel t) CHANNEL_IN_FUNCTION place
-channel-in-unplaced (home.Process own) place t = refl
+pub writing-unplaced : (h : Home) (place : Place) → writing_rule h nowhere ≡ unplaced_faults (writing_rule h place)
+writing-unplaced (home.Function result) place = refl
+writing-unplaced (home.Process own) place = refl
+writing-unplaced home.Experiment place = refl
 
-pub channel-unplaced : (h : Home) (place : Place) (t : Option Ty) → channel_rule h nowhere t ≡ unplaced_faults (channel_rule h place t)
-channel-unplaced h place None = refl
-channel-unplaced h place (Some t) = channel-in-unplaced h place t
+local-in-unplaced : (h : Home) (place : Place) (t : Ty) → local_in_rule h nowhere t ≡ unplaced_faults (local_in_rule h place t)
+local-in-unplaced (home.Function result) place t = broken-unplaced (has_channel t) CHANNEL_IN_FUNCTION place
+local-in-unplaced (home.Process own) place t = refl
+local-in-unplaced home.Experiment place t = broken-unplaced (not (is_plain t)) IN_EXPERIMENT place
+
+pub local-unplaced : (h : Home) (place : Place) (t : Option Ty) → local_rule h nowhere t ≡ unplaced_faults (local_rule h place t)
+local-unplaced h place None = refl
+local-unplaced h place (Some t) = local-in-unplaced h place t
 
 -- ---- targets
 
@@ -124,6 +132,7 @@ instance-target-unplaced place a = one-unplaced ELEMENT_TARGET place as_instance
 exit-in-unplaced : (h : Home) (place : Place) (t : Ty) → exit_in h nowhere t ≡ unplaced_faults (exit_in h place t)
 exit-in-unplaced (home.Function result) place t = refl
 exit-in-unplaced (home.Process own) place t = broken-unplaced (is_other_exit own t) STARTED_EXIT place
+exit-in-unplaced home.Experiment place t = refl
 
 exit-rule-unplaced : (h : Home) (place : Place) (t : Option Ty) → exit_rule h nowhere t ≡ unplaced_faults (exit_rule h place t)
 exit-rule-unplaced h place None = refl

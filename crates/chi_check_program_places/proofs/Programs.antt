@@ -8,6 +8,7 @@ use Rattle.chi_tree.specs.declared.definition.Item.{Item}
 use Rattle.chi_tree.specs.declared.definition.Program.{Program}
 use Rattle.chi_tree.specs.View.{nowhere}
 use Rattle.chi_tree_laws.specs.UnplacedStatements.{unplaced_definition, unplaced_item, unplaced}
+use Rattle.chi_core.specs.declared.experiment.XperDef.{XperDef}
 use Rattle.chi_core.specs.declared.program.ConstDef.{ConstDef}
 use Rattle.chi_core.specs.declared.program.Core.{Core}
 use Rattle.chi_core.specs.declared.program.FuncDef.{FuncDef}
@@ -22,13 +23,13 @@ use Rattle.chi_check_headers.specs.declared.sketch.Early.{Early}
 use Rattle.chi_check_headers.specs.declared.sketch.Named.{Named}
 use Rattle.chi_check_headers.specs.Headers.{Found, header_in, header_faults}
 use Rattle.chi_check_headers.specs.Definitions.{sketching, early_defined, with_all_late, with_all_headed}
-use Rattle.chi_check.specs.Bodies.{functions_of, processes_of}
+use Rattle.chi_check.specs.Bodies.{functions_of, processes_of, experiments_of}
 use Rattle.chi_check.specs.Programs.{no_names, first_early, first_named, first_model, model_rule, core_of, definitions_checked, checked}
 use Rattle.chi_check_places.specs.UnplacedTyped.{unplaced_faults}
 use Rattle.chi_check_places.proofs.Faults.{both-faults, faults-append}
-use Rattle.chi_check_program_places.specs.Lineless.{lineless_constant, lineless_function, lineless_process, lineless, lineless_typed}
+use Rattle.chi_check_program_places.specs.Lineless.{lineless_constant, lineless_function, lineless_process, lineless_experiment, lineless, lineless_typed}
 use Rattle.chi_check_program_places.proofs.By.{stated_by, unplaced_stated, in-turn-by, in-turn-unplaced}
-use Rattle.chi_check_program_places.proofs.Bodies.{functions-by, processes-by}
+use Rattle.chi_check_program_places.proofs.Bodies.{functions-by, processes-by, experiments-by}
 use Rattle.chi_check_program_places.proofs.Definitions.{all-sketching, all-early, all-late, all-headed}
 use Rattle.chi_check_program_places.proofs.Headers.{unplaced_found, headers-unplaced, header-faults-unplaced, headers-given}
 
@@ -37,17 +38,34 @@ use Rattle.chi_check_program_places.proofs.Headers.{unplaced_found, headers-unpl
 abbrev Names_of_values : Type 0
 Names_of_values = List (List (List ℕ))
 
-abbrev whole : Stated Sketch Names_of_values → Stated Early (List ConstDef) → List Fault → Stated Names (List FuncDef) → Stated Names (List ProcDef) → List Fault → Option ℕ → Typed Core
-whole sketch early headers funcs procs models model = record {
-  faults = sketch.faults ++ early.faults ++ headers ++ funcs.faults ++ procs.faults ++ models;
-  made = core_of sketch.made early.made funcs.made procs.made model;
+-- the bodies of functions, of processes and models, and of experiments
+record Made_bodies : Type 0 where
+  funcs : Stated Names (List FuncDef)
+  procs : Stated Names (List ProcDef)
+  xpers : Stated Names (List XperDef)
+
+abbrev bodies_without : Made_bodies → Made_bodies
+bodies_without bodies = record {
+  funcs = stated_by (map lineless_function) bodies.funcs;
+  procs = stated_by (map lineless_process) bodies.procs;
+  xpers = stated_by (map lineless_experiment) bodies.xpers;
 }
 
-abbrev after_bodies : List Definition → Place → Stated Sketch Names_of_values → Stated Early (List ConstDef) → List Fault → Stated Names (List FuncDef) → Stated Names (List ProcDef) → Typed Core
-after_bodies ds last sketch early headers funcs procs = whole sketch early headers funcs procs (model_rule last (first_model 0 ds)) (first_model 0 ds)
+abbrev whole : Stated Sketch Names_of_values → Stated Early (List ConstDef) → List Fault → Made_bodies → List Fault → Option ℕ → Typed Core
+whole sketch early headers bodies models model = record {
+  faults = sketch.faults ++ early.faults ++ headers ++ bodies.funcs.faults ++ bodies.procs.faults ++ bodies.xpers.faults ++ models;
+  made = core_of sketch.made early.made bodies.funcs.made bodies.procs.made bodies.xpers.made model;
+}
+
+abbrev after_bodies : List Definition → Place → Stated Sketch Names_of_values → Stated Early (List ConstDef) → List Fault → Made_bodies → Typed Core
+after_bodies ds last sketch early headers bodies = whole sketch early headers bodies (model_rule last (first_model 0 ds)) (first_model 0 ds)
+
+abbrev after_processes : List Definition → Place → Stated Sketch Names_of_values → Stated Early (List ConstDef) → List Fault → Stated Names (List FuncDef) → Stated Names (List ProcDef) → Typed Core
+after_processes ds last sketch early headers funcs procs =
+    after_bodies ds last sketch early headers (record { funcs = funcs; procs = procs; xpers = in_turn (experiments_of ds) procs.next })
 
 abbrev after_functions : List Definition → Place → Stated Sketch Names_of_values → Stated Early (List ConstDef) → List Fault → List (Option Header) → Stated Names (List FuncDef) → Typed Core
-after_functions ds last sketch early headers given funcs = after_bodies ds last sketch early headers funcs (in_turn (processes_of ds given) funcs.next)
+after_functions ds last sketch early headers given funcs = after_processes ds last sketch early headers funcs (in_turn (processes_of ds given) funcs.next)
 
 abbrev after_named : List Definition → Place → Stated Sketch Names_of_values → Stated Early (List ConstDef) → List Fault → List (Option Header) → Named → Typed Core
 after_named ds last sketch early headers given named = after_functions ds last sketch early headers given (in_turn (functions_of ds given) named.names)
@@ -84,44 +102,57 @@ model-unplaced : (last : Place) (model : Option ℕ) → model_rule nowhere mode
 model-unplaced last None = refl
 model-unplaced last (Some number) = refl
 
-core-same : (es : Option Names_of_values) (cs : Option (List ConstDef)) (fs : Option (List FuncDef)) (ps : Option (List ProcDef)) (model : Option ℕ)
-    → core_of es (option_map (map lineless_constant) cs) (option_map (map lineless_function) fs) (option_map (map lineless_process) ps) model ≡ option_map lineless (core_of es cs fs ps model)
-core-same None cs fs ps model = refl
-core-same (Some es) None fs ps model = refl
-core-same (Some es) (Some cs) None ps model = refl
-core-same (Some es) (Some cs) (Some fs) None model = refl
-core-same (Some es) (Some cs) (Some fs) (Some ps) None = refl
-core-same (Some es) (Some cs) (Some fs) (Some ps) (Some model) = refl
+core-same : (es : Option Names_of_values) (cs : Option (List ConstDef)) (fs : Option (List FuncDef)) (ps : Option (List ProcDef)) (xs : Option (List XperDef)) (model : Option ℕ)
+    → core_of es (option_map (map lineless_constant) cs) (option_map (map lineless_function) fs) (option_map (map lineless_process) ps) (option_map (map lineless_experiment) xs) model
+    ≡ option_map lineless (core_of es cs fs ps xs model)
+core-same None cs fs ps xs model = refl
+core-same (Some es) None fs ps xs model = refl
+core-same (Some es) (Some cs) None ps xs model = refl
+core-same (Some es) (Some cs) (Some fs) None xs model = refl
+core-same (Some es) (Some cs) (Some fs) (Some ps) None model = refl
+core-same (Some es) (Some cs) (Some fs) (Some ps) (Some xs) None = refl
+core-same (Some es) (Some cs) (Some fs) (Some ps) (Some xs) (Some model) = refl
 
-whole-unplaced : (sketch : Stated Sketch Names_of_values) (early : Stated Early (List ConstDef)) (headers : List Fault) (funcs : Stated Names (List FuncDef)) (procs : Stated Names (List ProcDef)) (models : List Fault) (model : Option ℕ)
-    → whole (unplaced_stated sketch) (stated_by (map lineless_constant) early) (unplaced_faults headers) (stated_by (map lineless_function) funcs) (stated_by (map lineless_process) procs) (unplaced_faults models) model
-    ≡ lineless_typed (whole sketch early headers funcs procs models model)
-whole-unplaced sketch early headers funcs procs models model = λ i. record {
-  faults = both-faults (sketch.faults ++ early.faults ++ headers ++ funcs.faults ++ procs.faults) models
-      (both-faults (sketch.faults ++ early.faults ++ headers ++ funcs.faults) procs.faults
-      (both-faults (sketch.faults ++ early.faults ++ headers) funcs.faults
-      (both-faults (sketch.faults ++ early.faults) headers (faults-append sketch.faults early.faults) refl) refl) refl) refl i;
-  made = core-same sketch.made early.made funcs.made procs.made model i;
+whole-unplaced : (sketch : Stated Sketch Names_of_values) (early : Stated Early (List ConstDef)) (headers : List Fault) (bodies : Made_bodies) (models : List Fault) (model : Option ℕ)
+    → whole (unplaced_stated sketch) (stated_by (map lineless_constant) early) (unplaced_faults headers) (bodies_without bodies) (unplaced_faults models) model
+    ≡ lineless_typed (whole sketch early headers bodies models model)
+whole-unplaced sketch early headers bodies models model = λ i. record {
+  faults = both-faults (sketch.faults ++ early.faults ++ headers ++ bodies.funcs.faults ++ bodies.procs.faults ++ bodies.xpers.faults) models
+      (both-faults (sketch.faults ++ early.faults ++ headers ++ bodies.funcs.faults ++ bodies.procs.faults) bodies.xpers.faults
+      (both-faults (sketch.faults ++ early.faults ++ headers ++ bodies.funcs.faults) bodies.procs.faults
+      (both-faults (sketch.faults ++ early.faults ++ headers) bodies.funcs.faults
+      (both-faults (sketch.faults ++ early.faults) headers (faults-append sketch.faults early.faults) refl) refl) refl) refl) refl i;
+  made = core-same sketch.made early.made bodies.funcs.made bodies.procs.made bodies.xpers.made model i;
 }
 
 -- ---- programs
 
-bodies-unplaced : (ds : List Definition) (last : Place) (sketch : Stated Sketch Names_of_values) (early : Stated Early (List ConstDef)) (headers : List Fault) (funcs : Stated Names (List FuncDef)) (procs : Stated Names (List ProcDef))
-    → after_bodies (map unplaced_definition ds) nowhere (unplaced_stated sketch) (stated_by (map lineless_constant) early) (unplaced_faults headers) (stated_by (map lineless_function) funcs) (stated_by (map lineless_process) procs)
-    ≡ lineless_typed (after_bodies ds last sketch early headers funcs procs)
-bodies-unplaced ds last sketch early headers funcs procs =
+bodies-unplaced : (ds : List Definition) (last : Place) (sketch : Stated Sketch Names_of_values) (early : Stated Early (List ConstDef)) (headers : List Fault) (bodies : Made_bodies)
+    → after_bodies (map unplaced_definition ds) nowhere (unplaced_stated sketch) (stated_by (map lineless_constant) early) (unplaced_faults headers) (bodies_without bodies)
+    ≡ lineless_typed (after_bodies ds last sketch early headers bodies)
+bodies-unplaced ds last sketch early headers bodies =
     let model = first_model 0 ds in
-    (λ i. whole (unplaced_stated sketch) (stated_by (map lineless_constant) early) (unplaced_faults headers) (stated_by (map lineless_function) funcs) (stated_by (map lineless_process) procs) (model_rule nowhere (model-same 0 ds i)) (model-same 0 ds i))
-    ∙ (λ i. whole (unplaced_stated sketch) (stated_by (map lineless_constant) early) (unplaced_faults headers) (stated_by (map lineless_function) funcs) (stated_by (map lineless_process) procs) (model-unplaced last model i) model)
-    ∙ whole-unplaced sketch early headers funcs procs (model_rule last model) model
+    (λ i. whole (unplaced_stated sketch) (stated_by (map lineless_constant) early) (unplaced_faults headers) (bodies_without bodies) (model_rule nowhere (model-same 0 ds i)) (model-same 0 ds i))
+    ∙ (λ i. whole (unplaced_stated sketch) (stated_by (map lineless_constant) early) (unplaced_faults headers) (bodies_without bodies) (model-unplaced last model i) model)
+    ∙ whole-unplaced sketch early headers bodies (model_rule last model) model
+
+processes-unplaced : (ds : List Definition) (last : Place) (sketch : Stated Sketch Names_of_values) (early : Stated Early (List ConstDef)) (headers : List Fault) (funcs : Stated Names (List FuncDef)) (procs : Stated Names (List ProcDef))
+    → after_processes (map unplaced_definition ds) nowhere (unplaced_stated sketch) (stated_by (map lineless_constant) early) (unplaced_faults headers) (stated_by (map lineless_function) funcs) (stated_by (map lineless_process) procs)
+    ≡ lineless_typed (after_processes ds last sketch early headers funcs procs)
+processes-unplaced ds last sketch early headers funcs procs =
+    let same : in_turn (experiments_of (map unplaced_definition ds)) procs.next ≡ stated_by (map lineless_experiment) (in_turn (experiments_of ds) procs.next) =
+    ap (λ ts. in_turn ts procs.next) (experiments-by ds) ∙ in-turn-by lineless_experiment (experiments_of ds) procs.next in
+    (λ i. after_bodies (map unplaced_definition ds) nowhere (unplaced_stated sketch) (stated_by (map lineless_constant) early) (unplaced_faults headers)
+    (record { funcs = stated_by (map lineless_function) funcs; procs = stated_by (map lineless_process) procs; xpers = same i }))
+    ∙ bodies-unplaced ds last sketch early headers (record { funcs = funcs; procs = procs; xpers = in_turn (experiments_of ds) procs.next })
 
 functions-unplaced : (ds : List Definition) (last : Place) (sketch : Stated Sketch Names_of_values) (early : Stated Early (List ConstDef)) (headers : List Fault) (given : List (Option Header)) (funcs : Stated Names (List FuncDef))
     → after_functions (map unplaced_definition ds) nowhere (unplaced_stated sketch) (stated_by (map lineless_constant) early) (unplaced_faults headers) given (stated_by (map lineless_function) funcs)
     ≡ lineless_typed (after_functions ds last sketch early headers given funcs)
 functions-unplaced ds last sketch early headers given funcs =
-    ap (after_bodies (map unplaced_definition ds) nowhere (unplaced_stated sketch) (stated_by (map lineless_constant) early) (unplaced_faults headers) (stated_by (map lineless_function) funcs))
+    ap (after_processes (map unplaced_definition ds) nowhere (unplaced_stated sketch) (stated_by (map lineless_constant) early) (unplaced_faults headers) (stated_by (map lineless_function) funcs))
     (ap (λ ts. in_turn ts funcs.next) (processes-by ds given) ∙ in-turn-by lineless_process (processes_of ds given) funcs.next)
-    ∙ bodies-unplaced ds last sketch early headers funcs (in_turn (processes_of ds given) funcs.next)
+    ∙ processes-unplaced ds last sketch early headers funcs (in_turn (processes_of ds given) funcs.next)
 
 named-unplaced : (ds : List Definition) (last : Place) (sketch : Stated Sketch Names_of_values) (early : Stated Early (List ConstDef)) (headers : List Fault) (given : List (Option Header)) (named : Named)
     → after_named (map unplaced_definition ds) nowhere (unplaced_stated sketch) (stated_by (map lineless_constant) early) (unplaced_faults headers) given named

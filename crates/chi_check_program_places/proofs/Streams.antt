@@ -1,20 +1,16 @@
--- The streams of a core are those of the core without its lines.
+-- The streams of a statement are those of the statement without its lines.
 use Rattle.std.proofs.Common.{◌≡◌, ℕ, List, [], ◌∷◌, map, refl, sym, ap, subst, ◌∙◌}
 use Rattle.chi_core.specs.declared.expression.CExpr.{CExpr}
-use Rattle.chi_core.specs.declared.program.ConstDef.{ConstDef}
-use Rattle.chi_core.specs.declared.program.Core.{Core}
-use Rattle.chi_core.specs.declared.program.FuncDef.{FuncDef}
-use Rattle.chi_core.specs.declared.program.ProcDef.{ProcDef}
 use Rattle.chi_core.specs.declared.statement.Branch.{Branch, Branch-F, out-Branch, roll-Branch, map-Branch, fold-roll-Branch, fold_out-Branch}
 use Rattle.chi_core.specs.declared.statement.CAlt.{CAlt, CAlt-F, roll-CAlt, map-CAlt, fold-roll-CAlt}
 use Rattle.chi_core.specs.declared.statement.CAlt.TheVariants as alternative
 use Rattle.chi_core.specs.declared.statement.CStat.{CStat, CStat-F, roll-CStat, map-CStat, fold-roll-CStat, ind-CStat}
 use Rattle.chi_core.specs.declared.statement.CStat.TheVariants as statement
-use Rattle.chi_check_streams.specs.Streams.{Counted, Counting, made_of, then_second, each, of_expression, of_expressions, of_target, some, of_communication, of_element, statement_step, branch_step, alternative_step, of_statement, of_branch, of_alternative, of_constant, of_function, of_process, with_streams}
-use Rattle.chi_check_program_places.specs.Lineless.{statement_without, branch_without, alternative_without, lineless_statement, lineless_branch, lineless_alternative, lineless_constant, lineless_function, lineless_process, lineless}
+use Rattle.chi_check_streams.specs.Streams.{Counted, Counting, made_of, then_second, each, of_expression, of_expressions, of_target, some, of_communication, of_element, statement_step, branch_step, alternative_step, of_statement, of_branch, of_alternative}
+use Rattle.chi_check_program_places.specs.Lineless.{statement_without, branch_without, alternative_without, lineless_statement, lineless_branch, lineless_alternative}
 use Rattle.chi_check_program_places.proofs.Without as without
 
-abbrev counted_by : {A : Type 0} → (A → A) → Counting A → Counting A
+abbrev pub counted_by : {A : Type 0} → (A → A) → Counting A → Counting A
 counted_by f c count = made_of f (c count)
 
 module _ {X A : Type 0} (g : A → A) (h' h : X → A) (same : (x : X) → h' x ≡ g (h x)) where
@@ -22,15 +18,15 @@ module _ {X A : Type 0} (g : A → A) (h' h : X → A) (same : (x : X) → h' x 
   made-same c = λ i. record { next = c.next; part = same c.part i }
 
 module _ {X A : Type 0} (p : X → X) (g : A → A) (h' h : X → A) (same : (x : X) → h' (p x) ≡ g (h x)) where
-  made-by : (c : Counted X) {c' : Counted X} → c' ≡ made_of p c → made_of h' c' ≡ made_of g (made_of h c)
+  pub made-by : (c : Counted X) {c' : Counted X} → c' ≡ made_of p c → made_of h' c' ≡ made_of g (made_of h c)
   made-by c r = ap (made_of h') r ∙ (λ i. record { next = c.next; part = same c.part i })
 
 module _ {X Y A : Type 0} (p : X → X) (q : Y → Y) (g : A → A) (h' h : X → Y → A) (same : (x : X) (y : Y) → h' (p x) (q y) ≡ g (h x y)) where
-  second-by : (a : Counted X) (b : Counting Y) {a' : Counted X} {b' : Counting Y} → a' ≡ made_of p a → ((n : ℕ) → b' n ≡ made_of q (b n)) → then_second h' a' b' ≡ made_of g (then_second h a b)
+  pub second-by : (a : Counted X) (b : Counting Y) {a' : Counted X} {b' : Counting Y} → a' ≡ made_of p a → ((n : ℕ) → b' n ≡ made_of q (b n)) → then_second h' a' b' ≡ made_of g (then_second h a b)
   second-by a b r s = (λ i. then_second h' (r i) (λ n. s n i)) ∙ (λ i. record { next = (b a.next).next; part = same a.part (b a.next).part i })
 
 module _ {A : Type 0} (f : A → A) where
-  each-by : (cs : List (Counting A)) (count : ℕ) → each (map (counted_by f) cs) count ≡ made_of (map f) (each cs count)
+  pub each-by : (cs : List (Counting A)) (count : ℕ) → each (map (counted_by f) cs) count ≡ made_of (map f) (each cs count)
   each-by [] count = refl
   each-by (c ∷ cs) count = second-by f (map f) (map f) (λ a more. a ∷ more) (λ a more. a ∷ more) (λ a more. refl) (c count) (each cs) refl (each-by cs)
 
@@ -39,7 +35,7 @@ module _ {A : Type 0} (f : A → A) (of : A → Counting A) (same : (a : A) → 
   lists-by [] = refl
   lists-by (x ∷ xs) = λ i. same x i ∷ lists-by xs i
 
-  all-by : (xs : List A) (count : ℕ) → each (map of (map f xs)) count ≡ made_of (map f) (each (map of xs) count)
+  pub all-by : (xs : List A) (count : ℕ) → each (map of (map f xs)) count ≡ made_of (map f) (each (map of xs) count)
   all-by xs count = ap (λ cs. each cs count) (lists-by xs) ∙ each-by f (map of xs) count
 
 -- ---- layers
@@ -266,50 +262,8 @@ statement-step y = ap of_statement (statement-unrolled (statement_parts y)) ∙ 
 branch-step : (y : Branch-F XA XS XB) → PB (roll-Branch (branch_parts y))
 branch-step y = ap of_branch (branch-unrolled (branch_parts y)) ∙ branch-such y ∙ ap (counted_by lineless_branch) (sym (branch-rolled (branch_parts y)))
 
-statement-streams : (x : CStat) → of_statement (lineless_statement x) ≡ counted_by lineless_statement (of_statement x)
+pub statement-streams : (x : CStat) → of_statement (lineless_statement x) ≡ counted_by lineless_statement (of_statement x)
 statement-streams = ind-CStat PA PS PB
     (λ x y h. subst (λ x. PA (roll-CAlt x)) h (alternative-step y))
     (λ x y h. subst (λ x. PS (roll-CStat x)) h (statement-step y))
     (λ x y h. subst (λ x. PB (roll-Branch x)) h (branch-step y))
-
--- ---- programs
-
-constant-streams : (c : ConstDef) → of_constant (lineless_constant c) ≡ counted_by lineless_constant (of_constant c)
-constant-streams c = refl
-
-function-streams : (f : FuncDef) → of_function (lineless_function f) ≡ counted_by lineless_function (of_function f)
-function-streams f = λ i count. made-by (map lineless_statement) lineless_function
-    (λ body. record { name = f.name; arity = f.arity; result = f.result; slots = f.slots; body = body }) (λ body. record { name = f.name; arity = f.arity; result = f.result; slots = f.slots; body = body })
-    (λ body. refl) (each (map of_statement f.body) count) (all-by lineless_statement of_statement statement-streams f.body count) i
-
-process-streams : (p : ProcDef) → of_process (lineless_process p) ≡ counted_by lineless_process (of_process p)
-process-streams p = λ i count. made-by (map lineless_statement) lineless_process
-    (λ body. record { name = p.name; params = p.params; exit = p.exit; slots = p.slots; body = body }) (λ body. record { name = p.name; params = p.params; exit = p.exit; slots = p.slots; body = body })
-    (λ body. refl) (each (map of_statement p.body) count) (all-by lineless_statement of_statement statement-streams p.body count) i
-
--- a program without lines, of what its constants have been counted
-abbrev with_counted : Core → Counted (List ConstDef) → Core
-with_counted core consts =
-    let funcs = each (map of_function (map lineless_function core.funcs)) consts.next in
-    record { consts = consts.part; funcs = funcs.part; procs = (each (map of_process (map lineless_process core.procs)) funcs.next).part; model = core.model; names = core.names }
-
-pub streams-lineless : (core : Core) → with_streams (lineless core) ≡ lineless (with_streams core)
-unfolding with_streams
-streams-lineless core =
-    let consts = each (map of_constant core.consts) 0 in
-    let funcs = each (map of_function core.funcs) consts.next in
-    (λ i. with_counted core (all-by lineless_constant of_constant constant-streams core.consts 0 i))
-    ∙ (λ i. record {
-      consts = map lineless_constant consts.part;
-      funcs = (all-by lineless_function of_function function-streams core.funcs consts.next i).part;
-      procs = (each (map of_process (map lineless_process core.procs)) (all-by lineless_function of_function function-streams core.funcs consts.next i).next).part;
-      model = core.model;
-      names = core.names;
-    })
-    ∙ (λ i. record {
-      consts = map lineless_constant consts.part;
-      funcs = map lineless_function funcs.part;
-      procs = (all-by lineless_process of_process process-streams core.procs funcs.next i).part;
-      model = core.model;
-      names = core.names;
-    })

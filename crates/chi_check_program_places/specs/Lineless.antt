@@ -1,6 +1,10 @@
 -- A core without its lines: each line that it keeps is 0. Two cores are equal but for their lines where they are the same
 -- without them.
 use Rattle.std.specs.Prelude.{List, map, option_map}
+use Rattle.chi_core.specs.declared.experiment.XBranch.{XBranch, XBranch-F, fold-XBranch}
+use Rattle.chi_core.specs.declared.experiment.XperDef.{XperDef}
+use Rattle.chi_core.specs.declared.experiment.XStat.{XStat, XStat-F, fold-XStat}
+use Rattle.chi_core.specs.declared.experiment.XStat.TheVariants as trial
 use Rattle.chi_core.specs.declared.program.ConstDef.{ConstDef}
 use Rattle.chi_core.specs.declared.program.Core.{Core}
 use Rattle.chi_core.specs.declared.program.FuncDef.{FuncDef}
@@ -49,6 +53,24 @@ lineless_branch = fold-Branch CAlt CStat Branch alternative_without statement_wi
 abbrev pub lineless_alternative : CAlt → CAlt
 lineless_alternative = fold-CAlt CAlt CStat Branch alternative_without statement_without branch_without
 
+-- statements of experiments
+
+abbrev pub xstat_without : XStat-F XStat XBranch → XStat
+xstat_without (XStat-F.Line s) = trial.Line (lineless_statement s)
+xstat_without (XStat-F.If line branches otherwise) = trial.If 0 branches otherwise
+xstat_without (XStat-F.While line test block) = trial.While 0 test block
+xstat_without (XStat-F.For line slots container block) = trial.For 0 slots container block
+xstat_without (XStat-F.RunModel line target model arguments widen) = trial.RunModel 0 target model arguments widen
+
+abbrev pub xbranch_without : XBranch-F XStat XBranch → XBranch
+xbranch_without b = record { test = b.test; block = b.block }
+
+abbrev pub lineless_xstat : XStat → XStat
+lineless_xstat = fold-XStat XStat XBranch xstat_without xbranch_without
+
+abbrev pub lineless_xbranch : XBranch → XBranch
+lineless_xbranch = fold-XBranch XStat XBranch xstat_without xbranch_without
+
 -- programs
 
 abbrev pub lineless_constant : ConstDef → ConstDef
@@ -60,6 +82,9 @@ lineless_function f = record { name = f.name; arity = f.arity; result = f.result
 abbrev pub lineless_process : ProcDef → ProcDef
 lineless_process p = record { name = p.name; params = p.params; exit = p.exit; slots = p.slots; body = map lineless_statement p.body }
 
+abbrev pub lineless_experiment : XperDef → XperDef
+lineless_experiment x = record { name = x.name; slots = x.slots; body = map lineless_xstat x.body }
+
 abbrev pub lineless : Core → Core
 lineless core = record {
   consts = map lineless_constant core.consts;
@@ -67,11 +92,16 @@ lineless core = record {
   procs = map lineless_process core.procs;
   model = core.model;
   names = core.names;
+  xpers = map lineless_experiment core.xpers;
 }
 
 -- what statements come to, without places and lines
 abbrev pub lineless_stated : {S : Type 0} → Stated S (List CStat) → Stated S (List CStat)
 lineless_stated t = record { next = t.next; faults = unplaced_faults t.faults; made = option_map (map lineless_statement) t.made }
+
+-- and those of experiments
+abbrev pub lineless_tried : {S : Type 0} → Stated S (List XStat) → Stated S (List XStat)
+lineless_tried t = record { next = t.next; faults = unplaced_faults t.faults; made = option_map (map lineless_xstat) t.made }
 
 -- what a program comes to, without places and lines
 abbrev pub lineless_typed : Typed Core → Typed Core

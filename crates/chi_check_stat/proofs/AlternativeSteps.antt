@@ -38,7 +38,8 @@ use Rattle.chi_check_stat_lines.specs.Declarations.{walk_in}
 use Rattle.chi_check_stat_lines.specs.Lines.{communication_in}
 use Rattle.chi_check_stat_lines.specs.Blocks.{branched, guarded, offered}
 use Rattle.chi_check_stat.specs.Statements.{stepping, branching, offering, stepping_in, offering_in}
-use Rattle.chi_check_stat.proofs.Folds.{turns, blocks, alternative_is, branch_is}
+use Rattle.chi_check_stat_lines.proofs.Turns.{turns, blocks}
+use Rattle.chi_check_stat.proofs.Folds.{alternative_is, branch_is}
 
 module _ (home : Home) (x : Alternative) (loop : Bool) (s : State) where
   pub next_guarded : (guard : Option Expr) (c : Communication) (inner : List Step) → x ≡ alternative.Guarded guard c inner → (offering home x loop s).next ≡ (block (map (stepping_in home loop) inner) s).next

@@ -32,18 +32,8 @@ use Rattle.chi_check_stat_rules.specs.Homes.{running_rule}
 use Rattle.chi_check_stat_lines.specs.declared.state.Binder.TheVariants as binder
 use Rattle.chi_check_stat_lines.specs.declared.state.State.{State}
 use Rattle.chi_check_stat_lines.specs.Stated.{Turn, in_turn}
-use Rattle.chi_check_stat_lines.specs.States.{block}
-use Rattle.chi_check_stat.specs.Statements.{Going, each_in, element_step, starting, statement_step, branch_step, alternative_step, step_step, stating, stepping, branching, offering}
-
-pub each_mapped : {X A : Type 0} (loop : Bool) (f : X → Going A) (xs : List X) → each_in loop (map f xs) ≡ map (λ x. f x loop) xs
-each_mapped loop f [] = refl
-each_mapped loop f (x ∷ xs) = ap (λ r. f x loop ∷ r) (each_mapped loop f xs)
-
-pub turns : {X A : Type 0} (loop : Bool) (f : X → Going A) (xs : List X) (s : State) → in_turn (each_in loop (map f xs)) s ≡ in_turn (map (λ x. f x loop) xs) s
-turns loop f xs s = ap (λ fs. in_turn fs s) (each_mapped loop f xs)
-
-pub blocks : {X A : Type 0} (loop : Bool) (f : X → Going A) (xs : List X) (s : State) → block (each_in loop (map f xs)) s ≡ block (map (λ x. f x loop) xs) s
-blocks loop f xs s = ap (λ fs. block fs s) (each_mapped loop f xs)
+use Rattle.chi_check_stat_lines.specs.States.{Going}
+use Rattle.chi_check_stat.specs.Statements.{element_step, starting, statement_step, branch_step, alternative_step, step_step, stating, stepping, branching, offering}
 
 module _ (home : Home) where
   pub statement_is : (x : Statement) (o : Statement-F Alternative Statement Branch Step) (loop : Bool) (s : State) → out-Statement x ≡ o

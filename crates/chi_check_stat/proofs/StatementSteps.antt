@@ -32,14 +32,15 @@ use Rattle.chi_check_stat_rules.specs.Homes.{running_rule}
 use Rattle.chi_check_stat_lines.specs.declared.state.Binder.TheVariants as binder
 use Rattle.chi_check_stat_lines.specs.declared.state.State.{State}
 use Rattle.chi_check_stat_lines.specs.Stated.{Stated, in_turn, one}
-use Rattle.chi_check_stat_lines.specs.States.{cut, block}
+use Rattle.chi_check_stat_lines.specs.States.{cut, block, each_in}
 use Rattle.chi_check_stat_lines.specs.Values.{assignment_in, test_in}
 use Rattle.chi_check_stat_lines.specs.Declarations.{walk_in, declaration_in}
 use Rattle.chi_check_stat_lines.specs.Lines.{communicating, return_in, exit_in, finish_in, write_in}
 use Rattle.chi_check_stat_lines.specs.Blocks.{offers, runs, starts, chosen, looped, walked}
-use Rattle.chi_check_stat.specs.Statements.{each_in, starting, stating, stepping, branching, offering, stepping_in, branching_in, offering_in}
+use Rattle.chi_check_stat.specs.Statements.{starting, stating, stepping, branching, offering, stepping_in, branching_in, offering_in}
 use Rattle.chi_check_stat_lines.proofs.Held.{held_made, one_unless}
-use Rattle.chi_check_stat.proofs.Folds.{turns, blocks, statement_is}
+use Rattle.chi_check_stat_lines.proofs.Turns.{turns, blocks}
+use Rattle.chi_check_stat.proofs.Folds.{statement_is}
 
 module _ (home : Home) (x : Statement) (loop : Bool) (s : State) where
   pub next_declare : (tree : TypeTree) (variables : List Variable) → x ≡ statement.Declare tree variables → (stating home x loop s).next ≡ (declaration_in home tree variables s).next

@@ -19,19 +19,11 @@ use Rattle.chi_check_stat_lines.specs.declared.state.Binder.TheVariants as binde
 use Rattle.chi_check_stat_lines.specs.declared.state.State.{State}
 use Rattle.chi_check_stat_lines.specs.declared.state.Opened.{Opened}
 use Rattle.chi_check_stat_lines.specs.Stated.{Turn, both, in_turn, alone, held_by}
-use Rattle.chi_check_stat_lines.specs.States.{closed, block}
+use Rattle.chi_check_stat_lines.specs.States.{closed, block, Going, each_in}
 use Rattle.chi_check_stat_lines.specs.Values.{test_in, guard_in, assignment_in}
 use Rattle.chi_check_stat_lines.specs.Declarations.{declaration_in, walk_in}
 use Rattle.chi_check_stat_lines.specs.Lines.{communication_in, communicating, element_in, write_in, return_in, exit_in, finish_in}
 use Rattle.chi_check_stat_lines.specs.Blocks.{offers, runs, starts, chosen, looped, walked, branched, guarded, offered}
-
--- what a statement comes to, where a loop stands around it or not
-abbrev pub Going : Type 0 → Type 0
-Going A = Bool → Turn State A
-
--- each where a loop stands around it or not
-abbrev pub each_in : {A : Type 0} → Bool → List (Going A) → List (Turn State A)
-each_in loop fs = map (λ f. f loop) fs
 
 -- ---- what is run and started
 

@@ -1,10 +1,12 @@
 -- Private to proofs. One after another: what is done, and what is left.
-use Rattle.std.proofs.Common.{ℕ, zero, suc, ◌≡◌, ◌+◌, ◌<◌, ◌≤◌, List, [], ◌∷◌, ◌++◌, map, drop, length, get_or, Option, Some, None, refl, sym, ap, ◌∙◌, arith, add-one, drop-cons, append_assoc}
+use Rattle.std.proofs.Common.{Bool, ℕ, zero, suc, ◌≡◌, ◌+◌, ◌<◌, ◌≤◌, List, [], ◌∷◌, ◌++◌, map, drop, length, get_or, Option, Some, None, refl, sym, ap, ◌∙◌, arith, add-one, drop-cons, append_assoc}
 use Rattle.std.proofs.lemmas.List.{append-nil}
 use Rattle.chi_check_types.specs.declared.fault.Fault.{Fault}
 use Rattle.chi_check_types.specs.Faults.{first_of}
 use Rattle.chi_check_types.proofs.Firsts.{first_of_append, first_of_none}
+use Rattle.chi_check_stat_lines.specs.declared.state.State.{State}
 use Rattle.chi_check_stat_lines.specs.Stated.{Turn, in_turn, joined}
+use Rattle.chi_check_stat_lines.specs.States.{block, Going, each_in}
 
 pub at : {A : Type 0} (xs : List A) (i : ℕ) (x : A) → i < length xs → x ≡ get_or xs i x → drop i xs ≡ x ∷ drop (i + 1) xs
 at xs i x h e = drop-cons xs i x h ∙ (λ j. sym e j ∷ drop (sym (add-one i) j) xs)
@@ -55,3 +57,14 @@ module _ {X S A : Type 0} (through : List X → List (Turn S A)) (xs : List X) w
 
   pub short_noted : (i : ℕ) (s : S) (kept : Option Fault) (x : X) → i < length xs → x ≡ get_or xs i x → through (x ∷ drop (i + 1) xs) ≡ [] → first_of kept (in_turn (through (drop i xs)) s).faults ≡ kept
   short_noted i s kept x h e t = ap (λ xs. first_of kept (in_turn (through xs) s).faults) (at xs i x h e) ∙ ap (λ fs. first_of kept (in_turn fs s).faults) t ∙ first_of_none kept [] refl
+
+-- each where a loop stands around it or not
+pub each_mapped : {X A : Type 0} (loop : Bool) (f : X → Going A) (xs : List X) → each_in loop (map f xs) ≡ map (λ x. f x loop) xs
+each_mapped loop f [] = refl
+each_mapped loop f (x ∷ xs) = ap (λ r. f x loop ∷ r) (each_mapped loop f xs)
+
+pub turns : {X A : Type 0} (loop : Bool) (f : X → Going A) (xs : List X) (s : State) → in_turn (each_in loop (map f xs)) s ≡ in_turn (map (λ x. f x loop) xs) s
+turns loop f xs s = ap (λ fs. in_turn fs s) (each_mapped loop f xs)
+
+pub blocks : {X A : Type 0} (loop : Bool) (f : X → Going A) (xs : List X) (s : State) → block (each_in loop (map f xs)) s ≡ block (map (λ x. f x loop) xs) s
+blocks loop f xs s = ap (λ fs. block fs s) (each_mapped loop f xs)

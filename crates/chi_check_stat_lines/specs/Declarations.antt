@@ -18,7 +18,7 @@ use Rattle.chi_check_types.specs.Typed.{Typed, after}
 use Rattle.chi_check_expr.specs.Typing.{reading}
 use Rattle.chi_check_stat_rules.specs.declared.home.Home.{Home}
 use Rattle.chi_check_stat_rules.specs.declared.parts.Walked.{Walked}
-use Rattle.chi_check_stat_rules.specs.Homes.{site_of, channel_rule}
+use Rattle.chi_check_stat_rules.specs.Homes.{site_of, local_rule}
 use Rattle.chi_check_stat_rules.specs.Places.{expr_place, type_place}
 use Rattle.chi_check_stat_rules.specs.Values.{initial_value}
 use Rattle.chi_check_stat_rules.specs.Walks.{walk_of}
@@ -78,7 +78,7 @@ module _ (home : Home) where
   declaration_in tree variables s =
       let t = reading (site_of home) s.names tree true in
       let place = type_place tree in
-      preceded t.faults (held_by (channel_rule home place (option_map (λ m. m.ty) t.made)) (in_turn (map (declared place.line t.made) variables) s))
+      preceded t.faults (held_by (local_rule home place (option_map (λ m. m.ty) t.made)) (in_turn (map (declared place.line t.made) variables) s))
 
   -- ---- walks
 

@@ -20,7 +20,7 @@ use Rattle.chi_check_stat_rules.specs.declared.parts.Receiver.{Receiver}
 use Rattle.chi_check_stat_rules.specs.Channels.{send_of, named_receiver, receive_of, delay_of}
 use Rattle.chi_check_stat_rules.specs.Elements.{start_of, element_made}
 use Rattle.chi_check_stat_rules.specs.Endings.{return_of, exit_of}
-use Rattle.chi_check_stat_rules.specs.Homes.{running_rule}
+use Rattle.chi_check_stat_rules.specs.Homes.{running_rule, writing_rule}
 use Rattle.chi_check_stat_rules.specs.Places.{expr_place}
 use Rattle.chi_check_stat_rules.specs.Writes.{Written, ended, pieces_of, write_of}
 use Rattle.chi_check_stat_lines.specs.Values.{made_of, all_faults, faults_if, made_if, all_of, value_in, values_in, instance_in, target_in, goal_in}
@@ -79,7 +79,7 @@ module _ (home : Home) where
 
   abbrev pub write_in : Names → Place → Bool → List ℕ → Place → List Expr → Typed CStat
   write_in names place ends_line format format_place values =
-      barred (running_rule home place)
+      barred (writing_rule home place)
       (after (all_faults (values_in home names values)) (write_of place.line format_place (pieces_of (ended ends_line format)) (placed values (map made_of (values_in home names values)))))
 
   -- ---- the other statements of one line

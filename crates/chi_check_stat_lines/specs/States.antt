@@ -1,5 +1,5 @@
 -- The names that are visible, and the slots of the variables so far, in a body.
-use Rattle.std.specs.Prelude.{ℕ, Bool, not, ◌||◌, List, [], ◌∷◌, ◌++◌, length, take, Option, Some, None, is_some, if◌then◌else◌}
+use Rattle.std.specs.Prelude.{ℕ, Bool, not, ◌||◌, List, [], ◌∷◌, ◌++◌, length, map, take, Option, Some, None, is_some, if◌then◌else◌}
 use Rattle.chi_tree.specs.declared.type_tree.Name.{Name}
 use Rattle.chi_types.specs.declared.ty.Ty.{Ty}
 use Rattle.chi_check_types.specs.declared.fault.Fault.{Fault}
@@ -79,3 +79,11 @@ closed s t = record { next = cut (length s.names) t.next; faults = t.faults; mad
 
 abbrev pub block : {A : Type 0} → List (Turn State A) → Turn State A
 block fs s = closed s (in_turn fs s)
+
+-- what a statement comes to, where a loop stands around it or not
+abbrev pub Going : Type 0 → Type 0
+Going A = Bool → Turn State A
+
+-- each where a loop stands around it or not
+abbrev pub each_in : {A : Type 0} → Bool → List (Going A) → List (Turn State A)
+each_in loop fs = map (λ f. f loop) fs

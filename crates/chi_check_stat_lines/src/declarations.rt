@@ -5,7 +5,7 @@
 ghost use Rattle.std.specs.Prelude.{◌≡◌, map, option_map, not, length, if◌then◌else◌, None, IfOk, OnOk};
 ghost use Rattle.std.specs.Option.{option_copied};
 ghost use Rattle.chi_check_types.specs.Faults.{first_of, are_none};
-ghost use Rattle.chi_check_stat_rules.specs.Homes.{channel_rule};
+ghost use Rattle.chi_check_stat_rules.specs.Homes.{local_rule};
 ghost use Rattle.chi_check_stat_lines.specs.Stated.{held_by, in_turn};
 ghost use Rattle.chi_check_stat_lines.specs.declared.state.Binder.TheVariants as binder;
 ghost use Rattle.chi_check_stat_lines.specs.States.{is_taken, with_variable};
@@ -28,7 +28,8 @@ use chi_tree::{Initial, Name, TypeTree, Variable, Walk};
 use chi_types::Ty;
 use std::alloc::Global;
 
-fn type_of(meant: &Option<Meant>) -> Option<&Ty>
+/// The type that was meant, if there is one.
+pub fn type_of(meant: &Option<Meant>) -> Option<&Ty>
     ensures { option_copied result ≡ option_map (λ m. m.ty) meant.now }
 {
     match meant {
@@ -86,7 +87,7 @@ fn declaration(
 }
 
 /// Adds a variable, and tells its slot.
-fn add_declared(
+pub fn add_declared(
     alloc: Global,
     name: &Name,
     ty: Option<&Ty>,
@@ -100,8 +101,9 @@ fn add_declared(
     Ok(slot)
 }
 
+/// One variable of a declaration, of the type that was meant.
 #[tactic(auto, using(chi_check_types::proofs::Firsts::first_of_append, crate::proofs::Held::held_if))]
-fn declare_one(
+pub fn declare_one(
     alloc: Global,
     home: &Home,
     line: u32,
@@ -160,13 +162,13 @@ fn declare_meant(
     ensures next { let declared = in_turn (map (spec.declared home.now place.line meant.now) variables.now) state.old in
         OnOk result (state.new ≡ declared.next) }
     ensures made { let declared = in_turn (map (spec.declared home.now place.line meant.now) variables.now) state.old in
-        let rule = channel_rule home.now place (option_map (λ m. m.ty) meant.now) in
+        let rule = local_rule home.now place (option_map (λ m. m.ty) meant.now) in
         IfOk result (λ s. s ≡ (held_by rule declared).made) }
     ensures noted { let declared = in_turn (map (spec.declared home.now place.line meant.now) variables.now) state.old in
-        let rule = channel_rule home.now place (option_map (λ m. m.ty) meant.now) in
+        let rule = local_rule home.now place (option_map (λ m. m.ty) meant.now) in
         OnOk result (kept.new ≡ first_of kept.old (held_by rule declared).faults) }
 {
-    let barred = chi_check_stat_rules::note_channel(home, place, type_of(meant), kept);
+    let barred = chi_check_stat_rules::note_local(home, place, type_of(meant), kept);
     let made = declare_all(alloc, home, place.line, meant, variables, state, kept)?;
     Ok(unless(barred, made))
 }

@@ -15,12 +15,12 @@ mod values;
 pub use blocks::{
     branched, chosen, guarded, loop_word, looped, offered, ran, selected, started, walked,
 };
-pub use declarations::{declare, open_walk};
+pub use declarations::{add_declared, declare, declare_one, open_walk, type_of};
 pub use growing::Growing;
 pub use lines::{
     communicating, communication_in, element_in, exit_in, finish_in, return_in, write_in,
 };
 pub use lists::{joined, nothing, one};
-pub use names::{add_name, bind, copied, note_new_name};
+pub use names::{add_name, add_variable, bind, copied, next_slot, note_new_name};
 pub use state::{Binder, Opened, State};
-pub use values::{assignment_in, guard_in, test_in};
+pub use values::{assignment_in, guard_in, target_in, test_in, value_in, values_in};

@@ -17,7 +17,7 @@ use crate::lists::one;
 use crate::values::{goal_in, instances_in, some_value_in, target_in, value_in, values_in};
 use chi_base::{Items, NoMemory};
 use chi_check_expr_rules::{list_of_one, unless};
-use chi_check_stat_rules::{Home, Receiver, Started, expr_place, note_running};
+use chi_check_stat_rules::{Home, Receiver, Started, expr_place, note_running, note_writing};
 use chi_check_types::{Fault, Made, Scope};
 use chi_core::{CAlt, CComm, CElem, CExpr, CStat};
 use chi_token::{Bytes, Place};
@@ -296,7 +296,7 @@ pub fn write_in(
     ensures made { IfOk result (λ s. s ≡ stated.one (spec.write_in home.now scope.now place ends_line format.now format_place values.now).made) }
     ensures noted { OnOk result (kept.new ≡ first_of kept.old (spec.write_in home.now scope.now place ends_line format.now format_place values.now).faults) }
 {
-    let barred = note_running(home, place, kept);
+    let barred = note_writing(home, place, kept);
     let written = written_in(alloc, home, scope, values, kept)?;
     match chi_check_stat_rules::format_pieces(alloc, ends_line, format) {
         Ok(pieces) => written_by(

@@ -73,7 +73,7 @@ pub fn copied(alloc: Global, ty: Option<&Ty>) -> Result<Option<Ty>, NoMemory>
 }
 
 /// The number of the next slot.
-pub(crate) fn next_slot(state: &State) -> Result<u32, NoMemory>
+pub fn next_slot(state: &State) -> Result<u32, NoMemory>
     ensures { IfOk result (λ slot. slot ≡ spec.next_slot state.now) }
 {
     match u32::try_from(state.slots.count()) {
@@ -83,7 +83,7 @@ pub(crate) fn next_slot(state: &State) -> Result<u32, NoMemory>
 }
 
 /// A new variable, in the next slot.
-pub(crate) fn add_variable(
+pub fn add_variable(
     alloc: Global,
     binder: Binder,
     name: &Name,

@@ -19,7 +19,8 @@ use chi_token::Place;
 use chi_tree::{Expr, Postfix, Target};
 use std::alloc::Global;
 
-pub(crate) fn value_in(
+/// A value, where it stands in a body.
+pub fn value_in(
     alloc: Global,
     home: &Home,
     scope: &Scope,
@@ -49,7 +50,8 @@ pub(crate) fn some_value_in(
     }
 }
 
-pub(crate) fn values_in(
+/// Values in order, each with a type or without.
+pub fn values_in(
     alloc: Global,
     home: &Home,
     scope: &Scope,
@@ -206,7 +208,8 @@ fn steps_in(
     Ok(part)
 }
 
-pub(crate) fn target_in(
+/// A target: its name, and the steps into its parts.
+pub fn target_in(
     alloc: Global,
     home: &Home,
     scope: &Scope,

@@ -71,6 +71,7 @@ untyped_receiver place kind.Constant = refused RECEIVING_NAME place
 untyped_receiver place kind.Type = refused RECEIVING_NAME place
 untyped_receiver place kind.Function = refused RECEIVING_NAME place
 untyped_receiver place kind.Process = refused RECEIVING_NAME place
+untyped_receiver place kind.Model = refused RECEIVING_NAME place
 
 -- what is known of the name; one that isn't visible is no variable either
 abbrev pub visible_receiver : Place → Place → Option Known → Typed Receiver
@@ -83,7 +84,7 @@ visible_receiver place name (Some (known.Kind t)) = refused RECEIVING_NAME place
 visible_receiver place name (Some (known.Value enumeration position)) = refused RECEIVING_NAME place
 visible_receiver place name (Some (known.Func number params result)) = refused RECEIVING_NAME place
 visible_receiver place name (Some (known.Proc number params exit)) = refused RECEIVING_NAME place
-visible_receiver place name (Some (known.Model number)) = refused RECEIVING_NAME place
+visible_receiver place name (Some (known.Model number params exit)) = refused RECEIVING_NAME place
 visible_receiver place name (Some (known.Xper number)) = refused RECEIVING_NAME place
 
 abbrev pub named_receiver : Place → Names → Name → Typed Receiver

@@ -43,6 +43,7 @@ is_other_exit (exit.Given own) t = not (same t own)
 abbrev pub exit_in : Home → Place → Ty → List Fault
 exit_in (home.Function result) place t = []
 exit_in (home.Process own) place t = broken_if (is_other_exit own t) STARTED_EXIT place
+exit_in home.Experiment place t = []
 
 -- one without an exit type is started by any
 abbrev pub exit_rule : Home → Place → Option Ty → List Fault
@@ -65,6 +66,7 @@ untyped_start place kind.Unwound = refused NAME_KIND place
 untyped_start place kind.Constant = refused NAME_KIND place
 untyped_start place kind.Type = refused NAME_KIND place
 untyped_start place kind.Function = refused NAME_KIND place
+untyped_start place kind.Model = refused NAME_KIND place
 
 -- what is known of the name of what is started
 abbrev pub visible_start : Home → Place → Option Known → List (Option Made) → Typed Started
@@ -78,7 +80,7 @@ visible_start h place (Some (known.Const number t)) arguments = refused NAME_KIN
 visible_start h place (Some (known.Kind t)) arguments = refused NAME_KIND place
 visible_start h place (Some (known.Value enumeration position)) arguments = refused NAME_KIND place
 visible_start h place (Some (known.Func number params result)) arguments = refused NAME_KIND place
-visible_start h place (Some (known.Model number)) arguments = refused NAME_KIND place
+visible_start h place (Some (known.Model number params exit)) arguments = refused NAME_KIND place
 visible_start h place (Some (known.Xper number)) arguments = refused NAME_KIND place
 
 abbrev pub start_of : Home → Names → Name → List (Option Made) → Typed Started

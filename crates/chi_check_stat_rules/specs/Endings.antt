@@ -7,7 +7,7 @@ use Rattle.chi_core.specs.declared.statement.CStat.{CStat}
 use Rattle.chi_core.specs.declared.statement.CStat.TheVariants as statement
 use Rattle.chi_check_types.specs.declared.fault.Fault.{Fault}
 use Rattle.chi_check_types.specs.declared.meant.Made.{Made}
-use Rattle.chi_check_types.specs.declared.rules.TheConstants.{IN_FUNCTION, RETURN, EXIT, LOOP_WORD}
+use Rattle.chi_check_types.specs.declared.rules.TheConstants.{IN_FUNCTION, IN_EXPERIMENT, RETURN, EXIT, LOOP_WORD}
 use Rattle.chi_check_types.specs.Typed.{Typed, unless, untyped, refused, broken_if}
 use Rattle.chi_check_expr_rules.specs.Nodes.{of_one}
 use Rattle.chi_check_stat_rules.specs.declared.home.ExitType.{ExitType}
@@ -28,6 +28,7 @@ return_as place (Some t) m = of_one RETURN place (returning place.line t) m
 abbrev pub return_of : Home → Place → Option Made → Typed CStat
 return_of (home.Function result) place m = return_as place result m
 return_of (home.Process own) place m = refused RETURN place
+return_of home.Experiment place m = refused RETURN place
 
 -- ---- exit
 
@@ -54,10 +55,11 @@ abbrev pub exit_with : ExitType → Place → Option (Option Made) → Typed CSt
 exit_with own place None = exit_bare own place
 exit_with own place (Some m) = exit_value own place m
 
--- the value is none where none stands there, and may have no type; a function has no exit
+-- the value is none where none stands there, and may have no type; a function and an experiment have no exit
 abbrev pub exit_of : Home → Place → Option (Option Made) → Typed CStat
 exit_of (home.Function result) place value = refused IN_FUNCTION place
 exit_of (home.Process own) place value = exit_with own place value
+exit_of home.Experiment place value = refused IN_EXPERIMENT place
 
 -- ---- break and continue
 

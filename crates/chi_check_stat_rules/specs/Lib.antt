@@ -3,6 +3,7 @@ pub mod Channels
 pub mod Elements
 pub mod Endings
 pub mod Homes
+pub mod ModelRuns
 pub mod Places
 pub mod Targets
 pub mod Values

@@ -34,6 +34,7 @@ untyped_target place kind.Constant = refused TARGET place
 untyped_target place kind.Type = refused TARGET place
 untyped_target place kind.Function = refused TARGET place
 untyped_target place kind.Process = refused TARGET place
+untyped_target place kind.Model = refused TARGET place
 
 -- what is known of the name where it stands
 abbrev pub visible_target : Place → Option Known → Typed Aim
@@ -46,7 +47,7 @@ visible_target place (Some (known.Kind t)) = refused TARGET place
 visible_target place (Some (known.Value enumeration position)) = refused TARGET place
 visible_target place (Some (known.Func number params result)) = refused TARGET place
 visible_target place (Some (known.Proc number params exit)) = refused TARGET place
-visible_target place (Some (known.Model number)) = refused TARGET place
+visible_target place (Some (known.Model number params exit)) = refused TARGET place
 visible_target place (Some (known.Xper number)) = refused TARGET place
 
 abbrev pub named_target : Names → Name → Typed Aim

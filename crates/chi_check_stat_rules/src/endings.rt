@@ -65,7 +65,7 @@ pub fn return_of(
 {
     match home {
         Home::Function(ty) => return_as(alloc, place, ty, made, kept),
-        Home::Process(_) => {
+        Home::Process(_) | Home::Experiment => {
             note(kept, rules::RETURN, place);
             drop(made);
             Ok(None)
@@ -146,6 +146,22 @@ fn exit_bare(own: &ExitType, place: Place, kept: &mut Option<Fault>) -> Option<C
     }
 }
 
+fn exit_with(
+    alloc: Global,
+    own: &ExitType,
+    place: Place,
+    value: Option<Option<Made>>,
+    kept: &mut Option<Fault>,
+) -> Result<Option<CStat>, NoMemory>
+    ensures made { IfOk result (λ s. s ≡ (spec.exit_with own.now place value).made) }
+    ensures noted { OnOk result (kept.new ≡ first_of kept.old (spec.exit_with own.now place value).faults) }
+{
+    match value {
+        None => Ok(exit_bare(own, place, kept)),
+        Some(made) => exit_value(alloc, own, place, made, kept),
+    }
+}
+
 /// An exit, whose word stands at the place, with a value where one stands there; that may have no type.
 pub fn exit_of(
     alloc: Global,
@@ -157,14 +173,18 @@ pub fn exit_of(
     ensures made { IfOk result (λ s. s ≡ (spec.exit_of home.now place value).made) }
     ensures noted { OnOk result (kept.new ≡ first_of kept.old (spec.exit_of home.now place value).faults) }
 {
-    let Home::Process(own) = home else {
-        note(kept, rules::IN_FUNCTION, place);
-        drop(value);
-        return Ok(None);
-    };
-    match value {
-        None => Ok(exit_bare(own, place, kept)),
-        Some(made) => exit_value(alloc, own, place, made, kept),
+    match home {
+        Home::Function(_) => {
+            note(kept, rules::IN_FUNCTION, place);
+            drop(value);
+            Ok(None)
+        }
+        Home::Process(own) => exit_with(alloc, own, place, value, kept),
+        Home::Experiment => {
+            note(kept, rules::IN_EXPERIMENT, place);
+            drop(value);
+            Ok(None)
+        }
     }
 }
 

@@ -17,4 +17,5 @@ pub enum Home {
     Function(Option<Ty>),
     /// A process or a model.
     Process(ExitType),
+    Experiment,
 }

@@ -1,4 +1,4 @@
-//! What may stand in a function and what may not.
+//! What may stand in a function, in a process and in an experiment, and what may not.
 
 #![tactic(auto, using(chi_check_types::proofs::Firsts::first_of_none))]
 
@@ -11,9 +11,9 @@ ghost use Rattle.chi_check_types.specs.Faults.{first_of, are_none};
 ghost use Rattle.chi_check_stat_rules.specs.Homes as spec;
 
 use crate::home::Home;
-use chi_check_types::{Fault, Site, note, rules};
+use chi_check_types::{Fault, Site, note, note_if, rules};
 use chi_token::{Bytes, Place};
-use chi_types::Ty;
+use chi_types::{Ty, is_plain};
 
 /// Where the expressions of a body stand.
 pub fn site_of(home: &Home) -> Site
@@ -22,10 +22,11 @@ pub fn site_of(home: &Home) -> Site
     match home {
         Home::Function(_) => Site::Function,
         Home::Process(_) => Site::Process,
+        Home::Experiment => Site::Experiment,
     }
 }
 
-/// Notes what stands in no function where it stands in one, and tells whether it does.
+/// Notes what stands in no function and in no experiment where it stands in one, and tells whether it does.
 pub fn note_running(home: &Home, place: Place, kept: &mut Option<Fault>) -> bool
     ensures barred { result ≡ not (are_none (spec.running_rule home.now place)) }
     ensures noted { kept.new ≡ first_of kept.old (spec.running_rule home.now place) }
@@ -36,6 +37,24 @@ pub fn note_running(home: &Home, place: Place, kept: &mut Option<Fault>) -> bool
             true
         }
         Home::Process(_) => false,
+        Home::Experiment => {
+            note(kept, rules::IN_EXPERIMENT, place);
+            true
+        }
+    }
+}
+
+/// Notes what writes where it stands in a function, and tells whether it does.
+pub fn note_writing(home: &Home, place: Place, kept: &mut Option<Fault>) -> bool
+    ensures barred { result ≡ not (are_none (spec.writing_rule home.now place)) }
+    ensures noted { kept.new ≡ first_of kept.old (spec.writing_rule home.now place) }
+{
+    match home {
+        Home::Function(_) => {
+            note(kept, rules::IN_FUNCTION, place);
+            true
+        }
+        Home::Process(_) | Home::Experiment => false,
     }
 }
 
@@ -71,20 +90,33 @@ fn any_has_channel(parts: &[(Bytes, Ty)]) -> bool
     false
 }
 
-/// Notes a local variable of a function whose type has a channel in it, and tells whether it is one.
-pub fn note_channel(home: &Home, place: Place, ty: Option<&Ty>, kept: &mut Option<Fault>) -> bool
-    ensures barred { result ≡ not (are_none (spec.channel_rule home.now place (option_copied ty.entry))) }
-    ensures noted { kept.new ≡ first_of kept.old (spec.channel_rule home.now place (option_copied ty.entry)) }
+fn note_local_in(home: &Home, place: Place, ty: &Ty, kept: &mut Option<Fault>) -> bool
+    ensures barred { result ≡ not (are_none (spec.local_in_rule home.now place ty.now)) }
+    ensures noted { kept.new ≡ first_of kept.old (spec.local_in_rule home.now place ty.now) }
 {
-    let Some(ty) = ty else {
-        return false;
-    };
-    let Home::Function(_) = home else {
-        return false;
-    };
-    if !has_channel(ty) {
-        return false;
+    match home {
+        Home::Function(_) => {
+            let holds_channel = has_channel(ty);
+            note_if(kept, holds_channel, rules::CHANNEL_IN_FUNCTION, place);
+            holds_channel
+        }
+        Home::Process(_) => false,
+        Home::Experiment => {
+            let plain = is_plain(ty);
+            note_if(kept, !plain, rules::IN_EXPERIMENT, place);
+            !plain
+        }
     }
-    note(kept, rules::CHANNEL_IN_FUNCTION, place);
-    true
+}
+
+/// Notes a local variable of a function whose type has a channel in it, and one of an experiment whose type isn't
+/// plain, and tells whether it is one.
+pub fn note_local(home: &Home, place: Place, ty: Option<&Ty>, kept: &mut Option<Fault>) -> bool
+    ensures barred { result ≡ not (are_none (spec.local_rule home.now place (option_copied ty.entry))) }
+    ensures noted { kept.new ≡ first_of kept.old (spec.local_rule home.now place (option_copied ty.entry)) }
+{
+    match ty {
+        None => false,
+        Some(ty) => note_local_in(home, place, ty, kept),
+    }
 }

@@ -29,3 +29,19 @@ pub struct Started {
     pub process: u32,
     pub arguments: Items<CExpr>,
 }
+
+/// A model by its number, with the types of its parameters and that of its exits' values.
+#[derive(Debug, Drop)]
+pub struct Modelled {
+    pub number: u32,
+    pub params: Items<Ty>,
+    pub exit: Option<Ty>,
+}
+
+/// A model by its number, the arguments with which it is run, and the type of the value that it gives.
+#[derive(Debug, Drop)]
+pub struct ModelRun {
+    pub model: u32,
+    pub arguments: Items<CExpr>,
+    pub exit: Ty,
+}

@@ -1,5 +1,5 @@
 -- The streams of distributions. The calls that make one are numbered from 0 over the whole program: constants in order,
--- then functions, then processes and models; within each in the order of the core, a call after those in its own operands.
+-- then functions, then processes and models, then experiments; within each in the order of the core, a call after those in its own operands.
 -- There are sixty-four streams, and call number j draws from stream j modulo 64.
 use Rattle.std.specs.Prelude.{ℕ, suc, ◌+◌, ◌%◌, pos, Bool, true, false, List, [], ◌∷◌, ◌++◌, map, Option, Some, None, if◌then◌else◌}
 use Rattle.chi_dist.specs.Draws.{stream_count}
@@ -7,6 +7,10 @@ use Rattle.chi_core.specs.declared.communication.CComm.{CComm}
 use Rattle.chi_core.specs.declared.communication.CComm.TheVariants as comm
 use Rattle.chi_core.specs.declared.element.CElem.{CElem, CElem-F, fold-CElem}
 use Rattle.chi_core.specs.declared.element.CElem.TheVariants as element
+use Rattle.chi_core.specs.declared.experiment.XBranch.{XBranch, XBranch-F, fold-XBranch}
+use Rattle.chi_core.specs.declared.experiment.XperDef.{XperDef}
+use Rattle.chi_core.specs.declared.experiment.XStat.{XStat, XStat-F, fold-XStat}
+use Rattle.chi_core.specs.declared.experiment.XStat.TheVariants as trial
 use Rattle.chi_core.specs.declared.expression.CExpr.{CExpr, CExpr-F, fold-CExpr}
 use Rattle.chi_core.specs.declared.expression.CExpr.TheVariants as expression
 use Rattle.chi_core.specs.declared.op_name.OpName.{OpName}
@@ -146,6 +150,27 @@ of_branch = fold-Branch (Counting CAlt) (Counting CStat) (Counting Branch) alter
 unfoldable pub of_alternative : CAlt → Counting CAlt
 of_alternative = fold-CAlt (Counting CAlt) (Counting CStat) (Counting Branch) alternative_step statement_step branch_step
 
+-- ---- statements of experiments
+
+abbrev pub model_ran : ℕ → ℕ → Bool → CTarget → List CExpr → XStat
+model_ran line model widen target arguments = trial.RunModel line target model arguments widen
+
+abbrev pub xstat_step : XStat-F (Counting XStat) (Counting XBranch) → Counting XStat
+xstat_step (XStat-F.Line s) count = made_of trial.Line (of_statement s count)
+xstat_step (XStat-F.If line branches otherwise) count = then_second (trial.If line) (each branches count) (each otherwise)
+xstat_step (XStat-F.While line test block) count = then_second (trial.While line) (of_expression test count) (each block)
+xstat_step (XStat-F.For line slots container block) count = then_second (trial.For line slots) (of_expression container count) (each block)
+xstat_step (XStat-F.RunModel line target model arguments widen) count = then_second (model_ran line model widen) (of_target target count) (of_expressions arguments)
+
+abbrev pub xbranch_step : XBranch-F (Counting XStat) (Counting XBranch) → Counting XBranch
+xbranch_step b count = then_second (λ test block. record { test = test; block = block }) (of_expression b.test count) (each b.block)
+
+unfoldable pub of_xstat : XStat → Counting XStat
+of_xstat = fold-XStat (Counting XStat) (Counting XBranch) xstat_step xbranch_step
+
+unfoldable pub of_xbranch : XBranch → Counting XBranch
+of_xbranch = fold-XBranch (Counting XStat) (Counting XBranch) xstat_step xbranch_step
+
 -- ---- programs
 
 abbrev pub of_constant : ConstDef → Counting ConstDef
@@ -157,10 +182,14 @@ of_function f count = made_of (λ body. record { name = f.name; arity = f.arity;
 abbrev pub of_process : ProcDef → Counting ProcDef
 of_process p count = made_of (λ body. record { name = p.name; params = p.params; exit = p.exit; slots = p.slots; body = body }) (each (map of_statement p.body) count)
 
+abbrev pub of_experiment : XperDef → Counting XperDef
+of_experiment x count = made_of (λ body. record { name = x.name; slots = x.slots; body = body }) (each (map of_xstat x.body) count)
+
 -- the program with a stream for each call that makes a distribution
 unfoldable pub with_streams : Core → Core
 with_streams core =
     let consts = each (map of_constant core.consts) 0 in
     let funcs = each (map of_function core.funcs) consts.next in
     let procs = each (map of_process core.procs) funcs.next in
-    record { consts = consts.part; funcs = funcs.part; procs = procs.part; model = core.model; names = core.names }
+    let xpers = each (map of_experiment core.xpers) procs.next in
+    record { consts = consts.part; funcs = funcs.part; procs = procs.part; model = core.model; names = core.names; xpers = xpers.part }

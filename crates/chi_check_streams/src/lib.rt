@@ -1,6 +1,7 @@
 //! The streams of distributions: a pass over a core that numbers the calls that make one.
 #![tactic(auto)]
 
+mod experiments;
 mod expressions;
 mod parts;
 mod programs;

@@ -32,7 +32,7 @@ fn steps(alloc: Global, all: Items<CStep>, count: &mut u64) -> Result<Items<CSte
     Ok(Items::of(alloc, done)?)
 }
 
-fn target(alloc: Global, t: CTarget, count: &mut u64) -> Result<CTarget, NoMemory>
+pub(crate) fn target(alloc: Global, t: CTarget, count: &mut u64) -> Result<CTarget, NoMemory>
     ensures part { IfOk result (λ r. r ≡ (spec.of_target t count.old).part) }
     ensures next { OnOk result (count.new ≡ (spec.of_target t count.old).next) }
 {

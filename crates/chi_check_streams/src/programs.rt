@@ -1,6 +1,7 @@
 ghost use Rattle.std.specs.Prelude.{◌≡◌, map, IfOk, OnOk};
 ghost use Rattle.chi_check_streams.specs.Streams as spec;
 
+use crate::experiments::experiments;
 use crate::expressions::expression;
 use crate::statements::statements;
 use chi_base::{Items, NoMemory};
@@ -114,16 +115,19 @@ pub fn with_streams(alloc: Global, core: Core) -> Result<Core, NoMemory>
         procs,
         model,
         names,
+        xpers,
     } = core;
     let mut count = 0;
     let consts = constants(alloc, consts, &mut count)?;
     let funcs = functions(alloc, funcs, &mut count)?;
     let procs = processes(alloc, procs, &mut count)?;
+    let xpers = experiments(alloc, xpers, &mut count)?;
     Ok(Core {
         consts,
         funcs,
         procs,
         model,
         names,
+        xpers,
     })
 }

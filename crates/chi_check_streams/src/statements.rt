@@ -52,7 +52,7 @@ fn refused(made: CExpr, refusal: NoMemory) -> Result<CStat, NoMemory>
 
 #[cycle(statement)]
 #[tactic(auto, using(crate::proofs::Equations::part_declare, crate::proofs::Equations::next_declare, crate::proofs::Equations::part_assign, crate::proofs::Equations::next_assign, crate::proofs::Equations::part_if, crate::proofs::Equations::next_if, crate::proofs::Equations::part_while, crate::proofs::Equations::next_while, crate::proofs::Equations::part_for, crate::proofs::Equations::next_for, crate::proofs::Equations::part_break, crate::proofs::Equations::next_break, crate::proofs::Equations::part_continue, crate::proofs::Equations::next_continue, crate::proofs::Equations::part_pass, crate::proofs::Equations::next_pass, crate::proofs::Equations::part_return, crate::proofs::Equations::next_return, crate::proofs::Equations::part_exit, crate::proofs::Equations::next_exit, crate::proofs::Equations::part_write, crate::proofs::Equations::next_write, crate::proofs::Equations::part_select, crate::proofs::Equations::next_select, crate::proofs::Equations::part_run, crate::proofs::Equations::next_run, crate::proofs::Equations::part_start, crate::proofs::Equations::next_start, crate::proofs::Equations::part_finish, crate::proofs::Equations::next_finish))]
-fn statement(alloc: Global, s: CStat, count: &mut u64) -> Result<CStat, NoMemory>
+pub(crate) fn statement(alloc: Global, s: CStat, count: &mut u64) -> Result<CStat, NoMemory>
     ensures part { IfOk result (λ r. r ≡ (spec.of_statement s count.old).part) }
     ensures next { OnOk result (count.new ≡ (spec.of_statement s count.old).next) }
 {

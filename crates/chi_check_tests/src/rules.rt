@@ -4,7 +4,7 @@ use crate::sources::checked;
 use std::test::Fail;
 
 /// A rule, the line and the column where a source breaks it, and the source.
-const BROKEN: [(u8, u32, u32, &str); 40] = [
+const BROKEN: [(u8, u32, u32, &str); 42] = [
     (1, 1, 19, "model M(): int x, x end"),
     (2, 1, 20, "model M(): int x = y end"),
     (3, 1, 18, "model M(): start M() end"),
@@ -94,7 +94,9 @@ const BROKEN: [(u8, u32, u32, &str); 40] = [
     (37, 1, 24, "model M(): int x; x = x[0] end"),
     (38, 1, 41, "model M(): tuple(int a, b) t; int x = t.c end"),
     (39, 1, 26, "model M(): list int xs = [1, \"a\"] end"),
-    (40, 1, 1, "xper X(): pass end model M(): pass end"),
+    (40, 1, 16, "xper X(): pass end"),
+    (41, 1, 11, "xper X(): delay 1 end model M(): pass end"),
+    (42, 1, 39, "model M(): pass end xper X(): int v = M() end"),
 ];
 
 #[test]

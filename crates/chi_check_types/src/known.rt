@@ -11,6 +11,7 @@ pub enum NameKind {
     Type,
     Function,
     Process,
+    Model,
 }
 
 /// What is known of a visible name.
@@ -30,8 +31,8 @@ pub enum Known {
     Func(u32, Items<Ty>, Ty),
     /// A process by its number, with the types of its parameters and that of its exits' values.
     Proc(u32, Items<Ty>, Option<Ty>),
-    /// A model, by its number.
-    Model(u32),
+    /// A model by its number, with the types of its parameters and that of its exits' values.
+    Model(u32, Items<Ty>, Option<Ty>),
     /// An experiment, by its number.
     Xper(u32),
     /// A name whose own type, or one of whose types, breaks a rule. It is visible, and no rule that

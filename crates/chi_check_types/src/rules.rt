@@ -118,5 +118,11 @@ pub const FIELD: u8 = 38;
 /// Place: the literal.
 pub const JOINED_PARTS: u8 = 39;
 
-/// Place: `xper`, or the last token.
+/// Place: the last token.
 pub const MODEL: u8 = 40;
+
+/// Place: the construct, or the type.
+pub const IN_EXPERIMENT: u8 = 41;
+
+/// Place: the name.
+pub const MODEL_CALL: u8 = 42;

@@ -6,4 +6,6 @@ pub enum Site {
     Function,
     /// In the definition of a constant or of a type.
     Constant,
+    /// In an experiment.
+    Experiment,
 }

@@ -28,6 +28,7 @@ pub mod Scene
 pub mod Scopes
 pub mod SetSlots
 pub mod Sound
+pub mod SoundExperiments
 pub mod SoundExpressions
 pub mod SoundParts
 pub mod SoundStatements

@@ -1,11 +1,13 @@
 -- What the parts of a definition are said within: the program, the kinds of the slots, and what the definition is.
 use Rattle.std.specs.Prelude.{ℕ, nat_lt, Bool, true, false, not, Option, List, [], option_map, take}
 use Rattle.std.specs.List.{list_any}
+use Rattle.chi_types.specs.declared.ty.Ty.{Ty-F}
 use Rattle.chi_value.specs.declared.shape.Shape.{Shape, Shape-F, fold-Shape}
 use Rattle.chi_value.specs.Plain.{itself}
 use Rattle.chi_core.specs.declared.program.Core.{Core}
 use Rattle.chi_core.specs.declared.program.FuncDef.{FuncDef}
 use Rattle.chi_core.specs.declared.program.ProcDef.{ProcDef}
+use Rattle.chi_core.specs.declared.experiment.XperDef.{XperDef}
 use Rattle.chi_core.specs.declared.statement.CStat.{CStat}
 use Rattle.chi_core.specs.declared.op_name.OpName.{OpName}
 use Rattle.chi_core.specs.Kinds.{Kind, kind_of, kinds_of, holds_channel}
@@ -93,3 +95,7 @@ process_home core d = record {
   params = kinds_of d.params;
   body = d.body;
 }
+
+-- what an experiment is said within: its expressions are those of a function, and nothing returns
+abbrev pub experiment_scope : Core → XperDef → Scope
+experiment_scope core x = record { core = core; slots = kinds_of x.slots; role = function Ty-F.Void }

@@ -6,13 +6,15 @@ use Rattle.chi_token.specs.Tokens.{token_spelled_by}
 use Rattle.chi_types.specs.declared.ty.Ty.{Ty, out-Ty}
 use Rattle.chi_core.specs.declared.expression.CExpr.{out-CExpr}
 use Rattle.chi_core.specs.declared.program.ConstDef.{ConstDef}
+use Rattle.chi_core.specs.declared.experiment.XperDef.{XperDef}
 use Rattle.chi_core.specs.declared.program.Core.{Core}
 use Rattle.chi_core.specs.declared.program.FuncDef.{FuncDef}
 use Rattle.chi_core.specs.declared.program.ProcDef.{ProcDef}
 use Rattle.chi_core.specs.Kinds.{kind_of, Every}
 use Rattle.chi_core.specs.Fills.{UnwindsOwn, by_body}
-use Rattle.chi_core.specs.Scopes.{Home, constant_scope, function_home, process_home}
+use Rattle.chi_core.specs.Scopes.{Home, constant_scope, function_home, process_home, experiment_scope}
 use Rattle.chi_core.specs.SetSlots.{Known, params_known}
+use Rattle.chi_core.specs.SoundExperiments.{SoundXBlock}
 use Rattle.chi_core.specs.SoundExpressions.{HasKind}
 use Rattle.chi_core.specs.SoundStatements.{SoundBlock}
 use Rattle.chi_core.specs.SoundTypes.{SoundType}
@@ -58,6 +60,12 @@ pub record SoundProcess (core : Core) (d : ProcDef) : Type 0 where
   pub params : (others : List Ty) × (d.slots ≡ d.params ++ others)
   pub home : SoundHome (process_home core d)
 
+-- an experiment is sound as a function's body is, but that it may write and run models
+pub record SoundExperiment (core : Core) (x : XperDef) : Type 0 where
+  pub name : IsName x.name
+  pub slots : Every (SoundIn core) x.slots
+  pub body : SoundXBlock (experiment_scope core x) false nothing_known x.body
+
 -- an enumeration has at least one value, and each is called by a name
 pub record SoundEnumeration (names : List (List ℕ)) : Type 0 where
   pub values : 0 < length names
@@ -68,5 +76,6 @@ pub record Sound (core : Core) : Type 0 where
   pub constants : (number : ℕ) (c : ConstDef) → slice_get core.consts number ≡ Some c → SoundConstant core number c
   pub functions : Every (SoundFunction core) core.funcs
   pub processes : Every (SoundProcess core) core.procs
+  pub experiments : Every (SoundExperiment core) core.xpers
   -- the model that is run is there
   pub model : (d : ProcDef) × (slice_get core.procs core.model ≡ Some d)

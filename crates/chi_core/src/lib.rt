@@ -5,6 +5,7 @@
 mod act;
 mod communication;
 mod element;
+mod experiment;
 mod expression;
 mod fault;
 mod label;
@@ -23,6 +24,7 @@ pub use act::Act;
 pub use chi_token::Bytes;
 pub use communication::CComm;
 pub use element::CElem;
+pub use experiment::{XBranch, XStat, XperDef};
 pub use expression::CExpr;
 pub use fault::FaultKind;
 pub use label::Label;

@@ -26,7 +26,7 @@ abbrev model : ProcDef
 model = record { name = codes "M"; params = ty.Int ∷ []; exit = None; slots = ty.Int ∷ ty.Int ∷ []; body = s.Pass 1 ∷ [] }
 
 abbrev core : List ConstDef → Core
-core constants = record { consts = constants; funcs = []; procs = model ∷ []; model = 0; names = record { kinds = [] } }
+core constants = record { consts = constants; funcs = []; procs = model ∷ []; model = 0; names = record { kinds = [] }; xpers = [] }
 
 -- const int a = 4, and const int b = a + 3: the second reads the first
 begins : start (core (constant 1 (number 4) ∷ constant 2 (e.Op op.Add (e.Const 0 ∷ number 3 ∷ [])) ∷ [])) (int 9 ∷ []) 5 (Some (pos 8))

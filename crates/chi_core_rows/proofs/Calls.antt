@@ -66,7 +66,7 @@ shows = record {
 }
 
 abbrev core : Core
-core = record { consts = []; funcs = sums ∷ []; procs = shows ∷ []; model = 0; names = record { kinds = [] } }
+core = record { consts = []; funcs = sums ∷ []; procs = shows ∷ []; model = 0; names = record { kinds = [] }; xpers = [] }
 
 abbrev config : Config
 config = config_of (pos 0) 0 (instance 0 [] (map Do shows.body) Running ∷ [])

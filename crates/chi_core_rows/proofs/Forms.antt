@@ -32,7 +32,7 @@ abbrev pub model_with : List Ty → List CStat → ProcDef
 model_with slots body = record { name = codes "M"; params = []; exit = None; slots = slots; body = body }
 
 abbrev pub alone : ProcDef → Core
-alone d = record { consts = []; funcs = []; procs = d ∷ []; model = 0; names = record { kinds = [] } }
+alone d = record { consts = []; funcs = []; procs = d ∷ []; model = 0; names = record { kinds = [] }; xpers = [] }
 
 abbrev pub scope_in : Core → ProcDef → Scope
 scope_in core d = (process_home core d).scope

@@ -17,6 +17,7 @@ mod SoundExample
 mod Starts
 mod Statements
 mod Times
+mod Trials
 mod UnsoundExpressions
 mod UnsoundStatements
 mod ValueExamples

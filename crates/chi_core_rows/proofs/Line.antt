@@ -79,4 +79,5 @@ line_of_two = record {
   procs = sender ∷ receiver ∷ model ∷ [];
   model = 2;
   names = record { kinds = [] };
+  xpers = [];
 }

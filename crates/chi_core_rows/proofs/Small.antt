@@ -31,7 +31,7 @@ process slots body = record { name = codes "P"; params = []; exit = None; slots 
 
 -- a program of these processes, of which the first is run
 abbrev pub core_of : List ProcDef → Core
-core_of processes = record { consts = []; funcs = []; procs = processes; model = 0; names = record { kinds = [] } }
+core_of processes = record { consts = []; funcs = []; procs = processes; model = 0; names = record { kinds = [] }; xpers = [] }
 
 abbrev pub config_of : ℤ → ℕ → List Instance → Config
 config_of clock channels instances = record {

@@ -32,7 +32,7 @@ use Rattle.chi_core.specs.Kinds.{Kind, erased, kind_of, kinds_of, is_void}
 use Rattle.chi_core.specs.OperatorKinds.{add_ints, range_to, ShapeKind, shape_int, shape_channel}
 use Rattle.chi_core.specs.Scopes.{Scope, Home, function_home, process_home}
 use Rattle.chi_core.specs.SetSlots.{Known, also, params_known}
-use Rattle.chi_core.specs.Sound.{Sound, SoundIn, SoundEnumeration, SoundHome, SoundFunction, SoundProcess}
+use Rattle.chi_core.specs.Sound.{Sound, SoundIn, SoundEnumeration, SoundHome, SoundFunction, SoundProcess, SoundExperiment}
 use Rattle.chi_core.specs.SoundExpressions.{HasKind, literal, int as an_int, variable, operation, call, fresh_default, HaveKinds, no_expression, one_expression, LiteralKind}
 use Rattle.chi_core.specs.SoundParts.{ChannelAt, Walks, MayStart, no_step, element_itself, a_list, plain_text, whole_number, no_piece, sends, receives, no_guard, its_own, nowhere, SoundElement, no_element, one_element, makes, unwinds}
 use Rattle.chi_core.specs.SoundStatements.{declares, returns, writes, selects, runs, no_statement, no_alternative, guarded}
@@ -54,14 +54,14 @@ channel_type w = subst (SoundType 0) (sym (ty.outs-Chan w ty.Int)) (types.channe
 -- expressions
 
 module _ (scope : Scope) (known : Known) where
-  int_literal : (n : ℕ) → HasKind scope known (out-CExpr (int n)) Ty-F.Int
+  pub int_literal : (n : ℕ) → HasKind scope known (out-CExpr (int n)) Ty-F.Int
   int_literal n = has scope known (int n) (CExpr-F.Lit (value.Int (pos n))) Ty-F.Int (e.outs-Lit (value.Int (pos n)))
       (literal (value.Int (pos n)) Ty-F.Int (subst (λ v. LiteralKind scope.core.names.kinds v Ty-F.Int) (sym (value.outs-Int (pos n))) (an_int (pos n))))
 
   slot_read : (n : ℕ) (T : Kind) → known n ≡ true → slice_get scope.slots n ≡ Some T → HasKind scope known (out-CExpr (e.Var n)) T
   slot_read n T set is = has scope known (e.Var n) (CExpr-F.Var n) T (e.outs-Var n) (variable n T set is)
 
-  as_int : (x : CExpr) → HasKind scope known (out-CExpr x) Ty-F.Int → HasKind scope known (out-CExpr x) (kind_of ty.Int)
+  pub as_int : (x : CExpr) → HasKind scope known (out-CExpr x) Ty-F.Int → HasKind scope known (out-CExpr x) (kind_of ty.Int)
   as_int x h = subst (HasKind scope known (out-CExpr x)) (sym int_kind) h
 
 -- the function
@@ -330,6 +330,7 @@ line_is_sound = record {
   processes = every_cons (SoundProcess line_of_two) sender (receiver ∷ model ∷ []) sound_sender
       (every_cons (SoundProcess line_of_two) receiver (model ∷ []) sound_receiver
       (every_cons (SoundProcess line_of_two) model [] sound_model (every_nil (SoundProcess line_of_two))));
+  experiments = every_nil (SoundExperiment line_of_two);
   model = (model, refl);
 }
 

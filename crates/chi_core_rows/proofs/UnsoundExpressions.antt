@@ -166,7 +166,7 @@ abbrev giving : CExpr → FuncDef
 giving x = record { name = codes "f"; arity = 0; result = ty.Int; slots = []; body = s.Return 1 x ∷ [] }
 
 abbrev with_function : FuncDef → Core
-with_function f = record { consts = []; funcs = f ∷ []; procs = model_with [] [] ∷ []; model = 0; names = record { kinds = [] } }
+with_function f = record { consts = []; funcs = f ∷ []; procs = model_with [] [] ∷ []; model = 0; names = record { kinds = [] }; xpers = [] }
 
 abbrev scope_at : CExpr → Scope
 scope_at x = (function_home (with_function (giving x)) (giving x)).scope
@@ -212,7 +212,7 @@ abbrev itself : ConstDef
 itself = record { line = 1; ty = ty.Int; value = e.Const 0 }
 
 abbrev with_constant : Core
-with_constant = record { consts = itself ∷ []; funcs = []; procs = model_with [] [] ∷ []; model = 0; names = record { kinds = [] } }
+with_constant = record { consts = itself ∷ []; funcs = []; procs = model_with [] [] ∷ []; model = 0; names = record { kinds = [] }; xpers = [] }
 
 no_constant : Sound with_constant → ⊥
 no_constant sound =

@@ -91,7 +91,7 @@ receives_int = record {
 }
 
 abbrev one_receiver : Core
-one_receiver = record { consts = []; funcs = []; procs = receives_int ∷ []; model = 0; names = record { kinds = [] } }
+one_receiver = record { consts = []; funcs = []; procs = receives_int ∷ []; model = 0; names = record { kinds = [] }; xpers = [] }
 
 module _ (scope : Scope) (known : Known) where
   chosen : (loop : Bool) (line : ℕ) (x : CAlt) (layer : CAlt-F CAlt CStat Branch) → out-CAlt x ≡ layer → SoundStat scope loop known (CStat-F.Select line (x ∷ [])) → SoundAlternative scope loop known layer
@@ -154,7 +154,7 @@ abbrev starts_other : ProcDef
 starts_other = exits_with ty.Int (s.Start 1 (elem.Make None 1 [] ∷ []) ∷ [])
 
 abbrev two_exits : Core
-two_exits = record { consts = []; funcs = []; procs = starts_other ∷ exits_with ty.Bool [] ∷ []; model = 0; names = record { kinds = [] } }
+two_exits = record { consts = []; funcs = []; procs = starts_other ∷ exits_with ty.Bool [] ∷ []; model = 0; names = record { kinds = [] }; xpers = [] }
 
 started : (scope : Scope) (known : Known) (loop : Bool) (line number : ℕ) (T U : Kind) (d : ProcDef) → scope.role ≡ process (Some T) → slice_get scope.core.procs number ≡ Some d → (process_home scope.core d).scope.role ≡ process (Some U)
     → SoundStat scope loop known (CStat-F.Start line (elem.Make None number [] ∷ [])) → T ≡ U
@@ -215,7 +215,7 @@ no_name sound = absurd (cc ((sound.processes 0 called_if refl).name))
 -- an enumeration has no value
 
 abbrev no_values : Core
-no_values = record { consts = []; funcs = []; procs = model_with [] [] ∷ []; model = 0; names = record { kinds = [] ∷ [] } }
+no_values = record { consts = []; funcs = []; procs = model_with [] [] ∷ []; model = 0; names = record { kinds = [] ∷ [] }; xpers = [] }
 
 no_enumeration : Sound no_values → ⊥
 no_enumeration sound = absurd (omega (arith, (sound.enumerations 0 [] refl).values))

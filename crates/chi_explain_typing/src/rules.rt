@@ -1,6 +1,6 @@
 /// The rules of typing by their numbers, each with what is said of the place where it is broken. The table of "Typing" in
 /// `docs/LANGUAGE.md` says when that is.
-pub static RULES: [(u8, &str); 40] = [
+pub static RULES: [(u8, &str); 42] = [
     (
         1,
         "this name can't be given here: it is visible already, stands twice, or is predefined",
@@ -11,7 +11,7 @@ pub static RULES: [(u8, &str); 40] = [
     ),
     (
         3,
-        "this name is of another kind than stands here: a type, a value, a function that is called, or a process after `run` or `start`",
+        "this name is of another kind than stands here: a type, a value, a function that is called, a process after `run` or `start`, or a model that an `xper` calls",
     ),
     (
         4,
@@ -130,7 +130,7 @@ pub static RULES: [(u8, &str); 40] = [
     ),
     (
         35,
-        "the arguments don't fit the parameters of this function, in number or in type",
+        "the arguments don't fit the parameters of this function or model, in number or in type",
     ),
     (
         36,
@@ -145,8 +145,13 @@ pub static RULES: [(u8, &str); 40] = [
         39,
         "the parts of this literal have no type that fits all of them",
     ),
+    (40, "a file has a `model`, and this one has none"),
     (
-        40,
-        "a file has a `model`, and this one has none; or this is an `xper`, and experiments aren't run",
+        41,
+        "an experiment can't do this: no `sample`, `time`, `ready` or `finished`, no cast to or from a timer, and nothing that communicates, waits, starts or exits; and its variables have no channel, timer, distribution or instance in their types",
+    ),
+    (
+        42,
+        "a model is called as the whole value of an assignment with one target, or as an initial value; it has an exit type, and no channel, timer, distribution or instance in the types of its parameters",
     ),
 ];

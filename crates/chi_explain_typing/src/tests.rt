@@ -20,12 +20,12 @@ fn a_broken_rule_is_explained(rt: HostRuntime) -> Result<(), Fail> {
         rt.alloc(),
         b"m.chi",
         b"pass",
-        41,
+        43,
         Place { line: 1, column: 1 },
     )?;
     assert_eq!(rt;
         unknown.as_slice(),
-        b"m.chi:1:1: rule 41\n    pass\n    ^\n".as_slice()
+        b"m.chi:1:1: rule 43\n    pass\n    ^\n".as_slice()
     );
     Ok(())
 }

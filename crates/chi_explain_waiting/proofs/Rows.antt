@@ -24,6 +24,7 @@ core = record {
   procs = process ∷ [];
   model = 0;
   names = record { kinds = [] };
+  xpers = [];
 }
 
 abbrev source : List ℕ

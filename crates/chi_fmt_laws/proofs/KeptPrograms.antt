@@ -1,5 +1,6 @@
 -- What a program comes to is the same with the `;` that are kept.
 use Rattle.std.proofs.Common.{◌≡◌, ℕ, ◌+◌, false, List, [], ◌∷◌, ◌++◌, map, length, take, Option, Some, None, refl, ap, ◌∙◌}
+use Rattle.std.specs.Prelude.{option_map}
 use Rattle.chi_token.specs.declared.place.Place.{Place}
 use Rattle.chi_tree.specs.declared.definition.Definition.{Definition}
 use Rattle.chi_tree.specs.declared.definition.Definition.TheVariants as definition
@@ -8,6 +9,8 @@ use Rattle.chi_tree.specs.declared.definition.Program.{Program}
 use Rattle.chi_tree.specs.declared.statement.Step.{Step}
 use Rattle.chi_tree.specs.declared.type_tree.Formal.{Formal}
 use Rattle.chi_tree.specs.declared.type_tree.Name.{Name}
+use Rattle.chi_core.specs.declared.experiment.XStat.{XStat}
+use Rattle.chi_core.specs.declared.experiment.XperDef.{XperDef}
 use Rattle.chi_core.specs.declared.program.ConstDef.{ConstDef}
 use Rattle.chi_core.specs.declared.program.Core.{Core}
 use Rattle.chi_core.specs.declared.program.FuncDef.{FuncDef}
@@ -16,6 +19,7 @@ use Rattle.chi_core.specs.declared.statement.CStat.{CStat}
 use Rattle.chi_types.specs.declared.ty.Ty.{Ty}
 use Rattle.chi_check_types.specs.Names.{Names}
 use Rattle.chi_check_types.specs.Typed.{Typed}
+use Rattle.chi_check_stat_lines.specs.declared.state.State.{State}
 use Rattle.chi_check_stat_lines.specs.Stated.{Stated, Turn, in_turn}
 use Rattle.chi_check_headers.specs.declared.header.Header.{Header}
 use Rattle.chi_check_headers.specs.declared.sketch.Sketch.{Sketch}
@@ -23,10 +27,11 @@ use Rattle.chi_check_headers.specs.declared.sketch.Early.{Early}
 use Rattle.chi_check_headers.specs.declared.sketch.Named.{Named}
 use Rattle.chi_check_headers.specs.Headers.{Found, header_in, header_faults}
 use Rattle.chi_check_headers.specs.Definitions.{sketching, early_defined, late_name, with_late, with_all_late, with_headed, with_all_headed}
-use Rattle.chi_check.specs.Bodies.{formals_bound, body_made, body_in, function_made, process_made, function_defined, process_defined, function_of, process_of, functions_of, processes_of}
+use Rattle.chi_check.specs.Bodies.{formals_bound, body_made, body_in, function_made, process_made, function_defined, process_defined, function_of, process_of, functions_of, processes_of, experiment, experiment_defined, experiment_of}
 use Rattle.chi_check.specs.Programs.{no_names, first_early, first_named, first_model, model_rule, core_of, definitions_checked, checked}
 use Rattle.chi_fmt.specs.Kept.{kept_block, kept_definition, kept_item, kept}
 use Rattle.chi_fmt_laws.proofs.KeptStatements.{stating-kept}
+use Rattle.chi_fmt_laws.proofs.KeptTrials.{trying-all-kept}
 
 -- ---- bodies
 
@@ -78,6 +83,20 @@ processes-kept [] [] = refl
 processes-kept [] (h ∷ hs) = refl
 processes-kept (d ∷ ds) [] = refl
 processes-kept (d ∷ ds) (h ∷ hs) = λ i. process-of-kept d h i ∷ processes-kept ds hs i
+
+experiment-kept : (name : Name) (steps : List Step) (names : Names) → experiment_defined name (kept_block steps) names ≡ experiment_defined name steps names
+experiment-kept name steps names =
+    ap (λ (b : Stated State (List XStat)). record { next = take (length names) b.next.names; faults = b.faults; made = option_map (experiment name.text b.next.slots) b.made })
+    (trying-all-kept false steps (record { names = names; slots = [] }))
+
+experiment-of-kept : (d : Definition) → experiment_of (kept_definition d) ≡ experiment_of d
+experiment-of-kept (definition.Xper place name steps) = λ i names. experiment-kept name steps names i
+experiment-of-kept (definition.Enum place name values) = refl
+experiment-of-kept (definition.Const place t name equals value) = refl
+experiment-of-kept (definition.TypeWord place name t) = refl
+experiment-of-kept (definition.Func place t name fs steps) = refl
+experiment-of-kept (definition.Proc place t name fs steps) = refl
+experiment-of-kept (definition.Model place t name fs steps) = refl
 
 -- ---- what doesn't look into bodies
 
@@ -133,7 +152,8 @@ headed-kept all (definition.Func place t name fs steps) None s = refl
 headed-kept all (definition.Func place t name fs steps) (Some h) s = refl
 headed-kept all (definition.Proc place t name fs steps) None s = refl
 headed-kept all (definition.Proc place t name fs steps) (Some h) s = refl
-headed-kept all (definition.Model place t name fs steps) h s = refl
+headed-kept all (definition.Model place t name fs steps) None s = refl
+headed-kept all (definition.Model place t name fs steps) (Some h) s = refl
 headed-kept all (definition.Xper place name steps) h s = refl
 headed-kept all (definition.Enum place name values) h s = refl
 headed-kept all (definition.Const place t name equals value) h s = refl
@@ -159,8 +179,8 @@ model-kept number (definition.Xper place name steps ∷ ds) = model-kept number 
 
 -- what a program comes to, of what each pass over its definitions is
 abbrev passed : List (Turn Sketch (List (List ℕ))) → (Names → List (Turn Early ConstDef)) → (Names → Names → Names) → (Names → List (Found (Option Header))) → (Names → List (Option Header) → Named → Named)
-    → (List (Option Header) → List (Turn Names FuncDef)) → (List (Option Header) → List (Turn Names ProcDef)) → Option ℕ → Place → Typed Core
-passed sketches earlies lates headings heads functions processes model last =
+    → (List (Option Header) → List (Turn Names FuncDef)) → (List (Option Header) → List (Turn Names ProcDef)) → List (Turn Names XperDef) → Option ℕ → Place → Typed Core
+passed sketches earlies lates headings heads functions processes experiments model last =
     let sketch = in_turn sketches no_names in
     let early = in_turn (earlies sketch.next.all) (first_early sketch.next.early) in
     let late = lates sketch.next.all early.next.names in
@@ -169,15 +189,16 @@ passed sketches earlies lates headings heads functions processes model last =
     let named = heads sketch.next.all given (first_named (take (length early.next.names) late)) in
     let funcs = in_turn (functions given) named.names in
     let procs = in_turn (processes given) funcs.next in
+    let xpers = in_turn experiments procs.next in
     record {
-      faults = sketch.faults ++ early.faults ++ header_faults headers ++ funcs.faults ++ procs.faults ++ model_rule last model;
-      made = core_of sketch.made early.made funcs.made procs.made model;
+      faults = sketch.faults ++ early.faults ++ header_faults headers ++ funcs.faults ++ procs.faults ++ xpers.faults ++ model_rule last model;
+      made = core_of sketch.made early.made funcs.made procs.made xpers.made model;
     }
 
 definitions-kept : (ds : List Definition) (last : Place) → definitions_checked (map kept_definition ds) last ≡ definitions_checked ds last
 definitions-kept ds last =
     λ i. passed (each-kept sketching sketching-kept ds i) (λ all. each-kept (early_defined all) (early-kept all) ds i) (λ all names. late-kept all names ds i) (λ late. each-kept (header_in late) (header-kept late) ds i)
-    (λ all hs s. all-headed-kept all ds hs s i) (λ hs. functions-kept ds hs i) (λ hs. processes-kept ds hs i) (model-kept 0 ds i) last
+    (λ all hs s. all-headed-kept all ds hs s i) (λ hs. functions-kept ds hs i) (λ hs. processes-kept ds hs i) (each-kept experiment_of experiment-of-kept ds i) (model-kept 0 ds i) last
 
 definitions-of : (items : List Item) → map (λ item. item.definition) (map kept_item items) ≡ map kept_definition (map (λ item. item.definition) items)
 definitions-of [] = refl

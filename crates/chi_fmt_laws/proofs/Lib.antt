@@ -1,3 +1,4 @@
 pub mod KeptStatements
+pub mod KeptTrials
 pub mod KeptPrograms
 pub mod Alike

@@ -38,13 +38,14 @@ impl<'a> Model for Plain<'a> {
     ghost use Rattle.chi_core.specs.contracts.statement.CStat as statements;
     ghost use Rattle.chi_core.specs.contracts.expression.CExpr as expressions;
     ghost use Rattle.chi_core.specs.contracts.element.CElem as elements;
+    ghost use Rattle.chi_core.specs.contracts.experiment.XStat as experiments;
     ghost use Rattle.chi_value.specs.contracts.value.Value as values;
     ghost use Rattle.chi_types.specs.contracts.ty.Ty as types;
     ghost use Rattle.chi_plain.specs.Stage.{Runner};
 
     ghost Value = { Runner };
 
-    ghost coded = { Prim.hlevel (codes, statements.the_row.coded, expressions.the_row.coded, elements.the_row.coded, values.the_row.coded, types.the_row.coded) };
+    ghost coded = { Prim.hlevel (codes, statements.the_row.coded, expressions.the_row.coded, elements.the_row.coded, experiments.the_row.coded, values.the_row.coded, types.the_row.coded) };
 
     ghost use Rattle.chi_plain.specs.Standings.{stage_of, IsRunner};
 
