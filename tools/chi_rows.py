@@ -14,7 +14,7 @@ def rows_of(path):
     return CHECK.Reader(path).read()
 
 
-def answer(program, words, name, source):
-    """What a run writes and logs, and its status, where a file of this name has this source."""
+def answer(program, words, name, source, beside=None):
+    """What a run writes and logs, and its status, where a file of this name has this source, and where there may be a second file."""
     with tempfile.TemporaryDirectory() as folder:
-        return CHECK.answer(program, folder, words, name, source)
+        return CHECK.answer(program, folder, words, name, source, beside)

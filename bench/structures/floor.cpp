@@ -93,7 +93,7 @@ struct Waiting {
     }
 };
 
-static void waiting(uint32_t room, uint32_t rounds, uint64_t seed) {
+static void waiting(uint32_t room, uint32_t rounds, uint64_t seed, bool lent) {
     Random random{seed};
     auto pids = random.order(room), asking = random.order(room), leaving = random.order(room);
     vector<Waiting> copies(copies_of(room), Waiting(room / 2 + 1, room));
@@ -103,7 +103,8 @@ static void waiting(uint32_t room, uint32_t rounds, uint64_t seed) {
     close();
     for (uint32_t r = 0; r < rounds; ++r) {
         first.time(open);
-        second.time([&] { for (auto& it : copies) for (uint32_t pid : asking) if (it.count(pid)) sum += it.last(pid); });
+        if (lent) second.time([&] { for (auto& it : copies) for (uint32_t pid : asking) sum += it.count(pid); });
+        else second.time([&] { for (auto& it : copies) for (uint32_t pid : asking) if (it.count(pid)) sum += it.last(pid); });
         third.time(close);
     }
 }
@@ -137,7 +138,8 @@ int main(int, char** words) {
     uint64_t seed = strtoull(words[4], nullptr, 10);
     if (!strcmp(words[1], "ranks")) ranks(room, rounds, seed);
     else if (!strcmp(words[1], "dues")) dues(room, rounds, seed);
-    else if (!strcmp(words[1], "waiting")) waiting(room, rounds, seed);
+    else if (!strcmp(words[1], "waiting")) waiting(room, rounds, seed, false);
+    else if (!strcmp(words[1], "lent")) waiting(room, rounds, seed, true);
     else crowds(room, rounds, seed);
     printf("%llu %llu %llu %llu\n", (unsigned long long)first.taken, (unsigned long long)second.taken, (unsigned long long)third.taken, (unsigned long long)sum);
 }

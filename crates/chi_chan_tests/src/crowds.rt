@@ -11,12 +11,21 @@ const ONE: u32 = 5_000;
 
 const CHANNEL: u32 = 7;
 
-/// How many of them come, or go, and in which order.
+/// In which order the crowd and the one come, or go.
 #[derive(Drop)]
 struct Order {
-    crowd_sends: bool,
     crowd_first: bool,
     ascending: bool,
+}
+
+impl Order {
+    /// By the two lowest bits of a number.
+    fn of(bits: u32) -> Order {
+        Order {
+            crowd_first: bits % 2 == 0,
+            ascending: bits / 2 % 2 == 0,
+        }
+    }
 }
 
 fn own(sends: bool) -> [Offer; 1] {
@@ -41,15 +50,15 @@ fn member(order: &Order, turn: u32) -> u32 {
     }
 }
 
-fn come(waiting: &mut Waiting, order: &Order) -> Result<(), NoMemory> {
+fn come(waiting: &mut Waiting, order: &Order, crowd_sends: bool) -> Result<(), NoMemory> {
     if !order.crowd_first {
-        offer(waiting, ONE, &own(!order.crowd_sends))?;
+        offer(waiting, ONE, &own(!crowd_sends))?;
     }
     for turn in 0..CROWD {
-        offer(waiting, member(order, turn), &own(order.crowd_sends))?;
+        offer(waiting, member(order, turn), &own(crowd_sends))?;
     }
     if order.crowd_first {
-        offer(waiting, ONE, &own(!order.crowd_sends))?;
+        offer(waiting, ONE, &own(!crowd_sends))?;
     }
     Ok(())
 }
@@ -91,24 +100,21 @@ fn lengths(waiting: &Waiting, senders: usize, receivers: usize) -> bool {
     waiting.senders(CHANNEL).len() == senders && waiting.receivers(CHANNEL).len() == receivers
 }
 
+/// They come in each order, and from each they go in each.
 #[test]
 fn one_meets_a_crowd(rt: HostRuntime) -> Result<(), Fail> {
     let mut waiting = Waiting::new(rt.alloc());
-    for turn in 0..8u32 {
-        let order = Order {
-            crowd_sends: turn % 2 == 0,
-            crowd_first: turn / 2 % 2 == 0,
-            ascending: turn / 4 == 0,
-        };
-        come(&mut waiting, &order)?;
-        assert!(rt; meet(&waiting, order.crowd_sends), "turn {turn}");
-        let (senders, receivers) = if order.crowd_sends {
+    for turn in 0..32u32 {
+        let crowd_sends = turn % 2 == 0;
+        come(&mut waiting, &Order::of(turn / 2), crowd_sends)?;
+        assert!(rt; meet(&waiting, crowd_sends), "turn {turn}");
+        let (senders, receivers) = if crowd_sends {
             (10_000, 1)
         } else {
             (1, 10_000)
         };
         assert!(rt; lengths(&waiting, senders, receivers), "turn {turn}");
-        go(&mut waiting, &order);
+        go(&mut waiting, &Order::of(turn / 8));
         assert!(rt; lengths(&waiting, 0, 0), "turn {turn}");
     }
     Ok(())

@@ -1,10 +1,15 @@
-//! The program over objects that tell nothing, and over a log that fails at each of its puts in turn.
+//! The program over objects that fail and that tell nothing, and over a log that fails at each of its puts in turn.
 
 use crate::shelves::shelf_of;
 use chi_engine::Machines;
 use chi_io::{MemShelf, MemSink, MuteShelf, MuteSink};
 use chi_tool::chi;
+use std::alloc::{AllocError, Global};
 use std::test::Fail;
+
+const TWO_SENDERS: &str =
+    "proc S(chan! int a; int n): a!n end proc R(chan? int a): int x; a?x; writeln(\"%d\", x); a?x; writeln(\"%d\", x) end \
+     model M(): chan int a; run S(a, 1), S(a, 2), R(a) end";
 
 const STARTED: &str =
     "proc S(chan! int a): a!7 end model M(): chan int a; int x; start S(a); a?x; exit end";
@@ -17,41 +22,65 @@ const LOGGED: &str =
     "trace 2\n0 local 0 M 1\n1 local 0 M 1\n2 local 0 M 1\n3 local 0 M 1\n4 local 1 S 1\n5 pair 1 0 0 0 0 7\n\
      6 local 0 M 1\nexit at time 0.0\n";
 
+/// Whether the shelf has the file; how many bytes a sink takes at once; the numbers of the puts at which the output and the log
+/// fail; and the output, the log and the status.
+type Row = (
+    bool,
+    usize,
+    &'static [u64],
+    &'static [u64],
+    &'static str,
+    &'static str,
+    u8,
+);
+
+const ROWS: [Row; 5] = [
+    (true, 1, &[2], &[], "1\n", "", 5),
+    (true, 100, &[], &[0], "1\n2\n", "", 5),
+    (true, 5, &[], &[1], "1\n2\n", "compl", 5),
+    (false, 100, &[], &[], "", "no such file\n", 4),
+    (true, 100, &[], &[], "1\n2\n", "completed at time 0.0\n", 0),
+];
+
+/// A shelf with two senders, or without a file.
+fn shelf_with(alloc: Global, is_there: bool) -> Result<MemShelf, AllocError> {
+    if is_there {
+        return shelf_of(alloc, TWO_SENDERS);
+    }
+    Ok(MemShelf::new(Vec::new(alloc), Vec::new(alloc)))
+}
+
 #[test]
-fn what_tells_nothing_is_served(rt: HostRuntime) -> Result<(), Fail> {
+fn a_mute_shelf_is_served(rt: HostRuntime) -> Result<(), Fail> {
     let alloc = rt.alloc();
-    let mut shelf = MuteShelf::new(shelf_of(alloc, STARTED)?);
-    let mut out = MuteSink::new(MemSink::new(alloc, 65_536, 65_536, Vec::new(alloc))?);
-    let mut log = MuteSink::new(MemSink::new(alloc, 65_536, 65_536, Vec::new(alloc))?);
-    let status = chi(
-        alloc,
-        &["sim", "m.chi"],
-        &mut shelf,
-        &mut out,
-        &mut log,
-        &mut Machines,
-    );
-    assert_eq!(rt; status, EXITED);
+    for (is_there, most, out_put, log_put, wanted_out, wanted_log, wanted) in ROWS {
+        let most = most.max(1);
+        let mut shelf = MuteShelf::new(shelf_with(alloc, is_there)?);
+        let mut out = MemSink::new(alloc, 65_536, most, Vec::from_slice(alloc, out_put)?)?;
+        let mut log = MemSink::new(alloc, 65_536, most, Vec::from_slice(alloc, log_put)?)?;
+        let words = ["sim", "m.chi"];
+        let status = chi(alloc, &words, &mut shelf, &mut out, &mut log, &mut Machines);
+        assert_eq!(rt; out.bytes(), wanted_out.as_bytes());
+        assert_eq!(rt; log.bytes(), wanted_log.as_bytes());
+        assert_eq!(rt; status, wanted);
+    }
     Ok(())
 }
 
 #[test]
-fn a_name_that_is_missing_is_refused(rt: HostRuntime) -> Result<(), Fail> {
+fn mute_sinks_are_served(rt: HostRuntime) -> Result<(), Fail> {
     let alloc = rt.alloc();
-    let mut shelf = MuteShelf::new(MemShelf::new(Vec::new(alloc), Vec::new(alloc)));
-    let mut out = MemSink::new(alloc, 65_536, 65_536, Vec::new(alloc))?;
-    let mut log = MemSink::new(alloc, 65_536, 65_536, Vec::new(alloc))?;
-    let status = chi(
-        alloc,
-        &["sim", "m.chi"],
-        &mut shelf,
-        &mut out,
-        &mut log,
-        &mut Machines,
-    );
-    assert_eq!(rt; out.bytes(), b"".as_slice());
-    assert_eq!(rt; log.bytes(), b"no such file\n".as_slice());
-    assert_eq!(rt; status, 4);
+    for (is_there, most, out_put, log_put, _out, _log, wanted) in ROWS {
+        let most = most.max(1);
+        let mut shelf = MuteShelf::new(shelf_with(alloc, is_there)?);
+        let out = MemSink::new(alloc, 65_536, most, Vec::from_slice(alloc, out_put)?)?;
+        let log = MemSink::new(alloc, 65_536, most, Vec::from_slice(alloc, log_put)?)?;
+        let mut out = MuteSink::new(out);
+        let mut log = MuteSink::new(log);
+        let words = ["sim", "m.chi"];
+        let status = chi(alloc, &words, &mut shelf, &mut out, &mut log, &mut Machines);
+        assert_eq!(rt; status, wanted);
+    }
     Ok(())
 }
 
