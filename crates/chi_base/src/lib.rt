@@ -13,6 +13,3 @@ pub use items::Items;
 pub use no_memory::NoMemory;
 pub use row::Row;
 pub use shared::{Copied, Shared, copies_of};
-
-#[cfg(test)]
-mod tests;

@@ -1,4 +1,5 @@
 use crate::guarded::{count_lent, is_pair, is_party, offer, option, withdraw, withdraw_lent};
+use crate::random::Random;
 use crate::twin::Twin;
 use chi_base::NoMemory;
 use chi_chan::{Choice, Offer, Party, Waiting};
@@ -9,40 +10,25 @@ const INSTANCES: u32 = 16;
 
 const CHANNELS: u32 = 4;
 
-/// Numbers in an order that looks random, always the same.
-#[derive(Drop)]
-struct Random {
-    state: u64,
+/// A random offer.
+fn any_offer(random: &mut Random) -> Offer {
+    let kind = random.next() % 5;
+    if kind == 0 {
+        Offer::Delay((random.next() % 8) as i64)
+    } else if kind < 3 {
+        Offer::Send(random.next() % CHANNELS)
+    } else {
+        Offer::Receive(random.next() % CHANNELS)
+    }
 }
 
-impl Random {
-    /// The next one, below 2 ^ 31.
-    fn next(&mut self) -> u32 {
-        self.state = self
-            .state
-            .wrapping_mul(6_364_136_223_846_793_005)
-            .wrapping_add(1_442_695_040_888_963_407);
-        (self.state >> 33) as u32
+/// Up to four of them.
+fn any_offers(alloc: Global, random: &mut Random) -> Result<Vec<Offer>, NoMemory> {
+    let mut offers = Vec::new(alloc);
+    for _more in 0..random.next() % 5 {
+        offers.push(any_offer(random))?;
     }
-
-    fn offer(&mut self) -> Offer {
-        let kind = self.next() % 5;
-        if kind == 0 {
-            Offer::Delay((self.next() % 8) as i64)
-        } else if kind < 3 {
-            Offer::Send(self.next() % CHANNELS)
-        } else {
-            Offer::Receive(self.next() % CHANNELS)
-        }
-    }
-
-    fn offers(&mut self, alloc: Global) -> Result<Vec<Offer>, NoMemory> {
-        let mut offers = Vec::new(alloc);
-        for _more in 0..self.next() % 5 {
-            offers.push(self.offer())?;
-        }
-        Ok(offers)
-    }
+    Ok(offers)
 }
 
 fn are_parties(parties: &[Party], twins: &Vec<Party>) -> bool {
@@ -103,7 +89,7 @@ fn options_agree(
 #[test]
 fn lines_and_options_are_those_of_a_scan(rt: HostRuntime) -> Result<(), Fail> {
     let alloc = rt.alloc();
-    let mut random = Random { state: 42 };
+    let mut random = Random::new();
     let mut waiting = Waiting::new(alloc);
     let mut twin = Twin::new(alloc);
     for call in 0..2_000u32 {
@@ -116,7 +102,7 @@ fn lines_and_options_are_those_of_a_scan(rt: HostRuntime) -> Result<(), Fail> {
                 withdraw_lent(alloc, &mut waiting, pid)?;
             }
         } else {
-            let offers = random.offers(alloc)?;
+            let offers = any_offers(alloc, &mut random)?;
             offer(&mut waiting, pid, offers.as_slice())?;
             twin.offer(pid, offers)?;
         }

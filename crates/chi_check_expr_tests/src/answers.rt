@@ -20,16 +20,23 @@ fn unread(alloc: Global) -> Result<String, Fail> {
     Ok("unread".to_string(alloc)?)
 }
 
+fn untyped(alloc: Global) -> Result<String, Fail> {
+    Ok("untyped".to_string(alloc)?)
+}
+
 fn tree_answer(alloc: Global, tree: &Expr, scope: &Scope, site: Site) -> Result<String, Fail> {
     let mut kept = None;
     let made = type_in(alloc, tree, scope, site, &mut kept)?;
     if let Some(Fault { rule, place }) = kept {
+        drop(made);
         return broken(alloc, rule, place);
     }
-    match made {
+    let told = match &made {
         Some(made) => shown(alloc, &made.core),
-        None => Ok("untyped".to_string(alloc)?),
-    }
+        None => untyped(alloc),
+    };
+    drop(made);
+    told
 }
 
 /// Of an expression: its core, or what is broken.
@@ -40,7 +47,11 @@ pub fn expr_answer(
     site: Site,
 ) -> Result<String, Fail> {
     match expr_of(alloc, source)? {
-        Some(tree) => tree_answer(alloc, &tree, scope, site),
+        Some(tree) => {
+            let told = tree_answer(alloc, &tree, scope, site);
+            drop(tree);
+            told
+        }
         None => unread(alloc),
     }
 }
@@ -54,8 +65,15 @@ fn refused(alloc: Global, fault: TypeFault) -> Result<String, Fail> {
 
 fn tree_core(alloc: Global, tree: &Expr) -> Result<String, Fail> {
     let scope = no_names(alloc);
-    match type_expr(alloc, tree, &scope, Site::Constant) {
-        Ok((core, _)) => shown(alloc, &core),
+    let typed = type_expr(alloc, tree, &scope, Site::Constant);
+    drop(scope);
+    match typed {
+        Ok((core, ty)) => {
+            drop(ty);
+            let told = shown(alloc, &core);
+            drop(core);
+            told
+        }
         Err(fault) => refused(alloc, fault),
     }
 }
@@ -63,15 +81,26 @@ fn tree_core(alloc: Global, tree: &Expr) -> Result<String, Fail> {
 /// Of an expression of a constant where no name is visible: its core, or what is broken.
 pub fn expr_call(alloc: Global, source: &'static str) -> Result<String, Fail> {
     match expr_of(alloc, source.as_bytes())? {
-        Some(tree) => tree_core(alloc, &tree),
+        Some(tree) => {
+            let told = tree_core(alloc, &tree);
+            drop(tree);
+            told
+        }
         None => unread(alloc),
     }
 }
 
 fn tree_default(alloc: Global, tree: &TypeTree) -> Result<String, Fail> {
     let scope = no_names(alloc);
-    match type_tree(alloc, tree, &scope, Site::Process, true) {
-        Ok((_, default)) => shown(alloc, &default),
+    let typed = type_tree(alloc, tree, &scope, Site::Process, true);
+    drop(scope);
+    match typed {
+        Ok((ty, default)) => {
+            drop(ty);
+            let told = shown(alloc, &default);
+            drop(default);
+            told
+        }
         Err(fault) => refused(alloc, fault),
     }
 }
@@ -79,7 +108,11 @@ fn tree_default(alloc: Global, tree: &TypeTree) -> Result<String, Fail> {
 /// Of the type of a local variable where no name is visible: its default, or what is broken.
 pub fn type_call(alloc: Global, source: &'static str) -> Result<String, Fail> {
     match type_of(alloc, source.as_bytes())? {
-        Some(tree) => tree_default(alloc, &tree),
+        Some(tree) => {
+            let told = tree_default(alloc, &tree);
+            drop(tree);
+            told
+        }
         None => unread(alloc),
     }
 }

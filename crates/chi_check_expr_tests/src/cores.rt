@@ -2,7 +2,9 @@
 
 use crate::answers::{expr_answer, expr_call, type_call};
 use crate::names::names;
-use chi_check_expr::Site;
+use chi_check_expr::{Scope, Site};
+use std::alloc::Global;
+use std::process::Abort;
 use std::test::Fail;
 
 /// Expressions of a process, each with its core.
@@ -129,14 +131,25 @@ const CORES: [(&str, &str); 66] = [
     ("large", "Lit(Choice(1, 1))"),
 ];
 
+/// Asserts what each expression comes to.
+fn expect(
+    rt: &impl Abort,
+    alloc: Global,
+    rows: &[(&str, &str)],
+    scope: &Scope,
+    site: Site,
+) -> Result<(), Fail> {
+    for (source, want) in rows {
+        let told = expr_answer(alloc, source.as_bytes(), scope, site)?;
+        assert_eq!(rt; told.as_str(), *want, "for {source}");
+    }
+    Ok(())
+}
+
 #[test]
 fn what_expressions_become(rt: HostRuntime) -> Result<(), Fail> {
     let scope = names(rt.alloc())?;
-    for (source, want) in CORES {
-        let told = expr_answer(rt.alloc(), source.as_bytes(), &scope, Site::Process)?;
-        assert_eq!(rt; told.as_str(), want, "for {source}");
-    }
-    Ok(())
+    expect(&rt, rt.alloc(), &CORES, &scope, Site::Process)
 }
 
 /// Expressions with names that a constant can't see, each with the rule that it breaks in one.
@@ -154,11 +167,7 @@ const IN_CONSTANTS: [(&str, &str); 8] = [
 #[test]
 fn constants_call_no_functions(rt: HostRuntime) -> Result<(), Fail> {
     let scope = names(rt.alloc())?;
-    for (source, want) in IN_CONSTANTS {
-        let told = expr_answer(rt.alloc(), source.as_bytes(), &scope, Site::Constant)?;
-        assert_eq!(rt; told.as_str(), want, "for {source}");
-    }
-    Ok(())
+    expect(&rt, rt.alloc(), &IN_CONSTANTS, &scope, Site::Constant)
 }
 
 #[test]

@@ -36,8 +36,15 @@ const FUNCTIONS: [(&str, u32, &str, &str); 4] = [
 ];
 
 fn declare(alloc: Global, scope: &mut Scope, name: &'static str, known: Known) -> Result<(), Fail> {
-    let name = Bytes::copy_of(alloc, name.as_bytes())?;
+    let name = match Bytes::copy_of(alloc, name.as_bytes()) {
+        Ok(name) => name,
+        Err(fault) => {
+            drop(known);
+            return Err(Fail::from(fault));
+        }
+    };
     if scope.known(&name).is_some() || scope.count() > 1000 {
+        drop(known);
         return Ok(());
     }
     Ok(scope.declare(&name, known)?)
@@ -54,7 +61,11 @@ fn tree_meant(alloc: Global, scope: &Scope, tree: &TypeTree) -> Result<Ty, Fail>
 /// The type that a source means, and `Void` where it means none.
 fn meant(alloc: Global, scope: &Scope, source: &str) -> Result<Ty, Fail> {
     match type_of(alloc, source.as_bytes())? {
-        Some(tree) => tree_meant(alloc, scope, &tree),
+        Some(tree) => {
+            let ty = tree_meant(alloc, scope, &tree);
+            drop(tree);
+            ty
+        }
         None => Ok(Ty::Void),
     }
 }
@@ -103,11 +114,20 @@ fn declare_functions(alloc: Global, scope: &mut Scope) -> Result<(), Fail> {
     Ok(())
 }
 
+fn declare_all(alloc: Global, scope: &mut Scope) -> Result<(), Fail> {
+    declare_variables(alloc, scope)?;
+    declare_functions(alloc, scope)?;
+    declare_others(alloc, scope)
+}
+
 /// What is known of the names.
 pub fn names(alloc: Global) -> Result<Scope, Fail> {
     let mut scope = Scope::new(alloc);
-    declare_variables(alloc, &mut scope)?;
-    declare_functions(alloc, &mut scope)?;
-    declare_others(alloc, &mut scope)?;
-    Ok(scope)
+    match declare_all(alloc, &mut scope) {
+        Ok(()) => Ok(scope),
+        Err(fault) => {
+            drop(scope);
+            Err(fault)
+        }
+    }
 }

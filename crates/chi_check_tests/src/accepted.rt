@@ -1,6 +1,6 @@
 //! Sources in which no rule is broken.
 
-use crate::sources::checked;
+use crate::sources::expect_accepted;
 use std::test::Fail;
 
 const ACCEPTED: [&str; 28] = [
@@ -36,9 +36,5 @@ const ACCEPTED: [&str; 28] = [
 
 #[test]
 fn sources_break_no_rule(rt: HostRuntime) -> Result<(), Fail> {
-    for source in ACCEPTED {
-        let broken = checked(&rt, rt.alloc(), source.as_bytes())?.err();
-        assert_eq!(rt; broken, None, "for {source}");
-    }
-    Ok(())
+    expect_accepted(&rt, rt.alloc(), &ACCEPTED)
 }

@@ -1,6 +1,6 @@
 //! Sources with experiments: those that break a rule, and those that break none.
 
-use crate::sources::checked;
+use crate::sources::{checked, expect_accepted, expect_broken};
 use chi_core::{Core, XStat};
 use std::test::Fail;
 
@@ -292,20 +292,12 @@ const ACCEPTED: [&str; 12] = [
 
 #[test]
 fn experiments_break_rules(rt: HostRuntime) -> Result<(), Fail> {
-    for (rule, line, column, source) in BROKEN {
-        let broken = checked(&rt, rt.alloc(), source.as_bytes())?.err();
-        assert_eq!(rt; broken, Some((rule, line, column)), "for {source}");
-    }
-    Ok(())
+    expect_broken(&rt, rt.alloc(), &BROKEN)
 }
 
 #[test]
 fn experiments_break_no_rule(rt: HostRuntime) -> Result<(), Fail> {
-    for source in ACCEPTED {
-        let broken = checked(&rt, rt.alloc(), source.as_bytes())?.err();
-        assert_eq!(rt; broken, None, "for {source}");
-    }
-    Ok(())
+    expect_accepted(&rt, rt.alloc(), &ACCEPTED)
 }
 
 /// Whether a core has one experiment, whose only statement runs the process of this number and takes an int as a real.

@@ -1,6 +1,6 @@
 //! One source for each rule, which it breaks first. More programs that break rules are in rows/.
 
-use crate::sources::checked;
+use crate::sources::expect_broken;
 use std::test::Fail;
 
 /// A rule, the line and the column where a source breaks it, and the source.
@@ -101,9 +101,5 @@ const BROKEN: [(u8, u32, u32, &str); 42] = [
 
 #[test]
 fn each_rule_is_broken_by_a_source(rt: HostRuntime) -> Result<(), Fail> {
-    for (rule, line, column, source) in BROKEN {
-        let broken = checked(&rt, rt.alloc(), source.as_bytes())?.err();
-        assert_eq!(rt; broken, Some((rule, line, column)), "for {source}");
-    }
-    Ok(())
+    expect_broken(&rt, rt.alloc(), &BROKEN)
 }

@@ -17,6 +17,3 @@ pub use exponential::exponential_units;
 pub use fault::DistFault;
 pub use generator::Generator;
 pub use laws::{draws_law, exponential_law};
-
-#[cfg(test)]
-mod tests;

@@ -6,6 +6,3 @@ mod arguments;
 mod types;
 
 pub use arguments::{explain_argument, explain_count, explain_kind};
-
-#[cfg(test)]
-mod tests;

@@ -1,9 +1,15 @@
-//! Tests of the explanations of tokens and of endings, over sources.
+//! Tests of explanations: of bytes, of tokens, of broken rules, of arguments, and of endings.
 #![tactic(auto)]
 
+#[cfg(test)]
+mod arguments;
 #[cfg(test)]
 mod endings;
 #[cfg(test)]
 mod expected;
 #[cfg(test)]
+mod lexical;
+#[cfg(test)]
 mod sources;
+#[cfg(test)]
+mod typing;

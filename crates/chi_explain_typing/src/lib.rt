@@ -7,6 +7,3 @@ mod typing;
 
 pub use rules::RULES;
 pub use typing::explain_typing;
-
-#[cfg(test)]
-mod tests;

@@ -18,6 +18,3 @@ pub use mute_sink::MuteSink;
 pub use shelf::{Fetch, Shelf};
 pub use sink::{Put, Sink, SinkFailed, put_all};
 pub use std_sink::StdSink;
-
-#[cfg(test)]
-mod tests;

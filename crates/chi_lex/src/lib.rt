@@ -15,6 +15,3 @@ mod word;
 pub use fault::LexFault;
 pub use laws::{one_reading_law, span_law, spelling_law};
 pub use lexer::{MOST_BYTES, end_place, lex};
-
-#[cfg(test)]
-mod tests;

@@ -5,6 +5,3 @@
 mod source;
 
 pub use source::{MOST_LENGTH, MOST_MACHINES, factory};
-
-#[cfg(test)]
-mod tests;

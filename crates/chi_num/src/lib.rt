@@ -32,8 +32,3 @@ pub use reals::{real_abs, real_add, real_neg, real_of, real_sub};
 pub use rounding::{ceil, floor, round};
 pub use text::{fixed_text, real_text};
 pub use text_laws::{one_number_is_meant, text_numbers_law, texts_read_back};
-
-#[cfg(test)]
-mod tests;
-#[cfg(test)]
-mod text_tests;

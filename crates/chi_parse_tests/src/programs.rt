@@ -1,5 +1,5 @@
+use crate::sources::tokens_of;
 use chi_grammar::ParseFault;
-use chi_lex::{MOST_BYTES, lex};
 use chi_parse::parse;
 use chi_tree::Program;
 use std::alloc::Global;
@@ -23,13 +23,7 @@ pub const PRODUCTIONS: [&str; 13] = [
 ];
 
 fn parsed(alloc: Global, source: &[u8]) -> Result<Result<Program, ParseFault>, Fail> {
-    if source.len() > MOST_BYTES {
-        return Ok(Err(ParseFault::NoMemory));
-    }
-    let tokens = lex(alloc, source)?;
-    if tokens.len() > MOST_BYTES {
-        return Ok(Err(ParseFault::NoMemory));
-    }
+    let tokens = tokens_of(alloc, source)?;
     Ok(parse(alloc, tokens.as_slice()))
 }
 

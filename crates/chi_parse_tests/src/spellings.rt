@@ -1,7 +1,5 @@
-ghost use Rattle.std.specs.Prelude.{◌<◌, ◌^◌, length, IfOk};
-
 use crate::programs::PRODUCTIONS;
-use chi_lex::{MOST_BYTES, lex};
+use crate::sources::tokens_of;
 use chi_parse::parse;
 use chi_token::{Spanned, Token, spelling};
 use chi_tree::Program;
@@ -62,19 +60,6 @@ fn spelled(alloc: Global, program: &Program) -> Result<Vec<u8>, Fail> {
     Ok(text)
 }
 
-fn tokens_of(alloc: Global, source: &str) -> Result<Vec<Spanned>, Fail>
-    ensures { IfOk result (λ tokens. length tokens.items < 2 ^ 32) }
-{
-    if source.len() > MOST_BYTES {
-        return Err(Fail::from("too long"));
-    }
-    let tokens = lex(alloc, source.as_bytes())?;
-    if tokens.len() > MOST_BYTES {
-        return Err(Fail::from("too many tokens"));
-    }
-    Ok(tokens)
-}
-
 /// Whether the tokens are those of the tree.
 fn are_of(alloc: Global, tokens: &[Spanned], program: &Program) -> Result<bool, Fail> {
     let before = written(alloc, tokens)?;
@@ -84,7 +69,7 @@ fn are_of(alloc: Global, tokens: &[Spanned], program: &Program) -> Result<bool, 
 
 /// Whether the tokens of a source are those of its tree.
 fn is_spelled_back(alloc: Global, source: &str) -> Result<bool, Fail> {
-    let tokens = tokens_of(alloc, source)?;
+    let tokens = tokens_of(alloc, source.as_bytes())?;
     let program = parse(alloc, tokens.as_slice()).map_err(|_| "refused")?;
     are_of(alloc, tokens.as_slice(), &program)
 }

@@ -10,6 +10,3 @@ pub use fault::PicksFault;
 pub use laws::picks_law;
 pub use read::read_picks;
 pub use write::picks_text;
-
-#[cfg(test)]
-mod tests;

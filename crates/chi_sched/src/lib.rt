@@ -10,6 +10,3 @@ pub use chooser::Chooser;
 pub use formulas::{First, Last, Listed, Spread, first_of, last_of, listed_of, spread_of};
 pub use laws::chooser_law;
 pub use policy::{Closure, Policy};
-
-#[cfg(test)]
-mod tests;

@@ -17,6 +17,3 @@ pub use place::{Place, Spanned};
 pub use sign::{SIGNS, Sign};
 pub use spell::spelling;
 pub use token::Token;
-
-#[cfg(test)]
-mod tests;

@@ -16,6 +16,3 @@ pub use laws::{fitting_is_an_order, joined_is_common, same_is_an_equivalence};
 pub use sameness::same;
 pub use shape::{depth, is_plain};
 pub use ty::{Ty, Way};
-
-#[cfg(test)]
-mod tests;

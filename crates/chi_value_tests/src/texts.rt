@@ -1,23 +1,12 @@
 use crate::build::list;
 use crate::conditions::{plain, within};
+use crate::names::colours;
 use chi_base::NoMemory;
 use chi_num::Real;
 use chi_token::Bytes;
 use chi_value::{Items, MOST_TEXT, Names, TextFault, Value, quoted_of, text_of};
 use std::alloc::Global;
 use std::test::Fail;
-
-/// One enumeration, of red and blue.
-fn colours(alloc: Global) -> Result<Names, NoMemory> {
-    let mut names = Vec::new(alloc);
-    names.push(Bytes::copy_of(alloc, b"red")?)?;
-    names.push(Bytes::copy_of(alloc, b"blue")?)?;
-    let mut kinds = Vec::new(alloc);
-    kinds.push(chi_base::Items::of(alloc, names)?)?;
-    Ok(Names {
-        kinds: chi_base::Items::of(alloc, kinds)?,
-    })
-}
 
 /// A value's text as it is written within another.
 fn quoted(alloc: Global, value: &Value, names: &Names) -> Result<Vec<u8>, Fail> {

@@ -3,7 +3,7 @@
 ghost use Rattle.std.specs.Prelude.{◌≡◌, ◌<◌};
 ghost use Rattle.chi_sched.specs.Policies.{listed};
 
-use crate::tests::Wanted;
+use crate::tests::calls::Wanted;
 use chi_io::MemSink;
 use chi_sched::{Chooser, First, Last, Listed, Policy, Spread, listed_of};
 use chi_tool::{replay, simulate};
@@ -11,7 +11,7 @@ use std::alloc::Global;
 use std::process::Abort;
 use std::test::Fail;
 
-const STARTED: &str = "proc S(chan! int a; int n): a!n end \
+pub const STARTED: &str = "proc S(chan! int a; int n): a!n end \
      proc R(chan? int a): int x; a?x; writeln(\"%d\", x); a?x; writeln(\"%d\", x) end \
      model M(): chan int a; start S(a, 1), S(a, 2), R(a) end";
 

@@ -1,7 +1,7 @@
 //! What words ask for: stopping times, arguments, logs of old; and sources that are refused.
 
+use crate::tests::calls::{DONE, Wanted, expect, written};
 use crate::tests::worked::{ALONE, Row, SIM, expect_rows};
-use crate::tests::{DONE, Wanted, expect, written};
 use std::test::Fail;
 
 const USAGE: &str = "usage: chi COMMAND [OPTIONS] FILE [ARGS]\n";

@@ -1,7 +1,7 @@
 //! Values, functions and their faults.
 
+use crate::tests::calls::{DONE, Wanted, expect, written};
 use crate::tests::worked::{Row, SIM, expect_rows};
-use crate::tests::{DONE, Wanted, expect, written};
 use std::test::Fail;
 
 const SUMS: &str =

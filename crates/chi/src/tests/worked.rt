@@ -1,6 +1,6 @@
 //! Worked rows: sources and words, and what the top call writes and answers.
 
-use crate::tests::{DONE, TWO_SENDERS, WORKS, Wanted, expect};
+use crate::tests::calls::{DONE, TWO_SENDERS, WORKS, Wanted, expect};
 use std::alloc::Global;
 use std::process::Abort;
 use std::test::Fail;
