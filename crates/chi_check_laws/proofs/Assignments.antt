@@ -22,13 +22,13 @@ use Rattle.chi_check_expr.proofs.Kept.{Each}
 use Rattle.chi_check_laws.specs.KnownNames.{AllStand, Has, SoundMade}
 use Rattle.chi_check_laws.proofs.Conversions.{some_is, mapped, chained, chosen, passed_have}
 use Rattle.chi_check_laws.proofs.Has.{Have}
-use Rattle.chi_check_stat_rules.specs.declared.home.Home.{Home}
-use Rattle.chi_check_stat_rules.specs.declared.parts.Aim.{Aim}
-use Rattle.chi_check_stat_rules.specs.Assignments.{all_aims, assign, stored, parts_fit, spread, spread_value, spread_one, only_one, uneven, even}
+use Rattle.chi_check.specs.Below.chi_check_stat_rules.specs.declared.home.Home.{Home}
+use Rattle.chi_check.specs.Below.chi_check_stat_rules.specs.declared.parts.Aim.{Aim}
+use Rattle.chi_check.specs.Below.chi_check_stat_rules.specs.Assignments.{all_aims, assign, stored, parts_fit, spread, spread_value, spread_one, only_one, uneven, even}
 use Rattle.chi_check_laws.specs.Parts.{SoundAim}
 use Rattle.chi_check_laws.proofs.Targets.{aims_take}
-use Rattle.chi_check_stat_lines.specs.Stated.{alone}
-use Rattle.chi_check_stat_lines.specs.Values.{made_of, assignment_place, values_in, target_in, assignment_in}
+use Rattle.chi_check.specs.Below.chi_check_stat_lines.specs.Stated.{alone}
+use Rattle.chi_check.specs.Below.chi_check_stat_lines.specs.Values.{made_of, assignment_place, values_in, target_in, assignment_in}
 use Rattle.chi_check_laws.specs.Bodies.{reads_as}
 use Rattle.chi_check_laws.specs.Whole.{has_any}
 use Rattle.chi_check_laws.proofs.Bodies.{SoundOne, StatementKept, statements_by_parts}

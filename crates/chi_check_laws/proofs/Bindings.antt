@@ -22,19 +22,19 @@ use Rattle.chi_check_expr_rules.specs.Nodes.{settled}
 use Rattle.chi_check_expr.specs.Typing.{reading}
 use Rattle.chi_check_expr.proofs.Kept.{Good, Each}
 use Rattle.chi_check_expr.proofs.Nodes.{left_nil, right_nil, cons_nil}
-use Rattle.chi_check_stat_rules.specs.declared.home.Home.{Home}
-use Rattle.chi_check_stat_rules.specs.declared.parts.Walked.{Walked}
-use Rattle.chi_check_stat_rules.specs.Homes.{site_of, local_rule}
-use Rattle.chi_check_stat_rules.specs.Places.{expr_place, type_place}
-use Rattle.chi_check_stat_rules.specs.Values.{fitted, initial_value}
-use Rattle.chi_check_stat_rules.specs.Walks.{element_type, types_of_parts, name_types, walked, walk_over, walk_of}
-use Rattle.chi_check_stat_lines.specs.declared.state.Binder.{Binder}
-use Rattle.chi_check_stat_lines.specs.declared.state.Binder.TheVariants as binder
-use Rattle.chi_check_stat_lines.specs.declared.state.State.{State}
-use Rattle.chi_check_stat_lines.specs.Stated.{Stated, in_turn, preceded, held_by}
-use Rattle.chi_check_stat_lines.specs.States.{is_taken, new_name_rule, bound, next_slot, slot_if, with_variable, binding, bindings}
-use Rattle.chi_check_stat_lines.specs.Values.{value_in}
-use Rattle.chi_check_stat_lines.specs.Declarations.{walk_place, types_of, opened, opening, declaration, initial_in, declared, declaration_in, walk_in}
+use Rattle.chi_check.specs.Below.chi_check_stat_rules.specs.declared.home.Home.{Home}
+use Rattle.chi_check.specs.Below.chi_check_stat_rules.specs.declared.parts.Walked.{Walked}
+use Rattle.chi_check.specs.Below.chi_check_stat_rules.specs.Homes.{site_of, local_rule}
+use Rattle.chi_check.specs.Below.chi_check_stat_rules.specs.Places.{expr_place, type_place}
+use Rattle.chi_check.specs.Below.chi_check_stat_rules.specs.Values.{fitted, initial_value}
+use Rattle.chi_check.specs.Below.chi_check_stat_rules.specs.Walks.{element_type, types_of_parts, name_types, walked, walk_over, walk_of}
+use Rattle.chi_check.specs.Below.chi_check_stat_lines.specs.declared.state.Binder.{Binder}
+use Rattle.chi_check.specs.Below.chi_check_stat_lines.specs.declared.state.Binder.TheVariants as binder
+use Rattle.chi_check.specs.Below.chi_check_stat_lines.specs.declared.state.State.{State}
+use Rattle.chi_check.specs.Below.chi_check_stat_lines.specs.Stated.{Stated, in_turn, preceded, held_by}
+use Rattle.chi_check.specs.Below.chi_check_stat_lines.specs.States.{is_taken, new_name_rule, bound, next_slot, slot_if, with_variable, binding, bindings}
+use Rattle.chi_check.specs.Below.chi_check_stat_lines.specs.Values.{value_in}
+use Rattle.chi_check.specs.Below.chi_check_stat_lines.specs.Declarations.{walk_place, types_of, opened, opening, declaration, initial_in, declared, declaration_in, walk_in}
 use Rattle.chi_check_laws.proofs.Entries.{entries_with, first_entries}
 use Rattle.chi_check_laws.proofs.Shaped.{Fine, Shaped, reading_shaped}
 use Rattle.chi_check_laws.proofs.ProgramTurns.{Leaves, Keeps, EachKeeps, turns_keep, each_keeps, FineState, Holds, held_leaves, preceded_leaves}

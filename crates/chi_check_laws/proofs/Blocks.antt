@@ -27,17 +27,17 @@ use Rattle.chi_core.specs.SoundStatements.{SoundAlternative}
 use Rattle.chi_check_expr.proofs.Kept.{Each}
 use Rattle.chi_check_laws.specs.KnownNames.{Has}
 use Rattle.chi_check_laws.proofs.Conversions.{mapped, chained}
-use Rattle.chi_check_stat_rules.specs.declared.home.Home.{Home}
-use Rattle.chi_check_stat_rules.specs.Homes.{running_rule}
-use Rattle.chi_check_stat_lines.specs.declared.state.Binder.TheVariants as binder
-use Rattle.chi_check_stat_lines.specs.declared.state.State.{State}
-use Rattle.chi_check_stat_lines.specs.Stated.{Turn, both, in_turn}
-use Rattle.chi_check_stat_lines.specs.States.{block, Going, each_in}
-use Rattle.chi_check_stat_lines.specs.Values.{test_in, guard_in}
-use Rattle.chi_check_stat_lines.specs.Declarations.{walk_in}
-use Rattle.chi_check_stat_lines.specs.Lines.{communication_in}
-use Rattle.chi_check_stat_lines.specs.Blocks.{offers, runs, starts}
-use Rattle.chi_check_stat.specs.Statements.{starting, element_step, statement_step, branch_step, alternative_step}
+use Rattle.chi_check.specs.Below.chi_check_stat_rules.specs.declared.home.Home.{Home}
+use Rattle.chi_check.specs.Below.chi_check_stat_rules.specs.Homes.{running_rule}
+use Rattle.chi_check.specs.Below.chi_check_stat_lines.specs.declared.state.Binder.TheVariants as binder
+use Rattle.chi_check.specs.Below.chi_check_stat_lines.specs.declared.state.State.{State}
+use Rattle.chi_check.specs.Below.chi_check_stat_lines.specs.Stated.{Turn, both, in_turn}
+use Rattle.chi_check.specs.Below.chi_check_stat_lines.specs.States.{block, Going, each_in}
+use Rattle.chi_check.specs.Below.chi_check_stat_lines.specs.Values.{test_in, guard_in}
+use Rattle.chi_check.specs.Below.chi_check_stat_lines.specs.Declarations.{walk_in}
+use Rattle.chi_check.specs.Below.chi_check_stat_lines.specs.Lines.{communication_in}
+use Rattle.chi_check.specs.Below.chi_check_stat_lines.specs.Blocks.{offers, runs, starts}
+use Rattle.chi_check.specs.Below.chi_check_stat.specs.Statements.{starting, element_step, statement_step, branch_step, alternative_step}
 use Rattle.chi_check_laws.specs.Bodies.{Agrees, reads_as, set_by}
 use Rattle.chi_check_laws.specs.Whole.{has_any}
 use Rattle.chi_check_laws.proofs.Bodies.{SoundOne, BranchAt, SoundBranch, SoundOffer, SoundMake, AllSound, StatementKept, BranchKept, OfferKept, MakeKept, nothing_more, statements_by_parts, each_by_parts, branch_at, offer_at, make_at, body_sound, offers_sound, makes_sound}

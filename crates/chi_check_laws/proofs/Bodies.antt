@@ -17,10 +17,10 @@ use Rattle.chi_core.specs.SoundParts as part
 use Rattle.chi_core.specs.SoundParts.{SoundElement, SoundElements}
 use Rattle.chi_core.specs.SoundStatements as sound
 use Rattle.chi_core.specs.SoundStatements.{SoundStat, SoundBlock, SoundBranches, SoundAlternative, SoundAlternatives}
-use Rattle.chi_check_streams.specs.Streams.{Counted, each, of_statement, of_branch, of_alternative, of_element, statement_step, branch_step, alternative_step, element_step}
+use Rattle.chi_check.specs.Below.chi_check_streams.specs.Streams.{Counted, each, of_statement, of_branch, of_alternative, of_element, statement_step, branch_step, alternative_step, element_step}
 use Rattle.chi_check_expr.proofs.Kept.{Each}
-use Rattle.chi_check_stat_lines.specs.declared.state.State.{State}
-use Rattle.chi_check_stat_lines.specs.Stated.{Turn}
+use Rattle.chi_check.specs.Below.chi_check_stat_lines.specs.declared.state.State.{State}
+use Rattle.chi_check.specs.Below.chi_check_stat_lines.specs.Stated.{Turn}
 use Rattle.chi_check_laws.specs.Bodies.{set_by, SoundBody}
 use Rattle.chi_check_laws.specs.Texts.{element_texts, statement_texts, branch_texts, alternative_texts}
 use Rattle.chi_check_laws.proofs.Layers.{statement_parts, alternative_parts, branch_parts, element_parts, statement_streams, alternative_streams, branch_streams, element_streams, statement_texts_of, alternative_texts_of, branch_texts_of, element_texts_of, statement_short, alternative_short, branch_short, element_short, streams_set}

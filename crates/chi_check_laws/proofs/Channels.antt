@@ -6,7 +6,7 @@ use Rattle.chi_types.specs.declared.ty.Ty.{Ty, Ty-F, map-Ty, fold-roll-Ty, fold_
 use Rattle.chi_types.specs.Plain.{holds, plain_step, is_plain}
 use Rattle.chi_types.specs.Same.{beside, nameless}
 use Rattle.chi_core.specs.Kinds.{without_ways_and_names, erased, kind_of, holds_channel_step, holds_channel}
-use Rattle.chi_check_stat_rules.specs.Homes.{has_channel}
+use Rattle.chi_check.specs.Below.chi_check_stat_rules.specs.Homes.{has_channel}
 use Rattle.chi_check_laws.proofs.Turns.{not_false}
 
 channel_rolled : (x : Ty-F Ty) → has_channel (roll-Ty x) ≡ holds_channel x

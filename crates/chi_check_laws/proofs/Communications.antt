@@ -25,7 +25,7 @@ use Rattle.chi_core.specs.SoundParts as part
 use Rattle.chi_core.specs.SoundParts.{SoundGuard}
 use Rattle.chi_core.specs.SoundStatements as sound
 use Rattle.chi_core.specs.SoundStatements.{SoundAlternative}
-use Rattle.chi_check_streams.specs.Streams.{some, of_expression}
+use Rattle.chi_check.specs.Below.chi_check_streams.specs.Streams.{some, of_expression}
 use Rattle.chi_check_types.specs.declared.known.Known.{Known}
 use Rattle.chi_check_types.specs.declared.known.Known.TheVariants as known
 use Rattle.chi_check_types.specs.declared.known.NameKind.{NameKind}
@@ -39,18 +39,18 @@ use Rattle.chi_check_expr_rules.specs.Nodes.{of_one}
 use Rattle.chi_check_expr.proofs.Nodes.{barred_made}
 use Rattle.chi_check_laws.specs.KnownNames.{AllStand, Has, SoundMade, Stands}
 use Rattle.chi_check_laws.proofs.Conversions.{some_is, mapped}
-use Rattle.chi_check_stat_rules.specs.declared.home.Home.{Home}
-use Rattle.chi_check_stat_rules.specs.declared.parts.Aim.{Aim}
-use Rattle.chi_check_stat_rules.specs.declared.parts.Receiver.{Receiver}
-use Rattle.chi_check_stat_rules.specs.Channels.{sent_type, send_void, sending, send_value, send_on, send_of, received_type, receiver, untyped_receiver, visible_receiver, receive_void, receiving, receive_value, receive_on, receive_of, delaying}
-use Rattle.chi_check_stat_rules.specs.Homes.{running_rule}
-use Rattle.chi_check_stat_rules.specs.Targets.{visible_target, named_target, is_text, indexed, index_step, field_of, field_step}
+use Rattle.chi_check.specs.Below.chi_check_stat_rules.specs.declared.home.Home.{Home}
+use Rattle.chi_check.specs.Below.chi_check_stat_rules.specs.declared.parts.Aim.{Aim}
+use Rattle.chi_check.specs.Below.chi_check_stat_rules.specs.declared.parts.Receiver.{Receiver}
+use Rattle.chi_check.specs.Below.chi_check_stat_rules.specs.Channels.{sent_type, send_void, sending, send_value, send_on, send_of, received_type, receiver, untyped_receiver, visible_receiver, receive_void, receiving, receive_value, receive_on, receive_of, delaying}
+use Rattle.chi_check.specs.Below.chi_check_stat_rules.specs.Homes.{running_rule}
+use Rattle.chi_check.specs.Below.chi_check_stat_rules.specs.Targets.{visible_target, named_target, is_text, indexed, index_step, field_of, field_step}
 use Rattle.chi_check_laws.specs.Parts.{texts_if_any, SoundAim, SoundReceiver, Communicates}
 use Rattle.chi_check_laws.proofs.SoundCommunications.{sending_sound, void_sending_sound, receiving_sound, void_receiving_sound, delaying_sound}
 use Rattle.chi_check_laws.proofs.Targets.{target_name_sound, target_index_sound, target_field_sound}
-use Rattle.chi_check_stat_lines.specs.Stated.{alone}
-use Rattle.chi_check_stat_lines.specs.Values.{made_if, value_in, step_in, steps_in, target_in, guard_in, test_in}
-use Rattle.chi_check_stat_lines.specs.Lines.{communication_place, selected, receiver_in, parts_in, communication_in, communicating}
+use Rattle.chi_check.specs.Below.chi_check_stat_lines.specs.Stated.{alone}
+use Rattle.chi_check.specs.Below.chi_check_stat_lines.specs.Values.{made_if, value_in, step_in, steps_in, target_in, guard_in, test_in}
+use Rattle.chi_check.specs.Below.chi_check_stat_lines.specs.Lines.{communication_place, selected, receiver_in, parts_in, communication_in, communicating}
 use Rattle.chi_check_laws.specs.Bodies.{reads_as}
 use Rattle.chi_check_laws.proofs.Bodies.{SoundOne, SoundOffer, AllSound, StatementKept, offer_at, body_sound, statements_by_parts}
 use Rattle.chi_check_laws.proofs.Endings.{runs_in}

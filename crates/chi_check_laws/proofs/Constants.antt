@@ -26,13 +26,13 @@ use Rattle.chi_check_types.specs.declared.site.Site.TheVariants as site
 use Rattle.chi_check_types.specs.Names.{Names, known_in}
 use Rattle.chi_check_expr.specs.Typing.{typing, reading}
 use Rattle.chi_check_expr.proofs.Nodes.{settled_made, barred_made}
-use Rattle.chi_check_stat_rules.specs.Values.{fitted, constant_rule, initial_value, constant_value}
-use Rattle.chi_check_streams.specs.Streams.{of_constant, each}
-use Rattle.chi_check_stat_lines.specs.Stated.{in_turn}
-use Rattle.chi_check_stat_lines.specs.States.{with_name}
-use Rattle.chi_check_headers.specs.declared.sketch.Early.{Early}
-use Rattle.chi_check_headers.specs.Headers.{type_in}
-use Rattle.chi_check_headers.specs.Definitions.{means, constant_known, constant, constant_defined, type_known, type_defined, early_defined}
+use Rattle.chi_check.specs.Below.chi_check_stat_rules.specs.Values.{fitted, constant_rule, initial_value, constant_value}
+use Rattle.chi_check.specs.Below.chi_check_streams.specs.Streams.{of_constant, each}
+use Rattle.chi_check.specs.Below.chi_check_stat_lines.specs.Stated.{in_turn}
+use Rattle.chi_check.specs.Below.chi_check_stat_lines.specs.States.{with_name}
+use Rattle.chi_check.specs.Below.chi_check_headers.specs.declared.sketch.Early.{Early}
+use Rattle.chi_check.specs.Below.chi_check_headers.specs.Headers.{type_in}
+use Rattle.chi_check.specs.Below.chi_check_headers.specs.Definitions.{means, constant_known, constant, constant_defined, type_known, type_defined, early_defined}
 use Rattle.chi_check_laws.proofs.SoundValues.{fitted_has}
 use Rattle.chi_check_laws.specs.KnownNames.{AllStand, Has, Stands, ConstantStands}
 use Rattle.chi_check_laws.proofs.WholeParts.{expression_sound, type_sound}

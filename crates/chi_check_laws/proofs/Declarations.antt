@@ -20,19 +20,19 @@ use Rattle.chi_check_expr.specs.Typing.{reading}
 use Rattle.chi_check_laws.specs.KnownNames.{AllStand, Has, SoundMeant, may_make_default}
 use Rattle.chi_check_laws.proofs.Conversions.{some_is, mapped}
 use Rattle.chi_check_laws.proofs.Types.{default_sound}
-use Rattle.chi_check_stat_rules.specs.declared.home.ExitType.TheVariants as exit
-use Rattle.chi_check_stat_rules.specs.declared.home.Home.{Home}
-use Rattle.chi_check_stat_rules.specs.declared.home.Home.TheVariants as home
-use Rattle.chi_check_stat_rules.specs.Homes.{site_of, has_channel, local_rule}
-use Rattle.chi_check_stat_rules.specs.Places.{type_place}
-use Rattle.chi_check_stat_rules.specs.Values.{fitted}
+use Rattle.chi_check.specs.Below.chi_check_stat_rules.specs.declared.home.ExitType.TheVariants as exit
+use Rattle.chi_check.specs.Below.chi_check_stat_rules.specs.declared.home.Home.{Home}
+use Rattle.chi_check.specs.Below.chi_check_stat_rules.specs.declared.home.Home.TheVariants as home
+use Rattle.chi_check.specs.Below.chi_check_stat_rules.specs.Homes.{site_of, has_channel, local_rule}
+use Rattle.chi_check.specs.Below.chi_check_stat_rules.specs.Places.{type_place}
+use Rattle.chi_check.specs.Below.chi_check_stat_rules.specs.Values.{fitted}
 use Rattle.chi_check_laws.proofs.SoundValues.{fitted_has}
-use Rattle.chi_check_stat_lines.specs.declared.state.Binder.TheVariants as binder
-use Rattle.chi_check_stat_lines.specs.declared.state.State.{State}
-use Rattle.chi_check_stat_lines.specs.Stated.{in_turn}
-use Rattle.chi_check_stat_lines.specs.States.{is_taken, next_slot, new_name_rule}
-use Rattle.chi_check_stat_lines.specs.Values.{value_in}
-use Rattle.chi_check_stat_lines.specs.Declarations.{declaration, initial_in, declared, declaration_in}
+use Rattle.chi_check.specs.Below.chi_check_stat_lines.specs.declared.state.Binder.TheVariants as binder
+use Rattle.chi_check.specs.Below.chi_check_stat_lines.specs.declared.state.State.{State}
+use Rattle.chi_check.specs.Below.chi_check_stat_lines.specs.Stated.{in_turn}
+use Rattle.chi_check.specs.Below.chi_check_stat_lines.specs.States.{is_taken, next_slot, new_name_rule}
+use Rattle.chi_check.specs.Below.chi_check_stat_lines.specs.Values.{value_in}
+use Rattle.chi_check.specs.Below.chi_check_stat_lines.specs.Declarations.{declaration, initial_in, declared, declaration_in}
 use Rattle.chi_check_laws.specs.Bodies.{reads_as, SlotsHave, set_by, Agrees, Grows}
 use Rattle.chi_check_laws.proofs.Bodies.{AllSound, StatementKept, all_append, set_append}
 use Rattle.chi_check_laws.proofs.Channels.{channel_kind, plain_holds_none}

@@ -22,12 +22,12 @@ use Rattle.chi_check_expr.specs.Typing.{typing, reading}
 use Rattle.chi_check_expr.proofs.Exact.{exact_typing}
 use Rattle.chi_check_expr.proofs.Kept.{Good}
 use Rattle.chi_check_expr.proofs.Nodes.{left_nil, right_nil}
-use Rattle.chi_check_stat_rules.specs.Values.{fitted, constant_rule, initial_value, constant_value}
-use Rattle.chi_check_stat_lines.specs.Stated.{in_turn}
-use Rattle.chi_check_stat_lines.specs.States.{with_name}
-use Rattle.chi_check_headers.specs.declared.sketch.Early.{Early}
-use Rattle.chi_check_headers.specs.Headers.{type_of, type_in}
-use Rattle.chi_check_headers.specs.Definitions.{means, with_definition, constant_known, constant, constant_defined, type_known, type_defined, early_defined, with_meaning, late_name, with_late, with_all_late}
+use Rattle.chi_check.specs.Below.chi_check_stat_rules.specs.Values.{fitted, constant_rule, initial_value, constant_value}
+use Rattle.chi_check.specs.Below.chi_check_stat_lines.specs.Stated.{in_turn}
+use Rattle.chi_check.specs.Below.chi_check_stat_lines.specs.States.{with_name}
+use Rattle.chi_check.specs.Below.chi_check_headers.specs.declared.sketch.Early.{Early}
+use Rattle.chi_check.specs.Below.chi_check_headers.specs.Headers.{type_of, type_in}
+use Rattle.chi_check.specs.Below.chi_check_headers.specs.Definitions.{means, with_definition, constant_known, constant, constant_defined, type_known, type_defined, early_defined, with_meaning, late_name, with_late, with_all_late}
 use Rattle.chi_check_laws.proofs.Entries.{Entries, entries_with}
 use Rattle.chi_check_laws.proofs.Headers.{StandsForOne}
 use Rattle.chi_check_laws.proofs.Lookups.{Continues, continues_same, continues_on, continues_with}

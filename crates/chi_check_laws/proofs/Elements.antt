@@ -18,7 +18,7 @@ use Rattle.chi_core.specs.SoundExpressions.{HaveKinds}
 use Rattle.chi_core.specs.SoundParts as part
 use Rattle.chi_core.specs.SoundParts.{MayStart, TakesInstance, SoundElement, TargetTakes}
 use Rattle.chi_core.proofs.Erased.{kind_at, same_kind}
-use Rattle.chi_check_streams.specs.Streams.{some, of_target, of_expressions}
+use Rattle.chi_check.specs.Below.chi_check_streams.specs.Streams.{some, of_target, of_expressions}
 use Rattle.chi_check_types.specs.declared.known.Known.{Known}
 use Rattle.chi_check_types.specs.declared.known.Known.TheVariants as known
 use Rattle.chi_check_types.specs.declared.known.NameKind.{NameKind}
@@ -35,19 +35,19 @@ use Rattle.chi_check_expr.proofs.Nodes.{barred_made, settled_made}
 use Rattle.chi_check_laws.specs.KnownNames.{AllStand, SoundMade, Stands, ProcessStands}
 use Rattle.chi_check_laws.proofs.Conversions.{some_is, mapped, chosen, passed_have}
 use Rattle.chi_check_laws.proofs.Has.{Have}
-use Rattle.chi_check_stat_rules.specs.declared.home.ExitType.{ExitType}
-use Rattle.chi_check_stat_rules.specs.declared.home.ExitType.TheVariants as exit
-use Rattle.chi_check_stat_rules.specs.declared.home.Home.{Home}
-use Rattle.chi_check_stat_rules.specs.declared.home.Home.TheVariants as home
-use Rattle.chi_check_stat_rules.specs.declared.parts.Aim.{Aim}
-use Rattle.chi_check_stat_rules.specs.declared.parts.Started.{Started}
-use Rattle.chi_check_stat_rules.specs.Elements.{as_instance_target, is_other_exit, exit_rule, started, process_start, untyped_start, visible_start, make, element_made}
-use Rattle.chi_check_stat_rules.specs.Values.{is_inst}
+use Rattle.chi_check.specs.Below.chi_check_stat_rules.specs.declared.home.ExitType.{ExitType}
+use Rattle.chi_check.specs.Below.chi_check_stat_rules.specs.declared.home.ExitType.TheVariants as exit
+use Rattle.chi_check.specs.Below.chi_check_stat_rules.specs.declared.home.Home.{Home}
+use Rattle.chi_check.specs.Below.chi_check_stat_rules.specs.declared.home.Home.TheVariants as home
+use Rattle.chi_check.specs.Below.chi_check_stat_rules.specs.declared.parts.Aim.{Aim}
+use Rattle.chi_check.specs.Below.chi_check_stat_rules.specs.declared.parts.Started.{Started}
+use Rattle.chi_check.specs.Below.chi_check_stat_rules.specs.Elements.{as_instance_target, is_other_exit, exit_rule, started, process_start, untyped_start, visible_start, make, element_made}
+use Rattle.chi_check.specs.Below.chi_check_stat_rules.specs.Values.{is_inst}
 use Rattle.chi_check_laws.specs.Parts.{SoundAim}
 use Rattle.chi_check_laws.proofs.Targets.{aim_takes}
-use Rattle.chi_check_stat_lines.specs.Stated.{alone}
-use Rattle.chi_check_stat_lines.specs.Values.{made_of, made_if, values_in, goal_in, target_in}
-use Rattle.chi_check_stat_lines.specs.Lines.{element_in}
+use Rattle.chi_check.specs.Below.chi_check_stat_lines.specs.Stated.{alone}
+use Rattle.chi_check.specs.Below.chi_check_stat_lines.specs.Values.{made_of, made_if, values_in, goal_in, target_in}
+use Rattle.chi_check.specs.Below.chi_check_stat_lines.specs.Lines.{element_in}
 use Rattle.chi_check_laws.specs.Bodies.{reads_as}
 use Rattle.chi_check_laws.specs.Texts.{target_texts_if}
 use Rattle.chi_check_laws.proofs.Bodies.{SoundMake, MakeKept, make_at, nothing_more, each_by_parts}

@@ -18,16 +18,16 @@ use Rattle.chi_check_expr.proofs.Nodes.{barred_made}
 use Rattle.chi_check_laws.specs.KnownNames.{AllStand, SoundMade}
 use Rattle.chi_check_laws.proofs.Conversions.{some_is, mapped}
 use Rattle.chi_check_laws.proofs.Has.{Have, have_none, have_one}
-use Rattle.chi_check_stat_rules.specs.declared.home.ExitType.TheVariants as exit
-use Rattle.chi_check_stat_rules.specs.declared.home.Home.{Home}
-use Rattle.chi_check_stat_rules.specs.declared.home.Home.TheVariants as home
-use Rattle.chi_check_stat_rules.specs.Endings.{returning, return_of, exiting, exit_of, loop_rule}
-use Rattle.chi_check_stat_rules.specs.Homes.{running_rule}
-use Rattle.chi_check_stat_rules.specs.Values.{fitted}
+use Rattle.chi_check.specs.Below.chi_check_stat_rules.specs.declared.home.ExitType.TheVariants as exit
+use Rattle.chi_check.specs.Below.chi_check_stat_rules.specs.declared.home.Home.{Home}
+use Rattle.chi_check.specs.Below.chi_check_stat_rules.specs.declared.home.Home.TheVariants as home
+use Rattle.chi_check.specs.Below.chi_check_stat_rules.specs.Endings.{returning, return_of, exiting, exit_of, loop_rule}
+use Rattle.chi_check.specs.Below.chi_check_stat_rules.specs.Homes.{running_rule}
+use Rattle.chi_check.specs.Below.chi_check_stat_rules.specs.Values.{fitted}
 use Rattle.chi_check_laws.proofs.SoundValues.{fitted_has, exiting_sound}
-use Rattle.chi_check_stat_lines.specs.Stated.{alone}
-use Rattle.chi_check_stat_lines.specs.Values.{value_in, instance_in, all_of, made_if}
-use Rattle.chi_check_stat_lines.specs.Lines.{return_in, exit_in, finish_in}
+use Rattle.chi_check.specs.Below.chi_check_stat_lines.specs.Stated.{alone}
+use Rattle.chi_check.specs.Below.chi_check_stat_lines.specs.Values.{value_in, instance_in, all_of, made_if}
+use Rattle.chi_check.specs.Below.chi_check_stat_lines.specs.Lines.{return_in, exit_in, finish_in}
 use Rattle.chi_check_laws.specs.Bodies.{reads_as}
 use Rattle.chi_check_laws.proofs.Bodies.{SoundOne, StatementKept, statements_by_parts}
 use Rattle.chi_check_laws.proofs.Statements.{one_pass, one_break, one_continue, one_return, one_exit, one_exit_with, one_finish}

@@ -3,7 +3,7 @@ use Rattle.std.proofs.Common.{ℕ, zero, suc, ◌≡◌, Bool, true, false, cond
 use Rattle.std.specs.Str.{bytes_eq}
 use Rattle.chi_check_types.specs.declared.known.Known.{Known}
 use Rattle.chi_check_types.specs.Names.{Names, known_in}
-use Rattle.chi_check_stat_lines.specs.States.{is_taken, with_name}
+use Rattle.chi_check.specs.Below.chi_check_stat_lines.specs.States.{is_taken, with_name}
 
 module _ (P : Known → Type 0) where
   abbrev pub Entries : Names → Type 0

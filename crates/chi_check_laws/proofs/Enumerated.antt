@@ -14,10 +14,10 @@ use Rattle.chi_check_types.specs.declared.known.Known.{Known}
 use Rattle.chi_check_types.specs.declared.known.Known.TheVariants as known
 use Rattle.chi_check_types.specs.Names.{Names}
 use Rattle.chi_check_expr.proofs.Kept.{Each}
-use Rattle.chi_check_stat_lines.specs.Stated.{in_turn, joined}
-use Rattle.chi_check_stat_lines.specs.States.{is_taken, with_name}
-use Rattle.chi_check_headers.specs.declared.sketch.Sketch.{Sketch}
-use Rattle.chi_check_headers.specs.Definitions.{early_known, named_early, values_from, enumeration_named, sketching}
+use Rattle.chi_check.specs.Below.chi_check_stat_lines.specs.Stated.{in_turn, joined}
+use Rattle.chi_check.specs.Below.chi_check_stat_lines.specs.States.{is_taken, with_name}
+use Rattle.chi_check.specs.Below.chi_check_headers.specs.declared.sketch.Sketch.{Sketch}
+use Rattle.chi_check.specs.Below.chi_check_headers.specs.Definitions.{early_known, named_early, values_from, enumeration_named, sketching}
 use Rattle.chi_check_laws.specs.Spelled.{AreNames, Spelled, EachSpelled}
 use Rattle.chi_check_laws.proofs.Entries.{Entries, entries_with, entries_so}
 use Rattle.chi_check_laws.proofs.Positions.{length_join, get_seam, each_every, each_join, joined_parts, some_same}

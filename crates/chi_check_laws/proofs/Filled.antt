@@ -7,9 +7,9 @@ use Rattle.chi_check_types.specs.Names.{Names, known_in}
 use Rattle.chi_check_types.specs.Typed.{Typed}
 use Rattle.chi_check_expr.proofs.Kept.{Each}
 use Rattle.chi_check_laws.proofs.Conversions.{some_is, mapped}
-use Rattle.chi_check_stat_lines.specs.declared.state.State.{State}
-use Rattle.chi_check_stat_lines.specs.Stated.{Turn, in_turn, alone}
-use Rattle.chi_check_stat_lines.specs.States.{cut, block}
+use Rattle.chi_check.specs.Below.chi_check_stat_lines.specs.declared.state.State.{State}
+use Rattle.chi_check.specs.Below.chi_check_stat_lines.specs.Stated.{Turn, in_turn, alone}
+use Rattle.chi_check.specs.Below.chi_check_stat_lines.specs.States.{cut, block}
 use Rattle.chi_check_laws.specs.Bodies.{Grows}
 use Rattle.chi_check_laws.proofs.Apart.{each_map, Apart, AllApart, apart_append, crossed, in_two}
 use Rattle.chi_check_laws.proofs.States.{grows_none, grows_on, cut_names, cut_grows}

@@ -20,22 +20,22 @@ use Rattle.chi_core.specs.declared.statement.CStat.TheVariants as statement
 use Rattle.chi_core.specs.Fills.{Fills, one_after_another, by_communication, by_element, by_alternative, by_branch, by_statement}
 use Rattle.chi_check_expr.proofs.Kept.{Each}
 use Rattle.chi_check_laws.proofs.Conversions.{mapped, chained}
-use Rattle.chi_check_stat_rules.specs.declared.home.Home.{Home}
-use Rattle.chi_check_stat_rules.specs.declared.parts.Walked.{Walked}
-use Rattle.chi_check_stat_rules.specs.Homes.{running_rule}
-use Rattle.chi_check_stat_rules.specs.Places.{expr_place}
-use Rattle.chi_check_stat_rules.specs.Walks.{walk_of}
-use Rattle.chi_check_stat_lines.specs.declared.state.Binder.{Binder}
-use Rattle.chi_check_stat_lines.specs.declared.state.Binder.TheVariants as binder
-use Rattle.chi_check_stat_lines.specs.declared.state.Opened.{Opened}
-use Rattle.chi_check_stat_lines.specs.declared.state.State.{State}
-use Rattle.chi_check_stat_lines.specs.Stated.{Turn, both, in_turn}
-use Rattle.chi_check_stat_lines.specs.States.{bindings, block, Going, each_in}
-use Rattle.chi_check_stat_lines.specs.Values.{value_in, test_in, guard_in}
-use Rattle.chi_check_stat_lines.specs.Declarations.{opened, types_of, walk_place, walk_in}
-use Rattle.chi_check_stat_lines.specs.Lines.{communication_in}
-use Rattle.chi_check_stat_lines.specs.Blocks.{offers, runs, starts}
-use Rattle.chi_check_stat.specs.Statements.{starting, element_step, statement_step, branch_step, alternative_step}
+use Rattle.chi_check.specs.Below.chi_check_stat_rules.specs.declared.home.Home.{Home}
+use Rattle.chi_check.specs.Below.chi_check_stat_rules.specs.declared.parts.Walked.{Walked}
+use Rattle.chi_check.specs.Below.chi_check_stat_rules.specs.Homes.{running_rule}
+use Rattle.chi_check.specs.Below.chi_check_stat_rules.specs.Places.{expr_place}
+use Rattle.chi_check.specs.Below.chi_check_stat_rules.specs.Walks.{walk_of}
+use Rattle.chi_check.specs.Below.chi_check_stat_lines.specs.declared.state.Binder.{Binder}
+use Rattle.chi_check.specs.Below.chi_check_stat_lines.specs.declared.state.Binder.TheVariants as binder
+use Rattle.chi_check.specs.Below.chi_check_stat_lines.specs.declared.state.Opened.{Opened}
+use Rattle.chi_check.specs.Below.chi_check_stat_lines.specs.declared.state.State.{State}
+use Rattle.chi_check.specs.Below.chi_check_stat_lines.specs.Stated.{Turn, both, in_turn}
+use Rattle.chi_check.specs.Below.chi_check_stat_lines.specs.States.{bindings, block, Going, each_in}
+use Rattle.chi_check.specs.Below.chi_check_stat_lines.specs.Values.{value_in, test_in, guard_in}
+use Rattle.chi_check.specs.Below.chi_check_stat_lines.specs.Declarations.{opened, types_of, walk_place, walk_in}
+use Rattle.chi_check.specs.Below.chi_check_stat_lines.specs.Lines.{communication_in}
+use Rattle.chi_check.specs.Below.chi_check_stat_lines.specs.Blocks.{offers, runs, starts}
+use Rattle.chi_check.specs.Below.chi_check_stat.specs.Statements.{starting, element_step, statement_step, branch_step, alternative_step}
 use Rattle.chi_check_laws.specs.Bodies.{Grows}
 use Rattle.chi_check_laws.specs.Whole.{has_any}
 use Rattle.chi_check_laws.proofs.Filled.{Below, Filled, Filling, still_below, filled_on, filled_old, filled_cut, in_turn_filling, block_filling}

@@ -35,27 +35,27 @@ use Rattle.chi_check_expr.proofs.Nodes.{barred_made}
 use Rattle.chi_types.specs.declared.ty.Ty.TheVariants as ty
 use Rattle.chi_check_laws.proofs.Conversions.{some_is, mapped, chained, chosen, chosen_some}
 use Rattle.chi_types.specs.Plain.{is_plain}
-use Rattle.chi_check_stat_rules.specs.declared.home.ExitType.TheVariants as exit
-use Rattle.chi_check_stat_rules.specs.declared.home.Home.{Home}
-use Rattle.chi_check_stat_rules.specs.declared.home.Home.TheVariants as home
-use Rattle.chi_check_stat_rules.specs.declared.parts.Aim.{Aim}
-use Rattle.chi_check_stat_rules.specs.declared.parts.Receiver.{Receiver}
-use Rattle.chi_check_stat_rules.specs.declared.parts.Started.{Started}
-use Rattle.chi_check_stat_rules.specs.Assignments.{all_aims, assign, stored, parts_fit, spread, spread_value, only_one, uneven, even}
-use Rattle.chi_check_stat_rules.specs.Channels.{sent_type, send_void, sending, send_value, send_on, send_of, received_type, receive_void, receiving, receive_value, receive_on, receive_of, delayed, delaying}
-use Rattle.chi_check_stat_rules.specs.Elements.{as_instance_target, make, element_made}
-use Rattle.chi_check_stat_rules.specs.Endings.{returning, return_of, exiting, exit_of, loop_rule}
-use Rattle.chi_check_stat_rules.specs.Homes.{site_of, running_rule, writing_rule, local_rule}
-use Rattle.chi_check_stat_rules.specs.Places.{type_place}
-use Rattle.chi_check_stat_rules.specs.Values.{is_inst, fitted}
-use Rattle.chi_check_stat_rules.specs.Writes.{ended, pieces_of, shown_count, Written, all_shown, written, write_of}
-use Rattle.chi_check_stat_lines.specs.declared.state.Binder.TheVariants as binder
-use Rattle.chi_check_stat_lines.specs.declared.state.State.{State}
-use Rattle.chi_check_stat_lines.specs.Stated.{in_turn, alone}
-use Rattle.chi_check_stat_lines.specs.States.{next_slot, new_name_rule}
-use Rattle.chi_check_stat_lines.specs.Values.{made_of, made_if, all_of, assignment_place, value_in, values_in, instance_in, target_in, goal_in, assignment_in}
-use Rattle.chi_check_stat_lines.specs.Declarations.{declaration, initial_in, declared, declaration_in}
-use Rattle.chi_check_stat_lines.specs.Lines.{placed, communication_place, selected, receiver_in, parts_in, communication_in, communicating, element_in, return_in, exit_in, finish_in, write_in}
+use Rattle.chi_check.specs.Below.chi_check_stat_rules.specs.declared.home.ExitType.TheVariants as exit
+use Rattle.chi_check.specs.Below.chi_check_stat_rules.specs.declared.home.Home.{Home}
+use Rattle.chi_check.specs.Below.chi_check_stat_rules.specs.declared.home.Home.TheVariants as home
+use Rattle.chi_check.specs.Below.chi_check_stat_rules.specs.declared.parts.Aim.{Aim}
+use Rattle.chi_check.specs.Below.chi_check_stat_rules.specs.declared.parts.Receiver.{Receiver}
+use Rattle.chi_check.specs.Below.chi_check_stat_rules.specs.declared.parts.Started.{Started}
+use Rattle.chi_check.specs.Below.chi_check_stat_rules.specs.Assignments.{all_aims, assign, stored, parts_fit, spread, spread_value, only_one, uneven, even}
+use Rattle.chi_check.specs.Below.chi_check_stat_rules.specs.Channels.{sent_type, send_void, sending, send_value, send_on, send_of, received_type, receive_void, receiving, receive_value, receive_on, receive_of, delayed, delaying}
+use Rattle.chi_check.specs.Below.chi_check_stat_rules.specs.Elements.{as_instance_target, make, element_made}
+use Rattle.chi_check.specs.Below.chi_check_stat_rules.specs.Endings.{returning, return_of, exiting, exit_of, loop_rule}
+use Rattle.chi_check.specs.Below.chi_check_stat_rules.specs.Homes.{site_of, running_rule, writing_rule, local_rule}
+use Rattle.chi_check.specs.Below.chi_check_stat_rules.specs.Places.{type_place}
+use Rattle.chi_check.specs.Below.chi_check_stat_rules.specs.Values.{is_inst, fitted}
+use Rattle.chi_check.specs.Below.chi_check_stat_rules.specs.Writes.{ended, pieces_of, shown_count, Written, all_shown, written, write_of}
+use Rattle.chi_check.specs.Below.chi_check_stat_lines.specs.declared.state.Binder.TheVariants as binder
+use Rattle.chi_check.specs.Below.chi_check_stat_lines.specs.declared.state.State.{State}
+use Rattle.chi_check.specs.Below.chi_check_stat_lines.specs.Stated.{in_turn, alone}
+use Rattle.chi_check.specs.Below.chi_check_stat_lines.specs.States.{next_slot, new_name_rule}
+use Rattle.chi_check.specs.Below.chi_check_stat_lines.specs.Values.{made_of, made_if, all_of, assignment_place, value_in, values_in, instance_in, target_in, goal_in, assignment_in}
+use Rattle.chi_check.specs.Below.chi_check_stat_lines.specs.Declarations.{declaration, initial_in, declared, declaration_in}
+use Rattle.chi_check.specs.Below.chi_check_stat_lines.specs.Lines.{placed, communication_place, selected, receiver_in, parts_in, communication_in, communicating, element_in, return_in, exit_in, finish_in, write_in}
 use Rattle.chi_check_laws.proofs.Declarations.{no_initial}
 use Rattle.chi_check_laws.proofs.Filled.{Visible, Old, Filled, Filling, in_turn_filling, alone_filling}
 use Rattle.chi_check_laws.proofs.FilledNames.{new_filled, target_seen, receiver_seen}

@@ -29,17 +29,17 @@ use Rattle.chi_check_expr_rules.specs.Parts.{field_in}
 use Rattle.chi_core.specs.declared.target.CStep.TheVariants as step
 use Rattle.chi_check_expr.proofs.Kept.{Each}
 use Rattle.chi_check_laws.proofs.Conversions.{some_is, mapped, chosen}
-use Rattle.chi_check_stat_rules.specs.declared.home.Home.{Home}
-use Rattle.chi_check_stat_rules.specs.declared.parts.Aim.{Aim}
-use Rattle.chi_check_stat_rules.specs.declared.parts.Receiver.{Receiver}
-use Rattle.chi_check_stat_rules.specs.Channels.{receiver, untyped_receiver, visible_receiver}
-use Rattle.chi_check_stat_rules.specs.Targets.{aim, untyped_target, visible_target, named_target, is_text, stepped, indexed, index_step, to_part, field_of, field_step}
-use Rattle.chi_check_stat_lines.specs.declared.state.Binder.{Binder}
-use Rattle.chi_check_stat_lines.specs.declared.state.Binder.TheVariants as binder
-use Rattle.chi_check_stat_lines.specs.declared.state.State.{State}
-use Rattle.chi_check_stat_lines.specs.Stated.{in_turn}
-use Rattle.chi_check_stat_lines.specs.States.{is_taken, bound, with_variable, slot_if, binding, first_type, other_types, bindings}
-use Rattle.chi_check_stat_lines.specs.Values.{value_in, step_in, steps_in, target_in}
+use Rattle.chi_check.specs.Below.chi_check_stat_rules.specs.declared.home.Home.{Home}
+use Rattle.chi_check.specs.Below.chi_check_stat_rules.specs.declared.parts.Aim.{Aim}
+use Rattle.chi_check.specs.Below.chi_check_stat_rules.specs.declared.parts.Receiver.{Receiver}
+use Rattle.chi_check.specs.Below.chi_check_stat_rules.specs.Channels.{receiver, untyped_receiver, visible_receiver}
+use Rattle.chi_check.specs.Below.chi_check_stat_rules.specs.Targets.{aim, untyped_target, visible_target, named_target, is_text, stepped, indexed, index_step, to_part, field_of, field_step}
+use Rattle.chi_check.specs.Below.chi_check_stat_lines.specs.declared.state.Binder.{Binder}
+use Rattle.chi_check.specs.Below.chi_check_stat_lines.specs.declared.state.Binder.TheVariants as binder
+use Rattle.chi_check.specs.Below.chi_check_stat_lines.specs.declared.state.State.{State}
+use Rattle.chi_check.specs.Below.chi_check_stat_lines.specs.Stated.{in_turn}
+use Rattle.chi_check.specs.Below.chi_check_stat_lines.specs.States.{is_taken, bound, with_variable, slot_if, binding, first_type, other_types, bindings}
+use Rattle.chi_check.specs.Below.chi_check_stat_lines.specs.Values.{value_in, step_in, steps_in, target_in}
 use Rattle.chi_check_laws.proofs.Communications.{unrefused}
 use Rattle.chi_check_laws.proofs.Filled.{Visible, Filled, Filling, Other, in_turn_filling}
 use Rattle.chi_check_laws.proofs.States.{found_in, variable_grows}

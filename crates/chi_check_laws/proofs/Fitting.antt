@@ -12,13 +12,13 @@ use Rattle.chi_core.specs.declared.program.FuncDef.{FuncDef}
 use Rattle.chi_core.specs.declared.program.ProcDef.{ProcDef}
 use Rattle.chi_core.specs.declared.statement.CStat.{CStat}
 use Rattle.chi_check_types.specs.Names.{Names}
-use Rattle.chi_check_stat_lines.specs.declared.state.Binder.TheVariants as binder
-use Rattle.chi_check_stat_lines.specs.declared.state.State.{State}
-use Rattle.chi_check_stat_lines.specs.Stated.{in_turn}
-use Rattle.chi_check_stat_lines.specs.States.{with_variable}
-use Rattle.chi_check_stat.specs.Statements.{stating_all}
-use Rattle.chi_check_headers.specs.declared.header.Header.{Header}
-use Rattle.chi_check_headers.specs.Headers.{all_types}
+use Rattle.chi_check.specs.Below.chi_check_stat_lines.specs.declared.state.Binder.TheVariants as binder
+use Rattle.chi_check.specs.Below.chi_check_stat_lines.specs.declared.state.State.{State}
+use Rattle.chi_check.specs.Below.chi_check_stat_lines.specs.Stated.{in_turn}
+use Rattle.chi_check.specs.Below.chi_check_stat_lines.specs.States.{with_variable}
+use Rattle.chi_check.specs.Below.chi_check_stat.specs.Statements.{stating_all}
+use Rattle.chi_check.specs.Below.chi_check_headers.specs.declared.header.Header.{Header}
+use Rattle.chi_check.specs.Below.chi_check_headers.specs.Headers.{all_types}
 use Rattle.chi_check.specs.Bodies.{formals_bound, body_in, function, process, result_of, exit_of, function_made, process_made, function_of, process_of, functions_of, processes_of}
 use Rattle.chi_check_laws.specs.Whole.{steps_are_whole}
 use Rattle.chi_check_laws.proofs.Homes.{body_names}

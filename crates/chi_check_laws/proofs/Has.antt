@@ -24,7 +24,7 @@ use Rattle.chi_core.specs.Scopes.{Scope, may_read, may_call, may_apply, may_make
 use Rattle.chi_core.specs.SetSlots.{Known as Set}
 use Rattle.chi_core.specs.SoundExpressions as sound
 use Rattle.chi_core.specs.SoundExpressions.{HasKind, HaveKinds, LiteralKind, no_expression, one_expression, stream_operand, entry_kinds}
-use Rattle.chi_check_streams.specs.Streams.{Counted, Counting, expression_step, of_expression, of_expressions}
+use Rattle.chi_check.specs.Below.chi_check_streams.specs.Streams.{Counted, Counting, expression_step, of_expression, of_expressions}
 use Rattle.chi_check_laws.specs.TypedTexts.{is_short, texts_step, texts_are_short}
 use Rattle.chi_check_laws.specs.KnownNames.{Has}
 

@@ -26,8 +26,8 @@ use Rattle.chi_check_expr.specs.Typing.{reading}
 use Rattle.chi_check_expr.proofs.Exact.{Anything}
 use Rattle.chi_check_expr.proofs.Kept.{Good}
 use Rattle.chi_check_expr.proofs.Nodes.{left_nil, right_nil, ExactTyped, unless_exact, refused_exact, node_good}
-use Rattle.chi_check_headers.specs.declared.header.Header.{Header}
-use Rattle.chi_check_headers.specs.Headers.{type_of, type_in, formal_type, formal_types, exit_given, exit_type_in, process_header, header_in, header_faults}
+use Rattle.chi_check.specs.Below.chi_check_headers.specs.declared.header.Header.{Header}
+use Rattle.chi_check.specs.Below.chi_check_headers.specs.Headers.{type_of, type_in, formal_type, formal_types, exit_given, exit_type_in, process_header, header_in, header_faults}
 use Rattle.chi_check.specs.Bodies.{result_of, exit_known, exit_of}
 use Rattle.chi_check_laws.specs.Formals.{begin_typed, headers_are_typed, header_is_typed}
 use Rattle.chi_check_laws.proofs.Entries.{Entries, known_entry}

@@ -11,19 +11,19 @@ use Rattle.chi_core.specs.Kinds.{kind_of, kinds_of, Every}
 use Rattle.chi_core.specs.Scopes.{Scope}
 use Rattle.chi_core.specs.SetSlots.{Known as Set, also, also_all}
 use Rattle.chi_core.specs.Sound.{SoundIn, nothing_known}
-use Rattle.chi_check_streams.specs.Streams.{each, of_statement}
+use Rattle.chi_check.specs.Below.chi_check_streams.specs.Streams.{each, of_statement}
 use Rattle.chi_check_types.specs.declared.known.Known.TheVariants as known
 use Rattle.chi_check_types.specs.Names.{Names}
 use Rattle.chi_check_expr.proofs.Kept.{Each}
 use Rattle.chi_check_laws.specs.KnownNames.{AllStand}
 use Rattle.chi_check_laws.proofs.Conversions.{some_is, mapped}
-use Rattle.chi_check_stat_lines.specs.declared.state.Binder.TheVariants as binder
-use Rattle.chi_check_stat_lines.specs.declared.state.State.{State}
-use Rattle.chi_check_stat_lines.specs.Stated.{in_turn}
-use Rattle.chi_check_stat_lines.specs.States.{is_taken, with_variable, next_slot, slot_if}
-use Rattle.chi_check_stat.specs.Statements.{stating_all}
-use Rattle.chi_check_headers.specs.declared.header.Header.{Header}
-use Rattle.chi_check_headers.specs.Headers.{all_types}
+use Rattle.chi_check.specs.Below.chi_check_stat_lines.specs.declared.state.Binder.TheVariants as binder
+use Rattle.chi_check.specs.Below.chi_check_stat_lines.specs.declared.state.State.{State}
+use Rattle.chi_check.specs.Below.chi_check_stat_lines.specs.Stated.{in_turn}
+use Rattle.chi_check.specs.Below.chi_check_stat_lines.specs.States.{is_taken, with_variable, next_slot, slot_if}
+use Rattle.chi_check.specs.Below.chi_check_stat.specs.Statements.{stating_all}
+use Rattle.chi_check.specs.Below.chi_check_headers.specs.declared.header.Header.{Header}
+use Rattle.chi_check.specs.Below.chi_check_headers.specs.Headers.{all_types}
 use Rattle.chi_check.specs.Bodies.{formals_bound, body_in}
 use Rattle.chi_check_laws.specs.Bodies.{role_of, SlotsHave, Agrees, SoundBodyOf}
 use Rattle.chi_check_laws.specs.Whole.{steps_are_whole}

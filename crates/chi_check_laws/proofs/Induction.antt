@@ -12,12 +12,12 @@ use Rattle.chi_core.specs.declared.element.CElem.{CElem}
 use Rattle.chi_core.specs.declared.statement.Branch.{Branch as CBranch}
 use Rattle.chi_core.specs.declared.statement.CAlt.{CAlt}
 use Rattle.chi_core.specs.declared.statement.CStat.{CStat}
-use Rattle.chi_check_stat_rules.specs.declared.home.Home.{Home}
+use Rattle.chi_check.specs.Below.chi_check_stat_rules.specs.declared.home.Home.{Home}
 use Rattle.chi_check_expr.proofs.Kept.{Each}
-use Rattle.chi_check_stat_lines.specs.declared.state.State.{State}
-use Rattle.chi_check_stat_lines.specs.Stated.{Turn}
-use Rattle.chi_check_stat_lines.specs.States.{Going}
-use Rattle.chi_check_stat.specs.Statements.{element_step, starting, statement_step, branch_step, alternative_step, step_step, stating, stepping, branching, offering, stepping_in}
+use Rattle.chi_check.specs.Below.chi_check_stat_lines.specs.declared.state.State.{State}
+use Rattle.chi_check.specs.Below.chi_check_stat_lines.specs.Stated.{Turn}
+use Rattle.chi_check.specs.Below.chi_check_stat_lines.specs.States.{Going}
+use Rattle.chi_check.specs.Below.chi_check_stat.specs.Statements.{element_step, starting, statement_step, branch_step, alternative_step, step_step, stating, stepping, branching, offering, stepping_in}
 use Rattle.chi_check_laws.specs.Whole as whole
 use Rattle.chi_check_laws.specs.Whole.{element_is_whole, elements_are_whole, statement_is_whole, step_is_whole, branch_is_whole, alternative_is_whole, steps_are_whole}
 use Rattle.chi_check_laws.proofs.Nodes.{Goes, Keeps}

@@ -8,7 +8,7 @@ use Rattle.chi_core.specs.declared.statement.CStat.TheVariants as statement
 use Rattle.chi_core.specs.declared.target.CStep.{CStep}
 use Rattle.chi_core.specs.declared.target.CTarget.{CTarget}
 use Rattle.chi_core.specs.SetSlots.{StatLayer, Known as Set, also_all, whole_or, wholes, sets}
-use Rattle.chi_check_streams.specs.Streams.{Counted, Counting, each, of_step, of_target, of_element, of_statement, of_branch, of_alternative, element_step, statement_step, branch_step, alternative_step}
+use Rattle.chi_check.specs.Below.chi_check_streams.specs.Streams.{Counted, Counting, each, of_step, of_target, of_element, of_statement, of_branch, of_alternative, element_step, statement_step, branch_step, alternative_step}
 use Rattle.chi_check_laws.specs.Texts as texts
 use Rattle.chi_check_laws.specs.Texts.{element_texts, statement_texts, branch_texts, alternative_texts}
 

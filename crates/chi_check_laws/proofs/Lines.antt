@@ -12,15 +12,15 @@ use Rattle.chi_check_types.specs.declared.rules.TheConstants.{IN_FUNCTION, IN_EX
 use Rattle.chi_check_types.specs.Names.{Names}
 use Rattle.chi_check_types.specs.Typed.{Typed, refused}
 use Rattle.chi_check_expr.proofs.Nodes.{left_nil, right_nil}
-use Rattle.chi_check_stat_rules.specs.declared.home.ExitType.{ExitType}
-use Rattle.chi_check_stat_rules.specs.declared.home.ExitType.TheVariants as exit
-use Rattle.chi_check_stat_rules.specs.declared.home.Home.{Home}
-use Rattle.chi_check_stat_rules.specs.declared.home.Home.TheVariants as home
-use Rattle.chi_check_stat_rules.specs.Endings.{returning, return_as, return_of, exiting, exit_with, exit_of}
-use Rattle.chi_check_stat_rules.specs.Homes.{running_rule, writing_rule}
-use Rattle.chi_check_stat_rules.specs.Writes.{Written, ended, pieces_of, shown_count, next_shown, showing, shown_one, with_first, shown_then, all_shown, written, write_of}
-use Rattle.chi_check_stat_lines.specs.Values.{made_of, all_faults, faults_if, made_if, all_of, value_in, values_in, instance_in}
-use Rattle.chi_check_stat_lines.specs.Lines.{placed, return_in, exit_in, finish_in, write_in}
+use Rattle.chi_check.specs.Below.chi_check_stat_rules.specs.declared.home.ExitType.{ExitType}
+use Rattle.chi_check.specs.Below.chi_check_stat_rules.specs.declared.home.ExitType.TheVariants as exit
+use Rattle.chi_check.specs.Below.chi_check_stat_rules.specs.declared.home.Home.{Home}
+use Rattle.chi_check.specs.Below.chi_check_stat_rules.specs.declared.home.Home.TheVariants as home
+use Rattle.chi_check.specs.Below.chi_check_stat_rules.specs.Endings.{returning, return_as, return_of, exiting, exit_with, exit_of}
+use Rattle.chi_check.specs.Below.chi_check_stat_rules.specs.Homes.{running_rule, writing_rule}
+use Rattle.chi_check.specs.Below.chi_check_stat_rules.specs.Writes.{Written, ended, pieces_of, shown_count, next_shown, showing, shown_one, with_first, shown_then, all_shown, written, write_of}
+use Rattle.chi_check.specs.Below.chi_check_stat_lines.specs.Values.{made_of, all_faults, faults_if, made_if, all_of, value_in, values_in, instance_in}
+use Rattle.chi_check.specs.Below.chi_check_stat_lines.specs.Lines.{placed, return_in, exit_in, finish_in, write_in}
 use Rattle.chi_check_laws.proofs.Entries.{Entries}
 use Rattle.chi_check_laws.proofs.Shaped.{Fine}
 use Rattle.chi_check_laws.proofs.MadeValues.{GivenComes, all_of_whole, if_given, value_whole, values_come, instance_whole}

@@ -12,7 +12,7 @@ use Rattle.chi_check_types.specs.Names.{Names, known_in}
 use Rattle.chi_check_types.specs.Predefined.{is_predefined}
 use Rattle.chi_check_types.specs.Typed.{broken_if}
 use Rattle.chi_check_expr.proofs.Nodes.{cons_nil}
-use Rattle.chi_check_stat_lines.specs.States.{is_taken, new_name_rule, with_name}
+use Rattle.chi_check.specs.Below.chi_check_stat_lines.specs.States.{is_taken, new_name_rule, with_name}
 
 -- ---- what is known stays known
 

@@ -12,18 +12,18 @@ use Rattle.chi_check_types.specs.declared.known.Known.TheVariants as known
 use Rattle.chi_check_types.specs.declared.known.NameKind.TheVariants as kind
 use Rattle.chi_check_types.specs.Names.{Names, known_in}
 use Rattle.chi_check_expr.proofs.Nodes.{left_nil, right_nil}
-use Rattle.chi_check_stat_rules.specs.declared.home.ExitType.{ExitType}
-use Rattle.chi_check_stat_rules.specs.declared.home.ExitType.TheVariants as exit
-use Rattle.chi_check_stat_rules.specs.declared.home.Home.{Home}
-use Rattle.chi_check_stat_rules.specs.declared.home.Home.TheVariants as home
-use Rattle.chi_check_stat_lines.specs.declared.state.Binder.TheVariants as binder
-use Rattle.chi_check_stat_lines.specs.declared.state.State.{State}
-use Rattle.chi_check_stat_lines.specs.Stated.{in_turn}
-use Rattle.chi_check_stat.specs.Statements.{stating_all}
-use Rattle.chi_check_headers.specs.declared.header.Header.{Header}
-use Rattle.chi_check_headers.specs.declared.sketch.Named.{Named as Bodies}
-use Rattle.chi_check_headers.specs.Headers.{all_types, function_known, process_known, model_known, result_in, exit_in, function_headed, process_headed, model_headed}
-use Rattle.chi_check_headers.specs.Definitions.{with_headed, with_all_headed}
+use Rattle.chi_check.specs.Below.chi_check_stat_rules.specs.declared.home.ExitType.{ExitType}
+use Rattle.chi_check.specs.Below.chi_check_stat_rules.specs.declared.home.ExitType.TheVariants as exit
+use Rattle.chi_check.specs.Below.chi_check_stat_rules.specs.declared.home.Home.{Home}
+use Rattle.chi_check.specs.Below.chi_check_stat_rules.specs.declared.home.Home.TheVariants as home
+use Rattle.chi_check.specs.Below.chi_check_stat_lines.specs.declared.state.Binder.TheVariants as binder
+use Rattle.chi_check.specs.Below.chi_check_stat_lines.specs.declared.state.State.{State}
+use Rattle.chi_check.specs.Below.chi_check_stat_lines.specs.Stated.{in_turn}
+use Rattle.chi_check.specs.Below.chi_check_stat.specs.Statements.{stating_all}
+use Rattle.chi_check.specs.Below.chi_check_headers.specs.declared.header.Header.{Header}
+use Rattle.chi_check.specs.Below.chi_check_headers.specs.declared.sketch.Named.{Named as Bodies}
+use Rattle.chi_check.specs.Below.chi_check_headers.specs.Headers.{all_types, function_known, process_known, model_known, result_in, exit_in, function_headed, process_headed, model_headed}
+use Rattle.chi_check.specs.Below.chi_check_headers.specs.Definitions.{with_headed, with_all_headed}
 use Rattle.chi_check.specs.Bodies.{formals_bound, body_in, function, process, result_of, exit_known, exit_of, process_made, function_of, process_of, functions_of, processes_of}
 use Rattle.chi_check_laws.proofs.Bindings.{binding_keeps, fine_takes, fine_holds}
 use Rattle.chi_check_laws.proofs.Definitions.{definition_fine, meant_as}

@@ -19,15 +19,15 @@ use Rattle.chi_check_types.specs.Predefined.{is_predefined}
 use Rattle.chi_check_types.specs.Typed.{refused}
 use Rattle.chi_check_expr_rules.specs.Nodes.{of_all, all_made}
 use Rattle.chi_check_expr.proofs.Nodes.{left_nil, right_nil, cons_nil}
-use Rattle.chi_check_stat_rules.specs.declared.home.Home.{Home}
-use Rattle.chi_check_stat_rules.specs.declared.parts.Aim.{Aim}
-use Rattle.chi_check_stat_rules.specs.declared.parts.Receiver.{Receiver}
-use Rattle.chi_check_stat_rules.specs.declared.parts.Started.{Started}
-use Rattle.chi_check_stat_rules.specs.Channels.{sent_type, send_void, sending, send_value, send_on, send_of, received_type, visible_receiver, receive_void, receiving, receive_value, receive_on, receive_of, delaying, delay_of}
-use Rattle.chi_check_stat_rules.specs.Elements.{as_instance_target, instance_target, exit_rule, started, process_start, visible_start, start_of, make, element_made}
-use Rattle.chi_check_stat_rules.specs.Homes.{running_rule}
-use Rattle.chi_check_stat_lines.specs.Values.{made_of, all_faults, faults_if, made_if, value_in, values_in, target_in, goal_in}
-use Rattle.chi_check_stat_lines.specs.Lines.{communication_place, receiver_in, parts_in, communication_in, communicating, selected, element_in}
+use Rattle.chi_check.specs.Below.chi_check_stat_rules.specs.declared.home.Home.{Home}
+use Rattle.chi_check.specs.Below.chi_check_stat_rules.specs.declared.parts.Aim.{Aim}
+use Rattle.chi_check.specs.Below.chi_check_stat_rules.specs.declared.parts.Receiver.{Receiver}
+use Rattle.chi_check.specs.Below.chi_check_stat_rules.specs.declared.parts.Started.{Started}
+use Rattle.chi_check.specs.Below.chi_check_stat_rules.specs.Channels.{sent_type, send_void, sending, send_value, send_on, send_of, received_type, visible_receiver, receive_void, receiving, receive_value, receive_on, receive_of, delaying, delay_of}
+use Rattle.chi_check.specs.Below.chi_check_stat_rules.specs.Elements.{as_instance_target, instance_target, exit_rule, started, process_start, visible_start, start_of, make, element_made}
+use Rattle.chi_check.specs.Below.chi_check_stat_rules.specs.Homes.{running_rule}
+use Rattle.chi_check.specs.Below.chi_check_stat_lines.specs.Values.{made_of, all_faults, faults_if, made_if, value_in, values_in, target_in, goal_in}
+use Rattle.chi_check.specs.Below.chi_check_stat_lines.specs.Lines.{communication_place, receiver_in, parts_in, communication_in, communicating, selected, element_in}
 use Rattle.chi_check_laws.proofs.Entries.{Entries, known_entry}
 use Rattle.chi_check_laws.proofs.Shaped.{Fine}
 use Rattle.chi_check_laws.proofs.MadeValues.{GivenComes, if_given, all_made_comes, value_whole, values_come, target_whole}

@@ -3,13 +3,13 @@ use Rattle.std.proofs.Common.{◌≡◌, List, [], ◌∷◌, ◌++◌, map, sym
 use Rattle.chi_tree.specs.declared.statement.Element.{Element, Element-F, roll-Element, map-Element, fold-roll-Element, ind-Element}
 use Rattle.chi_core.specs.declared.element.CElem.{CElem}
 use Rattle.chi_check_expr.proofs.Nodes.{left_nil, right_nil}
-use Rattle.chi_check_stat_rules.specs.declared.home.Home.{Home}
-use Rattle.chi_check_stat_lines.specs.declared.state.Binder.TheVariants as binder
-use Rattle.chi_check_stat_lines.specs.declared.state.State.{State}
-use Rattle.chi_check_stat_lines.specs.Stated.{Turn, in_turn}
-use Rattle.chi_check_stat_lines.specs.Declarations.{walk_in}
-use Rattle.chi_check_stat_lines.specs.Lines.{element_in}
-use Rattle.chi_check_stat.specs.Statements.{element_step, starting, unwound}
+use Rattle.chi_check.specs.Below.chi_check_stat_rules.specs.declared.home.Home.{Home}
+use Rattle.chi_check.specs.Below.chi_check_stat_lines.specs.declared.state.Binder.TheVariants as binder
+use Rattle.chi_check.specs.Below.chi_check_stat_lines.specs.declared.state.State.{State}
+use Rattle.chi_check.specs.Below.chi_check_stat_lines.specs.Stated.{Turn, in_turn}
+use Rattle.chi_check.specs.Below.chi_check_stat_lines.specs.Declarations.{walk_in}
+use Rattle.chi_check.specs.Below.chi_check_stat_lines.specs.Lines.{element_in}
+use Rattle.chi_check.specs.Below.chi_check_stat.specs.Statements.{element_step, starting, unwound}
 use Rattle.chi_core.specs.declared.element.CElem.TheVariants as element
 use Rattle.chi_check_laws.proofs.MadeCommunications.{element_whole}
 use Rattle.chi_check_laws.proofs.ProgramTurns.{Keeps, EachKeeps, turns_keep, Holds, alone_leaves, closed_leaves}

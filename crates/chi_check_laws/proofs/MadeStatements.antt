@@ -13,18 +13,18 @@ use Rattle.chi_core.specs.declared.statement.CStat.{CStat}
 use Rattle.chi_core.specs.declared.statement.CStat.TheVariants as statement
 use Rattle.chi_check_types.specs.Typed.{unless}
 use Rattle.chi_check_expr.proofs.Nodes.{left_nil, right_nil}
-use Rattle.chi_check_stat_rules.specs.declared.home.Home.{Home}
-use Rattle.chi_check_stat_rules.specs.Endings.{loop_rule}
-use Rattle.chi_check_stat_rules.specs.Homes.{running_rule}
-use Rattle.chi_check_stat_lines.specs.declared.state.Binder.TheVariants as binder
-use Rattle.chi_check_stat_lines.specs.declared.state.State.{State}
-use Rattle.chi_check_stat_lines.specs.Stated.{in_turn}
-use Rattle.chi_check_stat_lines.specs.States.{block, Going, each_in}
-use Rattle.chi_check_stat_lines.specs.Values.{assignment_in, test_in, guard_in}
-use Rattle.chi_check_stat_lines.specs.Declarations.{walk_in}
-use Rattle.chi_check_stat_lines.specs.Lines.{communicating, communication_in, return_in, exit_in, finish_in, write_in}
-use Rattle.chi_check_stat_lines.specs.Blocks.{offers, runs, starts, walked, guarded, offered}
-use Rattle.chi_check_stat.specs.Statements.{starting, statement_step, branch_step, alternative_step, step_step, stating, stepping, branching, offering, stepping_in, stating_all}
+use Rattle.chi_check.specs.Below.chi_check_stat_rules.specs.declared.home.Home.{Home}
+use Rattle.chi_check.specs.Below.chi_check_stat_rules.specs.Endings.{loop_rule}
+use Rattle.chi_check.specs.Below.chi_check_stat_rules.specs.Homes.{running_rule}
+use Rattle.chi_check.specs.Below.chi_check_stat_lines.specs.declared.state.Binder.TheVariants as binder
+use Rattle.chi_check.specs.Below.chi_check_stat_lines.specs.declared.state.State.{State}
+use Rattle.chi_check.specs.Below.chi_check_stat_lines.specs.Stated.{in_turn}
+use Rattle.chi_check.specs.Below.chi_check_stat_lines.specs.States.{block, Going, each_in}
+use Rattle.chi_check.specs.Below.chi_check_stat_lines.specs.Values.{assignment_in, test_in, guard_in}
+use Rattle.chi_check.specs.Below.chi_check_stat_lines.specs.Declarations.{walk_in}
+use Rattle.chi_check.specs.Below.chi_check_stat_lines.specs.Lines.{communicating, communication_in, return_in, exit_in, finish_in, write_in}
+use Rattle.chi_check.specs.Below.chi_check_stat_lines.specs.Blocks.{offers, runs, starts, walked, guarded, offered}
+use Rattle.chi_check.specs.Below.chi_check_stat.specs.Statements.{starting, statement_step, branch_step, alternative_step, step_step, stating, stepping, branching, offering, stepping_in, stating_all}
 use Rattle.chi_check_laws.proofs.MadeCommunications.{communicating_whole, communication_whole}
 use Rattle.chi_check_laws.proofs.MadeElements.{starting_keeps}
 use Rattle.chi_check_laws.proofs.Lines.{TypedHome, return_in_whole, exit_in_whole, finish_in_whole, write_in_whole}

@@ -21,14 +21,14 @@ use Rattle.chi_check_types.specs.Typed.{Typed, refused}
 use Rattle.chi_check_expr_rules.specs.Nodes.{of_one, all_made}
 use Rattle.chi_check_expr.proofs.Exact.{exact_typing}
 use Rattle.chi_check_expr.proofs.Nodes.{left_nil, right_nil}
-use Rattle.chi_check_stat_rules.specs.declared.home.Home.{Home}
-use Rattle.chi_check_stat_rules.specs.declared.parts.Aim.{Aim}
-use Rattle.chi_check_stat_rules.specs.Assignments.{all_aims, stored, spread, spread_parts, spread_value, spread_one, only_one, uneven, even, assigned}
-use Rattle.chi_check_stat_rules.specs.Homes.{site_of}
-use Rattle.chi_check_stat_rules.specs.Places.{expr_place}
-use Rattle.chi_check_stat_rules.specs.Targets.{visible_target, named_target, is_text, indexed, index_into, index_step, field_of}
-use Rattle.chi_check_stat_rules.specs.Values.{as_bool, condition, as_instance, finished_one}
-use Rattle.chi_check_stat_lines.specs.Values.{made_of, all_faults, faults_if, made_if, all_of, if_any, assignment_place, value_in, values_in, test_in, guard_in, instance_in, step_in, steps_in, target_in, assignment_in}
+use Rattle.chi_check.specs.Below.chi_check_stat_rules.specs.declared.home.Home.{Home}
+use Rattle.chi_check.specs.Below.chi_check_stat_rules.specs.declared.parts.Aim.{Aim}
+use Rattle.chi_check.specs.Below.chi_check_stat_rules.specs.Assignments.{all_aims, stored, spread, spread_parts, spread_value, spread_one, only_one, uneven, even, assigned}
+use Rattle.chi_check.specs.Below.chi_check_stat_rules.specs.Homes.{site_of}
+use Rattle.chi_check.specs.Below.chi_check_stat_rules.specs.Places.{expr_place}
+use Rattle.chi_check.specs.Below.chi_check_stat_rules.specs.Targets.{visible_target, named_target, is_text, indexed, index_into, index_step, field_of}
+use Rattle.chi_check.specs.Below.chi_check_stat_rules.specs.Values.{as_bool, condition, as_instance, finished_one}
+use Rattle.chi_check.specs.Below.chi_check_stat_lines.specs.Values.{made_of, all_faults, faults_if, made_if, all_of, if_any, assignment_place, value_in, values_in, test_in, guard_in, instance_in, step_in, steps_in, target_in, assignment_in}
 use Rattle.chi_check_laws.proofs.Entries.{Entries, known_entry}
 use Rattle.chi_check_laws.proofs.Shaped.{Fine, clean_of}
 use Rattle.chi_check_laws.proofs.WholeHeaders.{Comes, WholeTyped, EachComes, exact_whole, refused_whole, cond_whole, of_one_whole, of_two_whole, then_whole, mapped_comes, both_comes}

@@ -2,8 +2,8 @@
 use Rattle.std.proofs.Common.{ℕ, zero, suc, ◌≡◌, ◌+◌, List, [], ◌∷◌, ◌++◌, map, length, Option, Some, None, refl, sym, ap, subst, arith}
 use Rattle.std.specs.Prelude.{slice_get, option_map}
 use Rattle.chi_core.specs.Kinds.{Every}
-use Rattle.chi_check_streams.specs.Streams.{Counting, each}
-use Rattle.chi_check_stat_lines.specs.Stated.{both, joined}
+use Rattle.chi_check.specs.Below.chi_check_streams.specs.Streams.{Counting, each}
+use Rattle.chi_check.specs.Below.chi_check_stat_lines.specs.Stated.{both, joined}
 use Rattle.chi_check_expr.proofs.Kept.{Each}
 
 pub length_join : {A : Type 0} (xs ys : List A) → length (xs ++ ys) ≡ length xs + length ys

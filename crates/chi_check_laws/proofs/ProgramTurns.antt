@@ -6,12 +6,12 @@ use Rattle.chi_tree.specs.declared.type_tree.TypeTree.{TypeTree}
 use Rattle.chi_check_types.specs.declared.fault.Fault.{Fault}
 use Rattle.chi_check_types.specs.Typed.{Typed}
 use Rattle.chi_check_expr.proofs.Nodes.{left_nil, right_nil, cons_nil}
-use Rattle.chi_check_stat_rules.specs.declared.home.Home.{Home}
-use Rattle.chi_check_stat_lines.specs.declared.state.Binder.{Binder}
-use Rattle.chi_check_stat_lines.specs.declared.state.State.{State}
-use Rattle.chi_check_stat_lines.specs.Stated.{Stated, Turn, in_turn, alone, preceded, held_by}
-use Rattle.chi_check_stat_lines.specs.States.{cut, closed, block, Going, each_in}
-use Rattle.chi_check_stat_lines.specs.Declarations.{declaration_in, walk_in}
+use Rattle.chi_check.specs.Below.chi_check_stat_rules.specs.declared.home.Home.{Home}
+use Rattle.chi_check.specs.Below.chi_check_stat_lines.specs.declared.state.Binder.{Binder}
+use Rattle.chi_check.specs.Below.chi_check_stat_lines.specs.declared.state.State.{State}
+use Rattle.chi_check.specs.Below.chi_check_stat_lines.specs.Stated.{Stated, Turn, in_turn, alone, preceded, held_by}
+use Rattle.chi_check.specs.Below.chi_check_stat_lines.specs.States.{cut, closed, block, Going, each_in}
+use Rattle.chi_check.specs.Below.chi_check_stat_lines.specs.Declarations.{declaration_in, walk_in}
 use Rattle.chi_check_laws.proofs.Entries.{Entries}
 use Rattle.chi_check_laws.proofs.Shaped.{Fine}
 use Rattle.chi_check_laws.proofs.WholeHeaders.{Comes, WholeTyped, mapped_comes, both_comes}

@@ -10,9 +10,9 @@ use Rattle.chi_core.specs.declared.program.Core.{Core}
 use Rattle.chi_core.specs.declared.program.FuncDef.{FuncDef}
 use Rattle.chi_core.specs.declared.program.ProcDef.{ProcDef}
 use Rattle.chi_check_expr.proofs.Nodes.{left_nil, right_nil, cons_nil}
-use Rattle.chi_check_stat_lines.specs.Stated.{in_turn}
-use Rattle.chi_check_headers.specs.Headers.{header_in, header_faults}
-use Rattle.chi_check_headers.specs.Definitions.{sketching, early_defined, with_all_late, with_all_headed}
+use Rattle.chi_check.specs.Below.chi_check_stat_lines.specs.Stated.{in_turn}
+use Rattle.chi_check.specs.Below.chi_check_headers.specs.Headers.{header_in, header_faults}
+use Rattle.chi_check.specs.Below.chi_check_headers.specs.Definitions.{sketching, early_defined, with_all_late, with_all_headed}
 use Rattle.chi_check.specs.Bodies.{functions_of, processes_of, experiments_of}
 use Rattle.chi_check.specs.Programs.{no_names, first_early, first_named, first_model, model_rule, core_of, definitions_checked, checked}
 use Rattle.chi_check_laws.specs.Formals.{headers_are_typed, formals_are_typed}

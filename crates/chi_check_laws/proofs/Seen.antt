@@ -19,17 +19,17 @@ use Rattle.chi_check_types.specs.declared.known.Known.{Known}
 use Rattle.chi_check_types.specs.declared.known.Known.TheVariants as known
 use Rattle.chi_check_types.specs.declared.known.NameKind.TheVariants as kind
 use Rattle.chi_check_types.specs.Names.{Names, known_in}
-use Rattle.chi_check_stat_rules.specs.declared.home.ExitType.{ExitType}
-use Rattle.chi_check_stat_rules.specs.declared.home.ExitType.TheVariants as exit
-use Rattle.chi_check_stat_rules.specs.declared.home.Home.{Home}
-use Rattle.chi_check_stat_rules.specs.declared.home.Home.TheVariants as home
-use Rattle.chi_check_streams.specs.Streams.{each, of_function, of_process}
+use Rattle.chi_check.specs.Below.chi_check_stat_rules.specs.declared.home.ExitType.{ExitType}
+use Rattle.chi_check.specs.Below.chi_check_stat_rules.specs.declared.home.ExitType.TheVariants as exit
+use Rattle.chi_check.specs.Below.chi_check_stat_rules.specs.declared.home.Home.{Home}
+use Rattle.chi_check.specs.Below.chi_check_stat_rules.specs.declared.home.Home.TheVariants as home
+use Rattle.chi_check.specs.Below.chi_check_streams.specs.Streams.{each, of_function, of_process}
 use Rattle.chi_check_laws.specs.KnownNames.{Stands}
-use Rattle.chi_check_stat_lines.specs.States.{with_name}
-use Rattle.chi_check_headers.specs.declared.header.Header.{Header}
-use Rattle.chi_check_headers.specs.declared.sketch.Named.{Named as Bodies}
-use Rattle.chi_check_headers.specs.Headers.{all_types, function_known, process_known, model_known, result_in, exit_in, function_headed, process_headed, model_headed}
-use Rattle.chi_check_headers.specs.Definitions.{means, with_definition, with_headed, with_all_headed}
+use Rattle.chi_check.specs.Below.chi_check_stat_lines.specs.States.{with_name}
+use Rattle.chi_check.specs.Below.chi_check_headers.specs.declared.header.Header.{Header}
+use Rattle.chi_check.specs.Below.chi_check_headers.specs.declared.sketch.Named.{Named as Bodies}
+use Rattle.chi_check.specs.Below.chi_check_headers.specs.Headers.{all_types, function_known, process_known, model_known, result_in, exit_in, function_headed, process_headed, model_headed}
+use Rattle.chi_check.specs.Below.chi_check_headers.specs.Definitions.{means, with_definition, with_headed, with_all_headed}
 use Rattle.chi_check.specs.Bodies.{result_of, exit_known, exit_of}
 use Rattle.chi_check_laws.proofs.Constants.{ConstantIs}
 use Rattle.chi_check_laws.proofs.Definitions.{meant_as}

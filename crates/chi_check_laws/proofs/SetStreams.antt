@@ -8,7 +8,7 @@ use Rattle.chi_core.specs.declared.statement.CAlt.{CAlt, CAlt-F, map-CAlt, roll-
 use Rattle.chi_core.specs.declared.statement.CStat.{CStat, CStat-F, map-CStat, roll-CStat, out-roll-CStat, ind-CStat}
 use Rattle.chi_core.specs.declared.target.CTarget.{CTarget}
 use Rattle.chi_core.specs.Fills.{Fills, filled, unwound, one_after_another, by_target, by_target_if, by_communication, by_element, by_alternative, by_branch, by_statement, by_body}
-use Rattle.chi_check_streams.specs.Streams.{Counted, Counting, each, some, of_expression, of_target, of_communication, of_element, of_statement, of_branch, of_alternative, statement_step, branch_step, alternative_step, element_step}
+use Rattle.chi_check.specs.Below.chi_check_streams.specs.Streams.{Counted, Counting, each, some, of_expression, of_target, of_communication, of_element, of_statement, of_branch, of_alternative, statement_step, branch_step, alternative_step, element_step}
 use Rattle.chi_check_laws.proofs.Layers.{statement_parts, alternative_parts, branch_parts, element_parts, statement_streams, alternative_streams, branch_streams, element_streams}
 use Rattle.chi_check_laws.proofs.Set.{statement_fills, alternative_fills, element_fills, statement_sets, alternative_sets, branch_sets, element_sets, declare_sets, assign_sets, choose_sets, while_sets, walk_sets, pass_sets, break_sets, continue_sets, return_sets, exit_sets, write_sets, select_sets, run_sets, start_sets, finish_sets, guarded_sets, offered_sets, make_sets, unwound_sets}
 

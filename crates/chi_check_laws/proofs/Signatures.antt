@@ -25,12 +25,12 @@ use Rattle.chi_check_types.proofs.TypeLaws as types
 use Rattle.chi_check_expr.specs.Typing.{reading}
 use Rattle.chi_check_expr.proofs.Kept.{Good, Each, FieldOk}
 use Rattle.chi_check_expr.proofs.Nodes.{node_good}
-use Rattle.chi_check_stat_rules.specs.declared.home.ExitType.{ExitType}
-use Rattle.chi_check_stat_rules.specs.declared.home.ExitType.TheVariants as exit
-use Rattle.chi_check_stat_rules.specs.declared.home.Home.{Home}
-use Rattle.chi_check_stat_rules.specs.declared.home.Home.TheVariants as home
-use Rattle.chi_check_headers.specs.declared.header.Header.{Header}
-use Rattle.chi_check_headers.specs.Headers.{type_of, type_in, formal_type, formal_types, exit_given, exit_type_in, process_header, header_in}
+use Rattle.chi_check.specs.Below.chi_check_stat_rules.specs.declared.home.ExitType.{ExitType}
+use Rattle.chi_check.specs.Below.chi_check_stat_rules.specs.declared.home.ExitType.TheVariants as exit
+use Rattle.chi_check.specs.Below.chi_check_stat_rules.specs.declared.home.Home.{Home}
+use Rattle.chi_check.specs.Below.chi_check_stat_rules.specs.declared.home.Home.TheVariants as home
+use Rattle.chi_check.specs.Below.chi_check_headers.specs.declared.header.Header.{Header}
+use Rattle.chi_check.specs.Below.chi_check_headers.specs.Headers.{type_of, type_in, formal_type, formal_types, exit_given, exit_type_in, process_header, header_in}
 use Rattle.chi_check_laws.proofs.Entries.{Entries, known_entry, entries_so}
 use Rattle.chi_check_laws.proofs.Headers.{StandsForOne, name_exact}
 use Rattle.chi_check_laws.proofs.Unsized.{KeepsTypes, reading_unsized}

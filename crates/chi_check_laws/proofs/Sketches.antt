@@ -8,10 +8,10 @@ use Rattle.chi_check_types.specs.declared.known.Known.TheVariants as known
 use Rattle.chi_check_types.specs.declared.known.NameKind.TheVariants as kind
 use Rattle.chi_check_types.specs.Names.{Names, known_in}
 use Rattle.chi_check_expr.proofs.Nodes.{left_nil, right_nil}
-use Rattle.chi_check_stat_lines.specs.Stated.{Turn, in_turn}
-use Rattle.chi_check_stat_lines.specs.States.{is_taken, new_name_rule, with_name}
-use Rattle.chi_check_headers.specs.declared.sketch.Sketch.{Sketch}
-use Rattle.chi_check_headers.specs.Definitions.{early_known, named_early, values_from, enumeration_named, sketching}
+use Rattle.chi_check.specs.Below.chi_check_stat_lines.specs.Stated.{Turn, in_turn}
+use Rattle.chi_check.specs.Below.chi_check_stat_lines.specs.States.{is_taken, new_name_rule, with_name}
+use Rattle.chi_check.specs.Below.chi_check_headers.specs.declared.sketch.Sketch.{Sketch}
+use Rattle.chi_check.specs.Below.chi_check_headers.specs.Definitions.{early_known, named_early, values_from, enumeration_named, sketching}
 use Rattle.chi_check_laws.proofs.Entries.{Entries, entries_with}
 use Rattle.chi_check_laws.proofs.Lookups.{Extends, extends_same, extends_on, extends_with, fresh_known}
 use Rattle.chi_check_laws.proofs.Shaped.{Fine, choice_shape}

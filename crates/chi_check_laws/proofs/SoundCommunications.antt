@@ -14,13 +14,13 @@ use Rattle.chi_core.specs.SetSlots.{Known as Set}
 use Rattle.chi_core.specs.SoundParts as sound
 use Rattle.chi_core.specs.SoundParts.{StepsLead, ChannelAt}
 use Rattle.chi_core.proofs.Erased.{kind_at, same_kind}
-use Rattle.chi_check_streams.specs.Streams.{of_target}
+use Rattle.chi_check.specs.Below.chi_check_streams.specs.Streams.{of_target}
 use Rattle.chi_check_types.specs.declared.meant.Made.{Made}
 use Rattle.chi_check_expr_rules.specs.Conversions.{converted}
-use Rattle.chi_check_stat_rules.specs.declared.parts.Aim.{Aim}
-use Rattle.chi_check_stat_rules.specs.declared.parts.Receiver.{Receiver}
-use Rattle.chi_check_stat_rules.specs.Values.{fitted}
-use Rattle.chi_check_stat_rules.specs.Channels.{sent_type, sending, received_type, receiving, delayed, delaying}
+use Rattle.chi_check.specs.Below.chi_check_stat_rules.specs.declared.parts.Aim.{Aim}
+use Rattle.chi_check.specs.Below.chi_check_stat_rules.specs.declared.parts.Receiver.{Receiver}
+use Rattle.chi_check.specs.Below.chi_check_stat_rules.specs.Values.{fitted}
+use Rattle.chi_check.specs.Below.chi_check_stat_rules.specs.Channels.{sent_type, sending, received_type, receiving, delayed, delaying}
 use Rattle.chi_check_laws.specs.KnownNames.{Has, SoundMade}
 use Rattle.chi_check_laws.proofs.Conversions.{some_is, mapped, chosen, fits_has, converts}
 use Rattle.chi_check_laws.proofs.TypeKinds.{kind_real}

@@ -17,9 +17,9 @@ use Rattle.chi_core.specs.SoundParts.{WalkedOver}
 use Rattle.chi_core.proofs.Erased.{kind_at}
 use Rattle.chi_check_types.specs.declared.meant.Made.{Made}
 use Rattle.chi_check_expr_rules.specs.Conversions.{converted}
-use Rattle.chi_check_stat_rules.specs.Values.{fitted, is_bool, as_bool, is_inst, as_instance}
-use Rattle.chi_check_stat_rules.specs.Walks.{element_type}
-use Rattle.chi_check_stat_rules.specs.Endings.{exiting}
+use Rattle.chi_check.specs.Below.chi_check_stat_rules.specs.Values.{fitted, is_bool, as_bool, is_inst, as_instance}
+use Rattle.chi_check.specs.Below.chi_check_stat_rules.specs.Walks.{element_type}
+use Rattle.chi_check.specs.Below.chi_check_stat_rules.specs.Endings.{exiting}
 use Rattle.chi_check_laws.specs.KnownNames.{Has, SoundMade}
 use Rattle.chi_check_laws.proofs.Conversions.{some_is, mapped, chosen, chosen_some, fits_has}
 use Rattle.chi_check_laws.proofs.TypeKinds.{Serves, fits_serves, plain_kind, element_of_list, element_of_set, parts_of_dictionary, sound_tuple, sound_nameless}

@@ -17,14 +17,14 @@ use Rattle.chi_check_types.specs.declared.known.Known.{Known}
 use Rattle.chi_check_types.specs.declared.known.Known.TheVariants as known
 use Rattle.chi_check_types.specs.Names.{Names}
 use Rattle.chi_check_expr.proofs.Nodes.{left_nil, right_nil}
-use Rattle.chi_check_streams.specs.Streams.{each, of_constant, of_function, of_process, of_experiment, with_streams}
+use Rattle.chi_check.specs.Below.chi_check_streams.specs.Streams.{each, of_constant, of_function, of_process, of_experiment, with_streams}
 use Rattle.chi_check_laws.specs.TypedTexts.{texts_are_short}
-use Rattle.chi_check_stat_lines.specs.Stated.{Stated, in_turn}
-use Rattle.chi_check_headers.specs.declared.header.Header.{Header}
-use Rattle.chi_check_headers.specs.declared.sketch.Sketch.{Sketch}
-use Rattle.chi_check_headers.specs.declared.sketch.Early.{Early}
-use Rattle.chi_check_headers.specs.Headers.{header_in, header_faults}
-use Rattle.chi_check_headers.specs.Definitions.{sketching, early_defined, with_all_late, with_all_headed}
+use Rattle.chi_check.specs.Below.chi_check_stat_lines.specs.Stated.{Stated, in_turn}
+use Rattle.chi_check.specs.Below.chi_check_headers.specs.declared.header.Header.{Header}
+use Rattle.chi_check.specs.Below.chi_check_headers.specs.declared.sketch.Sketch.{Sketch}
+use Rattle.chi_check.specs.Below.chi_check_headers.specs.declared.sketch.Early.{Early}
+use Rattle.chi_check.specs.Below.chi_check_headers.specs.Headers.{header_in, header_faults}
+use Rattle.chi_check.specs.Below.chi_check_headers.specs.Definitions.{sketching, early_defined, with_all_late, with_all_headed}
 use Rattle.chi_check.specs.Bodies.{functions_of, processes_of, experiments_of}
 use Rattle.chi_check.specs.Programs.{no_names, first_early, first_named, first_model, model_rule, core, core_of, definitions_checked, checked}
 use Rattle.chi_check_laws.specs.Texts.{body_texts}

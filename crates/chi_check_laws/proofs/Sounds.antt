@@ -16,13 +16,13 @@ use Rattle.chi_core.specs.Scopes.{Role, function, process, Scope, params_of, may
 use Rattle.chi_core.specs.Sound.{IsName, SoundIn, SoundIfAny, SoundHome, SoundFunction, SoundProcess, nothing_known}
 use Rattle.chi_check_types.specs.Names.{Names}
 use Rattle.chi_check_expr.proofs.Kept.{Each}
-use Rattle.chi_check_stat_rules.specs.declared.home.ExitType.{ExitType}
-use Rattle.chi_check_stat_rules.specs.declared.home.ExitType.TheVariants as exit
-use Rattle.chi_check_stat_rules.specs.declared.home.Home.{Home}
-use Rattle.chi_check_stat_rules.specs.declared.home.Home.TheVariants as home
-use Rattle.chi_check_streams.specs.Streams.{of_function, of_process}
-use Rattle.chi_check_headers.specs.declared.header.Header.{Header}
-use Rattle.chi_check_headers.specs.Headers.{all_types}
+use Rattle.chi_check.specs.Below.chi_check_stat_rules.specs.declared.home.ExitType.{ExitType}
+use Rattle.chi_check.specs.Below.chi_check_stat_rules.specs.declared.home.ExitType.TheVariants as exit
+use Rattle.chi_check.specs.Below.chi_check_stat_rules.specs.declared.home.Home.{Home}
+use Rattle.chi_check.specs.Below.chi_check_stat_rules.specs.declared.home.Home.TheVariants as home
+use Rattle.chi_check.specs.Below.chi_check_streams.specs.Streams.{of_function, of_process}
+use Rattle.chi_check.specs.Below.chi_check_headers.specs.declared.header.Header.{Header}
+use Rattle.chi_check.specs.Below.chi_check_headers.specs.Headers.{all_types}
 use Rattle.chi_check.specs.Bodies.{body_in, exit_known, exit_of, result_of}
 use Rattle.chi_check_laws.specs.KnownNames.{Stands}
 use Rattle.chi_check_laws.specs.Bodies.{role_of, SoundBodyOf}

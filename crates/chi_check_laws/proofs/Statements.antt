@@ -19,7 +19,7 @@ use Rattle.chi_core.specs.SoundExpressions.{HaveKinds}
 use Rattle.chi_core.specs.SoundParts as part
 use Rattle.chi_core.specs.SoundParts.{TargetsTake, Walks, Shows}
 use Rattle.chi_core.specs.SoundStatements as sound
-use Rattle.chi_check_streams.specs.Streams.{each, of_expression, of_expressions, of_target}
+use Rattle.chi_check.specs.Below.chi_check_streams.specs.Streams.{each, of_expression, of_expressions, of_target}
 use Rattle.chi_check_expr.proofs.Kept.{Each}
 use Rattle.chi_check_laws.specs.TypedTexts.{texts_are_short}
 use Rattle.chi_check_laws.specs.KnownNames.{Has}

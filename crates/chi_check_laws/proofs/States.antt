@@ -12,9 +12,9 @@ use Rattle.chi_check_types.specs.declared.known.Known.{Known}
 use Rattle.chi_check_types.specs.Names.{Names, known_in}
 use Rattle.chi_check_laws.specs.KnownNames.{Stands, AllStand}
 use Rattle.chi_check_laws.proofs.Conversions.{some_is, chosen}
-use Rattle.chi_check_stat_lines.specs.declared.state.Binder.{Binder}
-use Rattle.chi_check_stat_lines.specs.declared.state.State.{State}
-use Rattle.chi_check_stat_lines.specs.States.{is_taken, bound, with_slot, with_variable, cut}
+use Rattle.chi_check.specs.Below.chi_check_stat_lines.specs.declared.state.Binder.{Binder}
+use Rattle.chi_check.specs.Below.chi_check_stat_lines.specs.declared.state.State.{State}
+use Rattle.chi_check.specs.Below.chi_check_stat_lines.specs.States.{is_taken, bound, with_slot, with_variable, cut}
 use Rattle.chi_check_laws.specs.Bodies.{SlotsHave, Grows, Agrees}
 use Rattle.chi_check_laws.proofs.More.{Within, names_more}
 

@@ -17,7 +17,7 @@ use Rattle.chi_core.specs.Sound.{SoundIn}
 use Rattle.chi_core.specs.SoundParts as sound
 use Rattle.chi_core.specs.SoundParts.{StepsLead, TargetTakes, TargetsTake}
 use Rattle.chi_core.proofs.Erased.{kind_at}
-use Rattle.chi_check_streams.specs.Streams.{each, of_step, of_target}
+use Rattle.chi_check.specs.Below.chi_check_streams.specs.Streams.{each, of_step, of_target}
 use Rattle.chi_check_types.specs.declared.known.Known.{Known}
 use Rattle.chi_check_types.specs.declared.known.Known.TheVariants as known
 use Rattle.chi_check_types.specs.declared.known.NameKind.{NameKind}
@@ -27,8 +27,8 @@ use Rattle.chi_check_types.specs.TypeRules.{is_int}
 use Rattle.chi_check_expr_rules.specs.Conversions.{converted}
 use Rattle.chi_check_expr_rules.specs.Parts.{field_in}
 use Rattle.chi_check_expr.proofs.Kept.{Each}
-use Rattle.chi_check_stat_rules.specs.declared.parts.Aim.{Aim}
-use Rattle.chi_check_stat_rules.specs.Targets.{aim, untyped_target, visible_target, stepped, to_element, to_key, indexed, to_part, field_of}
+use Rattle.chi_check.specs.Below.chi_check_stat_rules.specs.declared.parts.Aim.{Aim}
+use Rattle.chi_check.specs.Below.chi_check_stat_rules.specs.Targets.{aim, untyped_target, visible_target, stepped, to_element, to_key, indexed, to_part, field_of}
 use Rattle.chi_check_laws.specs.KnownNames.{Has, SoundMade, Stands}
 use Rattle.chi_check_laws.proofs.Conversions.{some_is, mapped, chosen, fits_has}
 use Rattle.chi_check_laws.proofs.Parts.{int_kind, position_is}

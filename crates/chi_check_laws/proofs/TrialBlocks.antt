@@ -11,14 +11,14 @@ use Rattle.chi_core.specs.declared.experiment.XStat.TheVariants as trial
 use Rattle.chi_core.specs.Scopes.{Scope}
 use Rattle.chi_core.specs.SetSlots.{Known as Set, also_all}
 use Rattle.chi_check_expr.proofs.Kept.{Each}
-use Rattle.chi_check_stat_rules.specs.declared.home.Home.TheVariants.{Experiment}
-use Rattle.chi_check_stat_lines.specs.declared.state.Binder.TheVariants as binder
-use Rattle.chi_check_stat_lines.specs.declared.state.State.{State}
-use Rattle.chi_check_stat_lines.specs.Stated.{in_turn}
-use Rattle.chi_check_stat_lines.specs.States.{block, Going, each_in}
-use Rattle.chi_check_stat_lines.specs.Values.{test_in}
-use Rattle.chi_check_stat_lines.specs.Declarations.{walk_in}
-use Rattle.chi_check_experiments.specs.Experiments.{trial_step, trial_branch}
+use Rattle.chi_check.specs.Below.chi_check_stat_rules.specs.declared.home.Home.TheVariants.{Experiment}
+use Rattle.chi_check.specs.Below.chi_check_stat_lines.specs.declared.state.Binder.TheVariants as binder
+use Rattle.chi_check.specs.Below.chi_check_stat_lines.specs.declared.state.State.{State}
+use Rattle.chi_check.specs.Below.chi_check_stat_lines.specs.Stated.{in_turn}
+use Rattle.chi_check.specs.Below.chi_check_stat_lines.specs.States.{block, Going, each_in}
+use Rattle.chi_check.specs.Below.chi_check_stat_lines.specs.Values.{test_in}
+use Rattle.chi_check.specs.Below.chi_check_stat_lines.specs.Declarations.{walk_in}
+use Rattle.chi_check.specs.Below.chi_check_experiments.specs.Experiments.{trial_step, trial_branch}
 use Rattle.chi_check_laws.specs.Bodies.{reads_as, Agrees}
 use Rattle.chi_check_laws.specs.Trials.{set_by_trials}
 use Rattle.chi_check_laws.specs.Whole.{has_any}

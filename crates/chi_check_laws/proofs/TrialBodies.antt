@@ -21,7 +21,7 @@ use Rattle.chi_core.specs.SoundExperiments as sound
 use Rattle.chi_core.specs.SoundExperiments.{XLayer, TakenAs, SoundXStat, SoundXBlock, SoundXBranches, sets_by, is_line}
 use Rattle.chi_core.specs.SoundExpressions.{HasKind}
 use Rattle.chi_core.specs.SoundParts.{TargetTakes, Shows}
-use Rattle.chi_check_streams.specs.Streams.{Counted, each, of_target, of_expressions, of_xstat, of_xbranch, xstat_step, xbranch_step}
+use Rattle.chi_check.specs.Below.chi_check_streams.specs.Streams.{Counted, each, of_target, of_expressions, of_xstat, of_xbranch, xstat_step, xbranch_step}
 use Rattle.chi_check_expr.proofs.Kept.{Each}
 use Rattle.chi_check_laws.specs.KnownNames.{Has}
 use Rattle.chi_check_laws.specs.Parts.{target_texts}
@@ -33,8 +33,8 @@ use Rattle.chi_check_laws.proofs.More.{Within}
 use Rattle.chi_check_laws.proofs.Statements.{SoundWalk}
 use Rattle.chi_check_laws.proofs.TrialLayers.{trial_parts, branch_parts, trial_streams, branch_streams, trial_texts_of, branch_texts_of, trial_short, branch_short, trial_streams_set, sets_by_more, streams_line}
 use Rattle.chi_check_laws.proofs.Turns.{ByParts, Kept}
-use Rattle.chi_check_stat_lines.specs.declared.state.State.{State}
-use Rattle.chi_check_stat_lines.specs.Stated.{Turn}
+use Rattle.chi_check.specs.Below.chi_check_stat_lines.specs.declared.state.State.{State}
+use Rattle.chi_check.specs.Below.chi_check_stat_lines.specs.Stated.{Turn}
 
 module _ (scope : Scope) (loop : Bool) where
   -- ---- one of each

@@ -20,17 +20,17 @@ use Rattle.chi_check_types.specs.declared.meant.Meant.{Meant}
 use Rattle.chi_check_types.specs.declared.rules.TheConstants.{NEW_NAME, INITIAL_VALUE}
 use Rattle.chi_check_expr.specs.Typing.{reading}
 use Rattle.chi_check_expr.proofs.Kept.{Each}
-use Rattle.chi_check_stat_rules.specs.declared.home.Home.TheVariants.{Experiment}
-use Rattle.chi_check_stat_rules.specs.declared.parts.ModelRun.{ModelRun}
-use Rattle.chi_check_stat_rules.specs.Homes.{site_of, local_rule}
-use Rattle.chi_check_stat_rules.specs.ModelRuns.{run_into, first_run, initial_run}
-use Rattle.chi_check_stat_rules.specs.Places.{type_place}
-use Rattle.chi_check_stat_lines.specs.declared.state.Binder.TheVariants as binder
-use Rattle.chi_check_stat_lines.specs.declared.state.State.{State}
-use Rattle.chi_check_stat_lines.specs.Stated.{in_turn, one}
-use Rattle.chi_check_stat_lines.specs.States.{is_taken, next_slot, new_name_rule}
-use Rattle.chi_check_stat_lines.specs.Declarations.{declaration, initial_in, declared}
-use Rattle.chi_check_experiments.specs.Experiments.{ModelCall, model_call, run_called, initial_call, run_declared, declaring, variable_tried, declaration_tried}
+use Rattle.chi_check.specs.Below.chi_check_stat_rules.specs.declared.home.Home.TheVariants.{Experiment}
+use Rattle.chi_check.specs.Below.chi_check_stat_rules.specs.declared.parts.ModelRun.{ModelRun}
+use Rattle.chi_check.specs.Below.chi_check_stat_rules.specs.Homes.{site_of, local_rule}
+use Rattle.chi_check.specs.Below.chi_check_stat_rules.specs.ModelRuns.{run_into, first_run, initial_run}
+use Rattle.chi_check.specs.Below.chi_check_stat_rules.specs.Places.{type_place}
+use Rattle.chi_check.specs.Below.chi_check_stat_lines.specs.declared.state.Binder.TheVariants as binder
+use Rattle.chi_check.specs.Below.chi_check_stat_lines.specs.declared.state.State.{State}
+use Rattle.chi_check.specs.Below.chi_check_stat_lines.specs.Stated.{in_turn, one}
+use Rattle.chi_check.specs.Below.chi_check_stat_lines.specs.States.{is_taken, next_slot, new_name_rule}
+use Rattle.chi_check.specs.Below.chi_check_stat_lines.specs.Declarations.{declaration, initial_in, declared}
+use Rattle.chi_check.specs.Below.chi_check_experiments.specs.Experiments.{ModelCall, model_call, run_called, initial_call, run_declared, declaring, variable_tried, declaration_tried}
 use Rattle.chi_check_laws.specs.Bodies.{reads_as, SlotsHave, set_by, Agrees, Grows}
 use Rattle.chi_check_laws.specs.Trials.{set_by_trials}
 use Rattle.chi_check_laws.proofs.Bodies.{AllSound}

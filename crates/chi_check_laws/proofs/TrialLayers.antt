@@ -7,7 +7,7 @@ use Rattle.chi_core.specs.declared.statement.CStat.{CStat, CStat-F, out-CStat}
 use Rattle.chi_core.specs.declared.statement.CStat.TheVariants as statement
 use Rattle.chi_core.specs.SetSlots.{StatLayer, Known as Set, also_all, wholes}
 use Rattle.chi_core.specs.SoundExperiments.{XLayer, sets_by, is_line}
-use Rattle.chi_check_streams.specs.Streams.{Counted, Counting, of_statement, of_xstat, of_xbranch, xstat_step, xbranch_step, statement_step}
+use Rattle.chi_check.specs.Below.chi_check_streams.specs.Streams.{Counted, Counting, of_statement, of_xstat, of_xbranch, xstat_step, xbranch_step, statement_step}
 use Rattle.chi_check_laws.specs.Trials as texts
 use Rattle.chi_check_laws.specs.Trials.{trial_texts, branch_texts}
 use Rattle.chi_check_laws.proofs.Layers.{statement_parts, statement_streams, streams_set, wholes_counted}

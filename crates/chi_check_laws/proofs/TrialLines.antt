@@ -16,15 +16,15 @@ use Rattle.chi_check_types.specs.declared.rules.TheConstants.{ASSIGNED_VALUE, IN
 use Rattle.chi_check_types.specs.Names.{Names}
 use Rattle.chi_check_types.specs.Typed.{Typed, unless, refused}
 use Rattle.chi_check_expr.proofs.Nodes.{barred_made}
-use Rattle.chi_check_stat_rules.specs.declared.home.Home.TheVariants.{Experiment}
-use Rattle.chi_check_stat_rules.specs.declared.parts.Aim.{Aim}
-use Rattle.chi_check_stat_rules.specs.Endings.{loop_rule}
-use Rattle.chi_check_stat_rules.specs.Homes.{running_rule}
-use Rattle.chi_check_stat_rules.specs.ModelRuns.{run_at}
-use Rattle.chi_check_stat_lines.specs.Stated.{alone}
-use Rattle.chi_check_stat_lines.specs.Values.{made_of, all_of, assignment_place, values_in, instance_in, target_in, assignment_in}
-use Rattle.chi_check_stat_lines.specs.Lines.{communication_place, selected, parts_in, communication_in, communicating, write_in, return_in, exit_in, finish_in}
-use Rattle.chi_check_experiments.specs.Experiments.{ModelCall, lined, model_call, run_called, call_alone, run_assigned, assigning, assignment_tried}
+use Rattle.chi_check.specs.Below.chi_check_stat_rules.specs.declared.home.Home.TheVariants.{Experiment}
+use Rattle.chi_check.specs.Below.chi_check_stat_rules.specs.declared.parts.Aim.{Aim}
+use Rattle.chi_check.specs.Below.chi_check_stat_rules.specs.Endings.{loop_rule}
+use Rattle.chi_check.specs.Below.chi_check_stat_rules.specs.Homes.{running_rule}
+use Rattle.chi_check.specs.Below.chi_check_stat_rules.specs.ModelRuns.{run_at}
+use Rattle.chi_check.specs.Below.chi_check_stat_lines.specs.Stated.{alone}
+use Rattle.chi_check.specs.Below.chi_check_stat_lines.specs.Values.{made_of, all_of, assignment_place, values_in, instance_in, target_in, assignment_in}
+use Rattle.chi_check.specs.Below.chi_check_stat_lines.specs.Lines.{communication_place, selected, parts_in, communication_in, communicating, write_in, return_in, exit_in, finish_in}
+use Rattle.chi_check.specs.Below.chi_check_experiments.specs.Experiments.{ModelCall, lined, model_call, run_called, call_alone, run_assigned, assigning, assignment_tried}
 use Rattle.chi_check_laws.specs.Bodies.{reads_as}
 use Rattle.chi_check_laws.specs.KnownNames.{AllStand}
 use Rattle.chi_check_laws.specs.Whole.{has_any}

@@ -33,20 +33,20 @@ use Rattle.chi_check_expr_rules.specs.Nodes.{all_made, barred}
 use Rattle.chi_check_expr.specs.Typing.{reading}
 use Rattle.chi_check_expr.proofs.Kept.{Good}
 use Rattle.chi_check_expr.proofs.Nodes.{left_nil, right_nil, cons_nil}
-use Rattle.chi_check_stat_rules.specs.declared.home.Home.TheVariants.{Experiment}
-use Rattle.chi_check_stat_rules.specs.declared.parts.Modelled.{Modelled}
-use Rattle.chi_check_stat_rules.specs.Endings.{loop_rule}
-use Rattle.chi_check_stat_rules.specs.Homes.{site_of, local_rule}
-use Rattle.chi_check_stat_rules.specs.ModelRuns.{model_known, may_run, model_rule, model_run, ran, arguments_of, run_of, run_at, first_run, initial_run}
-use Rattle.chi_check_stat_rules.specs.Places.{type_place}
-use Rattle.chi_check_stat_lines.specs.declared.state.Binder.TheVariants as binder
-use Rattle.chi_check_stat_lines.specs.declared.state.State.{State}
-use Rattle.chi_check_stat_lines.specs.Stated.{Stated, in_turn, alone, preceded, held_by, one}
-use Rattle.chi_check_stat_lines.specs.States.{next_slot, new_name_rule, with_variable, block, Going, each_in}
-use Rattle.chi_check_stat_lines.specs.Values.{made_of, all_faults, values_in, target_in, assignment_in, test_in}
-use Rattle.chi_check_stat_lines.specs.Declarations.{declared, walk_in}
-use Rattle.chi_check_stat_lines.specs.Lines.{communicating, return_in, exit_in, finish_in, write_in}
-use Rattle.chi_check_experiments.specs.Experiments.{lined, ModelCall, call_with, model_call_step, model_call, run_called, call_alone, run_assigned, assigning, assignment_tried, initial_call, declaring, variable_tried, declaration_tried, walked, stating_tried, trying, branch_tried, trying_in, trying_all}
+use Rattle.chi_check.specs.Below.chi_check_stat_rules.specs.declared.home.Home.TheVariants.{Experiment}
+use Rattle.chi_check.specs.Below.chi_check_stat_rules.specs.declared.parts.Modelled.{Modelled}
+use Rattle.chi_check.specs.Below.chi_check_stat_rules.specs.Endings.{loop_rule}
+use Rattle.chi_check.specs.Below.chi_check_stat_rules.specs.Homes.{site_of, local_rule}
+use Rattle.chi_check.specs.Below.chi_check_stat_rules.specs.ModelRuns.{model_known, may_run, model_rule, model_run, ran, arguments_of, run_of, run_at, first_run, initial_run}
+use Rattle.chi_check.specs.Below.chi_check_stat_rules.specs.Places.{type_place}
+use Rattle.chi_check.specs.Below.chi_check_stat_lines.specs.declared.state.Binder.TheVariants as binder
+use Rattle.chi_check.specs.Below.chi_check_stat_lines.specs.declared.state.State.{State}
+use Rattle.chi_check.specs.Below.chi_check_stat_lines.specs.Stated.{Stated, in_turn, alone, preceded, held_by, one}
+use Rattle.chi_check.specs.Below.chi_check_stat_lines.specs.States.{next_slot, new_name_rule, with_variable, block, Going, each_in}
+use Rattle.chi_check.specs.Below.chi_check_stat_lines.specs.Values.{made_of, all_faults, values_in, target_in, assignment_in, test_in}
+use Rattle.chi_check.specs.Below.chi_check_stat_lines.specs.Declarations.{declared, walk_in}
+use Rattle.chi_check.specs.Below.chi_check_stat_lines.specs.Lines.{communicating, return_in, exit_in, finish_in, write_in}
+use Rattle.chi_check.specs.Below.chi_check_experiments.specs.Experiments.{lined, ModelCall, call_with, model_call_step, model_call, run_called, call_alone, run_assigned, assigning, assignment_tried, initial_call, declaring, variable_tried, declaration_tried, walked, stating_tried, trying, branch_tried, trying_in, trying_all}
 use Rattle.chi_check_laws.proofs.Bindings.{declared_keeps, fine_takes, fine_holds}
 use Rattle.chi_check_laws.proofs.Conversions.{some_is, mapped}
 use Rattle.chi_check_laws.proofs.Entries.{Entries, known_entry}

@@ -12,12 +12,12 @@ use Rattle.chi_core.specs.declared.program.Core.{Core}
 use Rattle.chi_core.specs.Kinds.{Every}
 use Rattle.chi_core.specs.Scopes.{Scope, function, experiment_scope}
 use Rattle.chi_core.specs.Sound.{IsName, SoundIn, SoundExperiment, nothing_known}
-use Rattle.chi_check_streams.specs.Streams.{of_experiment}
+use Rattle.chi_check.specs.Below.chi_check_streams.specs.Streams.{of_experiment}
 use Rattle.chi_check_types.specs.Names.{Names}
 use Rattle.chi_check_expr.proofs.Kept.{Each}
-use Rattle.chi_check_stat_lines.specs.declared.state.State.{State}
-use Rattle.chi_check_stat_lines.specs.Stated.{Stated, in_turn}
-use Rattle.chi_check_experiments.specs.Experiments.{trying_all}
+use Rattle.chi_check.specs.Below.chi_check_stat_lines.specs.declared.state.State.{State}
+use Rattle.chi_check.specs.Below.chi_check_stat_lines.specs.Stated.{Stated, in_turn}
+use Rattle.chi_check.specs.Below.chi_check_experiments.specs.Experiments.{trying_all}
 use Rattle.chi_check.specs.Bodies.{experiment, experiment_defined, experiment_of, experiments_of}
 use Rattle.chi_check_laws.specs.KnownNames.{Stands, AllStand}
 use Rattle.chi_check_laws.specs.Bodies.{SlotsHave}

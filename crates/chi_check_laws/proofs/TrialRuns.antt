@@ -24,7 +24,7 @@ use Rattle.chi_core.specs.Scopes.{Scope, exit_of}
 use Rattle.chi_core.specs.SetSlots.{Known as Set}
 use Rattle.chi_core.specs.SoundExperiments.{TakenAs, as_it_is, as_a_real}
 use Rattle.chi_core.specs.SoundParts.{TargetTakes}
-use Rattle.chi_check_streams.specs.Streams.{of_target}
+use Rattle.chi_check.specs.Below.chi_check_streams.specs.Streams.{of_target}
 use Rattle.chi_check_types.specs.declared.known.Known.{Known}
 use Rattle.chi_check_types.specs.declared.known.Known.TheVariants as known
 use Rattle.chi_check_types.specs.declared.meant.Made.{Made}
@@ -34,12 +34,12 @@ use Rattle.chi_check_expr_rules.specs.Conversions.{passed}
 use Rattle.chi_check_expr_rules.specs.Nodes.{of_all, all_made}
 use Rattle.chi_check_expr.proofs.Kept.{Each}
 use Rattle.chi_check_expr.proofs.Nodes.{barred_made, settled_made}
-use Rattle.chi_check_stat_rules.specs.declared.home.Home.TheVariants.{Experiment}
-use Rattle.chi_check_stat_rules.specs.declared.parts.Modelled.{Modelled}
-use Rattle.chi_check_stat_rules.specs.declared.parts.ModelRun.{ModelRun}
-use Rattle.chi_check_stat_rules.specs.ModelRuns.{model_known, may_run, model_rule, model_run, ran, arguments_of, run_of, run_into}
-use Rattle.chi_check_stat_lines.specs.Values.{made_of, values_in}
-use Rattle.chi_check_experiments.specs.Experiments.{ModelCall, call_with, model_call_step, model_call, run_called, call_alone, initial_call}
+use Rattle.chi_check.specs.Below.chi_check_stat_rules.specs.declared.home.Home.TheVariants.{Experiment}
+use Rattle.chi_check.specs.Below.chi_check_stat_rules.specs.declared.parts.Modelled.{Modelled}
+use Rattle.chi_check.specs.Below.chi_check_stat_rules.specs.declared.parts.ModelRun.{ModelRun}
+use Rattle.chi_check.specs.Below.chi_check_stat_rules.specs.ModelRuns.{model_known, may_run, model_rule, model_run, ran, arguments_of, run_of, run_into}
+use Rattle.chi_check.specs.Below.chi_check_stat_lines.specs.Values.{made_of, values_in}
+use Rattle.chi_check.specs.Below.chi_check_experiments.specs.Experiments.{ModelCall, call_with, model_call_step, model_call, run_called, call_alone, initial_call}
 use Rattle.chi_check_laws.specs.Bodies.{reads_as}
 use Rattle.chi_check_laws.specs.KnownNames.{ProcessStands, Stands, AllStand, SoundMade}
 use Rattle.chi_check_laws.specs.Parts.{target_texts}

@@ -12,10 +12,10 @@ use Rattle.chi_core.specs.declared.experiment.XStat.{XStat}
 use Rattle.chi_core.specs.Scopes.{Scope}
 use Rattle.chi_core.specs.SetSlots.{Known as Set}
 use Rattle.chi_check_expr.proofs.Kept.{Each}
-use Rattle.chi_check_stat_rules.specs.declared.home.Home.TheVariants.{Experiment}
-use Rattle.chi_check_stat_lines.specs.declared.state.State.{State}
-use Rattle.chi_check_stat_lines.specs.States.{Going}
-use Rattle.chi_check_experiments.specs.Experiments.{no_alternative, trial_step, trial_branch, trial_inner, stating_tried, trying, branch_tried, trying_in, trying_all}
+use Rattle.chi_check.specs.Below.chi_check_stat_rules.specs.declared.home.Home.TheVariants.{Experiment}
+use Rattle.chi_check.specs.Below.chi_check_stat_lines.specs.declared.state.State.{State}
+use Rattle.chi_check.specs.Below.chi_check_stat_lines.specs.States.{Going}
+use Rattle.chi_check.specs.Below.chi_check_experiments.specs.Experiments.{no_alternative, trial_step, trial_branch, trial_inner, stating_tried, trying, branch_tried, trying_in, trying_all}
 use Rattle.chi_check_laws.specs.Bodies.{reads_as, SlotsHave, Agrees}
 use Rattle.chi_check_laws.specs.Trials.{set_by_trials, SoundTrials}
 use Rattle.chi_check_laws.specs.Whole as whole

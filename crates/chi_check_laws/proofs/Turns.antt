@@ -11,9 +11,9 @@ use Rattle.chi_check_types.specs.Typed.{Typed, broken_if}
 use Rattle.chi_check_expr.proofs.Kept.{Each}
 use Rattle.chi_check_laws.specs.KnownNames.{AllStand}
 use Rattle.chi_check_laws.proofs.Conversions.{some_is, mapped, chained}
-use Rattle.chi_check_stat_lines.specs.declared.state.State.{State}
-use Rattle.chi_check_stat_lines.specs.Stated.{Turn, both, in_turn, alone}
-use Rattle.chi_check_stat_lines.specs.States.{block}
+use Rattle.chi_check.specs.Below.chi_check_stat_lines.specs.declared.state.State.{State}
+use Rattle.chi_check.specs.Below.chi_check_stat_lines.specs.Stated.{Turn, both, in_turn, alone}
+use Rattle.chi_check.specs.Below.chi_check_stat_lines.specs.States.{block}
 use Rattle.chi_check_laws.specs.Bodies.{SlotsHave, Grows, Agrees}
 use Rattle.chi_check_laws.proofs.More.{Within}
 use Rattle.chi_check_laws.proofs.States.{grows_none, grows_on, cut_grows, agrees_cut, agrees_more, slots_before}

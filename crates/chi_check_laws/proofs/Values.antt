@@ -19,13 +19,13 @@ use Rattle.chi_check_expr.proofs.Nodes.{settled_made}
 use Rattle.chi_check_laws.specs.KnownNames.{IsSite, AllStand, Has, SoundMade, SoundMeant}
 use Rattle.chi_check_laws.proofs.Conversions.{some_is, mapped, chained}
 use Rattle.chi_check_laws.proofs.WholeParts.{expression_sound, type_sound}
-use Rattle.chi_check_stat_rules.specs.declared.home.ExitType.TheVariants as exit
-use Rattle.chi_check_stat_rules.specs.declared.home.Home.{Home}
-use Rattle.chi_check_stat_rules.specs.declared.home.Home.TheVariants as home
-use Rattle.chi_check_stat_rules.specs.Homes.{site_of}
-use Rattle.chi_check_stat_rules.specs.Values.{as_bool, as_instance}
+use Rattle.chi_check.specs.Below.chi_check_stat_rules.specs.declared.home.ExitType.TheVariants as exit
+use Rattle.chi_check.specs.Below.chi_check_stat_rules.specs.declared.home.Home.{Home}
+use Rattle.chi_check.specs.Below.chi_check_stat_rules.specs.declared.home.Home.TheVariants as home
+use Rattle.chi_check.specs.Below.chi_check_stat_rules.specs.Homes.{site_of}
+use Rattle.chi_check.specs.Below.chi_check_stat_rules.specs.Values.{as_bool, as_instance}
 use Rattle.chi_check_laws.proofs.SoundValues.{condition_has, instance_has}
-use Rattle.chi_check_stat_lines.specs.Values.{made_of, value_in, values_in, test_in, instance_in}
+use Rattle.chi_check.specs.Below.chi_check_stat_lines.specs.Values.{made_of, value_in, values_in, test_in, instance_in}
 use Rattle.chi_check_laws.specs.Bodies.{role_of, reads_as}
 
 -- ---- nodes that come to something

@@ -24,19 +24,19 @@ use Rattle.chi_check_expr.proofs.Nodes.{settled_made}
 use Rattle.chi_check_laws.specs.KnownNames.{AllStand, SlotStands, SoundMade, Stands}
 use Rattle.chi_check_laws.proofs.Conversions.{some_is, mapped, chosen}
 use Rattle.chi_check_laws.proofs.TypeKinds.{parts_of_tuple}
-use Rattle.chi_check_stat_rules.specs.declared.home.Home.{Home}
-use Rattle.chi_check_stat_rules.specs.declared.parts.Walked.{Walked}
-use Rattle.chi_check_stat_rules.specs.Walks.{element_type, types_of_parts, name_types, walked, walked_by, walk_over, walk_of}
+use Rattle.chi_check.specs.Below.chi_check_stat_rules.specs.declared.home.Home.{Home}
+use Rattle.chi_check.specs.Below.chi_check_stat_rules.specs.declared.parts.Walked.{Walked}
+use Rattle.chi_check.specs.Below.chi_check_stat_rules.specs.Walks.{element_type, types_of_parts, name_types, walked, walked_by, walk_over, walk_of}
 use Rattle.chi_check_laws.proofs.SoundValues.{walked_sound}
-use Rattle.chi_check_stat_lines.specs.declared.state.Binder.{Binder}
-use Rattle.chi_check_stat_lines.specs.declared.state.Binder.TheVariants as binder
-use Rattle.chi_check_stat_lines.specs.declared.state.Opened.{Opened}
-use Rattle.chi_check_stat_lines.specs.declared.state.State.{State}
-use Rattle.chi_check_stat_lines.specs.Stated.{in_turn}
-use Rattle.chi_check_stat_lines.specs.States.{is_taken, bound, with_variable, next_slot, slot_if, first_type, other_types, bindings}
-use Rattle.chi_check_stat_lines.specs.Values.{value_in}
-use Rattle.chi_check_stat_lines.specs.Declarations.{opened, opening, types_of, walk_in, walk_place}
-use Rattle.chi_check_stat_rules.specs.Places.{expr_place}
+use Rattle.chi_check.specs.Below.chi_check_stat_lines.specs.declared.state.Binder.{Binder}
+use Rattle.chi_check.specs.Below.chi_check_stat_lines.specs.declared.state.Binder.TheVariants as binder
+use Rattle.chi_check.specs.Below.chi_check_stat_lines.specs.declared.state.Opened.{Opened}
+use Rattle.chi_check.specs.Below.chi_check_stat_lines.specs.declared.state.State.{State}
+use Rattle.chi_check.specs.Below.chi_check_stat_lines.specs.Stated.{in_turn}
+use Rattle.chi_check.specs.Below.chi_check_stat_lines.specs.States.{is_taken, bound, with_variable, next_slot, slot_if, first_type, other_types, bindings}
+use Rattle.chi_check.specs.Below.chi_check_stat_lines.specs.Values.{value_in}
+use Rattle.chi_check.specs.Below.chi_check_stat_lines.specs.Declarations.{opened, opening, types_of, walk_in, walk_place}
+use Rattle.chi_check.specs.Below.chi_check_stat_rules.specs.Places.{expr_place}
 use Rattle.chi_check_laws.specs.Bodies.{reads_as, SlotsHave, Agrees, Grows}
 use Rattle.chi_check_laws.specs.Whole.{has_any}
 use Rattle.chi_check_laws.proofs.More.{also_more, also_itself, names_more}

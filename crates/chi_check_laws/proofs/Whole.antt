@@ -4,9 +4,9 @@ use Rattle.chi_tree.specs.declared.statement.Step.{Step}
 use Rattle.chi_core.specs.declared.statement.CStat.{CStat}
 use Rattle.chi_core.specs.Scopes.{Scope}
 use Rattle.chi_core.specs.SetSlots.{Known as Set}
-use Rattle.chi_check_stat_rules.specs.declared.home.Home.{Home}
-use Rattle.chi_check_stat_lines.specs.declared.state.State.{State}
-use Rattle.chi_check_stat.specs.Statements.{stepping_in, stating_all}
+use Rattle.chi_check.specs.Below.chi_check_stat_rules.specs.declared.home.Home.{Home}
+use Rattle.chi_check.specs.Below.chi_check_stat_lines.specs.declared.state.State.{State}
+use Rattle.chi_check.specs.Below.chi_check_stat.specs.Statements.{stepping_in, stating_all}
 use Rattle.chi_check_laws.specs.Bodies.{role_of, reads_as, SlotsHave, set_by, Agrees, SoundBody}
 use Rattle.chi_check_laws.specs.Whole.{steps_are_whole}
 use Rattle.chi_check_laws.proofs.Assignments.{assign_kept}

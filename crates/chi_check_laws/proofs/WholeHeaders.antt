@@ -8,7 +8,7 @@ use Rattle.chi_check_types.specs.Typed.{Typed, unless}
 use Rattle.chi_check_expr_rules.specs.Nodes.{settled, of_one, of_two, barred}
 use Rattle.chi_check_expr.specs.Laws.{IsExact}
 use Rattle.chi_check_expr.proofs.Nodes.{left_nil, right_nil, cons_nil}
-use Rattle.chi_check_stat_lines.specs.Stated.{both}
+use Rattle.chi_check.specs.Below.chi_check_stat_lines.specs.Stated.{both}
 
 -- there is something
 abbrev pub Comes : {A : Type 0} → Option A → Type 0

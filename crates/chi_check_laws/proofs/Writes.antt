@@ -34,14 +34,14 @@ use Rattle.chi_check_laws.proofs.Conversions.{some_is, mapped, chained, chosen}
 use Rattle.chi_check_laws.proofs.Has.{Have, have_none, have_one}
 use Rattle.chi_check_laws.proofs.Parts.{int_kind}
 use Rattle.chi_check_laws.proofs.TypeKinds.{kind_real, plain_kind}
-use Rattle.chi_check_stat_rules.specs.declared.home.Home.{Home}
-use Rattle.chi_check_stat_rules.specs.declared.home.Home.TheVariants as home
-use Rattle.chi_check_stat_rules.specs.Homes.{running_rule, writing_rule}
-use Rattle.chi_check_stat_rules.specs.Writes.{ended, read_pieces, pieces_of, is_shown, shown_count, showing, Written, shown_one, with_first, all_shown, written, write_of}
+use Rattle.chi_check.specs.Below.chi_check_stat_rules.specs.declared.home.Home.{Home}
+use Rattle.chi_check.specs.Below.chi_check_stat_rules.specs.declared.home.Home.TheVariants as home
+use Rattle.chi_check.specs.Below.chi_check_stat_rules.specs.Homes.{running_rule, writing_rule}
+use Rattle.chi_check.specs.Below.chi_check_stat_rules.specs.Writes.{ended, read_pieces, pieces_of, is_shown, shown_count, showing, Written, shown_one, with_first, all_shown, written, write_of}
 use Rattle.chi_check_laws.proofs.SoundValues.{fitted_has}
-use Rattle.chi_check_stat_lines.specs.Stated.{alone}
-use Rattle.chi_check_stat_lines.specs.Values.{values_in, made_of}
-use Rattle.chi_check_stat_lines.specs.Lines.{placed, write_in}
+use Rattle.chi_check.specs.Below.chi_check_stat_lines.specs.Stated.{alone}
+use Rattle.chi_check.specs.Below.chi_check_stat_lines.specs.Values.{values_in, made_of}
+use Rattle.chi_check.specs.Below.chi_check_stat_lines.specs.Lines.{placed, write_in}
 use Rattle.chi_check_laws.specs.Bodies.{role_of, reads_as}
 use Rattle.chi_check_laws.proofs.Bodies.{SoundOne, StatementKept, statements_by_parts}
 use Rattle.chi_check_laws.proofs.Endings.{runs_in}

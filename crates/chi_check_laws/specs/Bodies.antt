@@ -7,15 +7,15 @@ use Rattle.chi_core.specs.Scopes.{Role, function, process, Scope}
 use Rattle.chi_core.specs.SetSlots.{Known as Set, sets}
 use Rattle.chi_core.specs.Sound.{SoundIn, SoundHome}
 use Rattle.chi_core.specs.SoundStatements.{SoundBlock}
-use Rattle.chi_check_streams.specs.Streams.{each, of_statement}
-use Rattle.chi_check_stat_rules.specs.declared.home.ExitType.TheVariants as exit
-use Rattle.chi_check_stat_rules.specs.declared.home.Home.{Home}
-use Rattle.chi_check_stat_rules.specs.declared.home.Home.TheVariants as home
+use Rattle.chi_check.specs.Below.chi_check_streams.specs.Streams.{each, of_statement}
+use Rattle.chi_check.specs.Below.chi_check_stat_rules.specs.declared.home.ExitType.TheVariants as exit
+use Rattle.chi_check.specs.Below.chi_check_stat_rules.specs.declared.home.Home.{Home}
+use Rattle.chi_check.specs.Below.chi_check_stat_rules.specs.declared.home.Home.TheVariants as home
 use Rattle.chi_check_types.specs.declared.known.Known.{Known}
 use Rattle.chi_check_types.specs.declared.known.Known.TheVariants as known
 use Rattle.chi_check_types.specs.Names.{known_in}
 use Rattle.chi_check_laws.specs.KnownNames.{AllStand}
-use Rattle.chi_check_stat_lines.specs.declared.state.State.{State}
+use Rattle.chi_check.specs.Below.chi_check_stat_lines.specs.declared.state.State.{State}
 use Rattle.chi_check_laws.specs.Texts.{body_texts}
 
 -- the role of what a statement stands in, where that has all types; an experiment has statements of its own

@@ -18,7 +18,7 @@ use Rattle.chi_check_types.specs.declared.meant.Meant.{Meant}
 use Rattle.chi_check_types.specs.declared.site.Site.{Site}
 use Rattle.chi_check_types.specs.declared.site.Site.TheVariants as site
 use Rattle.chi_check_types.specs.Names.{Names, known_in}
-use Rattle.chi_check_streams.specs.Streams.{of_expression}
+use Rattle.chi_check.specs.Below.chi_check_streams.specs.Streams.{of_expression}
 use Rattle.chi_check_laws.specs.TypedTexts.{texts_are_short}
 
 -- a site is that of a definition; the expressions of an experiment are those of a function

@@ -1,3 +1,4 @@
+pub mod Below
 pub mod Bodies
 pub mod CheckedBodies
 pub mod Formals

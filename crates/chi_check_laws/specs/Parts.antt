@@ -12,9 +12,9 @@ use Rattle.chi_core.specs.Scopes.{Scope}
 use Rattle.chi_core.specs.SetSlots.{Known as Set}
 use Rattle.chi_core.specs.Sound.{SoundIn}
 use Rattle.chi_core.specs.SoundParts.{StepsLead, SoundComm}
-use Rattle.chi_check_streams.specs.Streams.{of_target, of_communication}
-use Rattle.chi_check_stat_rules.specs.declared.parts.Aim.{Aim}
-use Rattle.chi_check_stat_rules.specs.declared.parts.Receiver.{Receiver}
+use Rattle.chi_check.specs.Below.chi_check_streams.specs.Streams.{of_target, of_communication}
+use Rattle.chi_check.specs.Below.chi_check_stat_rules.specs.declared.parts.Aim.{Aim}
+use Rattle.chi_check.specs.Below.chi_check_stat_rules.specs.declared.parts.Receiver.{Receiver}
 use Rattle.chi_check_laws.specs.TypedTexts.{texts_are_short}
 
 -- ---- their text literals are short

@@ -7,7 +7,7 @@ use Rattle.chi_core.specs.declared.experiment.XStat.{XStat, XStat-F, fold-XStat,
 use Rattle.chi_core.specs.Scopes.{Scope}
 use Rattle.chi_core.specs.SetSlots.{Known as Set}
 use Rattle.chi_core.specs.SoundExperiments.{SoundXBlock, sets_by}
-use Rattle.chi_check_streams.specs.Streams.{each, of_xstat}
+use Rattle.chi_check.specs.Below.chi_check_streams.specs.Streams.{each, of_xstat}
 use Rattle.chi_check_laws.specs.TypedTexts.{texts_are_short}
 use Rattle.chi_check_laws.specs.Parts.{target_texts}
 use Rattle.chi_check_laws.specs.Texts.{all_texts, statement_texts}

@@ -4,7 +4,7 @@ ghost use Rattle.std.specs.Prelude.{◌≡◌, [], Some, IsTrue};
 ghost use Rattle.chi_tree.specs.declared.definition.Program.{Program};
 ghost use Rattle.chi_core.specs.declared.program.Core.{Core};
 ghost use Rattle.chi_core.specs.Sound.{Sound};
-ghost use Rattle.chi_check_streams.specs.Streams.{with_streams};
+ghost use Rattle.chi_check.specs.Below.chi_check_streams.specs.Streams.{with_streams};
 ghost use Rattle.chi_check.specs.Programs.{checked};
 ghost use Rattle.chi_check_laws.specs.CheckedBodies.{BodiesAreWhole, TextsAreShort};
 ghost use Rattle.chi_check_laws.specs.Formals.{formals_are_typed};

@@ -35,21 +35,21 @@ use Rattle.chi_core.specs.declared.statement.CAlt.TheVariants as made_offer
 use Rattle.chi_core.specs.declared.statement.CStat.{CStat}
 use Rattle.chi_core.specs.declared.statement.CStat.TheVariants as made
 use Rattle.chi_check_types.specs.Typed.{Typed, unless}
-use Rattle.chi_check_stat_rules.specs.declared.home.Home.{Home}
-use Rattle.chi_check_stat_rules.specs.Endings.{loop_rule}
-use Rattle.chi_check_stat_rules.specs.Homes.{running_rule}
+use Rattle.chi_check_laws.specs.Below.chi_check_stat_rules.specs.declared.home.Home.{Home}
+use Rattle.chi_check_laws.specs.Below.chi_check_stat_rules.specs.Endings.{loop_rule}
+use Rattle.chi_check_laws.specs.Below.chi_check_stat_rules.specs.Homes.{running_rule}
 use Rattle.chi_check_expr.proofs.Kept.{Each, IfGiven}
-use Rattle.chi_check_stat_lines.specs.declared.state.Binder.TheVariants as binder
-use Rattle.chi_check_stat_lines.specs.declared.state.Opened.{Opened}
-use Rattle.chi_check_stat_lines.specs.declared.state.State.{State}
-use Rattle.chi_check_stat_lines.specs.Stated.{Turn, both, in_turn, alone}
-use Rattle.chi_check_stat_lines.specs.States.{block, Going, each_in}
-use Rattle.chi_check_stat_lines.specs.Values.{test_in, guard_in, assignment_in}
-use Rattle.chi_check_stat_lines.specs.Declarations.{walk_in}
-use Rattle.chi_check_stat_lines.specs.Lines.{communication_in, communicating, element_in, return_in, exit_in, finish_in, write_in}
-use Rattle.chi_check_stat_lines.specs.Blocks.{offers, runs, starts}
-use Rattle.chi_check_stat.specs.Statements as check
-use Rattle.chi_check_stat.specs.Statements.{starting, stating, stepping, branching, offering, stepping_in, stating_all}
+use Rattle.chi_check_laws.specs.Below.chi_check_stat_lines.specs.declared.state.Binder.TheVariants as binder
+use Rattle.chi_check_laws.specs.Below.chi_check_stat_lines.specs.declared.state.Opened.{Opened}
+use Rattle.chi_check_laws.specs.Below.chi_check_stat_lines.specs.declared.state.State.{State}
+use Rattle.chi_check_laws.specs.Below.chi_check_stat_lines.specs.Stated.{Turn, both, in_turn, alone}
+use Rattle.chi_check_laws.specs.Below.chi_check_stat_lines.specs.States.{block, Going, each_in}
+use Rattle.chi_check_laws.specs.Below.chi_check_stat_lines.specs.Values.{test_in, guard_in, assignment_in}
+use Rattle.chi_check_laws.specs.Below.chi_check_stat_lines.specs.Declarations.{walk_in}
+use Rattle.chi_check_laws.specs.Below.chi_check_stat_lines.specs.Lines.{communication_in, communicating, element_in, return_in, exit_in, finish_in, write_in}
+use Rattle.chi_check_laws.specs.Below.chi_check_stat_lines.specs.Blocks.{offers, runs, starts}
+use Rattle.chi_check_laws.specs.Below.chi_check_stat.specs.Statements as check
+use Rattle.chi_check_laws.specs.Below.chi_check_stat.specs.Statements.{starting, stating, stepping, branching, offering, stepping_in, stating_all}
 use Rattle.chi_check_laws.proofs.Layers.{statement_short, alternative_short, branch_short, element_short}
 use Rattle.chi_check_laws.specs.Texts.{statement_texts, branch_texts, alternative_texts, element_texts}
 use Rattle.chi_check_parsed.proofs.Tokens.{AllFit, fit_left, fit_right}

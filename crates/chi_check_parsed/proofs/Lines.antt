@@ -38,22 +38,22 @@ use Rattle.chi_check_types.specs.TypeRules.{is_int}
 use Rattle.chi_check_expr_rules.specs.Conversions.{converted, passed}
 use Rattle.chi_check_expr_rules.specs.Nodes.{of_one, all_made}
 use Rattle.chi_check_expr_rules.specs.Parts.{field_in}
-use Rattle.chi_check_stat_rules.specs.declared.home.ExitType.{ExitType}
-use Rattle.chi_check_stat_rules.specs.declared.home.ExitType.TheVariants as exit
-use Rattle.chi_check_stat_rules.specs.declared.home.Home.{Home}
-use Rattle.chi_check_stat_rules.specs.declared.home.Home.TheVariants as home
-use Rattle.chi_check_stat_rules.specs.declared.parts.Aim.{Aim}
-use Rattle.chi_check_stat_rules.specs.declared.parts.Receiver.{Receiver}
-use Rattle.chi_check_stat_rules.specs.declared.parts.Started.{Started}
-use Rattle.chi_check_stat_rules.specs.declared.parts.Walked.{Walked}
-use Rattle.chi_check_stat_rules.specs.Assignments.{all_aims, assign, stored, parts_fit, spread, spread_parts, spread_value, only_one, uneven, even, assigned}
-use Rattle.chi_check_stat_rules.specs.Channels.{sent_type, send_void, sending, send_value, send_on, send_of, received_type, receive_void, receiving, receive_value, receive_on, receive_of, delayed, delaying, delay_of}
-use Rattle.chi_check_stat_rules.specs.Elements.{as_instance_target, instance_target, exit_rule, started, process_start, untyped_start, visible_start, start_of, make, element_made}
-use Rattle.chi_check_stat_rules.specs.Endings.{returning, return_of, exiting, plain_exit, exit_with, exit_of}
-use Rattle.chi_check_stat_rules.specs.Targets.{untyped_target, visible_target, named_target, stepped, indexed, is_text, index_step, to_part, field_of, field_step}
-use Rattle.chi_check_stat_rules.specs.Values.{fitted, initial_value, constant_rule, constant_value, is_bool, as_bool, condition, is_inst, as_instance, finished_one}
-use Rattle.chi_check_stat_rules.specs.Walks.{element_type, name_types, walked, walked_by, walk_over, walk_of}
-use Rattle.chi_check_stat_rules.specs.Writes.{Written, shown_count, next_shown, showing, shown_one, with_first, shown_then, all_shown, written, write_of}
+use Rattle.chi_check_laws.specs.Below.chi_check_stat_rules.specs.declared.home.ExitType.{ExitType}
+use Rattle.chi_check_laws.specs.Below.chi_check_stat_rules.specs.declared.home.ExitType.TheVariants as exit
+use Rattle.chi_check_laws.specs.Below.chi_check_stat_rules.specs.declared.home.Home.{Home}
+use Rattle.chi_check_laws.specs.Below.chi_check_stat_rules.specs.declared.home.Home.TheVariants as home
+use Rattle.chi_check_laws.specs.Below.chi_check_stat_rules.specs.declared.parts.Aim.{Aim}
+use Rattle.chi_check_laws.specs.Below.chi_check_stat_rules.specs.declared.parts.Receiver.{Receiver}
+use Rattle.chi_check_laws.specs.Below.chi_check_stat_rules.specs.declared.parts.Started.{Started}
+use Rattle.chi_check_laws.specs.Below.chi_check_stat_rules.specs.declared.parts.Walked.{Walked}
+use Rattle.chi_check_laws.specs.Below.chi_check_stat_rules.specs.Assignments.{all_aims, assign, stored, parts_fit, spread, spread_parts, spread_value, only_one, uneven, even, assigned}
+use Rattle.chi_check_laws.specs.Below.chi_check_stat_rules.specs.Channels.{sent_type, send_void, sending, send_value, send_on, send_of, received_type, receive_void, receiving, receive_value, receive_on, receive_of, delayed, delaying, delay_of}
+use Rattle.chi_check_laws.specs.Below.chi_check_stat_rules.specs.Elements.{as_instance_target, instance_target, exit_rule, started, process_start, untyped_start, visible_start, start_of, make, element_made}
+use Rattle.chi_check_laws.specs.Below.chi_check_stat_rules.specs.Endings.{returning, return_of, exiting, plain_exit, exit_with, exit_of}
+use Rattle.chi_check_laws.specs.Below.chi_check_stat_rules.specs.Targets.{untyped_target, visible_target, named_target, stepped, indexed, is_text, index_step, to_part, field_of, field_step}
+use Rattle.chi_check_laws.specs.Below.chi_check_stat_rules.specs.Values.{fitted, initial_value, constant_rule, constant_value, is_bool, as_bool, condition, is_inst, as_instance, finished_one}
+use Rattle.chi_check_laws.specs.Below.chi_check_stat_rules.specs.Walks.{element_type, name_types, walked, walked_by, walk_over, walk_of}
+use Rattle.chi_check_laws.specs.Below.chi_check_stat_rules.specs.Writes.{Written, shown_count, next_shown, showing, shown_one, with_first, shown_then, all_shown, written, write_of}
 use Rattle.chi_check_laws.specs.Parts.{step_texts, target_texts, texts_if_any, communication_texts}
 use Rattle.chi_check_expr.proofs.Kept.{Each, IfGiven}
 use Rattle.chi_check_laws.specs.Texts.{element_texts, statement_texts, branch_texts, alternative_texts}

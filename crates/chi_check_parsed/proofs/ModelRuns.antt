@@ -34,13 +34,13 @@ use Rattle.chi_check_types.specs.Typed.{Typed}
 use Rattle.chi_check_expr_rules.specs.Conversions.{passed}
 use Rattle.chi_check_expr_rules.specs.Nodes.{all_made}
 use Rattle.chi_check_expr.proofs.Kept.{Each, IfGiven}
-use Rattle.chi_check_stat_rules.specs.declared.home.Home.TheVariants as home
-use Rattle.chi_check_stat_rules.specs.declared.parts.Aim.{Aim}
-use Rattle.chi_check_stat_rules.specs.declared.parts.Modelled.{Modelled}
-use Rattle.chi_check_stat_rules.specs.declared.parts.ModelRun.{ModelRun}
-use Rattle.chi_check_stat_rules.specs.ModelRuns.{model_known, model_rule, model_run, ran, arguments_of, run_of, run_into, run_at, assigned_run, first_run, initial_run}
-use Rattle.chi_check_stat_lines.specs.Values.{made_of, values_in}
-use Rattle.chi_check_experiments.specs.Experiments.{ModelCall, call_with, model_call_step, model_call, run_called}
+use Rattle.chi_check_laws.specs.Below.chi_check_stat_rules.specs.declared.home.Home.TheVariants as home
+use Rattle.chi_check_laws.specs.Below.chi_check_stat_rules.specs.declared.parts.Aim.{Aim}
+use Rattle.chi_check_laws.specs.Below.chi_check_stat_rules.specs.declared.parts.Modelled.{Modelled}
+use Rattle.chi_check_laws.specs.Below.chi_check_stat_rules.specs.declared.parts.ModelRun.{ModelRun}
+use Rattle.chi_check_laws.specs.Below.chi_check_stat_rules.specs.ModelRuns.{model_known, model_rule, model_run, ran, arguments_of, run_of, run_into, run_at, assigned_run, first_run, initial_run}
+use Rattle.chi_check_laws.specs.Below.chi_check_stat_lines.specs.Values.{made_of, values_in}
+use Rattle.chi_check_laws.specs.Below.chi_check_experiments.specs.Experiments.{ModelCall, call_with, model_call_step, model_call, run_called}
 use Rattle.chi_check_laws.proofs.TrialLayers.{trial_short}
 use Rattle.chi_check_laws.specs.Trials.{trial_texts, branch_texts}
 use Rattle.chi_check_parsed.proofs.Tokens.{AllFit, fit_left, fit_right}

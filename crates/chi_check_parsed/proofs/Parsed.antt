@@ -9,8 +9,8 @@ use Rattle.chi_tree_spell.specs.Statements.{spelled}
 use Rattle.chi_tree_laws.specs.Answers.{IsProgram}
 use Rattle.chi_core.specs.declared.program.Core.{Core}
 use Rattle.chi_core.specs.Sound.{Sound}
-use Rattle.chi_check_streams.specs.Streams.{with_streams}
-use Rattle.chi_check.specs.Programs.{checked, Answers}
+use Rattle.chi_check_laws.specs.Below.chi_check_streams.specs.Streams.{with_streams}
+use Rattle.chi_check_laws.specs.Below.chi_check.specs.Programs.{checked, Answers}
 use Rattle.chi_check_laws.specs.Laws.{IsWhole}
 use Rattle.chi_check_laws.specs.CheckedBodies.{BodiesAreWhole, TextsAreShort}
 use Rattle.chi_check_laws.specs.Formals.{formals_are_typed}

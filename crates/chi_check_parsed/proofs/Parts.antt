@@ -33,25 +33,25 @@ use Rattle.chi_check_types.specs.Defaults.{default_of}
 use Rattle.chi_check_types.specs.Faults.{are_none}
 use Rattle.chi_check_types.specs.Names.{Names}
 use Rattle.chi_check_types.specs.Typed.{after}
-use Rattle.chi_check_stat_rules.specs.declared.home.Home.{Home}
-use Rattle.chi_check_stat_rules.specs.declared.parts.Aim.{Aim}
-use Rattle.chi_check_stat_rules.specs.Elements.{start_of}
-use Rattle.chi_check_stat_rules.specs.Homes.{site_of, running_rule, writing_rule, local_rule}
-use Rattle.chi_check_stat_rules.specs.Places.{expr_place, type_place}
-use Rattle.chi_check_stat_rules.specs.Targets.{named_target}
-use Rattle.chi_check_stat_rules.specs.Walks.{walk_of}
-use Rattle.chi_check_stat_rules.specs.Writes.{ended, pieces_of, write_of}
+use Rattle.chi_check_laws.specs.Below.chi_check_stat_rules.specs.declared.home.Home.{Home}
+use Rattle.chi_check_laws.specs.Below.chi_check_stat_rules.specs.declared.parts.Aim.{Aim}
+use Rattle.chi_check_laws.specs.Below.chi_check_stat_rules.specs.Elements.{start_of}
+use Rattle.chi_check_laws.specs.Below.chi_check_stat_rules.specs.Homes.{site_of, running_rule, writing_rule, local_rule}
+use Rattle.chi_check_laws.specs.Below.chi_check_stat_rules.specs.Places.{expr_place, type_place}
+use Rattle.chi_check_laws.specs.Below.chi_check_stat_rules.specs.Targets.{named_target}
+use Rattle.chi_check_laws.specs.Below.chi_check_stat_rules.specs.Walks.{walk_of}
+use Rattle.chi_check_laws.specs.Below.chi_check_stat_rules.specs.Writes.{ended, pieces_of, write_of}
 use Rattle.chi_check_expr.specs.Typing.{reading}
 use Rattle.chi_check_expr.proofs.Kept.{Each, IfGiven}
-use Rattle.chi_check_stat_lines.specs.declared.state.Binder.{Binder}
-use Rattle.chi_check_stat_lines.specs.declared.state.Binder.TheVariants as binder
-use Rattle.chi_check_stat_lines.specs.declared.state.Opened.{Opened}
-use Rattle.chi_check_stat_lines.specs.declared.state.State.{State}
-use Rattle.chi_check_stat_lines.specs.Stated.{Stated, Turn, both, in_turn, one, held_by}
-use Rattle.chi_check_stat_lines.specs.States.{next_slot, new_name_rule, with_variable, bindings}
-use Rattle.chi_check_stat_lines.specs.Values.{made_of, made_if, all_of, all_faults, value_in, values_in, test_in, guard_in, instance_in, step_in, steps_in, target_in, assignment_place, assignment_in, goal_in}
-use Rattle.chi_check_stat_lines.specs.Declarations.{walk_place, declaration, types_of, opened, initial_in, declared, declaration_in, walk_in}
-use Rattle.chi_check_stat_lines.specs.Lines.{communication_place, receiver_in, placed, selected, parts_in, communication_in, communicating, element_in, write_in, return_in, exit_in, finish_in}
+use Rattle.chi_check_laws.specs.Below.chi_check_stat_lines.specs.declared.state.Binder.{Binder}
+use Rattle.chi_check_laws.specs.Below.chi_check_stat_lines.specs.declared.state.Binder.TheVariants as binder
+use Rattle.chi_check_laws.specs.Below.chi_check_stat_lines.specs.declared.state.Opened.{Opened}
+use Rattle.chi_check_laws.specs.Below.chi_check_stat_lines.specs.declared.state.State.{State}
+use Rattle.chi_check_laws.specs.Below.chi_check_stat_lines.specs.Stated.{Stated, Turn, both, in_turn, one, held_by}
+use Rattle.chi_check_laws.specs.Below.chi_check_stat_lines.specs.States.{next_slot, new_name_rule, with_variable, bindings}
+use Rattle.chi_check_laws.specs.Below.chi_check_stat_lines.specs.Values.{made_of, made_if, all_of, all_faults, value_in, values_in, test_in, guard_in, instance_in, step_in, steps_in, target_in, assignment_place, assignment_in, goal_in}
+use Rattle.chi_check_laws.specs.Below.chi_check_stat_lines.specs.Declarations.{walk_place, declaration, types_of, opened, initial_in, declared, declaration_in, walk_in}
+use Rattle.chi_check_laws.specs.Below.chi_check_stat_lines.specs.Lines.{communication_place, receiver_in, placed, selected, parts_in, communication_in, communicating, element_in, write_in, return_in, exit_in, finish_in}
 use Rattle.chi_check_laws.proofs.Layers.{statement_short, alternative_short}
 use Rattle.chi_check_parsed.proofs.Tokens.{Fits, AllFit, fit_left, fit_right}
 use Rattle.chi_check_laws.proofs.Turns.{each_append}

@@ -32,17 +32,17 @@ use Rattle.chi_core.specs.declared.program.ProcDef.{ProcDef}
 use Rattle.chi_core.specs.declared.statement.CStat.{CStat}
 use Rattle.chi_check_types.specs.declared.site.Site.TheVariants as site
 use Rattle.chi_check_types.specs.Names.{Names}
-use Rattle.chi_check_stat_rules.specs.Values.{constant_value}
+use Rattle.chi_check_laws.specs.Below.chi_check_stat_rules.specs.Values.{constant_value}
 use Rattle.chi_check_expr.specs.Typing.{typing}
 use Rattle.chi_check_expr.proofs.Kept.{Each, IfGiven}
-use Rattle.chi_check_stat_lines.specs.Stated.{in_turn}
-use Rattle.chi_check_stat.specs.Statements.{stating_all}
-use Rattle.chi_check_experiments.specs.Experiments.{trying_all}
-use Rattle.chi_check_headers.specs.declared.header.Header.{Header}
-use Rattle.chi_check_headers.specs.Definitions.{early_defined, constant, with_all_late, with_all_headed, sketching}
-use Rattle.chi_check_headers.specs.Headers.{all_types, type_in, header_in}
-use Rattle.chi_check.specs.Bodies.{formals_bound, body_in, function, process, result_of, exit_of, function_made, process_made, function_of, process_of, functions_of, processes_of, experiment, experiment_of, experiments_of}
-use Rattle.chi_check.specs.Programs.{core_of, core, definitions_checked, checked, no_names, first_early, first_named, first_model}
+use Rattle.chi_check_laws.specs.Below.chi_check_stat_lines.specs.Stated.{in_turn}
+use Rattle.chi_check_laws.specs.Below.chi_check_stat.specs.Statements.{stating_all}
+use Rattle.chi_check_laws.specs.Below.chi_check_experiments.specs.Experiments.{trying_all}
+use Rattle.chi_check_laws.specs.Below.chi_check_headers.specs.declared.header.Header.{Header}
+use Rattle.chi_check_laws.specs.Below.chi_check_headers.specs.Definitions.{early_defined, constant, with_all_late, with_all_headed, sketching}
+use Rattle.chi_check_laws.specs.Below.chi_check_headers.specs.Headers.{all_types, type_in, header_in}
+use Rattle.chi_check_laws.specs.Below.chi_check.specs.Bodies.{formals_bound, body_in, function, process, result_of, exit_of, function_made, process_made, function_of, process_of, functions_of, processes_of, experiment, experiment_of, experiments_of}
+use Rattle.chi_check_laws.specs.Below.chi_check.specs.Programs.{core_of, core, definitions_checked, checked, no_names, first_early, first_named, first_model}
 use Rattle.chi_check_laws.specs.Texts.{statement_texts, body_texts}
 use Rattle.chi_check_laws.specs.Trials.{trial_texts, trials_texts}
 use Rattle.chi_check_laws.specs.CheckedBodies.{TextsAreShort}

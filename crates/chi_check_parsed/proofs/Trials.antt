@@ -34,21 +34,21 @@ use Rattle.chi_check_types.specs.Names.{Names}
 use Rattle.chi_check_types.specs.Typed.{Typed, unless}
 use Rattle.chi_check_expr.specs.Typing.{reading}
 use Rattle.chi_check_expr.proofs.Kept.{Each, IfGiven}
-use Rattle.chi_check_stat_rules.specs.declared.home.Home.TheVariants as home
-use Rattle.chi_check_stat_rules.specs.declared.parts.Aim.{Aim}
-use Rattle.chi_check_stat_rules.specs.Endings.{loop_rule}
-use Rattle.chi_check_stat_rules.specs.Homes.{site_of, local_rule}
-use Rattle.chi_check_stat_rules.specs.ModelRuns.{initial_run}
-use Rattle.chi_check_stat_rules.specs.Places.{type_place}
-use Rattle.chi_check_stat_lines.specs.declared.state.Binder.TheVariants as binder
-use Rattle.chi_check_stat_lines.specs.declared.state.Opened.{Opened}
-use Rattle.chi_check_stat_lines.specs.declared.state.State.{State}
-use Rattle.chi_check_stat_lines.specs.Stated.{in_turn, alone, one}
-use Rattle.chi_check_stat_lines.specs.States.{next_slot, new_name_rule, with_variable, block, Going, each_in}
-use Rattle.chi_check_stat_lines.specs.Values.{made_of, test_in, target_in, assignment_in}
-use Rattle.chi_check_stat_lines.specs.Declarations.{declared, walk_in}
-use Rattle.chi_check_stat_lines.specs.Lines.{communicating, return_in, exit_in, finish_in, write_in}
-use Rattle.chi_check_experiments.specs.Experiments.{lined, ModelCall, model_call, run_called, call_alone, assigning, assignment_tried, initial_call, declaring, variable_tried, declaration_tried, no_alternative, trial_step, trial_branch, trial_inner, stating_tried, trying, branch_tried, trying_in, trying_all}
+use Rattle.chi_check_laws.specs.Below.chi_check_stat_rules.specs.declared.home.Home.TheVariants as home
+use Rattle.chi_check_laws.specs.Below.chi_check_stat_rules.specs.declared.parts.Aim.{Aim}
+use Rattle.chi_check_laws.specs.Below.chi_check_stat_rules.specs.Endings.{loop_rule}
+use Rattle.chi_check_laws.specs.Below.chi_check_stat_rules.specs.Homes.{site_of, local_rule}
+use Rattle.chi_check_laws.specs.Below.chi_check_stat_rules.specs.ModelRuns.{initial_run}
+use Rattle.chi_check_laws.specs.Below.chi_check_stat_rules.specs.Places.{type_place}
+use Rattle.chi_check_laws.specs.Below.chi_check_stat_lines.specs.declared.state.Binder.TheVariants as binder
+use Rattle.chi_check_laws.specs.Below.chi_check_stat_lines.specs.declared.state.Opened.{Opened}
+use Rattle.chi_check_laws.specs.Below.chi_check_stat_lines.specs.declared.state.State.{State}
+use Rattle.chi_check_laws.specs.Below.chi_check_stat_lines.specs.Stated.{in_turn, alone, one}
+use Rattle.chi_check_laws.specs.Below.chi_check_stat_lines.specs.States.{next_slot, new_name_rule, with_variable, block, Going, each_in}
+use Rattle.chi_check_laws.specs.Below.chi_check_stat_lines.specs.Values.{made_of, test_in, target_in, assignment_in}
+use Rattle.chi_check_laws.specs.Below.chi_check_stat_lines.specs.Declarations.{declared, walk_in}
+use Rattle.chi_check_laws.specs.Below.chi_check_stat_lines.specs.Lines.{communicating, return_in, exit_in, finish_in, write_in}
+use Rattle.chi_check_laws.specs.Below.chi_check_experiments.specs.Experiments.{lined, ModelCall, model_call, run_called, call_alone, assigning, assignment_tried, initial_call, declaring, variable_tried, declaration_tried, no_alternative, trial_step, trial_branch, trial_inner, stating_tried, trying, branch_tried, trying_in, trying_all}
 use Rattle.chi_check_laws.proofs.Layers.{statement_short}
 use Rattle.chi_check_laws.proofs.TrialLayers.{trial_short, branch_short}
 use Rattle.chi_check_laws.specs.Trials.{trial_texts, branch_texts}

@@ -8,7 +8,7 @@ ghost use Rattle.chi_tree.specs.declared.definition.Program.{Program};
 ghost use Rattle.chi_tree_laws.specs.Answers.{IsProgram};
 ghost use Rattle.chi_core.specs.declared.program.Core.{Core};
 ghost use Rattle.chi_core.specs.Sound.{Sound};
-ghost use Rattle.chi_check.specs.Programs.{checked, Answers};
+ghost use Rattle.chi_check_laws.specs.Below.chi_check.specs.Programs.{checked, Answers};
 ghost use Rattle.chi_check_laws.specs.Laws.{IsWhole};
 
 use chi_check_laws::{programs_are_sound, unbroken_programs_come_to_cores};

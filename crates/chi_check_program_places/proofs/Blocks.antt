@@ -17,19 +17,19 @@ use Rattle.chi_core.specs.declared.statement.CStat.{CStat}
 use Rattle.chi_core.specs.declared.statement.CStat.TheVariants as statement
 use Rattle.chi_check_types.specs.declared.fault.Fault.{Fault}
 use Rattle.chi_check_types.specs.Typed.{unless}
-use Rattle.chi_check_stat_rules.specs.declared.home.Home.{Home}
-use Rattle.chi_check_stat_rules.specs.Endings.{loop_rule}
-use Rattle.chi_check_stat_rules.specs.Homes.{running_rule}
-use Rattle.chi_check_stat_lines.specs.declared.state.Binder.TheVariants as binder
-use Rattle.chi_check_stat_lines.specs.declared.state.Opened.{Opened}
-use Rattle.chi_check_stat_lines.specs.declared.state.State.{State}
-use Rattle.chi_check_stat_lines.specs.Stated.{in_turn, staying}
-use Rattle.chi_check_stat_lines.specs.States.{closed, block, Going, each_in}
-use Rattle.chi_check_stat_lines.specs.Values.{test_in, guard_in, assignment_in}
-use Rattle.chi_check_stat_lines.specs.Declarations.{walk_in}
-use Rattle.chi_check_stat_lines.specs.Lines.{communication_in, communicating, write_in, return_in, exit_in, finish_in}
-use Rattle.chi_check_stat_lines.specs.Blocks.{offers, runs, starts, chosen, looped, walked, branched, guarded, offered}
-use Rattle.chi_check_stat.specs.Statements.{starting, statement_step, branch_step, alternative_step}
+use Rattle.chi_check.specs.Below.chi_check_stat_rules.specs.declared.home.Home.{Home}
+use Rattle.chi_check.specs.Below.chi_check_stat_rules.specs.Endings.{loop_rule}
+use Rattle.chi_check.specs.Below.chi_check_stat_rules.specs.Homes.{running_rule}
+use Rattle.chi_check.specs.Below.chi_check_stat_lines.specs.declared.state.Binder.TheVariants as binder
+use Rattle.chi_check.specs.Below.chi_check_stat_lines.specs.declared.state.Opened.{Opened}
+use Rattle.chi_check.specs.Below.chi_check_stat_lines.specs.declared.state.State.{State}
+use Rattle.chi_check.specs.Below.chi_check_stat_lines.specs.Stated.{in_turn, staying}
+use Rattle.chi_check.specs.Below.chi_check_stat_lines.specs.States.{closed, block, Going, each_in}
+use Rattle.chi_check.specs.Below.chi_check_stat_lines.specs.Values.{test_in, guard_in, assignment_in}
+use Rattle.chi_check.specs.Below.chi_check_stat_lines.specs.Declarations.{walk_in}
+use Rattle.chi_check.specs.Below.chi_check_stat_lines.specs.Lines.{communication_in, communicating, write_in, return_in, exit_in, finish_in}
+use Rattle.chi_check.specs.Below.chi_check_stat_lines.specs.Blocks.{offers, runs, starts, chosen, looped, walked, branched, guarded, offered}
+use Rattle.chi_check.specs.Below.chi_check_stat.specs.Statements.{starting, statement_step, branch_step, alternative_step}
 use Rattle.chi_check_places.specs.UnplacedTyped.{unplaced_faults}
 use Rattle.chi_check_places.proofs.Faults.{faults-append, both-faults}
 use Rattle.chi_check_program_places.specs.Lineless.{lineless_statement, lineless_branch, lineless_alternative}

@@ -13,14 +13,14 @@ use Rattle.chi_types.specs.declared.ty.Ty.{Ty}
 use Rattle.chi_core.specs.declared.experiment.XStat.{XStat}
 use Rattle.chi_core.specs.declared.statement.CStat.{CStat}
 use Rattle.chi_check_types.specs.Names.{Names}
-use Rattle.chi_check_stat_lines.specs.declared.state.Binder.TheVariants as binder
-use Rattle.chi_check_stat_lines.specs.declared.state.State.{State}
-use Rattle.chi_check_stat_lines.specs.Stated.{in_turn}
-use Rattle.chi_check_stat_lines.specs.States.{binding}
-use Rattle.chi_check_stat.specs.Statements.{stating_all}
-use Rattle.chi_check_experiments.specs.Experiments.{trying_all}
-use Rattle.chi_check_headers.specs.declared.header.Header.{Header}
-use Rattle.chi_check_headers.specs.Headers.{all_types}
+use Rattle.chi_check.specs.Below.chi_check_stat_lines.specs.declared.state.Binder.TheVariants as binder
+use Rattle.chi_check.specs.Below.chi_check_stat_lines.specs.declared.state.State.{State}
+use Rattle.chi_check.specs.Below.chi_check_stat_lines.specs.Stated.{in_turn}
+use Rattle.chi_check.specs.Below.chi_check_stat_lines.specs.States.{binding}
+use Rattle.chi_check.specs.Below.chi_check_stat.specs.Statements.{stating_all}
+use Rattle.chi_check.specs.Below.chi_check_experiments.specs.Experiments.{trying_all}
+use Rattle.chi_check.specs.Below.chi_check_headers.specs.declared.header.Header.{Header}
+use Rattle.chi_check.specs.Below.chi_check_headers.specs.Headers.{all_types}
 use Rattle.chi_check.specs.Bodies.{formals_bound, body_made, body_in, function, process, result_of, exit_of, function_made, process_made, function_defined, process_defined, function_of, process_of, functions_of, processes_of, experiment, experiment_defined, experiment_of, experiments_of}
 use Rattle.chi_check_places.specs.UnplacedTyped.{unplaced_faults}
 use Rattle.chi_check_places.proofs.Faults.{faults-append}

@@ -7,7 +7,7 @@ use Rattle.chi_tree.specs.View.{nowhere}
 use Rattle.chi_check_types.specs.declared.fault.Fault.{Fault}
 use Rattle.chi_check_types.specs.Typed.{Typed, unless, after}
 use Rattle.chi_check_expr_rules.specs.Nodes.{settled, of_one, of_two, barred}
-use Rattle.chi_check_stat_lines.specs.Stated.{Stated, Turn, both, joined, in_order, in_turn, one, alone, preceded, held_by}
+use Rattle.chi_check.specs.Below.chi_check_stat_lines.specs.Stated.{Stated, Turn, both, joined, in_order, in_turn, one, alone, preceded, held_by}
 use Rattle.chi_check_places.specs.UnplacedTyped.{unplaced_fault, unplaced_faults}
 use Rattle.chi_check_places.proofs.Faults.{faults-append}
 

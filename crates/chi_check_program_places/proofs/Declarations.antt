@@ -18,18 +18,18 @@ use Rattle.chi_check_types.specs.declared.rules.TheConstants.{NEW_NAME}
 use Rattle.chi_check_types.specs.Names.{Names}
 use Rattle.chi_check_types.specs.Typed.{after}
 use Rattle.chi_check_expr.specs.Typing.{reading}
-use Rattle.chi_check_stat_rules.specs.declared.home.Home.{Home}
-use Rattle.chi_check_stat_rules.specs.Homes.{site_of, local_rule}
-use Rattle.chi_check_stat_rules.specs.Places.{expr_place, type_place}
-use Rattle.chi_check_stat_rules.specs.Values.{initial_value}
-use Rattle.chi_check_stat_rules.specs.Walks.{walk_of}
-use Rattle.chi_check_stat_lines.specs.declared.state.Binder.{Binder}
-use Rattle.chi_check_stat_lines.specs.declared.state.Binder.TheVariants as binder
-use Rattle.chi_check_stat_lines.specs.declared.state.State.{State}
-use Rattle.chi_check_stat_lines.specs.Stated.{Stated, in_turn, preceded, held_by}
-use Rattle.chi_check_stat_lines.specs.States.{is_taken, next_slot, new_name_rule, with_variable, slot_if, binding, first_type, other_types, bindings}
-use Rattle.chi_check_stat_lines.specs.Values.{value_in}
-use Rattle.chi_check_stat_lines.specs.Declarations.{declaration, types_of, opening, walk_place, initial_in, declared, declaration_in, walk_in}
+use Rattle.chi_check.specs.Below.chi_check_stat_rules.specs.declared.home.Home.{Home}
+use Rattle.chi_check.specs.Below.chi_check_stat_rules.specs.Homes.{site_of, local_rule}
+use Rattle.chi_check.specs.Below.chi_check_stat_rules.specs.Places.{expr_place, type_place}
+use Rattle.chi_check.specs.Below.chi_check_stat_rules.specs.Values.{initial_value}
+use Rattle.chi_check.specs.Below.chi_check_stat_rules.specs.Walks.{walk_of}
+use Rattle.chi_check.specs.Below.chi_check_stat_lines.specs.declared.state.Binder.{Binder}
+use Rattle.chi_check.specs.Below.chi_check_stat_lines.specs.declared.state.Binder.TheVariants as binder
+use Rattle.chi_check.specs.Below.chi_check_stat_lines.specs.declared.state.State.{State}
+use Rattle.chi_check.specs.Below.chi_check_stat_lines.specs.Stated.{Stated, in_turn, preceded, held_by}
+use Rattle.chi_check.specs.Below.chi_check_stat_lines.specs.States.{is_taken, next_slot, new_name_rule, with_variable, slot_if, binding, first_type, other_types, bindings}
+use Rattle.chi_check.specs.Below.chi_check_stat_lines.specs.Values.{value_in}
+use Rattle.chi_check.specs.Below.chi_check_stat_lines.specs.Declarations.{declaration, types_of, opening, walk_place, initial_in, declared, declaration_in, walk_in}
 use Rattle.chi_check_places.specs.UnplacedTyped.{unplaced_faults, unplaced_typed}
 use Rattle.chi_check_places.proofs.Faults.{faults-append, both-faults, broken-unplaced, after-both}
 use Rattle.chi_check_places.proofs.Induction.{type-unplaced}

@@ -18,15 +18,15 @@ use Rattle.chi_check_types.specs.declared.known.NameKind.TheVariants as kind
 use Rattle.chi_check_types.specs.declared.site.Site.TheVariants as site
 use Rattle.chi_check_types.specs.Names.{Names}
 use Rattle.chi_check_expr.specs.Typing.{typing}
-use Rattle.chi_check_stat_rules.specs.Values.{constant_value}
-use Rattle.chi_check_stat_lines.specs.Stated.{in_turn}
-use Rattle.chi_check_stat_lines.specs.States.{new_name_rule}
-use Rattle.chi_check_headers.specs.declared.header.Header.{Header}
-use Rattle.chi_check_headers.specs.declared.sketch.Sketch.{Sketch}
-use Rattle.chi_check_headers.specs.declared.sketch.Early.{Early}
-use Rattle.chi_check_headers.specs.declared.sketch.Named.{Named}
-use Rattle.chi_check_headers.specs.Headers.{type_in}
-use Rattle.chi_check_headers.specs.Definitions.{named_early, named_late, values_from, one_enumeration, one_process, one_experiment, enumeration_named, late_named, sketching, with_definition, constant_known, type_known, constant, constant_made, constant_defined, type_defined, early_defined, late_name, with_late, with_all_late, with_headed, with_all_headed}
+use Rattle.chi_check.specs.Below.chi_check_stat_rules.specs.Values.{constant_value}
+use Rattle.chi_check.specs.Below.chi_check_stat_lines.specs.Stated.{in_turn}
+use Rattle.chi_check.specs.Below.chi_check_stat_lines.specs.States.{new_name_rule}
+use Rattle.chi_check.specs.Below.chi_check_headers.specs.declared.header.Header.{Header}
+use Rattle.chi_check.specs.Below.chi_check_headers.specs.declared.sketch.Sketch.{Sketch}
+use Rattle.chi_check.specs.Below.chi_check_headers.specs.declared.sketch.Early.{Early}
+use Rattle.chi_check.specs.Below.chi_check_headers.specs.declared.sketch.Named.{Named}
+use Rattle.chi_check.specs.Below.chi_check_headers.specs.Headers.{type_in}
+use Rattle.chi_check.specs.Below.chi_check_headers.specs.Definitions.{named_early, named_late, values_from, one_enumeration, one_process, one_experiment, enumeration_named, late_named, sketching, with_definition, constant_known, type_known, constant, constant_made, constant_defined, type_defined, early_defined, late_name, with_late, with_all_late, with_headed, with_all_headed}
 use Rattle.chi_check_places.specs.UnplacedTyped.{unplaced_faults}
 use Rattle.chi_check_places.proofs.Faults.{faults-append, both-faults}
 use Rattle.chi_check_places.proofs.Induction.{typing-unplaced}

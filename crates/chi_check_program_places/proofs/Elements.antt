@@ -9,16 +9,16 @@ use Rattle.chi_tree.specs.View.{nowhere}
 use Rattle.chi_tree_laws.specs.Unplaced.{unplaced_name, unplaced_expr}
 use Rattle.chi_tree_laws.specs.UnplacedStatements.{unplaced_target, unplaced_walk, element_without, unplaced_element}
 use Rattle.chi_core.specs.declared.element.CElem.{CElem}
-use Rattle.chi_check_stat_rules.specs.declared.home.Home.{Home}
-use Rattle.chi_check_stat_lines.specs.declared.state.Binder.TheVariants as binder
-use Rattle.chi_check_stat_lines.specs.declared.state.State.{State}
-use Rattle.chi_check_stat_lines.specs.Stated.{Turn, in_turn, alone}
-use Rattle.chi_check_stat_lines.specs.States.{closed}
-use Rattle.chi_check_stat.specs.Statements.{unwound, element_step, starting}
+use Rattle.chi_check.specs.Below.chi_check_stat_rules.specs.declared.home.Home.{Home}
+use Rattle.chi_check.specs.Below.chi_check_stat_lines.specs.declared.state.Binder.TheVariants as binder
+use Rattle.chi_check.specs.Below.chi_check_stat_lines.specs.declared.state.State.{State}
+use Rattle.chi_check.specs.Below.chi_check_stat_lines.specs.Stated.{Turn, in_turn, alone}
+use Rattle.chi_check.specs.Below.chi_check_stat_lines.specs.States.{closed}
+use Rattle.chi_check.specs.Below.chi_check_stat.specs.Statements.{unwound, element_step, starting}
 use Rattle.chi_check_program_places.proofs.By.{unplaced_stated, unplaced_turn, in-turn-unplaced, sequence-of}
 use Rattle.chi_check_program_places.proofs.Declarations.{walk-in-unplaced}
 use Rattle.chi_check_program_places.proofs.Lines.{element-unplaced}
-use Rattle.chi_check_stat_lines.specs.Declarations.{walk_in}
+use Rattle.chi_check.specs.Below.chi_check_stat_lines.specs.Declarations.{walk_in}
 
 module _ (home : Home) where
   abbrev PE : Element → Type 0

@@ -11,9 +11,9 @@ use Rattle.chi_types.specs.declared.ty.Ty.{Ty}
 use Rattle.chi_check_types.specs.declared.site.Site.{Site}
 use Rattle.chi_check_types.specs.declared.site.Site.TheVariants as site
 use Rattle.chi_check_types.specs.Names.{Names}
-use Rattle.chi_check_stat_rules.specs.declared.home.Home.TheVariants as home
-use Rattle.chi_check_headers.specs.declared.header.Header.{Header}
-use Rattle.chi_check_headers.specs.Headers.{Found, type_of, type_in, formal_type, formal_types, exit_given, exit_type_in, header, function_header, process_header, with_header, header_in, header_faults}
+use Rattle.chi_check.specs.Below.chi_check_stat_rules.specs.declared.home.Home.TheVariants as home
+use Rattle.chi_check.specs.Below.chi_check_headers.specs.declared.header.Header.{Header}
+use Rattle.chi_check.specs.Below.chi_check_headers.specs.Headers.{Found, type_of, type_in, formal_type, formal_types, exit_given, exit_type_in, header, function_header, process_header, with_header, header_in, header_faults}
 use Rattle.chi_check_places.specs.UnplacedTyped.{unplaced_faults}
 use Rattle.chi_check_places.proofs.Faults.{faults-append, both-faults}
 use Rattle.chi_check_places.proofs.Induction.{type-unplaced}

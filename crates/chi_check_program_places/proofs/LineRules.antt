@@ -13,15 +13,15 @@ use Rattle.chi_check_types.specs.declared.rules.TheConstants.{ASSIGNED_VALUE, RE
 use Rattle.chi_check_types.specs.Typed.{Typed, refused}
 use Rattle.chi_check_expr_rules.specs.Conversions.{passed}
 use Rattle.chi_check_expr_rules.specs.Nodes.{all_made}
-use Rattle.chi_check_stat_rules.specs.declared.home.ExitType.{ExitType}
-use Rattle.chi_check_stat_rules.specs.declared.home.ExitType.TheVariants as exit
-use Rattle.chi_check_stat_rules.specs.declared.home.Home.{Home}
-use Rattle.chi_check_stat_rules.specs.declared.home.Home.TheVariants as home
-use Rattle.chi_check_stat_rules.specs.declared.parts.Aim.{Aim}
-use Rattle.chi_check_stat_rules.specs.Assignments.{all_aims, assign, stored, parts_fit, spread, spread_parts, spread_value, spread_one, only_one, uneven, assigned}
-use Rattle.chi_check_stat_rules.specs.Endings.{returning, return_of, exiting, plain_exit, exit_value, exit_bare, exit_of, loop_rule}
-use Rattle.chi_check_stat_rules.specs.Values.{fitted}
-use Rattle.chi_check_stat_rules.specs.Writes.{shown_count, next_shown, showing, Written, shown_one, with_first, shown_then, all_shown, written, write_of}
+use Rattle.chi_check.specs.Below.chi_check_stat_rules.specs.declared.home.ExitType.{ExitType}
+use Rattle.chi_check.specs.Below.chi_check_stat_rules.specs.declared.home.ExitType.TheVariants as exit
+use Rattle.chi_check.specs.Below.chi_check_stat_rules.specs.declared.home.Home.{Home}
+use Rattle.chi_check.specs.Below.chi_check_stat_rules.specs.declared.home.Home.TheVariants as home
+use Rattle.chi_check.specs.Below.chi_check_stat_rules.specs.declared.parts.Aim.{Aim}
+use Rattle.chi_check.specs.Below.chi_check_stat_rules.specs.Assignments.{all_aims, assign, stored, parts_fit, spread, spread_parts, spread_value, spread_one, only_one, uneven, assigned}
+use Rattle.chi_check.specs.Below.chi_check_stat_rules.specs.Endings.{returning, return_of, exiting, plain_exit, exit_value, exit_bare, exit_of, loop_rule}
+use Rattle.chi_check.specs.Below.chi_check_stat_rules.specs.Values.{fitted}
+use Rattle.chi_check.specs.Below.chi_check_stat_rules.specs.Writes.{shown_count, next_shown, showing, Written, shown_one, with_first, shown_then, all_shown, written, write_of}
 use Rattle.chi_check_places.specs.UnplacedTyped.{unplaced_faults, unplaced_typed}
 use Rattle.chi_check_places.proofs.Faults.{faults-append, tested, one-unplaced}
 use Rattle.chi_check_program_places.specs.Lineless.{lineless_statement}

@@ -16,14 +16,14 @@ use Rattle.chi_core.specs.declared.statement.CStat.TheVariants as statement
 use Rattle.chi_check_types.specs.declared.meant.Made.{Made}
 use Rattle.chi_check_types.specs.Names.{Names}
 use Rattle.chi_check_types.specs.Typed.{after}
-use Rattle.chi_check_stat_rules.specs.declared.home.Home.{Home}
-use Rattle.chi_check_stat_rules.specs.Channels.{send_of, receive_of, delay_of}
-use Rattle.chi_check_stat_rules.specs.Elements.{start_of, element_made}
-use Rattle.chi_check_stat_rules.specs.Endings.{return_of, exit_of}
-use Rattle.chi_check_stat_rules.specs.Homes.{running_rule, writing_rule}
-use Rattle.chi_check_stat_rules.specs.Writes.{ended, pieces_of, write_of}
-use Rattle.chi_check_stat_lines.specs.Values.{made_of, all_faults, faults_if, made_if, all_of, value_in, values_in, instance_in, target_in, goal_in}
-use Rattle.chi_check_stat_lines.specs.Lines.{communication_place, receiver_in, placed, selected, parts_in, communication_in, communicating, element_in, write_in, return_in, exit_in, finish_in}
+use Rattle.chi_check.specs.Below.chi_check_stat_rules.specs.declared.home.Home.{Home}
+use Rattle.chi_check.specs.Below.chi_check_stat_rules.specs.Channels.{send_of, receive_of, delay_of}
+use Rattle.chi_check.specs.Below.chi_check_stat_rules.specs.Elements.{start_of, element_made}
+use Rattle.chi_check.specs.Below.chi_check_stat_rules.specs.Endings.{return_of, exit_of}
+use Rattle.chi_check.specs.Below.chi_check_stat_rules.specs.Homes.{running_rule, writing_rule}
+use Rattle.chi_check.specs.Below.chi_check_stat_rules.specs.Writes.{ended, pieces_of, write_of}
+use Rattle.chi_check.specs.Below.chi_check_stat_lines.specs.Values.{made_of, all_faults, faults_if, made_if, all_of, value_in, values_in, instance_in, target_in, goal_in}
+use Rattle.chi_check.specs.Below.chi_check_stat_lines.specs.Lines.{communication_place, receiver_in, placed, selected, parts_in, communication_in, communicating, element_in, write_in, return_in, exit_in, finish_in}
 use Rattle.chi_check_places.specs.UnplacedTyped.{unplaced_faults, unplaced_typed}
 use Rattle.chi_check_places.proofs.Faults.{faults-append, both-faults, after-both, barred-both}
 use Rattle.chi_check_program_places.specs.Lineless.{lineless_statement}

@@ -24,13 +24,13 @@ use Rattle.chi_check_types.specs.Names.{Names, known_in}
 use Rattle.chi_check_types.specs.Typed.{Typed, after}
 use Rattle.chi_check_expr_rules.specs.Conversions.{passed}
 use Rattle.chi_check_expr_rules.specs.Nodes.{all_made}
-use Rattle.chi_check_stat_rules.specs.declared.home.Home.TheVariants as home
-use Rattle.chi_check_stat_rules.specs.declared.parts.Aim.{Aim}
-use Rattle.chi_check_stat_rules.specs.declared.parts.Modelled.{Modelled}
-use Rattle.chi_check_stat_rules.specs.declared.parts.ModelRun.{ModelRun}
-use Rattle.chi_check_stat_rules.specs.ModelRuns.{model_known, may_run, model_rule, ran, arguments_of, run_of, run_into, run_at, assigned_run, first_run, initial_run}
-use Rattle.chi_check_stat_lines.specs.Values.{made_of, all_faults, values_in, target_in}
-use Rattle.chi_check_experiments.specs.Experiments.{ModelCall, call_with, model_call_step, model_call, run_called, call_alone, run_assigned, initial_call}
+use Rattle.chi_check.specs.Below.chi_check_stat_rules.specs.declared.home.Home.TheVariants as home
+use Rattle.chi_check.specs.Below.chi_check_stat_rules.specs.declared.parts.Aim.{Aim}
+use Rattle.chi_check.specs.Below.chi_check_stat_rules.specs.declared.parts.Modelled.{Modelled}
+use Rattle.chi_check.specs.Below.chi_check_stat_rules.specs.declared.parts.ModelRun.{ModelRun}
+use Rattle.chi_check.specs.Below.chi_check_stat_rules.specs.ModelRuns.{model_known, may_run, model_rule, ran, arguments_of, run_of, run_into, run_at, assigned_run, first_run, initial_run}
+use Rattle.chi_check.specs.Below.chi_check_stat_lines.specs.Values.{made_of, all_faults, values_in, target_in}
+use Rattle.chi_check.specs.Below.chi_check_experiments.specs.Experiments.{ModelCall, call_with, model_call_step, model_call, run_called, call_alone, run_assigned, initial_call}
 use Rattle.chi_check_places.specs.UnplacedTyped.{unplaced_typed}
 use Rattle.chi_check_places.proofs.Faults.{faults-append, broken-unplaced, tested, after-both, barred-both, all-unplaced}
 use Rattle.chi_check_program_places.specs.Lineless.{lineless_xstat}

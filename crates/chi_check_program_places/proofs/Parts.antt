@@ -18,16 +18,16 @@ use Rattle.chi_check_types.specs.declared.rules.TheConstants.{INDEX, FIELD, SENT
 use Rattle.chi_check_types.specs.Names.{Names, known_in}
 use Rattle.chi_check_types.specs.Predefined.{is_predefined}
 use Rattle.chi_check_expr_rules.specs.Nodes.{all_made}
-use Rattle.chi_check_stat_rules.specs.declared.home.Home.{Home}
-use Rattle.chi_check_stat_rules.specs.declared.home.Home.TheVariants as home
-use Rattle.chi_check_stat_rules.specs.declared.parts.Aim.{Aim}
-use Rattle.chi_check_stat_rules.specs.declared.parts.Receiver.{Receiver}
-use Rattle.chi_check_stat_rules.specs.Channels.{sent_type, send_void, sending, send_value, send_on, send_of, received_type, untyped_receiver, visible_receiver, named_receiver, receive_void, receiving, receive_value, receive_on, receive_of, delaying, delay_of}
-use Rattle.chi_check_stat_rules.specs.Elements.{as_instance_target, instance_target, is_other_exit, exit_in, exit_rule, started, process_start, untyped_start, visible_start, start_of}
-use Rattle.chi_check_stat_rules.specs.Homes.{running_rule, writing_rule, has_channel, local_in_rule, local_rule}
-use Rattle.chi_check_stat_rules.specs.Targets.{untyped_target, visible_target, named_target, is_text, indexed, index_step, field_of, field_step}
-use Rattle.chi_check_stat_rules.specs.Values.{fitted, initial_value, lives, constant_rule, constant_value, as_bool, condition, as_instance, finished_one}
-use Rattle.chi_check_stat_rules.specs.Walks.{element_type, walked_by, walk_over, walk_of}
+use Rattle.chi_check.specs.Below.chi_check_stat_rules.specs.declared.home.Home.{Home}
+use Rattle.chi_check.specs.Below.chi_check_stat_rules.specs.declared.home.Home.TheVariants as home
+use Rattle.chi_check.specs.Below.chi_check_stat_rules.specs.declared.parts.Aim.{Aim}
+use Rattle.chi_check.specs.Below.chi_check_stat_rules.specs.declared.parts.Receiver.{Receiver}
+use Rattle.chi_check.specs.Below.chi_check_stat_rules.specs.Channels.{sent_type, send_void, sending, send_value, send_on, send_of, received_type, untyped_receiver, visible_receiver, named_receiver, receive_void, receiving, receive_value, receive_on, receive_of, delaying, delay_of}
+use Rattle.chi_check.specs.Below.chi_check_stat_rules.specs.Elements.{as_instance_target, instance_target, is_other_exit, exit_in, exit_rule, started, process_start, untyped_start, visible_start, start_of}
+use Rattle.chi_check.specs.Below.chi_check_stat_rules.specs.Homes.{running_rule, writing_rule, has_channel, local_in_rule, local_rule}
+use Rattle.chi_check.specs.Below.chi_check_stat_rules.specs.Targets.{untyped_target, visible_target, named_target, is_text, indexed, index_step, field_of, field_step}
+use Rattle.chi_check.specs.Below.chi_check_stat_rules.specs.Values.{fitted, initial_value, lives, constant_rule, constant_value, as_bool, condition, as_instance, finished_one}
+use Rattle.chi_check.specs.Below.chi_check_stat_rules.specs.Walks.{element_type, walked_by, walk_over, walk_of}
 use Rattle.chi_check_places.specs.UnplacedTyped.{unplaced_faults, unplaced_typed}
 use Rattle.chi_check_places.proofs.Faults.{broken-unplaced, tested, barred-both, settled-unplaced, all-unplaced, one-unplaced, two-unplaced}
 

@@ -14,7 +14,7 @@ use Rattle.chi_tree.specs.declared.expr.Entry.{Entry, fold-Entry}
 use Rattle.chi_tree.specs.declared.expr.Link.{Link, fold-Link}
 use Rattle.chi_tree.specs.View.{nowhere}
 use Rattle.chi_tree_laws.specs.Unplaced.{unplaced_name, expr_without, postfix_without, type_without, entry_without, link_without, formal_without, unplaced_expr, unplaced_postfix, unplaced_type, unplaced_entry, unplaced_link, unplaced_formal}
-use Rattle.chi_check_stat_rules.specs.Places.{expr_step, expr_place, type_step, type_place}
+use Rattle.chi_check.specs.Below.chi_check_stat_rules.specs.Places.{expr_step, expr_place, type_step, type_place}
 
 -- ---- expressions
 

@@ -5,7 +5,7 @@ use Rattle.chi_core.specs.declared.program.ConstDef.{ConstDef}
 use Rattle.chi_core.specs.declared.program.Core.{Core}
 use Rattle.chi_core.specs.declared.program.FuncDef.{FuncDef}
 use Rattle.chi_core.specs.declared.program.ProcDef.{ProcDef}
-use Rattle.chi_check_streams.specs.Streams.{Counted, each, of_statement, of_xstat, of_constant, of_function, of_process, of_experiment, with_streams}
+use Rattle.chi_check.specs.Below.chi_check_streams.specs.Streams.{Counted, each, of_statement, of_xstat, of_constant, of_function, of_process, of_experiment, with_streams}
 use Rattle.chi_check_program_places.specs.Lineless.{lineless_statement, lineless_xstat, lineless_constant, lineless_function, lineless_process, lineless_experiment, lineless}
 use Rattle.chi_check_program_places.proofs.Streams.{counted_by, made-by, all-by, statement-streams}
 use Rattle.chi_check_program_places.proofs.TrialStreams.{trial-streams}

@@ -16,13 +16,13 @@ use Rattle.chi_core.specs.declared.program.ProcDef.{ProcDef}
 use Rattle.chi_check_types.specs.declared.fault.Fault.{Fault}
 use Rattle.chi_check_types.specs.Names.{Names}
 use Rattle.chi_check_types.specs.Typed.{Typed}
-use Rattle.chi_check_stat_lines.specs.Stated.{Stated, in_turn}
-use Rattle.chi_check_headers.specs.declared.header.Header.{Header}
-use Rattle.chi_check_headers.specs.declared.sketch.Sketch.{Sketch}
-use Rattle.chi_check_headers.specs.declared.sketch.Early.{Early}
-use Rattle.chi_check_headers.specs.declared.sketch.Named.{Named}
-use Rattle.chi_check_headers.specs.Headers.{Found, header_in, header_faults}
-use Rattle.chi_check_headers.specs.Definitions.{sketching, early_defined, with_all_late, with_all_headed}
+use Rattle.chi_check.specs.Below.chi_check_stat_lines.specs.Stated.{Stated, in_turn}
+use Rattle.chi_check.specs.Below.chi_check_headers.specs.declared.header.Header.{Header}
+use Rattle.chi_check.specs.Below.chi_check_headers.specs.declared.sketch.Sketch.{Sketch}
+use Rattle.chi_check.specs.Below.chi_check_headers.specs.declared.sketch.Early.{Early}
+use Rattle.chi_check.specs.Below.chi_check_headers.specs.declared.sketch.Named.{Named}
+use Rattle.chi_check.specs.Below.chi_check_headers.specs.Headers.{Found, header_in, header_faults}
+use Rattle.chi_check.specs.Below.chi_check_headers.specs.Definitions.{sketching, early_defined, with_all_late, with_all_headed}
 use Rattle.chi_check.specs.Bodies.{functions_of, processes_of, experiments_of}
 use Rattle.chi_check.specs.Programs.{no_names, first_early, first_named, first_model, model_rule, core_of, definitions_checked, checked}
 use Rattle.chi_check_places.specs.UnplacedTyped.{unplaced_faults}

@@ -13,11 +13,11 @@ use Rattle.chi_tree_laws.specs.UnplacedStatements.{unplaced_variable, unplaced_t
 use Rattle.chi_core.specs.declared.statement.Branch.{Branch as CBranch}
 use Rattle.chi_core.specs.declared.statement.CAlt.{CAlt}
 use Rattle.chi_core.specs.declared.statement.CStat.{CStat}
-use Rattle.chi_check_stat_rules.specs.declared.home.Home.{Home}
-use Rattle.chi_check_stat_lines.specs.declared.state.State.{State}
-use Rattle.chi_check_stat_lines.specs.Stated.{in_turn}
-use Rattle.chi_check_stat_lines.specs.States.{Going}
-use Rattle.chi_check_stat.specs.Statements.{statement_step, branch_step, alternative_step, step_step, stating, stepping, branching, offering, stepping_in, stating_all}
+use Rattle.chi_check.specs.Below.chi_check_stat_rules.specs.declared.home.Home.{Home}
+use Rattle.chi_check.specs.Below.chi_check_stat_lines.specs.declared.state.State.{State}
+use Rattle.chi_check.specs.Below.chi_check_stat_lines.specs.Stated.{in_turn}
+use Rattle.chi_check.specs.Below.chi_check_stat_lines.specs.States.{Going}
+use Rattle.chi_check.specs.Below.chi_check_stat.specs.Statements.{statement_step, branch_step, alternative_step, step_step, stating, stepping, branching, offering, stepping_in, stating_all}
 use Rattle.chi_check_program_places.specs.Lineless.{lineless_statement, lineless_branch, lineless_alternative}
 use Rattle.chi_check_program_places.proofs.By.{stated_by, turn_by, in-turn-by}
 use Rattle.chi_check_program_places.proofs.Blocks.{going_by, unplaced_layer, statement-layer, branch-layer, unplaced_alternative_layer, alternative-layer}

@@ -6,7 +6,7 @@ use Rattle.chi_core.specs.declared.statement.CAlt.{CAlt, CAlt-F, roll-CAlt, map-
 use Rattle.chi_core.specs.declared.statement.CAlt.TheVariants as alternative
 use Rattle.chi_core.specs.declared.statement.CStat.{CStat, CStat-F, roll-CStat, map-CStat, fold-roll-CStat, ind-CStat}
 use Rattle.chi_core.specs.declared.statement.CStat.TheVariants as statement
-use Rattle.chi_check_streams.specs.Streams.{Counted, Counting, made_of, then_second, each, of_expression, of_expressions, of_target, some, of_communication, of_element, statement_step, branch_step, alternative_step, of_statement, of_branch, of_alternative}
+use Rattle.chi_check.specs.Below.chi_check_streams.specs.Streams.{Counted, Counting, made_of, then_second, each, of_expression, of_expressions, of_target, some, of_communication, of_element, statement_step, branch_step, alternative_step, of_statement, of_branch, of_alternative}
 use Rattle.chi_check_program_places.specs.Lineless.{statement_without, branch_without, alternative_without, lineless_statement, lineless_branch, lineless_alternative}
 use Rattle.chi_check_program_places.proofs.Without as without
 

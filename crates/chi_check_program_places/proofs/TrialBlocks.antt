@@ -14,17 +14,17 @@ use Rattle.chi_core.specs.declared.expression.CExpr.{CExpr}
 use Rattle.chi_core.specs.declared.statement.CStat.{CStat}
 use Rattle.chi_core.specs.declared.statement.CStat.TheVariants as statement
 use Rattle.chi_check_types.specs.Typed.{Typed, unless}
-use Rattle.chi_check_stat_rules.specs.declared.home.Home.TheVariants as home
-use Rattle.chi_check_stat_rules.specs.Endings.{loop_rule}
-use Rattle.chi_check_stat_lines.specs.declared.state.Binder.TheVariants as binder
-use Rattle.chi_check_stat_lines.specs.declared.state.Opened.{Opened}
-use Rattle.chi_check_stat_lines.specs.declared.state.State.{State}
-use Rattle.chi_check_stat_lines.specs.Stated.{in_turn, staying, alone}
-use Rattle.chi_check_stat_lines.specs.States.{closed, block, Going, each_in}
-use Rattle.chi_check_stat_lines.specs.Values.{test_in}
-use Rattle.chi_check_stat_lines.specs.Declarations.{walk_in}
-use Rattle.chi_check_stat_lines.specs.Lines.{communicating, write_in, return_in, exit_in, finish_in}
-use Rattle.chi_check_experiments.specs.Experiments.{lined, assignment_tried, chosen, looped, walked, branched, trial_step, trial_branch}
+use Rattle.chi_check.specs.Below.chi_check_stat_rules.specs.declared.home.Home.TheVariants as home
+use Rattle.chi_check.specs.Below.chi_check_stat_rules.specs.Endings.{loop_rule}
+use Rattle.chi_check.specs.Below.chi_check_stat_lines.specs.declared.state.Binder.TheVariants as binder
+use Rattle.chi_check.specs.Below.chi_check_stat_lines.specs.declared.state.Opened.{Opened}
+use Rattle.chi_check.specs.Below.chi_check_stat_lines.specs.declared.state.State.{State}
+use Rattle.chi_check.specs.Below.chi_check_stat_lines.specs.Stated.{in_turn, staying, alone}
+use Rattle.chi_check.specs.Below.chi_check_stat_lines.specs.States.{closed, block, Going, each_in}
+use Rattle.chi_check.specs.Below.chi_check_stat_lines.specs.Values.{test_in}
+use Rattle.chi_check.specs.Below.chi_check_stat_lines.specs.Declarations.{walk_in}
+use Rattle.chi_check.specs.Below.chi_check_stat_lines.specs.Lines.{communicating, write_in, return_in, exit_in, finish_in}
+use Rattle.chi_check.specs.Below.chi_check_experiments.specs.Experiments.{lined, assignment_tried, chosen, looped, walked, branched, trial_step, trial_branch}
 use Rattle.chi_check_program_places.specs.Lineless.{lineless_statement, lineless_xstat, lineless_xbranch}
 use Rattle.chi_check_program_places.proofs.By.{typed_by, stated_by, both-second, both-mapped, alone-by, sequence-of}
 use Rattle.chi_check_program_places.proofs.Blocks.{going_by, turns-by, block-by, worded}

@@ -16,17 +16,17 @@ use Rattle.chi_check_types.specs.declared.meant.Meant.{Meant}
 use Rattle.chi_check_types.specs.Names.{Names}
 use Rattle.chi_check_types.specs.Typed.{Typed}
 use Rattle.chi_check_expr.specs.Typing.{reading}
-use Rattle.chi_check_stat_rules.specs.declared.home.Home.TheVariants as home
-use Rattle.chi_check_stat_rules.specs.Homes.{site_of, local_rule}
-use Rattle.chi_check_stat_rules.specs.ModelRuns.{initial_run}
-use Rattle.chi_check_stat_rules.specs.Places.{type_place}
-use Rattle.chi_check_stat_lines.specs.declared.state.Binder.TheVariants as binder
-use Rattle.chi_check_stat_lines.specs.declared.state.State.{State}
-use Rattle.chi_check_stat_lines.specs.Stated.{Stated, in_turn, preceded, held_by, one}
-use Rattle.chi_check_stat_lines.specs.States.{next_slot, new_name_rule, with_variable}
-use Rattle.chi_check_stat_lines.specs.Values.{assignment_in}
-use Rattle.chi_check_stat_lines.specs.Declarations.{declared}
-use Rattle.chi_check_experiments.specs.Experiments.{lined, all_lined, ModelCall, run_called, call_alone, assigning, assignment_tried, initial_call, run_declared, declaring, variable_tried, declaration_tried}
+use Rattle.chi_check.specs.Below.chi_check_stat_rules.specs.declared.home.Home.TheVariants as home
+use Rattle.chi_check.specs.Below.chi_check_stat_rules.specs.Homes.{site_of, local_rule}
+use Rattle.chi_check.specs.Below.chi_check_stat_rules.specs.ModelRuns.{initial_run}
+use Rattle.chi_check.specs.Below.chi_check_stat_rules.specs.Places.{type_place}
+use Rattle.chi_check.specs.Below.chi_check_stat_lines.specs.declared.state.Binder.TheVariants as binder
+use Rattle.chi_check.specs.Below.chi_check_stat_lines.specs.declared.state.State.{State}
+use Rattle.chi_check.specs.Below.chi_check_stat_lines.specs.Stated.{Stated, in_turn, preceded, held_by, one}
+use Rattle.chi_check.specs.Below.chi_check_stat_lines.specs.States.{next_slot, new_name_rule, with_variable}
+use Rattle.chi_check.specs.Below.chi_check_stat_lines.specs.Values.{assignment_in}
+use Rattle.chi_check.specs.Below.chi_check_stat_lines.specs.Declarations.{declared}
+use Rattle.chi_check.specs.Below.chi_check_experiments.specs.Experiments.{lined, all_lined, ModelCall, run_called, call_alone, assigning, assignment_tried, initial_call, run_declared, declaring, variable_tried, declaration_tried}
 use Rattle.chi_check_places.specs.UnplacedTyped.{unplaced_faults}
 use Rattle.chi_check_places.proofs.Faults.{faults-append}
 use Rattle.chi_check_places.proofs.Induction.{type-unplaced}

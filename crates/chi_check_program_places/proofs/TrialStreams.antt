@@ -4,7 +4,7 @@ use Rattle.chi_core.specs.declared.experiment.XBranch.{XBranch, XBranch-F, out-X
 use Rattle.chi_core.specs.declared.experiment.XStat.{XStat, XStat-F, roll-XStat, map-XStat, fold-roll-XStat, ind-XStat}
 use Rattle.chi_core.specs.declared.experiment.XStat.TheVariants as trial
 use Rattle.chi_core.specs.declared.expression.CExpr.{CExpr}
-use Rattle.chi_check_streams.specs.Streams.{Counting, made_of, each, of_expression, of_expressions, of_target, of_statement, model_ran, xstat_step, xbranch_step, of_xstat, of_xbranch}
+use Rattle.chi_check.specs.Below.chi_check_streams.specs.Streams.{Counting, made_of, each, of_expression, of_expressions, of_target, of_statement, model_ran, xstat_step, xbranch_step, of_xstat, of_xbranch}
 use Rattle.chi_check_program_places.specs.Lineless.{lineless_statement, xstat_without, xbranch_without, lineless_xstat, lineless_xbranch}
 use Rattle.chi_check_program_places.proofs.Streams.{counted_by, made-by, second-by, each-by, statement-streams}
 use Rattle.chi_check_program_places.proofs.WithoutTrials as without

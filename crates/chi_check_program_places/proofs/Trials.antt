@@ -11,10 +11,10 @@ use Rattle.chi_tree_laws.specs.Unplaced.{unplaced_expr, unplaced_type}
 use Rattle.chi_tree_laws.specs.UnplacedStatements.{unplaced_variable, unplaced_target, unplaced_walk, unplaced_communication, unplaced_element, alternative_without, statement_without, branch_without, step_without, unplaced_alternative, unplaced_statement, unplaced_branch, unplaced_step, unplaced_block}
 use Rattle.chi_core.specs.declared.experiment.XBranch.{XBranch}
 use Rattle.chi_core.specs.declared.experiment.XStat.{XStat}
-use Rattle.chi_check_stat_lines.specs.declared.state.State.{State}
-use Rattle.chi_check_stat_lines.specs.Stated.{in_turn}
-use Rattle.chi_check_stat_lines.specs.States.{Going}
-use Rattle.chi_check_experiments.specs.Experiments.{no_alternative, trial_step, trial_branch, trial_inner, stating_tried, trying, branch_tried, trying_in, trying_all}
+use Rattle.chi_check.specs.Below.chi_check_stat_lines.specs.declared.state.State.{State}
+use Rattle.chi_check.specs.Below.chi_check_stat_lines.specs.Stated.{in_turn}
+use Rattle.chi_check.specs.Below.chi_check_stat_lines.specs.States.{Going}
+use Rattle.chi_check.specs.Below.chi_check_experiments.specs.Experiments.{no_alternative, trial_step, trial_branch, trial_inner, stating_tried, trying, branch_tried, trying_in, trying_all}
 use Rattle.chi_check_program_places.specs.Lineless.{lineless_xstat, lineless_xbranch}
 use Rattle.chi_check_program_places.proofs.By.{stated_by, turn_by, in-turn-by}
 use Rattle.chi_check_program_places.proofs.Blocks.{going_by}

@@ -16,16 +16,16 @@ use Rattle.chi_core.specs.declared.expression.CExpr.{CExpr}
 use Rattle.chi_check_types.specs.declared.meant.Made.{Made}
 use Rattle.chi_check_types.specs.Names.{Names}
 use Rattle.chi_check_types.specs.Typed.{Typed, after}
-use Rattle.chi_check_stat_rules.specs.declared.home.Home.{Home}
-use Rattle.chi_check_stat_rules.specs.declared.parts.Aim.{Aim}
-use Rattle.chi_check_stat_rules.specs.Assignments.{assigned}
-use Rattle.chi_check_stat_rules.specs.Elements.{instance_target}
-use Rattle.chi_check_stat_rules.specs.Homes.{site_of}
-use Rattle.chi_check_stat_rules.specs.Places.{expr_place}
-use Rattle.chi_check_stat_rules.specs.Targets.{named_target, index_step}
-use Rattle.chi_check_stat_rules.specs.Values.{condition, finished_one}
-use Rattle.chi_check_stat_lines.specs.Stated.{both}
-use Rattle.chi_check_stat_lines.specs.Values.{made_of, all_faults, faults_if, made_if, all_of, if_any, assignment_place, value_in, values_in, test_in, guard_in, instance_in, step_in, steps_in, target_in, assignment_in, goal_in}
+use Rattle.chi_check.specs.Below.chi_check_stat_rules.specs.declared.home.Home.{Home}
+use Rattle.chi_check.specs.Below.chi_check_stat_rules.specs.declared.parts.Aim.{Aim}
+use Rattle.chi_check.specs.Below.chi_check_stat_rules.specs.Assignments.{assigned}
+use Rattle.chi_check.specs.Below.chi_check_stat_rules.specs.Elements.{instance_target}
+use Rattle.chi_check.specs.Below.chi_check_stat_rules.specs.Homes.{site_of}
+use Rattle.chi_check.specs.Below.chi_check_stat_rules.specs.Places.{expr_place}
+use Rattle.chi_check.specs.Below.chi_check_stat_rules.specs.Targets.{named_target, index_step}
+use Rattle.chi_check.specs.Below.chi_check_stat_rules.specs.Values.{condition, finished_one}
+use Rattle.chi_check.specs.Below.chi_check_stat_lines.specs.Stated.{both}
+use Rattle.chi_check.specs.Below.chi_check_stat_lines.specs.Values.{made_of, all_faults, faults_if, made_if, all_of, if_any, assignment_place, value_in, values_in, test_in, guard_in, instance_in, step_in, steps_in, target_in, assignment_in, goal_in}
 use Rattle.chi_check_places.specs.UnplacedTyped.{unplaced_faults, unplaced_typed}
 use Rattle.chi_check_places.proofs.Faults.{faults-append, both-faults, after-both}
 use Rattle.chi_check_places.proofs.Induction.{typing-unplaced}

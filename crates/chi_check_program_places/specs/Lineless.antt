@@ -15,7 +15,7 @@ use Rattle.chi_core.specs.declared.statement.CAlt.TheVariants as alternative
 use Rattle.chi_core.specs.declared.statement.CStat.{CStat, CStat-F, fold-CStat}
 use Rattle.chi_core.specs.declared.statement.CStat.TheVariants as statement
 use Rattle.chi_check_types.specs.Typed.{Typed}
-use Rattle.chi_check_stat_lines.specs.Stated.{Stated}
+use Rattle.chi_check.specs.Below.chi_check_stat_lines.specs.Stated.{Stated}
 use Rattle.chi_check_places.specs.UnplacedTyped.{unplaced_faults}
 
 -- at each node the parts are without their lines already

@@ -5,12 +5,12 @@ ghost use Rattle.chi_tree.specs.declared.definition.Program.{Program};
 ghost use Rattle.chi_tree.specs.declared.statement.Step.{Step};
 ghost use Rattle.chi_tree_laws.specs.UnplacedStatements.{unplaced, unplaced_block};
 ghost use Rattle.chi_core.specs.declared.program.Core.{Core};
-ghost use Rattle.chi_check_stat_rules.specs.declared.home.Home.{Home};
-ghost use Rattle.chi_check_stat_lines.specs.declared.state.State.{State};
-ghost use Rattle.chi_check_stat.specs.Statements.{stating_all};
-ghost use Rattle.chi_check_experiments.specs.Experiments.{trying_all};
+ghost use Rattle.chi_check.specs.Below.chi_check_stat_rules.specs.declared.home.Home.{Home};
+ghost use Rattle.chi_check.specs.Below.chi_check_stat_lines.specs.declared.state.State.{State};
+ghost use Rattle.chi_check.specs.Below.chi_check_stat.specs.Statements.{stating_all};
+ghost use Rattle.chi_check.specs.Below.chi_check_experiments.specs.Experiments.{trying_all};
 ghost use Rattle.chi_check.specs.Programs.{checked};
-ghost use Rattle.chi_check_streams.specs.Streams.{with_streams};
+ghost use Rattle.chi_check.specs.Below.chi_check_streams.specs.Streams.{with_streams};
 ghost use Rattle.chi_check_program_places.specs.Lineless.{lineless, lineless_stated, lineless_tried, lineless_typed};
 
 /// What statements without their places come to is what they come to with them, but for the places of broken rules and

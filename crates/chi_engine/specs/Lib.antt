@@ -1,3 +1,4 @@
-pub mod Settings
+pub mod Below
 pub mod Courses
 pub mod Running
+pub mod Settings

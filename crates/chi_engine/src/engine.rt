@@ -5,7 +5,7 @@ ghost use Rattle.chi_engine.specs.Running.{RunsTo};
 ghost use Rattle.chi_engine.specs.Settings.{settings_of};
 ghost use Rattle.chi_io.specs.Counts.{Rose};
 ghost use Rattle.chi_io.specs.Sink.{Grew};
-ghost use Rattle.chi_machine.specs.Calls.{MayBegin};
+ghost use Rattle.chi_machine_traces.specs.Below.chi_machine.specs.Calls.{MayBegin};
 ghost use Rattle.chi_machine_traces.specs.Told.{RunsCode};
 
 use chi_cli::Pick;

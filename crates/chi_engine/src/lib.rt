@@ -6,6 +6,7 @@ mod guided;
 mod laws;
 mod machines;
 
+pub use chi_machine_traces::{Guide, PassFault, Start};
 pub use engine::{Engine, Job};
 pub use guided::{run_guided, units_of};
 pub use laws::course_law;

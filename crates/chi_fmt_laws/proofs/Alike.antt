@@ -8,9 +8,9 @@ use Rattle.chi_tree_laws.specs.Answers.{IsProgram}
 use Rattle.chi_tree_laws.specs.UnplacedStatements.{unplaced}
 use Rattle.chi_core.specs.declared.program.Core.{Core}
 use Rattle.chi_check_types.specs.declared.fault.Fault.{Fault}
-use Rattle.chi_check.specs.Programs.{checked, Answers}
-use Rattle.chi_check_streams.specs.Streams.{with_streams}
-use Rattle.chi_check_places.specs.UnplacedTyped.{unplaced_faults}
+use Rattle.chi_check_program_places.specs.Below.chi_check.specs.Programs.{checked, Answers}
+use Rattle.chi_check_program_places.specs.Below.chi_check_streams.specs.Streams.{with_streams}
+use Rattle.chi_check_program_places.specs.Below.chi_check_places.specs.UnplacedTyped.{unplaced_faults}
 use Rattle.chi_check_program_places.specs.Lineless.{lineless, lineless_typed}
 use Rattle.chi_fmt.specs.declared.comment.Comment.{Comment}
 use Rattle.chi_fmt.specs.Kept.{kept}

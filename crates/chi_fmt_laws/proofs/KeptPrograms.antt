@@ -19,16 +19,16 @@ use Rattle.chi_core.specs.declared.statement.CStat.{CStat}
 use Rattle.chi_types.specs.declared.ty.Ty.{Ty}
 use Rattle.chi_check_types.specs.Names.{Names}
 use Rattle.chi_check_types.specs.Typed.{Typed}
-use Rattle.chi_check_stat_lines.specs.declared.state.State.{State}
-use Rattle.chi_check_stat_lines.specs.Stated.{Stated, Turn, in_turn}
-use Rattle.chi_check_headers.specs.declared.header.Header.{Header}
-use Rattle.chi_check_headers.specs.declared.sketch.Sketch.{Sketch}
-use Rattle.chi_check_headers.specs.declared.sketch.Early.{Early}
-use Rattle.chi_check_headers.specs.declared.sketch.Named.{Named}
-use Rattle.chi_check_headers.specs.Headers.{Found, header_in, header_faults}
-use Rattle.chi_check_headers.specs.Definitions.{sketching, early_defined, late_name, with_late, with_all_late, with_headed, with_all_headed}
-use Rattle.chi_check.specs.Bodies.{formals_bound, body_made, body_in, function_made, process_made, function_defined, process_defined, function_of, process_of, functions_of, processes_of, experiment, experiment_defined, experiment_of}
-use Rattle.chi_check.specs.Programs.{no_names, first_early, first_named, first_model, model_rule, core_of, definitions_checked, checked}
+use Rattle.chi_check_program_places.specs.Below.chi_check_stat_lines.specs.declared.state.State.{State}
+use Rattle.chi_check_program_places.specs.Below.chi_check_stat_lines.specs.Stated.{Stated, Turn, in_turn}
+use Rattle.chi_check_program_places.specs.Below.chi_check_headers.specs.declared.header.Header.{Header}
+use Rattle.chi_check_program_places.specs.Below.chi_check_headers.specs.declared.sketch.Sketch.{Sketch}
+use Rattle.chi_check_program_places.specs.Below.chi_check_headers.specs.declared.sketch.Early.{Early}
+use Rattle.chi_check_program_places.specs.Below.chi_check_headers.specs.declared.sketch.Named.{Named}
+use Rattle.chi_check_program_places.specs.Below.chi_check_headers.specs.Headers.{Found, header_in, header_faults}
+use Rattle.chi_check_program_places.specs.Below.chi_check_headers.specs.Definitions.{sketching, early_defined, late_name, with_late, with_all_late, with_headed, with_all_headed}
+use Rattle.chi_check_program_places.specs.Below.chi_check.specs.Bodies.{formals_bound, body_made, body_in, function_made, process_made, function_defined, process_defined, function_of, process_of, functions_of, processes_of, experiment, experiment_defined, experiment_of}
+use Rattle.chi_check_program_places.specs.Below.chi_check.specs.Programs.{no_names, first_early, first_named, first_model, model_rule, core_of, definitions_checked, checked}
 use Rattle.chi_fmt.specs.Kept.{kept_block, kept_definition, kept_item, kept}
 use Rattle.chi_fmt_laws.proofs.KeptStatements.{stating-kept}
 use Rattle.chi_fmt_laws.proofs.KeptTrials.{trying-all-kept}

@@ -8,11 +8,11 @@ use Rattle.chi_tree.specs.Statements as tree
 use Rattle.chi_core.specs.declared.statement.Branch.{Branch as CBranch}
 use Rattle.chi_core.specs.declared.statement.CAlt.{CAlt}
 use Rattle.chi_core.specs.declared.statement.CStat.{CStat}
-use Rattle.chi_check_stat_rules.specs.declared.home.Home.{Home}
-use Rattle.chi_check_stat_lines.specs.declared.state.State.{State}
-use Rattle.chi_check_stat_lines.specs.Stated.{in_turn}
-use Rattle.chi_check_stat_lines.specs.States.{Going, each_in}
-use Rattle.chi_check_stat.specs.Statements.{statement_step, branch_step, alternative_step, step_step, stating, stepping, branching, offering, stepping_in, stating_all}
+use Rattle.chi_check_program_places.specs.Below.chi_check_stat_rules.specs.declared.home.Home.{Home}
+use Rattle.chi_check_program_places.specs.Below.chi_check_stat_lines.specs.declared.state.State.{State}
+use Rattle.chi_check_program_places.specs.Below.chi_check_stat_lines.specs.Stated.{in_turn}
+use Rattle.chi_check_program_places.specs.Below.chi_check_stat_lines.specs.States.{Going, each_in}
+use Rattle.chi_check_program_places.specs.Below.chi_check_stat.specs.Statements.{statement_step, branch_step, alternative_step, step_step, stating, stepping, branching, offering, stepping_in, stating_all}
 use Rattle.chi_fmt.specs.Kept.{separated, kept_statement_step, kept_step_step, kept_branch_step, kept_alternative_step, kept_step, kept_statement, kept_branch, kept_alternative, kept_block}
 use Rattle.chi_fmt.specs.Lines.{is_some}
 

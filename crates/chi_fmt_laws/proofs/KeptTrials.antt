@@ -9,10 +9,10 @@ use Rattle.chi_core.specs.declared.experiment.XBranch.{XBranch}
 use Rattle.chi_core.specs.declared.experiment.XStat.{XStat}
 use Rattle.chi_check_types.specs.declared.rules.TheConstants.{IN_EXPERIMENT}
 use Rattle.chi_check_types.specs.Typed.{refused}
-use Rattle.chi_check_stat_lines.specs.declared.state.State.{State}
-use Rattle.chi_check_stat_lines.specs.Stated.{in_turn, alone}
-use Rattle.chi_check_stat_lines.specs.States.{Going, each_in}
-use Rattle.chi_check_experiments.specs.Experiments.{no_alternative, trial_step, trial_branch, trial_inner, stating_tried, trying, branch_tried, trying_in, trying_all}
+use Rattle.chi_check_program_places.specs.Below.chi_check_stat_lines.specs.declared.state.State.{State}
+use Rattle.chi_check_program_places.specs.Below.chi_check_stat_lines.specs.Stated.{in_turn, alone}
+use Rattle.chi_check_program_places.specs.Below.chi_check_stat_lines.specs.States.{Going, each_in}
+use Rattle.chi_check_program_places.specs.Below.chi_check_experiments.specs.Experiments.{no_alternative, trial_step, trial_branch, trial_inner, stating_tried, trying, branch_tried, trying_in, trying_all}
 use Rattle.chi_fmt.specs.Kept.{separated, kept_statement_step, kept_step_step, kept_branch_step, kept_alternative_step, kept_step, kept_statement, kept_branch, kept_alternative, kept_block}
 use Rattle.chi_fmt.specs.Lines.{is_some}
 

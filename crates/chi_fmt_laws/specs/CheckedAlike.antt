@@ -5,7 +5,7 @@ use Rattle.chi_lex.specs.Reading.{Reads}
 use Rattle.chi_tree.specs.declared.definition.Program.{Program}
 use Rattle.chi_tree_laws.specs.Answers.{IsProgram}
 use Rattle.chi_core.specs.declared.program.Core.{Core}
-use Rattle.chi_check.specs.Programs.{checked, Answers}
+use Rattle.chi_check_program_places.specs.Below.chi_check.specs.Programs.{checked, Answers}
 use Rattle.chi_check_program_places.specs.Lineless.{lineless, lineless_typed}
 
 -- The text is a program that comes to what this one comes to, but for places and lines: it breaks the same rules in the same

@@ -6,7 +6,7 @@ ghost use Rattle.chi_lex.specs.Reading.{Reads};
 ghost use Rattle.chi_tree.specs.declared.definition.Program.{Program};
 ghost use Rattle.chi_tree_laws.specs.Answers.{IsProgram};
 ghost use Rattle.chi_core.specs.declared.program.Core.{Core};
-ghost use Rattle.chi_check.specs.Programs.{checked, Answers};
+ghost use Rattle.chi_check_program_places.specs.Below.chi_check.specs.Programs.{checked, Answers};
 ghost use Rattle.chi_fmt.specs.declared.comment.Comment.{Comment};
 ghost use Rattle.chi_fmt.specs.Comments.{comments_of};
 ghost use Rattle.chi_fmt.specs.Laws.{IsOfSource};

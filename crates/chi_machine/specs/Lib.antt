@@ -1,11 +1,12 @@
-pub mod Views
+pub mod Beginnings
+pub mod Below
+pub mod Calls
+pub mod Courses
 pub mod Crowds
 pub mod Ends
 pub mod Resuming
-pub mod Takings
 pub mod Runs
 pub mod Sane
+pub mod Takings
+pub mod Views
 pub mod Went
-pub mod Beginnings
-pub mod Courses
-pub mod Calls

@@ -16,6 +16,7 @@ mod taken;
 mod world;
 
 pub use beginning::Begun;
+pub use chi_machine_runs::Opened;
 pub use course::Course;
 pub use crowd::Crowd;
 pub use instance::Instance;

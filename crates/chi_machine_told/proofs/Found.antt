@@ -4,7 +4,7 @@ use Rattle.std.specs.Prelude.{nat_lt, option_and_then, slice_get}
 use Rattle.std.proofs.lemmas.Option.{slice_get-get_or, slice_get_past}
 use Rattle.chi_core.specs.declared.act.Act.{Act}
 use Rattle.chi_machine_laws.specs.Instances.{Held}
-use Rattle.chi_machine_runs.specs.declared.made.Room.{Room}
+use Rattle.chi_machine.specs.Below.chi_machine_runs.specs.declared.made.Room.{Room}
 use Rattle.chi_machine_agenda.specs.Phases.{Phase, Running, Waiting, Joining, Finished, waits}
 use Rattle.chi_machine.specs.declared.instance.Instance.{Instance}
 use Rattle.chi_machine.specs.Views.{offers_at, held_of, all_held}

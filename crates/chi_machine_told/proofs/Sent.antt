@@ -11,7 +11,7 @@ use Rattle.chi_core.specs.declared.act.Act.{Act}
 use Rattle.chi_core.specs.declared.act.Act.TheVariants as act
 use Rattle.chi_code.specs.declared.code.Code.{Code}
 use Rattle.chi_machine_laws.specs.Instances.{Kept}
-use Rattle.chi_machine_runs.specs.Resuming.{value_by, sent_at}
+use Rattle.chi_machine.specs.Below.chi_machine_runs.specs.Resuming.{value_by, sent_at}
 use Rattle.chi_machine_told.specs.There.{Sends, act_in, channel_by}
 use Rattle.chi_trace.specs.declared.event.Detail.TheVariants.{Sent}
 use Rattle.chi_trace.specs.Events.{is_value_text}

@@ -6,4 +6,5 @@ mod places;
 mod sending;
 mod showing;
 
+pub use chi_machine::{Course, Machine};
 pub use event::event_of;

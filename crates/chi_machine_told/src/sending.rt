@@ -10,7 +10,7 @@ ghost use Rattle.chi_trace_events.specs.Traces.{sending_told};
 use chi_base::NoMemory;
 use chi_chan::Offer;
 use chi_code::Code;
-use chi_machine_runs::Opened;
+use chi_machine::Opened;
 use chi_trace::Detail;
 use chi_trace_events::sent_text;
 use std::alloc::Global;

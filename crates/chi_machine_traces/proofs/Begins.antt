@@ -14,8 +14,8 @@ use Rattle.chi_machine_laws.specs.Beginning.{BeginsAlike, Broken, Ready}
 use Rattle.chi_machine_laws.specs.Beginning as law
 use Rattle.chi_machine_laws.specs.Laws.{BeginningsAreRight}
 use Rattle.chi_machine_laws.specs.Stands.{Stands}
-use Rattle.chi_machine.specs.declared.course.Course.{Course}
-use Rattle.chi_machine.specs.Views.{whole_of}
+use Rattle.chi_machine_told.specs.Below.chi_machine.specs.declared.course.Course.{Course}
+use Rattle.chi_machine_told.specs.Below.chi_machine.specs.Views.{whole_of}
 use Rattle.chi_trace.specs.declared.filter.Filter.{Filter}
 use Rattle.chi_trace_events.specs.Traces.{IsLogged}
 use Rattle.chi_machine_traces.specs.declared.run.Telling.{Telling}

@@ -15,7 +15,7 @@ use Rattle.chi_core_runs.specs.Time.{EachCosts}
 use Rattle.chi_core_runs.specs.Turns.{PicksOn, PicksOver, PicksCutOff, PicksAtRest, told_first, told_last}
 use Rattle.chi_code.specs.declared.code.Code.{Code}
 use Rattle.chi_io.specs.Sink.{IsProperFrontOf}
-use Rattle.chi_machine.specs.declared.course.Course.{Course}
+use Rattle.chi_machine_told.specs.Below.chi_machine.specs.declared.course.Course.{Course}
 use Rattle.chi_machine_laws.specs.Laws.{SafeAlways}
 use Rattle.chi_machine_laws.specs.Turns.{InBound, StaysInBound, Safe}
 use Rattle.chi_trace.specs.declared.filter.Filter.{Filter}

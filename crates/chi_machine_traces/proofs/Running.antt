@@ -11,9 +11,9 @@ use Rattle.chi_core.specs.Options.{Ending}
 use Rattle.chi_core.specs.Picks.{Pick}
 use Rattle.chi_core_runs.specs.Turns.{UnderWay}
 use Rattle.chi_code.specs.declared.code.Code.{Code}
-use Rattle.chi_machine.specs.declared.course.Course.{Course}
-use Rattle.chi_machine.specs.Courses.{IsCourse}
-use Rattle.chi_machine.proofs.Turning.{is_lawful}
+use Rattle.chi_machine_told.specs.Below.chi_machine.specs.declared.course.Course.{Course}
+use Rattle.chi_machine_told.specs.Below.chi_machine.specs.Courses.{IsCourse}
+use Rattle.chi_machine_told.specs.Below.chi_machine.proofs.Turning.{is_lawful}
 use Rattle.chi_trace.specs.declared.filter.Filter.{Filter}
 use Rattle.chi_machine_traces.specs.declared.passing.PassFault.{PassFault}
 use Rattle.chi_machine_traces.specs.declared.passing.PassFault.TheVariants as fault

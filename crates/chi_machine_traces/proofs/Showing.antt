@@ -7,9 +7,9 @@ use Rattle.chi_core.specs.declared.program.Core.{Core}
 use Rattle.chi_core.specs.Config.{Config}
 use Rattle.chi_core.specs.Options.{Ending}
 use Rattle.chi_code.specs.declared.code.Code.{Code}
-use Rattle.chi_machine.specs.declared.course.Course.{Course}
-use Rattle.chi_machine.specs.Courses.{TakesTo}
-use Rattle.chi_machine.specs.Views.{whole_of}
+use Rattle.chi_machine_told.specs.Below.chi_machine.specs.declared.course.Course.{Course}
+use Rattle.chi_machine_told.specs.Below.chi_machine.specs.Courses.{TakesTo}
+use Rattle.chi_machine_told.specs.Below.chi_machine.specs.Views.{whole_of}
 use Rattle.chi_machine_told.specs.Telling.{MayTell}
 use Rattle.chi_trace.specs.declared.event.Event.{Event}
 use Rattle.chi_trace.specs.declared.filter.Filter.{Filter}

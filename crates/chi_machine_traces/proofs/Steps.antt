@@ -19,9 +19,9 @@ use Rattle.chi_machine_laws.specs.Labels.{GoesOn, Over, Spent, Takes}
 use Rattle.chi_machine_laws.specs.Laws.{PicksAlike, SafeAlways, StepsAreRight}
 use Rattle.chi_machine_laws.specs.Stands.{Stands, Follows}
 use Rattle.chi_machine_laws.specs.Turns.{InBound, StaysInBound}
-use Rattle.chi_machine.specs.declared.course.Course.{Course}
-use Rattle.chi_machine.specs.Courses.{IsCourse, IsPicked, LeadsTo}
-use Rattle.chi_machine.specs.Views.{whole_of}
+use Rattle.chi_machine_told.specs.Below.chi_machine.specs.declared.course.Course.{Course}
+use Rattle.chi_machine_told.specs.Below.chi_machine.specs.Courses.{IsCourse, IsPicked, LeadsTo}
+use Rattle.chi_machine_told.specs.Below.chi_machine.specs.Views.{whole_of}
 use Rattle.chi_machine_told.specs.Telling.{CanTell, MayTell}
 
 module _ (picks : PicksAlike) (core : Core) (code : Code) (config : Config) (m : Whole) (stands : Stands core code config m) (turn : ℕ) (pick : Pick) (label : Label) (own : picked_label pick turn (config_of m) ≡ Some label) where

@@ -21,9 +21,9 @@ use Rattle.chi_machine_laws.specs.Instances.{Whole}
 use Rattle.chi_machine_laws.specs.Labels.{After, exited, broke, Over, Takes, goes}
 use Rattle.chi_machine_laws.specs.Laws.{EndingsAlike}
 use Rattle.chi_machine_laws.specs.Turns.{InBound}
-use Rattle.chi_machine.specs.declared.course.Course.{Course}
-use Rattle.chi_machine.specs.Courses.{IsCourse, IsPicked, LeadsTo, EndsBy, over, cut_off, TakesTo}
-use Rattle.chi_machine.specs.Views.{whole_of}
+use Rattle.chi_machine_told.specs.Below.chi_machine.specs.declared.course.Course.{Course}
+use Rattle.chi_machine_told.specs.Below.chi_machine.specs.Courses.{IsCourse, IsPicked, LeadsTo, EndsBy, over, cut_off, TakesTo}
+use Rattle.chi_machine_told.specs.Below.chi_machine.specs.Views.{whole_of}
 use Rattle.chi_machine_told.specs.Telling.{MayTell}
 use Rattle.chi_trace.specs.declared.filter.Filter.{Filter}
 use Rattle.chi_trace_events.specs.Traces.{IsLogged}

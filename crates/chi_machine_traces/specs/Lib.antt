@@ -1,3 +1,4 @@
+pub mod Below
+pub mod Passing
 pub mod Told
 pub mod Turns
-pub mod Passing

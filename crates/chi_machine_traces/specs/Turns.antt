@@ -14,8 +14,8 @@ use Rattle.chi_code.specs.declared.code.Code.{Code}
 use Rattle.chi_code.specs.Codes.{Codes}
 use Rattle.chi_machine_laws.specs.Stands.{Stands}
 use Rattle.chi_machine_laws.specs.Turns.{InBound}
-use Rattle.chi_machine.specs.declared.course.Course.{Course}
-use Rattle.chi_machine.specs.Views.{whole_of}
+use Rattle.chi_machine_told.specs.Below.chi_machine.specs.declared.course.Course.{Course}
+use Rattle.chi_machine_told.specs.Below.chi_machine.specs.Views.{whole_of}
 use Rattle.chi_trace.specs.declared.event.Event.{Event}
 use Rattle.chi_trace.specs.declared.filter.Filter.{Filter}
 use Rattle.chi_trace_events.specs.Traces.{event_at, lines_of}

@@ -2,7 +2,7 @@ use Rattle.std.proofs.Common.{[], refl, option_map, subst}
 use Rattle.chi_io.specs.Counts.{Rose}
 use Rattle.chi_io.specs.Sink.{Grew}
 use Rattle.chi_io.proofs.Passed.{Grew-nothing}
-use Rattle.chi_machine.specs.Calls.{StartsSo}
+use Rattle.chi_machine_told.specs.Below.chi_machine.specs.Calls.{StartsSo}
 use Rattle.chi_machine_traces.specs.declared.passing.PassFault.TheVariants as fault
 use Rattle.chi_machine_traces.specs.Passing.{OfEach}
 use Rattle.chi_machine_traces.specs.Told.{IsTold}

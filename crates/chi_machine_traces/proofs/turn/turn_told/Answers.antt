@@ -1,6 +1,6 @@
 use Rattle.std.proofs.Common.{option_map, sym, ◌∙◌, arith}
-use Rattle.chi_machine.proofs.Turned.{picked_by, none_ends}
-use Rattle.chi_machine.proofs.Turning.{is_lawful}
+use Rattle.chi_machine_told.specs.Below.chi_machine.proofs.Turned.{picked_by, none_ends}
+use Rattle.chi_machine_told.specs.Below.chi_machine.proofs.Turning.{is_lawful}
 use Rattle.chi_machine_traces.proofs.Answered.{if_ok, if_both}
 use Rattle.chi_machine_traces.proofs.Logged.{TraceLaw}
 use Rattle.chi_machine_traces.proofs.Steps.{StepLaw}
