@@ -1,0 +1,30 @@
+use Rattle.chi_core_kinds.proofs.Operations.{Laws}
+use Rattle.chi_xper_machines.proofs.Coming.{one_trial, something_comes_of_it}
+use Rattle.chi_xper_machines.proofs.Words.{one_word, one_line}
+use Rattle.chi_xper_machines.proofs.laws.trial_law.Goals as goal
+
+pub returns : goal.returns
+returns c =
+    let laws : Laws = record {
+      operators = c.operators_keep_kinds.ensures.operators;
+      distributions = c.operators_keep_kinds.ensures.distributions;
+      literals = c.literal_values.ensures.kept;
+      tuples = c.literals_keep_kinds.ensures.tuples;
+      lists = c.literals_keep_kinds.ensures.lists;
+      sets = c.literals_keep_kinds.ensures.sets;
+      dictionaries = c.literals_keep_kinds.ensures.dictionaries;
+      insertions = c.literals_keep_kinds.ensures.insertions;
+      defaults = c.defaults_keep_kinds.ensures.kept;
+      stores = c.stores_keep_kinds.ensures.stores;
+      elements = c.stores_keep_kinds.ensures.elements;
+      entries = c.stores_keep_kinds.ensures.entries;
+      parts = c.stores_keep_kinds.ensures.parts;
+      formats = c.texts_are_there.ensures.formats;
+      quotes = c.texts_are_there.ensures.quoted;
+    } in
+    record {
+      some = something_comes_of_it c.outcomes_law.ensures.some c.constants_law.ensures.set c.exits_law.ensures.exits c.verdict_law.ensures.told c.ending_run_law.ensures.without_value laws;
+      one = one_trial c.constants_law.ensures.set c.one_experiment_law.ensures.one;
+      one_ended = one_word;
+      one_line = one_line;
+    }

@@ -1,0 +1,5 @@
+pub mod Closings
+pub mod Constants
+pub mod Laws
+pub mod Runs
+pub mod Trials

@@ -1,0 +1,16 @@
+pub mod OtherParts
+pub mod OtherModel
+pub mod Computed
+pub mod Outcomes
+pub mod ExitsPlain
+pub mod ExitsChanges
+pub mod ExitsItems
+pub mod Derived
+pub mod ExitsRuns
+pub mod Exits
+pub mod Verdicts
+pub mod Constants
+pub mod Allowed
+pub mod Same
+pub mod Alone
+pub mod Ending
