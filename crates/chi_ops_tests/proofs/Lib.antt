@@ -1,2 +1,0 @@
-pub mod Ints
-pub mod Layers

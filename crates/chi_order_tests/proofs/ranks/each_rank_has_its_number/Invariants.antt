@@ -1,4 +1,0 @@
-use Rattle.chi_order_tests.proofs.ranks.each_rank_has_its_number.Given as goal
-
-abbrev pub ghosts-all_numbers : goal.ghosts-all_numbers
-ghosts-all_numbers a b = record { name = b.blank.name; parts = b.blank.parts }

@@ -1,4 +1,0 @@
-use Rattle.chi_tool_tests.proofs.engines.AbcEngine.run.Goals as goal
-
-pub returns-clause-comes : goal.returns-clause-comes
-returns-clause-comes g c = λ core coded. c.put_abc.ensures.comes core
