@@ -1,5 +1,5 @@
 -- What a command asks for, by what clap's matches give.
-use Rattle.std.proofs.Common.{◌≡◌, ◌∙◌, Bool, true, false, codes, List, [], ◌∷◌, Option, Some, None, Result, Ok, Err, if◌then◌else◌, refl, sym, ap, subst}
+use Rattle.std.proofs.Common.{◌≡◌, ◌∙◌, ◌&&◌, Bool, true, false, codes, List, [], ◌∷◌, Option, Some, None, Result, Ok, Err, if◌then◌else◌, refl, sym, ap, ap₂, subst}
 use Rattle.std.specs.Prelude.{IfErr, IfOk, is_some, unwrap_or}
 use Rattle.std.proofs.lemmas.Bool.{and_parts}
 use Rattle.clap.specs.Walk.{Row, all_of, first_of, one_of}
@@ -9,13 +9,14 @@ use Rattle.chi_cli.specs.declared.command.OptionName.TheVariants as option
 use Rattle.chi_cli.specs.declared.fault.CliFault.{CliFault}
 use Rattle.chi_cli.specs.declared.fault.CliFault.TheVariants as fault
 use Rattle.chi_cli.specs.declared.request.Request.{Request}
+use Rattle.chi_cli.specs.declared.request.Request.TheVariants as asked_for
 use Rattle.chi_cli.specs.declared.one_run.OneRun.{OneRun}
 use Rattle.chi_cli.specs.declared.two_files.TwoFiles.{TwoFiles}
 use Rattle.chi_trace.specs.declared.filter.Filter.{Filter}
 use Rattle.chi_cli.specs.Commands.{Text, command_named}
-use Rattle.chi_cli.specs.Parsing.{EachGiven, Gives, first, fits, has_place, if_fits, rest, taken, truth_text}
+use Rattle.chi_cli.specs.Parsing.{EachGiven, Gives, first, fits, has_place, if_fits, is_given, rest, taken, truth_text}
 use Rattle.chi_cli.specs.Probes.{probe_or_all}
-use Rattle.chi_cli.specs.Requests.{IsRefused, asked, command_request, each_once, explained, file_with, of_two, one_run, said_request, sim, simulated, two_files, value_given}
+use Rattle.chi_cli.specs.Requests.{IsRefused, asked, command_request, each_once, experimented, explained, file_with, of_two, one_run, one_word, said_request, sim, simulated, two_files, value_given}
 use Rattle.chi_cli.specs.Splitting.{Said, split}
 
 -- what fits a command is asked
@@ -89,6 +90,36 @@ explained_refused meant fault.NoMemory is = tt
 explained_refused meant fault.Usage is = ap explained is
 explained_refused meant fault.Command is = ap explained is
 explained_refused meant fault.BadNumber is = ap explained is
+
+-- an experiment has one plain word where the words fit
+one_file : (plain : List Text) → has_place command.Xper plain ≡ true → is_given plain ≡ true → (file : Text) × (one_word plain ≡ Some file)
+one_file [] room given = absurd (cc)
+one_file (file ∷ []) room given = (file, refl)
+one_file (file ∷ other ∷ more) room given = absurd (cc)
+
+file_of : (rows : List Row) (said : Said) → Gives command.Xper rows said → (file : Text) × (one_word said.plain ≡ Some file)
+file_of rows said gives =
+    let both = and_parts (each_once said.options && has_place command.Xper said.plain) (is_given said.plain) gives.fit in
+    one_file said.plain (and_parts (each_once said.options) (has_place command.Xper said.plain) both.0).1 both.1
+
+pub experiment_given : (rows : List Row) (said : Said) → Gives command.Xper rows said → (run : OneRun) → one_run said.plain said.options ≡ Ok run
+    → experimented (one_word said.plain) (one_run said.plain said.options) ≡ Ok (asked_for.Xper run.file run.seed run.bound run.pick)
+experiment_given rows said gives run is =
+    let file = file_of rows said gives in
+    ap₂ experimented file.1 is
+
+refused_by : (rows : List Row) (said : Said) → Gives command.Xper rows said → (why : CliFault) → one_run said.plain said.options ≡ Err why
+    → experimented (one_word said.plain) (one_run said.plain said.options) ≡ Err why
+refused_by rows said gives why is =
+    let file = file_of rows said gives in
+    ap₂ experimented file.1 is
+
+pub experiment_refused : (rows : List Row) (said : Said) → Gives command.Xper rows said → (why : CliFault) → IsRefused (one_run said.plain said.options) why
+    → IsRefused (experimented (one_word said.plain) (one_run said.plain said.options)) why
+experiment_refused rows said gives fault.NoMemory is = tt
+experiment_refused rows said gives fault.Usage is = refused_by rows said gives fault.Usage is
+experiment_refused rows said gives fault.Command is = refused_by rows said gives fault.Command is
+experiment_refused rows said gives fault.BadNumber is = refused_by rows said gives fault.BadNumber is
 
 refused_as : (meant : Result Request CliFault) (why : CliFault) → meant ≡ Err why → IsRefused meant why
 refused_as meant fault.NoMemory is = tt

@@ -75,6 +75,8 @@ no_default_fault command.Replay rows =
 no_default_fault command.Explain rows =
     plain_option name.Seed refl _ (plain_option name.Steps refl _ (plain_option name.Policy refl _ (plain_option name.Salt refl _ (plain_option name.Until refl _
     (one_more built_file _ (without_default built_file refl) (one_more built_args _ (without_default built_args refl) no_more)))))) rows
+no_default_fault command.Xper rows =
+    plain_option name.Seed refl _ (plain_option name.Steps refl _ (plain_option name.Policy refl _ (plain_option name.Salt refl _ file_alone))) rows
 no_default_fault command.Sim rows =
     plain_option name.Seed refl _ (plain_option name.Steps refl _ (plain_option name.Policy refl _ (plain_option name.Salt refl _ (plain_option name.Until refl _
     (plain_option name.Probe refl _ (one_more (built_option name.Trace) _ trace_default (one_more built_file _ (without_default built_file refl)
@@ -119,6 +121,10 @@ finished_is command.Explain rows =
     ∙ skip name.Policy refl (drop 3 (rules command.Explain)) rows ∙ skip name.Salt refl (drop 4 (rules command.Explain)) rows
     ∙ skip name.Until refl (drop 5 (rules command.Explain)) rows
     ∙ ap (λ (rs : List Row). with_default rs built_args) (unchanged built_file refl rows) ∙ unchanged built_args refl rows
+finished_is command.Xper rows =
+    skip name.Seed refl (drop 1 (rules command.Xper)) rows ∙ skip name.Steps refl (drop 2 (rules command.Xper)) rows
+    ∙ skip name.Policy refl (drop 3 (rules command.Xper)) rows ∙ skip name.Salt refl (drop 4 (rules command.Xper)) rows
+    ∙ unchanged built_file refl rows
 finished_is command.Sim rows =
     skip name.Seed refl (drop 1 (rules command.Sim)) rows ∙ skip name.Steps refl (drop 2 (rules command.Sim)) rows
     ∙ skip name.Policy refl (drop 3 (rules command.Sim)) rows ∙ skip name.Salt refl (drop 4 (rules command.Sim)) rows ∙ skip name.Until refl (drop 5 (rules command.Sim)) rows
@@ -136,6 +142,7 @@ end_kept : (c : Command) (id : Text) (rows : List Row) → bytes_eq (codes "trac
 end_kept command.Sim id rows apart = trace_kept id rows apart
 end_kept command.Replay id rows apart = trace_kept id rows apart
 end_kept command.Explain id rows apart = refl
+end_kept command.Xper id rows apart = refl
 end_kept command.Judge id rows apart = refl
 end_kept command.Picks id rows apart = refl
 end_kept command.Check id rows apart = refl
@@ -181,6 +188,7 @@ flag_end : (c : Command) (rows : List Row) → flag_of (row_at (codes "trace") (
 flag_end command.Sim rows = trace_end rows
 flag_end command.Replay rows = trace_end rows
 flag_end command.Explain rows = refl
+flag_end command.Xper rows = refl
 flag_end command.Judge rows = refl
 flag_end command.Picks rows = refl
 flag_end command.Check rows = refl
@@ -219,6 +227,7 @@ wants false = refl
 check_is : (c : Command) (rows : List Row) → none (check_fault (shape c) rows false) ≡ row_is_given (codes "file") rows
 check_is command.Sim rows = wants (row_is_given (codes "file") rows)
 check_is command.Explain rows = wants (row_is_given (codes "file") rows)
+check_is command.Xper rows = wants (row_is_given (codes "file") rows)
 check_is command.Check rows = wants (row_is_given (codes "file") rows)
 check_is command.Code rows = wants (row_is_given (codes "file") rows)
 check_is command.Fmt rows = wants (row_is_given (codes "file") rows)

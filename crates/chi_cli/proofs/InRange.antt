@@ -30,7 +30,7 @@ use Rattle.chi_cli.specs.declared.two_files.TwoFiles.{TwoFiles}
 use Rattle.chi_cli.specs.Numbers.{is_numeral, number_in, number_or, number_sought, time_in, time_or_none, within}
 use Rattle.chi_cli.specs.Probes.{kind_named, probe_or_all, sought}
 use Rattle.chi_cli.specs.Ranges.{IsFilter, IsInRange, IsPick, IsTime}
-use Rattle.chi_cli.specs.Requests.{asked, command_request, each_once, explained, help, help_on, load, load_of, of_file, judged, of_two, one_run, one_word, pick_of, picked, policy_or_first, replayed, request_of, run_asked, run_of_file, said_request, sim, simulated, two_files, two_files_asked, value_given}
+use Rattle.chi_cli.specs.Requests.{asked, command_request, each_once, experimented, explained, help, help_on, load, load_of, of_file, judged, of_two, one_run, one_word, pick_of, picked, policy_or_first, replayed, request_of, run_asked, run_of_file, said_request, sim, simulated, two_files, two_files_asked, value_given}
 use Rattle.chi_cli.specs.Splitting.{Said, name_in, split, value_in}
 use Rattle.chi_load.specs.declared.source.TheConstants.{MOST_MACHINES}
 
@@ -187,6 +187,11 @@ explained_in_range : (run : Result OneRun CliFault) → IfOk run RunInRange → 
 explained_in_range (Ok run) is = is
 explained_in_range (Err why) is = tt
 
+experimented_in_range : (file : Option Text) (run : Result OneRun CliFault) → IfOk run RunInRange → IfOk (experimented file run) IsInRange
+experimented_in_range None run is = tt
+experimented_in_range (Some file) (Ok run) is = (is.0, is.1, is.3)
+experimented_in_range (Some file) (Err why) is = tt
+
 -- the numbers of a command on two files
 abbrev TwoInRange : TwoFiles → Type 0
 TwoInRange two = (two.seed < 2 ^ 64) × (two.bound ≤ MOST_STEPS) × IfSome two.until IsTime
@@ -223,6 +228,7 @@ load_in_range (Some size) = each (number_in 1 MOST_MACHINES size) refl where
 asked_in_range : (c : Command) (said : Said) → IfOk (asked c said) IsInRange
 asked_in_range command.Sim said = sim_in_range said.plain said.options
 asked_in_range command.Explain said = explained_in_range (one_run said.plain said.options) (one_run_in_range said.plain said.options)
+asked_in_range command.Xper said = experimented_in_range (one_word said.plain) (one_run said.plain said.options) (one_run_in_range said.plain said.options)
 asked_in_range command.Check said = each (one_word said.plain) where
   each : (o : Option Text) → IfOk (of_file request.Check o) IsInRange
   each None = tt

@@ -150,6 +150,7 @@ plain_lacks command.Explain (file ∷ args) h unsettled = ap none (never (is_pen
 plain_lacks command.Replay (file ∷ args) h unsettled = ap none (never (is_pending built_args h.pending) (settle_fault (rules command.Replay) false h)) ∙ unsettled
 plain_lacks command.Judge (file ∷ args) h unsettled = ap none (never (is_pending built_args h.pending) (settle_fault (rules command.Judge) false h)) ∙ unsettled
 plain_lacks command.Picks (file ∷ args) h unsettled = ap none (never (is_pending built_args h.pending) (settle_fault (rules command.Picks) false h)) ∙ unsettled
+plain_lacks command.Xper (file ∷ args) h unsettled = refl
 plain_lacks command.Check (file ∷ args) h unsettled = refl
 plain_lacks command.Code (file ∷ args) h unsettled = refl
 plain_lacks command.Fmt (file ∷ args) h unsettled = refl

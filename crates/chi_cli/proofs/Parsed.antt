@@ -24,6 +24,7 @@ use Rattle.chi_cli.proofs.Taken.{IsTaken, is_taken_as}
 simple : (c : Command) → (is_simple_and_free (app_for c) ≡ true) × (is_simple (app_for c) ≡ true)
 simple command.Sim = (refl, refl)
 simple command.Explain = (refl, refl)
+simple command.Xper = (refl, refl)
 simple command.Replay = (refl, refl)
 simple command.Judge = (refl, refl)
 simple command.Picks = (refl, refl)

@@ -75,6 +75,19 @@ long_found command.Explain name = each
       each false false false true e = refl
       each false false false false true = refl
       each false false false false false = refl
+long_found command.Xper name = each
+    (bytes_eq (option_text option.Seed) name) (bytes_eq (option_text option.Steps) name) (bytes_eq (option_text option.Policy) name)
+    (bytes_eq (option_text option.Salt) name) where
+      each : (a b c d : Bool)
+          → built_for (a || false) option.Seed (built_for (b || false) option.Steps (built_for (c || false) option.Policy
+          (built_for (d || false) option.Salt None)))
+          ≡ option_map built_option (if a then Some option.Seed else if b then Some option.Steps else if c then Some option.Policy
+          else if d then Some option.Salt else None)
+      each true b c d = refl
+      each false true c d = refl
+      each false false true d = refl
+      each false false false true = refl
+      each false false false false = refl
 long_found command.Sim name = each
     (bytes_eq (option_text option.Seed) name) (bytes_eq (option_text option.Steps) name) (bytes_eq (option_text option.Policy) name)
     (bytes_eq (option_text option.Salt) name) (bytes_eq (option_text option.Until) name) (bytes_eq (option_text option.Probe) name)
@@ -98,6 +111,7 @@ long_found command.Sim name = each
 pub short_none : (c : Command) (x : ℕ) → arg_by_short (rules c) x ≡ None
 short_none command.Sim x = refl
 short_none command.Explain x = refl
+short_none command.Xper x = refl
 short_none command.Check x = refl
 short_none command.Code x = refl
 short_none command.Fmt x = refl
@@ -165,6 +179,22 @@ id_found command.Explain name o e = each
       each false false false true f e = there option.Salt refl e
       each false false false false true e = there option.Until refl e
       each false false false false false e = absurd (cc)
+id_found command.Xper name o e = each
+    (bytes_eq (option_text option.Seed) name) (bytes_eq (option_text option.Steps) name) (bytes_eq (option_text option.Policy) name)
+    (bytes_eq (option_text option.Salt) name) e where
+      there : (known : OptionName) → arg_by_id (rules command.Xper) (option_text known) ≡ Some (built_option known) → Some known ≡ Some o
+          → arg_by_id (rules command.Xper) (option_text o) ≡ Some (built_option o)
+      there known is e =
+          let same : known ≡ o = cc in
+          subst (λ (p : OptionName). arg_by_id (rules command.Xper) (option_text p) ≡ Some (built_option p)) same is
+
+      each : (a b c d : Bool) → (if a then Some option.Seed else if b then Some option.Steps else if c then Some option.Policy
+          else if d then Some option.Salt else None) ≡ Some o → arg_by_id (rules command.Xper) (option_text o) ≡ Some (built_option o)
+      each true b c d e = there option.Seed refl e
+      each false true c d e = there option.Steps refl e
+      each false false true d e = there option.Policy refl e
+      each false false false true e = there option.Salt refl e
+      each false false false false e = absurd (cc)
 id_found command.Sim name option.Seed e = refl
 id_found command.Sim name option.Steps e = refl
 id_found command.Sim name option.Policy e = refl
@@ -176,6 +206,7 @@ id_found command.Sim name option.Trace e = refl
 pub file_first : (c : Command) → arg_by_index (rules c) 1 ≡ Some built_file
 file_first command.Sim = refl
 file_first command.Explain = refl
+file_first command.Xper = refl
 file_first command.Check = refl
 file_first command.Code = refl
 file_first command.Fmt = refl
@@ -188,6 +219,7 @@ file_first command.TraceUp = refl
 pub file_found : (c : Command) → arg_by_id (rules c) (codes "file") ≡ Some built_file
 file_found command.Sim = refl
 file_found command.Explain = refl
+file_found command.Xper = refl
 file_found command.Check = refl
 file_found command.Code = refl
 file_found command.Fmt = refl

@@ -106,6 +106,7 @@ or_not false = refl
 one_place : (c : Command) (word : Text) → has_place c (word ∷ []) ≡ true
 one_place command.Sim word = refl
 one_place command.Explain word = refl
+one_place command.Xper word = refl
 one_place command.Check word = refl
 one_place command.Code word = refl
 one_place command.Fmt word = refl
@@ -228,6 +229,8 @@ no_place command.Explain file word args = refl
 no_place command.Replay file word args = refl
 no_place command.Judge file word args = refl
 no_place command.Picks file word args = refl
+no_place command.Xper file word [] = refl
+no_place command.Xper file word (arg ∷ args) = refl
 no_place command.Check file word [] = refl
 no_place command.Check file word (arg ∷ args) = refl
 no_place command.Code file word [] = refl
@@ -250,6 +253,7 @@ takes_plain command.Explain rows pending waiting alone options (file ∷ args) w
 takes_plain command.Replay rows pending waiting alone options (file ∷ args) word before_is = plain_next command.Replay replay_takes_more rows pending waiting alone options file args word before_is
 takes_plain command.Judge rows pending waiting alone options (file ∷ args) word before_is = plain_next command.Judge judge_takes_more rows pending waiting alone options file args word before_is
 takes_plain command.Picks rows pending waiting alone options (file ∷ args) word before_is = plain_next command.Picks picks_takes_more rows pending waiting alone options file args word before_is
+takes_plain command.Xper rows pending waiting alone options (file ∷ args) word before_is = inr (refl, and_right (each_once options) _ (no_place command.Xper file word args))
 takes_plain command.Check rows pending waiting alone options (file ∷ args) word before_is = inr (refl, and_right (each_once options) _ (no_place command.Check file word args))
 takes_plain command.Code rows pending waiting alone options (file ∷ args) word before_is = inr (refl, and_right (each_once options) _ (no_place command.Code file word args))
 takes_plain command.Fmt rows pending waiting alone options (file ∷ args) word before_is = inr (refl, and_right (each_once options) _ (no_place command.Fmt file word args))

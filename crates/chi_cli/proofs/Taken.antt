@@ -178,6 +178,7 @@ starts c = (refl, record { once = refl; holds = λ _. holds_nothing; room = has_
   has_room command.Judge = refl
   has_room command.Picks = refl
   has_room command.Explain = refl
+  has_room command.Xper = refl
   has_room command.Check = refl
   has_room command.Code = refl
   has_room command.Fmt = refl

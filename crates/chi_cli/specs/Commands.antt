@@ -13,6 +13,7 @@ abbrev pub command_named : Text → Option Command
 command_named word =
     if bytes_eq word (codes "sim") then Some command.Sim
     else if bytes_eq word (codes "explain") then Some command.Explain
+    else if bytes_eq word (codes "xper") then Some command.Xper
     else if bytes_eq word (codes "check") then Some command.Check
     else if bytes_eq word (codes "code") then Some command.Code
     else if bytes_eq word (codes "fmt") then Some command.Fmt
@@ -28,6 +29,7 @@ abbrev pub options_of : Command → List OptionName
 options_of command.Sim =
     option.Seed ∷ option.Steps ∷ option.Policy ∷ option.Salt ∷ option.Until ∷ option.Probe ∷ option.Trace ∷ []
 options_of command.Explain = option.Seed ∷ option.Steps ∷ option.Policy ∷ option.Salt ∷ option.Until ∷ []
+options_of command.Xper = option.Seed ∷ option.Steps ∷ option.Policy ∷ option.Salt ∷ []
 options_of command.Check = []
 options_of command.Code = []
 options_of command.Fmt = []

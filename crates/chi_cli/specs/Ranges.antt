@@ -28,6 +28,7 @@ abbrev pub IsInRange : Request → Type 0
 IsInRange (request.Sim file args seed bound until pick trace probe) =
     (seed < 2 ^ 64) × (bound ≤ MOST_STEPS) × IfSome until IsTime × IsPick pick × IsFilter probe
 IsInRange (request.Explain file args seed bound until pick) = (seed < 2 ^ 64) × (bound ≤ MOST_STEPS) × IfSome until IsTime × IsPick pick
+IsInRange (request.Xper file seed bound pick) = (seed < 2 ^ 64) × (bound ≤ MOST_STEPS) × IsPick pick
 IsInRange (request.Replay file picks args seed bound until trace) = (seed < 2 ^ 64) × (bound ≤ MOST_STEPS) × IfSome until IsTime
 IsInRange (request.Judge file log args seed bound until) = (seed < 2 ^ 64) × (bound ≤ MOST_STEPS) × IfSome until IsTime
 IsInRange (request.Picks file log args seed bound until) = (seed < 2 ^ 64) × (bound ≤ MOST_STEPS) × IfSome until IsTime

@@ -87,6 +87,18 @@ abbrev pub explained : Result OneRun CliFault → Result Request CliFault
 explained (Ok run) = Ok (request.Explain run.file run.args run.seed run.bound run.until run.pick)
 explained (Err why) = Err why
 
+-- one plain word and no other
+abbrev pub one_word : List Text → Option Text
+one_word (word ∷ []) = Some word
+one_word _ = None
+
+-- The first experiment of a file: the words are those of a run, and none stands after the file. No option of it is a
+-- stopping time.
+abbrev pub experimented : Option Text → Result OneRun CliFault → Result Request CliFault
+experimented None run = Err fault.Usage
+experimented (Some file) (Ok run) = Ok (request.Xper run.file run.seed run.bound run.pick)
+experimented (Some file) (Err why) = Err why
+
 -- two files, arguments, and the numbers of a run, where these are all in their forms and ranges
 abbrev pub two_files_asked : Text → Text → List Text → Option ℕ → Option ℕ → Option (Option ℤ) → Result TwoFiles CliFault
 two_files_asked file beside args (Some seed) (Some bound) (Some until) =
@@ -124,11 +136,6 @@ judged two = request.Judge two.file two.beside two.args two.seed two.bound two.u
 abbrev pub picked : TwoFiles → Request
 picked two = request.Picks two.file two.beside two.args two.seed two.bound two.until
 
--- one plain word and no other
-abbrev pub one_word : List Text → Option Text
-one_word (word ∷ []) = Some word
-one_word _ = None
-
 -- what is done with a file, where there is one
 abbrev pub of_file : (Text → Request) → Option Text → Result Request CliFault
 of_file done None = Err fault.Usage
@@ -147,6 +154,7 @@ load (Some size) = load_of (number_in 1 MOST_MACHINES size)
 abbrev pub asked : Command → Said → Result Request CliFault
 asked command.Sim said = sim said.plain said.options
 asked command.Explain said = explained (one_run said.plain said.options)
+asked command.Xper said = experimented (one_word said.plain) (one_run said.plain said.options)
 asked command.Check said = of_file request.Check (one_word said.plain)
 asked command.Code said = of_file request.Code (one_word said.plain)
 asked command.Fmt said = of_file request.Fmt (one_word said.plain)

@@ -6,6 +6,7 @@ ghost use Rattle.chi_cli.specs.Commands.{command_named, options_of, option_text,
 pub enum Command {
     Sim,
     Explain,
+    Xper,
     Check,
     Code,
     Fmt,
@@ -46,6 +47,13 @@ const EXPLAIN_OPTIONS: [OptionName; 5] = [
     OptionName::Until,
 ];
 
+const XPER_OPTIONS: [OptionName; 4] = [
+    OptionName::Seed,
+    OptionName::Steps,
+    OptionName::Policy,
+    OptionName::Salt,
+];
+
 const REPLAY_OPTIONS: [OptionName; 4] = [
     OptionName::Seed,
     OptionName::Steps,
@@ -64,6 +72,8 @@ impl Command {
             Some(Command::Sim)
         } else if word == b"explain".as_slice() {
             Some(Command::Explain)
+        } else if word == b"xper".as_slice() {
+            Some(Command::Xper)
         } else if word == b"check".as_slice() {
             Some(Command::Check)
         } else if word == b"code".as_slice() {
@@ -92,6 +102,7 @@ impl Command {
         match self {
             Command::Sim => &SIM_OPTIONS,
             Command::Explain => &EXPLAIN_OPTIONS,
+            Command::Xper => &XPER_OPTIONS,
             Command::Replay => &REPLAY_OPTIONS,
             Command::Judge | Command::Picks => &JUDGE_OPTIONS,
             Command::Check | Command::Code | Command::Fmt | Command::Load | Command::TraceUp => &[],

@@ -24,6 +24,3 @@ pub use number::number_in;
 pub use reading::read_args;
 pub use request::{Pick, Request};
 pub use words::{MOST_STEPS, STEPS, read_words};
-
-#[cfg(test)]
-mod tests;

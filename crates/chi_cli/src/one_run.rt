@@ -1,4 +1,4 @@
-//! What a run of a file is asked for with, whether it is simulated or told in words.
+//! What a run of a file is asked for with, whether it is simulated, told in words, or one of an experiment.
 
 ghost use Rattle.std.specs.Prelude.{◌≡◌, Some, Ok, IfOk, IfErr};
 ghost use Rattle.clap.specs.Words.{found_of, rows_of};

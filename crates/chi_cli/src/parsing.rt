@@ -58,9 +58,12 @@ fn parser_of<'a>(alloc: Global, command: Command) -> Result<clap::Command<'a>, A
     match command {
         Command::Sim | Command::Explain | Command::Replay | Command::Judge | Command::Picks =>
             parser.arg(args_arg(alloc)),
-        Command::Check | Command::Code | Command::Fmt | Command::Load | Command::TraceUp => Ok(
-            parser,
-        ),
+        Command::Xper
+        | Command::Check
+        | Command::Code
+        | Command::Fmt
+        | Command::Load
+        | Command::TraceUp => Ok(parser),
     }
 }
 

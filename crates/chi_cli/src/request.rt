@@ -43,6 +43,15 @@ pub enum Request {
         until: Option<Real>,
         pick: Pick,
     },
+    /// To run the first experiment of a file.
+    Xper {
+        file: Bytes,
+        /// Of the first run.
+        seed: u64,
+        /// On the costs of the experiment's own statements, and on those of each run.
+        bound: u64,
+        pick: Pick,
+    },
     Check {
         file: Bytes,
     },

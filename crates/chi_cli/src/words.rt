@@ -5,7 +5,7 @@ ghost use Rattle.chi_cli.specs.declared.command.OptionName.TheVariants as option
 ghost use Rattle.chi_cli.specs.declared.request.Request.TheVariants as asked_for;
 ghost use Rattle.chi_cli.specs.Commands.{command_named, option_text};
 ghost use Rattle.chi_cli.specs.Parsing.{EachGiven, truth_text};
-ghost use Rattle.chi_cli.specs.Requests.{IsRefused, asked, command_request, explained, help, judged, load, of_file, of_two, one_run, picked, replayed, request_of, sim, simulated, two_files, value_given};
+ghost use Rattle.chi_cli.specs.Requests.{IsRefused, asked, command_request, experimented, explained, help, judged, load, of_file, of_two, one_run, one_word, picked, replayed, request_of, sim, simulated, two_files, value_given};
 ghost use Rattle.chi_cli.specs.Saying.{texts};
 
 use crate::command::{Command, OptionName};
@@ -84,6 +84,7 @@ fn asked(alloc: Global, command: Command, matches: &ArgMatches<'_>) -> Result<Re
     match command {
         Command::Sim => sim(alloc, matches),
         Command::Explain => explain(alloc, matches),
+        Command::Xper => xper(alloc, matches),
         Command::Check => check(alloc, text_of(matches, "file")),
         Command::Code => code(alloc, text_of(matches, "file")),
         Command::Fmt => fmt(alloc, text_of(matches, "file")),
@@ -228,6 +229,24 @@ fn explain(alloc: Global, matches: &ArgMatches<'_>) -> Result<Request, CliFault>
             seed: run.seed,
             bound: run.bound,
             until: run.until,
+            pick: run.pick,
+        }),
+        Err(fault) => Err(fault),
+    }
+}
+
+/// The first experiment of a file, by what the matches give.
+fn xper(alloc: Global, matches: &ArgMatches<'_>) -> Result<Request, CliFault>
+    ensures request { IfOk result (λ request. EachGiven command.Xper (rows_of (found_of matches.now))
+        (λ said. experimented (one_word said.plain) (one_run said.plain said.options) ≡ Ok request)) }
+    ensures fault { IfErr result (λ fault. EachGiven command.Xper (rows_of (found_of matches.now))
+        (λ said. IsRefused (experimented (one_word said.plain) (one_run said.plain said.options)) fault)) }
+{
+    match one_run(alloc, matches) {
+        Ok(run) => Ok(Request::Xper {
+            file: run.file,
+            seed: run.seed,
+            bound: run.bound,
             pick: run.pick,
         }),
         Err(fault) => Err(fault),

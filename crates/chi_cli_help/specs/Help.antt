@@ -10,9 +10,10 @@ Text = List ℕ
 
 -- the parts of a topic's text, in their order
 abbrev pub parts_of : Topic → List Text
-parts_of topic.AllCommands = text.USAGE.now ∷ text.SIM_LINE.now ∷ text.EXPLAIN_LINE.now ∷ text.CHECK_LINE.now ∷ text.CODE_LINE.now ∷ text.FMT_LINE.now ∷ text.REPLAY_LINE.now ∷ text.JUDGE_LINE.now ∷ text.PICKS_LINE.now ∷ text.LOAD_LINE.now ∷ text.TRACE_UP_LINE.now ∷ text.HELP_LINE.now ∷ []
+parts_of topic.AllCommands = text.USAGE.now ∷ text.SIM_LINE.now ∷ text.EXPLAIN_LINE.now ∷ text.XPER_LINE.now ∷ text.CHECK_LINE.now ∷ text.CODE_LINE.now ∷ text.FMT_LINE.now ∷ text.REPLAY_LINE.now ∷ text.JUDGE_LINE.now ∷ text.PICKS_LINE.now ∷ text.LOAD_LINE.now ∷ text.TRACE_UP_LINE.now ∷ text.HELP_LINE.now ∷ []
 parts_of topic.Sim = text.SIM.now ∷ text.OPTIONS.now ∷ text.SEED.now ∷ text.STEPS.now ∷ text.POLICY.now ∷ text.SALT.now ∷ text.UNTIL.now ∷ text.TRACE.now ∷ text.PROBE.now ∷ text.STATUSES.now ∷ text.RUN_ENDED.now ∷ text.UNREAD.now ∷ text.UNTYPED.now ∷ text.UNFIT.now ∷ text.NO_REQUEST.now ∷ text.NO_FILE.now ∷ text.FAILED.now ∷ text.SIM_EXAMPLE.now ∷ []
 parts_of topic.Explain = text.EXPLAIN.now ∷ text.OPTIONS.now ∷ text.SEED.now ∷ text.STEPS.now ∷ text.POLICY.now ∷ text.SALT.now ∷ text.UNTIL.now ∷ text.STATUSES.now ∷ text.RUN_ENDED.now ∷ text.UNREAD.now ∷ text.UNTYPED.now ∷ text.UNFIT.now ∷ text.NO_REQUEST.now ∷ text.NO_FILE.now ∷ text.FAILED.now ∷ text.EXPLAIN_EXAMPLE.now ∷ []
+parts_of topic.Xper = text.XPER.now ∷ text.OPTIONS.now ∷ text.SEED.now ∷ text.STEPS.now ∷ text.POLICY.now ∷ text.SALT.now ∷ text.STATUSES.now ∷ text.XPER_ENDED.now ∷ text.UNREAD.now ∷ text.UNTYPED.now ∷ text.NO_XPER.now ∷ text.NO_REQUEST.now ∷ text.NO_FILE.now ∷ text.FAILED.now ∷ text.XPER_EXAMPLE.now ∷ []
 parts_of topic.Check = text.CHECK.now ∷ text.STATUSES.now ∷ text.ACCEPTED.now ∷ text.UNREAD.now ∷ text.UNTYPED.now ∷ text.NO_REQUEST.now ∷ text.NO_FILE.now ∷ text.FAILED.now ∷ text.CHECK_EXAMPLE.now ∷ []
 parts_of topic.Code = text.CODE.now ∷ text.STATUSES.now ∷ text.TOLD.now ∷ text.UNREAD.now ∷ text.UNTYPED.now ∷ text.NO_REQUEST.now ∷ text.NO_FILE.now ∷ text.FAILED.now ∷ text.CODE_EXAMPLE.now ∷ []
 parts_of topic.Fmt = text.FMT.now ∷ text.STATUSES.now ∷ text.TOLD.now ∷ text.UNREAD.now ∷ text.NO_LAYOUT.now ∷ text.NO_REQUEST.now ∷ text.NO_FILE.now ∷ text.FAILED.now ∷ text.FMT_EXAMPLE.now ∷ []

@@ -7,6 +7,7 @@ abbrev pub topic_named : List ℕ → Option Topic
 topic_named word =
     if bytes_eq word (codes "sim") then Some topic.Sim
     else if bytes_eq word (codes "explain") then Some topic.Explain
+    else if bytes_eq word (codes "xper") then Some topic.Xper
     else if bytes_eq word (codes "check") then Some topic.Check
     else if bytes_eq word (codes "code") then Some topic.Code
     else if bytes_eq word (codes "fmt") then Some topic.Fmt

@@ -8,6 +8,3 @@ mod topic;
 
 pub use help::help_text;
 pub use topic::Topic;
-
-#[cfg(test)]
-mod tests;

@@ -6,10 +6,11 @@ ghost use Rattle.chi_cli_help.specs.Help.{parts_of};
 use crate::texts::*;
 use crate::topic::Topic;
 
-const OF_ALL_COMMANDS: [&str; 12] = [
+const OF_ALL_COMMANDS: [&str; 13] = [
     USAGE,
     SIM_LINE,
     EXPLAIN_LINE,
+    XPER_LINE,
     CHECK_LINE,
     CODE_LINE,
     FMT_LINE,
@@ -59,6 +60,24 @@ const OF_EXPLAIN: [&str; 16] = [
     NO_FILE,
     FAILED,
     EXPLAIN_EXAMPLE,
+];
+
+const OF_XPER: [&str; 15] = [
+    XPER,
+    OPTIONS,
+    SEED,
+    STEPS,
+    POLICY,
+    SALT,
+    STATUSES,
+    XPER_ENDED,
+    UNREAD,
+    UNTYPED,
+    NO_XPER,
+    NO_REQUEST,
+    NO_FILE,
+    FAILED,
+    XPER_EXAMPLE,
 ];
 
 const OF_CHECK: [&str; 9] = [
@@ -175,6 +194,7 @@ pub fn parts_of(topic: Topic) -> &'static [&'static str]
         Topic::AllCommands => &OF_ALL_COMMANDS,
         Topic::Sim => &OF_SIM,
         Topic::Explain => &OF_EXPLAIN,
+        Topic::Xper => &OF_XPER,
         Topic::Check => &OF_CHECK,
         Topic::Code => &OF_CODE,
         Topic::Fmt => &OF_FMT,

@@ -7,6 +7,8 @@ pub const SIM_LINE: &str = "  sim       simulates the first model of a file\n";
 
 pub const EXPLAIN_LINE: &str = "  explain   simulates it too, and says in words what is wrong\n";
 
+pub const XPER_LINE: &str = "  xper      runs the first experiment of a file\n";
+
 pub const CHECK_LINE: &str = "  check     says whether a file is a program\n";
 
 pub const CODE_LINE: &str = "  code      lists the code of its program\n";
@@ -35,6 +37,14 @@ pub const EXPLAIN: &str = "chi explain [OPTIONS] FILE [ARGS..]
 
 Simulates the first model of FILE as `chi sim` does, with its output and status. The log says in words what is wrong, with
 the line and the place.
+";
+
+pub const XPER: &str = "chi xper [OPTIONS] FILE
+
+Runs the first experiment of FILE, which runs models of FILE one after another and reckons with the values of their exits.
+The first run has the seed of the words, and each run after it the next one. The bound on steps holds for the experiment's
+own statements, and for each run anew. What the runs and the experiment write goes to the output, in order, and how the
+experiment ended to the log.
 ";
 
 pub const CHECK: &str = "chi check FILE
@@ -121,6 +131,13 @@ pub const RUN_ENDED: &str = "  0    the run has completed
   14   stopped at the stopping time
 ";
 
+pub const XPER_ENDED: &str = "  0    the experiment has completed
+  11   deadlock in a run: nothing can happen any more
+  12   a fault has ended it, in a run or outside of one
+  13   out of steps, in a run or outside of one
+  15   a run had no value: it has completed, or has exited without one
+";
+
 pub const UNREAD: &str = "  20   a byte or a text of the file can't stand where it does
   21   its tokens are no program
 ";
@@ -137,6 +154,8 @@ pub const NO_PICKS: &str = "  26   a line of the picks doesn't fit\n";
 
 pub const NO_LAYOUT: &str = "  27   the layout has more than 1,048,576 bytes\n";
 
+pub const NO_XPER: &str = "  28   the file has no experiment\n";
+
 pub const NO_REQUEST: &str = "  3    the words are no request\n";
 
 pub const NO_FILE: &str = "  4    a file can't be read\n";
@@ -149,6 +168,8 @@ pub const FAILED: &str = "  5    the output or the log can't be written
 pub const SIM_EXAMPLE: &str = "\nExample:\n  chi sim --seed 7 models/line.chi\n";
 
 pub const EXPLAIN_EXAMPLE: &str = "\nExample:\n  chi explain models/line.chi\n";
+
+pub const XPER_EXAMPLE: &str = "\nExample:\n  chi xper --seed 7 models/staffing.chi\n";
 
 pub const CHECK_EXAMPLE: &str = "\nExample:\n  chi check models/line.chi\n";
 

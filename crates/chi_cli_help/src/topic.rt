@@ -7,6 +7,7 @@ pub enum Topic {
     AllCommands,
     Sim,
     Explain,
+    Xper,
     Check,
     Code,
     Fmt,
@@ -27,6 +28,8 @@ impl Topic {
             Some(Topic::Sim)
         } else if word == b"explain".as_slice() {
             Some(Topic::Explain)
+        } else if word == b"xper".as_slice() {
+            Some(Topic::Xper)
         } else if word == b"check".as_slice() {
             Some(Topic::Check)
         } else if word == b"code".as_slice() {

@@ -19,7 +19,8 @@ use Rattle.chi_tool.proofs.Cases.{CaseOf, asks_nothing, is_missing, is_long, of_
 use Rattle.chi_tool.proofs.Contents.{status_ap, aim_bound, log_bound}
 use Rattle.chi_tool.proofs.LawClauses.{CodeLaw, ReportLaw}
 use Rattle.chi_tool.proofs.Promises.{MetOne, met_of, met_status}
-use Rattle.chi_tool.proofs.StatusCauses.{StatusOf, asked_listable, ran_report, done_status}
+use Rattle.chi_tool.proofs.StatusCauses.{StatusOf, asked_tellable, ran_report}
+use Rattle.chi_tool.proofs.TrialCauses.{done_status}
 
 -- the statuses of logs of old
 
@@ -83,7 +84,7 @@ module _ (runs : Runs) (law : ReportLaw runs) (coded : CodeLaw) (call : Call) (f
   same_status s is = status_ap one.0 s (law.one call.words files one.0 s one.1 is)
 
   asked_status : (n : ℕ) (P : Aim → List ℕ → Type 0) → StatusOf runs n P → AsksFor call files P → one.0.status ≡ n
-  asked_status n P status h = let p = status.from h.0 h.1 (asked_listable coded call files h.0 h.1 h.2) h.3 in
+  asked_status n P status h = let p = status.from h.0 h.1 (asked_tellable runs law coded call files h.0 h.1 h.2) h.3 in
       let told = asked_report runs law call files h.0 h.1 p.0 h.2 p.1 in
       same_status told.0 told.1 ∙ told.2 ∙ p.2
 

@@ -21,11 +21,11 @@ use Rattle.chi_tool.specs.Headline.{IsUnread, CannotBeRead}
 use Rattle.chi_tool.specs.Refusals as refusal
 use Rattle.chi_tool.specs.Refusals.{Report}
 use Rattle.chi_tool.specs.Report.{IsReportWith, unfit, fit, IsReportByPicks, mispicked, replayed, IsReportOfReplay, IsReportOnLog, yes, no, IsReportOfJudging, IsReportOfProgram, IsReportOfSource, refused, program, IsReportOfLayout, faulty, laid_out, too_long, IsReportOfLog, up, misfit, IsReportOfFile, IsReportFor, IsReportTo, IsReportOfTask}
-use Rattle.chi_tool.specs.Running.{IsRunReport, run_report}
-use Rattle.chi_tool.specs.Settings.{Wanted, Unpicked, ProgramAim, simulates, replays, judges, checks, lists, Aim, of_program, lays_out, wanted_of, aim_of, settings_with, plain}
+use Rattle.chi_tool.specs.Running.{IsRunReport, IsReportOfTrial, run_report}
+use Rattle.chi_tool.specs.Settings.{Wanted, Unpicked, Trying, ProgramAim, simulates, replays, judges, checks, lists, tries, Aim, of_program, lays_out, wanted_of, aim_of, settings_with, plain}
 use Rattle.chi_tool.specs.Sources.{IsRefused, by_lexer, by_parser, unparsed, by_checker}
 use Rattle.chi_tool.specs.Words.{of_task, NamesNoFile}
-use Rattle.chi_tool.proofs.Verdicts.{status_bound}
+use Rattle.chi_tool.proofs.Verdicts.{status_bound, OfTrialStatus, ended_bound}
 
 pub status_ap : (r s : Report) → r ≡ s → r.status ≡ s.status
 status_ap r s e = ap (λ x. x.status) e
@@ -39,6 +39,7 @@ data ProgramCase (core : Core) (r : Report) : Type 0 where
   is_judged : (purpose : LogPurpose) (output numbers : List ℕ) → r ≡ refusal.is_log purpose output numbers → ProgramCase core r
   is_no_log : (k : ℕ) → r ≡ refusal.no_log k → ProgramCase core r
   is_run : (course : Course) → r ≡ run_report core course → ProgramCase core r
+  is_trial : OfTrialStatus r.status → ProgramCase core r
 
 with_case : (core : Core) (texts : List (List ℕ)) (P : List Value → Report → Type 0) (r : Report) → ((values : List Value) → P values r → ProgramCase core r)
     → IsReportWith core texts P r → ProgramCase core r
@@ -53,9 +54,14 @@ log_case : (core : Core) (purpose : LogPurpose) (u : Unpicked) (text : List ℕ)
 log_case core purpose u text values r (yes output numbers log is) = is_judged purpose output numbers is
 log_case core purpose u text values r (no k refuses is) = is_no_log k is
 
+-- which statuses the report of an experiment has
+pub trial_bound : (core : Core) (t : Trying) (r : Report) → IsReportOfTrial core t r → OfTrialStatus r.status
+trial_bound core t r of = subst OfTrialStatus (sym (status_ap r _ of.told)) (ended_bound of.ended)
+
 program_case : (runs : Runs) (core : Core) (aim : ProgramAim) (r : Report) → IsReportOfProgram runs core aim r → ProgramCase core r
 program_case runs core checks r is = is_accepted is
 program_case runs core lists r is = is_listed is.code is.listed
+program_case runs core (tries t) r is = is_trial (trial_bound core t r is)
 program_case runs core (simulates w) r is = with_case core w.texts (λ values. IsRunReport runs core (settings_with w values)) r (λ values of. is_run of.course of.is) is
 program_case runs core (replays u text) r is = with_case core u.texts (IsReportByPicks core u text) r (λ values of. picks_case core u text values r of) is
 program_case runs core (judges purpose u text) r is = with_case core u.texts (IsReportOnLog core purpose u text) r (λ values of. log_case core purpose u text values r of) is
@@ -92,20 +98,27 @@ judging_bound core purpose u text r (fit values means (no k refuses e)) = inr (i
 
 -- which a program's report has
 abbrev pub OfProgramStatus : ℕ → Type 0
-OfProgramStatus n = (n ≡ 0) ⊎ (((10 ≤ n) × (n ≤ 14)) ⊎ ((n ≡ 23) ⊎ ((25 ≤ n) × (n ≤ 26))))
+OfProgramStatus n = (n ≡ 0) ⊎ (((10 ≤ n) × (n ≤ 15)) ⊎ ((n ≡ 23) ⊎ (((25 ≤ n) × (n ≤ 26)) ⊎ (n ≡ 28))))
 
 program_status : (core : Core) (r : Report) → ProgramCase core r → OfProgramStatus r.status
 program_status core r (is_accepted e) = inl (status_ap r _ e)
 program_status core r (is_listed code e) = inl (status_ap r _ e)
 program_status core r (is_unfit wanted given fault e) = inr (inr (inl (status_ap r _ e)))
-program_status core r (is_mispicked k e) = let is = status_ap r _ e in inr (inr (inr (omega arith, omega arith)))
+program_status core r (is_mispicked k e) = let is = status_ap r _ e in inr (inr (inr (inl (omega arith, omega arith))))
 program_status core r (is_judged purpose output numbers e) = inl (status_ap r _ e ∙ is_log_status purpose output numbers)
-program_status core r (is_no_log k e) = let is = status_ap r _ e in inr (inr (inr (omega arith, omega arith)))
+program_status core r (is_no_log k e) = let is = status_ap r _ e in inr (inr (inr (inl (omega arith, omega arith))))
 program_status core r (is_run course e) = by (ran_bound core course r e)
   where
     by : (r.status ≡ 0) ⊎ ((10 ≤ r.status) × (r.status ≤ 14)) → OfProgramStatus r.status
     by (inl z) = inl z
-    by (inr b) = inr (inl b)
+    by (inr b) = let high = b.1 in inr (inl (b.0, omega arith))
+program_status core r (is_trial its) = by its
+  where
+    by : OfTrialStatus r.status → OfProgramStatus r.status
+    by (inl z) = inl z
+    by (inr (inl b)) = let low = b.0 in let high = b.1 in inr (inl (omega arith, omega arith))
+    by (inr (inr (inl e))) = inr (inl (omega arith, omega arith))
+    by (inr (inr (inr e))) = inr (inr (inr (inr e)))
 
 pub source_program : (runs : Runs) (core : Core) (aim : ProgramAim) (r : Report) → IsReportOfProgram runs core aim r → OfProgramStatus r.status
 source_program runs core aim r is = program_status core r (program_case runs core aim r is)
@@ -118,7 +131,7 @@ refused_bound source r (by_checker fault has e) = let is = status_ap r _ e in (o
 
 -- and which a source's report has
 abbrev pub OfSourceStatus : ℕ → Type 0
-OfSourceStatus n = (n ≡ 0) ⊎ (((10 ≤ n) × (n ≤ 23)) ⊎ ((25 ≤ n) × (n ≤ 26)))
+OfSourceStatus n = (n ≡ 0) ⊎ (((10 ≤ n) × (n ≤ 23)) ⊎ (((25 ≤ n) × (n ≤ 26)) ⊎ (n ≡ 28)))
 
 pub source_bound : (runs : Runs) (source : List ℕ) (aim : ProgramAim) (r : Report) → IsReportOfSource runs source aim r → OfSourceStatus r.status
 source_bound runs source aim r (refused is) = let b = refused_bound source r is in let low = b.0 in let high = b.1 in inr (inl (omega arith, omega arith))
@@ -131,14 +144,17 @@ source_bound runs source aim r (program core comes of) = widened (source_program
     widened (inr (inr (inr e))) = inr (inr e)
 
 -- the same where its program is run by a policy
-pub simulated_bound : (runs : Runs) (source : List ℕ) (w : Wanted) (r : Report) → IsReportOfSource runs source (simulates w) r → (r.status ≡ 0) ⊎ ((10 ≤ r.status) × (r.status ≤ 23))
-simulated_bound runs source w r (refused is) = let b = refused_bound source r is in let low = b.0 in let high = b.1 in inr (omega arith, omega arith)
-simulated_bound runs source w r (program core comes (unfit wanted fault misfits e)) = let is = status_ap r _ e in inr (omega arith, omega arith)
+abbrev pub OfSimulatedStatus : ℕ → Type 0
+OfSimulatedStatus n = (n ≡ 0) ⊎ (((10 ≤ n) × (n ≤ 14)) ⊎ ((20 ≤ n) × (n ≤ 23)))
+
+pub simulated_bound : (runs : Runs) (source : List ℕ) (w : Wanted) (r : Report) → IsReportOfSource runs source (simulates w) r → OfSimulatedStatus r.status
+simulated_bound runs source w r (refused is) = let b = refused_bound source r is in let low = b.0 in let high = b.1 in inr (inr (omega arith, omega arith))
+simulated_bound runs source w r (program core comes (unfit wanted fault misfits e)) = let is = status_ap r _ e in inr (inr (omega arith, omega arith))
 simulated_bound runs source w r (program core comes (fit values means of)) = by (ran_bound core of.course r of.is)
   where
-    by : (r.status ≡ 0) ⊎ ((10 ≤ r.status) × (r.status ≤ 14)) → (r.status ≡ 0) ⊎ ((10 ≤ r.status) × (r.status ≤ 23))
+    by : (r.status ≡ 0) ⊎ ((10 ≤ r.status) × (r.status ≤ 14)) → OfSimulatedStatus r.status
     by (inl z) = inl z
-    by (inr b) = let high = b.1 in inr (b.0, omega arith)
+    by (inr b) = inr (inl b)
 
 -- which the report of its layout has
 pub layout_bound : (source : List ℕ) (r : Report) → IsReportOfLayout source r → (r.status ≡ 0) ⊎ ((r.status ≡ 20) ⊎ ((r.status ≡ 21) ⊎ (r.status ≡ 27)))
@@ -149,7 +165,7 @@ layout_bound source r (too_long text has above e) = inr (inr (inr (status_ap r _
 
 -- which it has, whatever is done with it
 abbrev pub OfAimStatus : ℕ → Type 0
-OfAimStatus n = (n ≡ 0) ⊎ (((10 ≤ n) × (n ≤ 23)) ⊎ ((25 ≤ n) × (n ≤ 27)))
+OfAimStatus n = (n ≡ 0) ⊎ (((10 ≤ n) × (n ≤ 23)) ⊎ ((25 ≤ n) × (n ≤ 28)))
 
 pub aim_bound : (runs : Runs) (aim : Aim) (source : List ℕ) (r : Report) → IsReportFor runs aim source r → OfAimStatus r.status
 aim_bound runs (of_program aim) source r of = widened (source_bound runs source aim r of)
@@ -157,7 +173,8 @@ aim_bound runs (of_program aim) source r of = widened (source_bound runs source 
     widened : OfSourceStatus r.status → OfAimStatus r.status
     widened (inl z) = inl z
     widened (inr (inl b)) = inr (inl b)
-    widened (inr (inr b)) = let high = b.1 in inr (inr (b.0, omega arith))
+    widened (inr (inr (inl b))) = let high = b.1 in inr (inr (b.0, omega arith))
+    widened (inr (inr (inr e))) = inr (inr (omega arith, omega arith))
 aim_bound runs lays_out source r of = widened (layout_bound source r of)
   where
     widened : (r.status ≡ 0) ⊎ ((r.status ≡ 20) ⊎ ((r.status ≡ 21) ⊎ (r.status ≡ 27))) → OfAimStatus r.status

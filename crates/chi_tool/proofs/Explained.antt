@@ -8,7 +8,7 @@ use Rattle.chi_core.specs.declared.program.Core.{Core}
 use Rattle.chi_core.specs.declared.program.ProcDef.{ProcDef}
 use Rattle.chi_core.specs.Beginning.{start}
 use Rattle.chi_core_runs.specs.Picked.{IsBeginning}
-use Rattle.chi_engine.specs.Courses.{Course, Runs}
+use Rattle.chi_engine.specs.Courses.{Runs}
 use Rattle.chi_explain.specs.Explanations.{explained}
 use Rattle.chi_explain.specs.Lexical as lexical_told
 use Rattle.chi_explain_arguments.specs.Arguments.{argument_text, kind_text}
@@ -16,7 +16,6 @@ use Rattle.chi_explain_syntax.specs.Syntax.{IsSyntaxExplanation}
 use Rattle.chi_explain_typing.specs.Rules.{broken_words}
 use Rattle.chi_check_types.specs.declared.fault.Fault.{Fault}
 use Rattle.chi_grammar.specs.declared.fault.ParseFault.{ParseFault}
-use Rattle.chi_lex.specs.declared.fault.LexFault.{LexFault}
 use Rattle.chi_lex.specs.declared.lexer.TheConstants.{MOST_BYTES}
 use Rattle.chi_lex.proofs.LawLemmas.{one_list, one_fault, never_both}
 use Rattle.chi_token.specs.declared.place.Spanned.{Spanned}
@@ -26,15 +25,15 @@ use Rattle.chi_value.specs.declared.value.Value.{Value}
 use Rattle.chi_tool.specs.declared.reading.Refusal.{Refusal}
 use Rattle.chi_tool.specs.declared.reading.Refusal.TheVariants as refusal_by
 use Rattle.chi_tool.specs.declared.reading.Unparsed.TheVariants as reason
-use Rattle.chi_tool.specs.Arguments.{Means, Misfits, IsMisfitExplained}
-use Rattle.chi_tool.specs.Explaining.{IsMisfitTold, IsProgramTold, misfit, ran, IsRefusalTold}
+use Rattle.chi_tool.specs.Arguments.{IsMisfitExplained}
+use Rattle.chi_tool.specs.Explaining.{IsProgramTold, misfit, ran, IsRefusalTold}
 use Rattle.chi_tool.specs.Readings.{IsRefusedAs}
 use Rattle.chi_tool.specs.Refusals as refusal
 use Rattle.chi_tool.specs.Refusals.{Report, at_length, unfit_arguments}
 use Rattle.chi_tool.specs.Report.{unfit, fit, IsReportOfProgram, IsReportOfSource, refused, program, IsExplanation, IsExplained}
-use Rattle.chi_tool.specs.Running.{IsRunReport, IsRestTold, end_told, run_report}
+use Rattle.chi_tool.specs.Running.{IsRestTold, end_told, run_report}
 use Rattle.chi_tool.specs.Settings.{Wanted, MayBeAimedAt, simulates, of_program, settings_with}
-use Rattle.chi_tool.specs.Sources.{by_lexer, by_parser, unparsed, by_checker, IsNoProgram, BreaksRule, ComesTo}
+use Rattle.chi_tool.specs.Sources.{by_lexer, by_parser, unparsed, by_checker, IsNoProgram, ComesTo}
 use Rattle.chi_tool.specs.Syntax.{HasFault}
 use Rattle.chi_tool.proofs.LawClauses.{AnswerLaw, CheckLaw, ExplainLaw, RunLaw, ValuesLaw, comes_sound}
 use Rattle.chi_tool.proofs.Sources.{fault_answer, one_rule, unparsed_or_written, refused_or_comes, one_core}

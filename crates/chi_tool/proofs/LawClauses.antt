@@ -20,7 +20,7 @@ use Rattle.chi_core.specs.Of.{at_start, AreOf}
 use Rattle.chi_core.specs.Runs.{Told}
 use Rattle.chi_core.specs.Sound.{Sound}
 use Rattle.chi_engine.specs.Courses.{Course, Runs, MayHave, IsRunOf, ComesToOne}
-use Rattle.chi_engine.specs.Settings.{Settings}
+use Rattle.chi_engine.specs.Settings.{Settings, policy_of}
 use Rattle.chi_lex.specs.declared.lexer.TheConstants.{MOST_BYTES}
 use Rattle.chi_explain.specs.Lexical as lexical_told
 use Rattle.chi_explain_runs.specs.Laws.{WaitingToldAlways, WaitingToldOnce}
@@ -29,7 +29,7 @@ use Rattle.chi_lex.specs.declared.fault.LexFault.{LexFault}
 use Rattle.chi_lex.specs.Reading as lexical
 use Rattle.chi_lex.specs.Reading.{Reads}
 use Rattle.chi_check.specs.Programs.{checked, Answers}
-use Rattle.chi_check_laws.specs.Laws.{IsWhole}
+use Rattle.chi_check_parsed.specs.Below.chi_check_laws.specs.Laws.{IsWhole}
 use Rattle.chi_log.specs.Laws.{EachIsJudged, OneFirstWrong, OneLog}
 use Rattle.chi_picks.specs.Lists as picks
 use Rattle.chi_trace.specs.Logs as logs
@@ -37,13 +37,17 @@ use Rattle.chi_trace.specs.Logs.{IsUp}
 use Rattle.chi_sched.specs.Policies.{listed}
 use Rattle.chi_types.specs.declared.ty.Ty.{Ty}
 use Rattle.chi_value.specs.declared.value.Value.{Value}
+use Rattle.chi_xper_machines.specs.declared.tale.Ended.{Ended}
+use Rattle.chi_xper_machines.specs.declared.terms.Terms.{Terms}
+use Rattle.chi_xper_machines.specs.Trials.{Trial, IsTrial, EndsSo, Logs}
 use Rattle.chi_tool.specs.declared.task.Asked.{Asked}
-use Rattle.chi_tool.specs.declared.task.Purpose.TheVariants.{Explain}
+use Rattle.chi_tool.specs.declared.task.ProgramPurpose.TheVariants.{Experiment}
+use Rattle.chi_tool.specs.declared.task.Purpose.TheVariants.{OfProgram, Explain}
 use Rattle.chi_tool.specs.declared.task.Task.TheVariants.{OfFile}
 use Rattle.chi_tool.specs.Refusals.{Report}
 use Rattle.chi_tool.specs.Report.{IsReportOfSource, IsExplained, IsReportFor, IsReport}
 use Rattle.chi_tool.specs.Running.{runs_for}
-use Rattle.chi_tool.specs.Settings.{Wanted, simulates, wanted_of, Aim, IsShortFor, MayBeAimed}
+use Rattle.chi_tool.specs.Settings.{Trying, simulates, tries, wanted_of, Aim, IsShortFor, MayBeAimedAt, MayBeAimed}
 use Rattle.chi_tool.specs.Simulations.{AreOwnPicks, IsDerived, course_of}
 use Rattle.chi_tool.specs.Sources.{ComesTo}
 use Rattle.chi_tool.specs.Words.{of_task, wish_of}
@@ -68,6 +72,15 @@ HasRun = (source : List ℕ) (core : Core) → length source ≤ MOST_BYTES → 
 pub record CodeLaw : Type 0 where
   pub some : (source : List ℕ) (core : Core) → length source ≤ MOST_BYTES → ComesTo source core → (code : Code) × Codes core code
   pub one : (core : Core) (code other : Code) → Codes core code → Codes core other → code ≡ other
+
+-- of its first experiment comes one thing, on terms that may be had; that ends in one way, and one line tells how
+pub record TrialLaw : Type 0 where
+  pub some : (source : List ℕ) (core : Core) → length source ≤ MOST_BYTES → ComesTo source core → (t : Trying) → MayBeAimedAt (tries t)
+      → (trial : Trial) × IsTrial core t.seed t.pick t.bound trial × ((ended : Ended) × EndsSo trial ended) × ((line : List ℕ) × Logs core trial line)
+  pub one : (source : List ℕ) (core : Core) → length source ≤ MOST_BYTES → ComesTo source core → (t : Trying) (trial other : Trial)
+      → IsTrial core t.seed t.pick t.bound trial → IsTrial core t.seed t.pick t.bound other → trial ≡ other
+  pub one_ended : (trial : Trial) (ended other : Ended) → EndsSo trial ended → EndsSo trial other → ended ≡ other
+  pub one_line : (core : Core) (trial : Trial) (line other : List ℕ) → Logs core trial line → Logs core trial other → line ≡ other
 
 -- a program that breaks no rule comes to a core, which is sound where its source is within the limit
 pub record CheckLaw : Type 0 where
@@ -135,10 +148,14 @@ pub record ExplainLaw : Type 0 where
   pub waits_one : WaitingToldOnce
   pub waits_some : WaitingToldAlways
 
--- words and files have one report, and each report of a simulation that words ask to be told at length can be told so
+-- words and files have one report; each report of a simulation that words ask to be told at length can be told so, and what comes of an experiment that
+-- they ask for can be told
 pub record ReportLaw (runs : Runs) : Type 0 where
   pub some : (words : List (List ℕ)) (files : Files) → (r : Report) × IsReport runs words files r
   pub one : (words : List (List ℕ)) (files : Files) (r other : Report) → IsReport runs words files r → IsReport runs words files other → r ≡ other
   pub explained : (words : List (List ℕ)) (file : List ℕ) (a : Asked request.Pick) → wish_of words ≡ of_task (OfFile file (Explain a))
       → (source : List ℕ) → length source ≤ MOST_BYTES → (plain : Report) → IsReportOfSource runs source (simulates (wanted_of a)) plain
       → (r : Report) × IsExplained runs file (wanted_of a) source r × (r.status ≡ plain.status)
+  pub tried : (words : List (List ℕ)) (file : List ℕ) (t : Terms) → wish_of words ≡ of_task (OfFile file (OfProgram (Experiment t)))
+      → (source : List ℕ) → length source ≤ MOST_BYTES → (core : Core) → ComesTo source core
+      → (trial : Trial) → IsTrial core t.seed (policy_of t.pick) t.bound trial → (line : List ℕ) × Logs core trial line

@@ -16,6 +16,7 @@ pub mod Endings
 pub mod Promises
 pub mod Cases
 pub mod StatusCauses
+pub mod TrialCauses
 pub mod Causes
 pub mod TwoFiles
 pub mod Served

@@ -13,8 +13,8 @@ use Rattle.chi_core.specs.VerdictLine.{verdict_line_of}
 use Rattle.chi_engine.specs.Courses.{Course, Runs, IsRunOf}
 use Rattle.chi_engine.specs.Running.{RunsTo}
 use Rattle.chi_engine.specs.Settings.{Settings}
-use Rattle.chi_machine_traces.specs.declared.passing.PassFault.{PassFault}
-use Rattle.chi_machine_traces.specs.declared.passing.PassFault.TheVariants as fault
+use Rattle.chi_engine.specs.Below.chi_machine_traces.specs.declared.passing.PassFault.{PassFault}
+use Rattle.chi_engine.specs.Below.chi_machine_traces.specs.declared.passing.PassFault.TheVariants as fault
 use Rattle.chi_picks.specs.Lists as picks
 use Rattle.chi_sched.specs.Policies.{Answers, listed}
 use Rattle.chi_trace.specs.declared.filter.Filter.{Filter}

@@ -20,6 +20,7 @@ use Rattle.chi_trace.specs.Logs.{IsUp}
 use Rattle.chi_value.specs.declared.value.Value.{Value}
 use Rattle.chi_engine.specs.Courses.{Runs, IsRunOf}
 use Rattle.chi_engine.specs.Settings.{Settings}
+use Rattle.chi_xper_machines.specs.Trials.{Trial, IsTrial, EndsSo, Logs}
 use Rattle.chi_tool.specs.declared.task.Purpose.{Purpose}
 use Rattle.chi_tool.specs.declared.task.Purpose.TheVariants.{OfProgram, Explain, LayOut}
 use Rattle.chi_tool.specs.declared.task.ProgramPurpose.TheVariants.{Simulate}
@@ -33,13 +34,13 @@ use Rattle.chi_tool.specs.Refusals as refusal
 use Rattle.chi_tool.specs.Refusals.{Report, usage, no_such_file, file_too_long, unfit_arguments, brought_up, accepted}
 use Rattle.chi_tool.specs.Report.{IsReportWith, unfit, fit, IsReportByPicks, mispicked, replayed, IsReportOnLog, yes, no, IsReportOfProgram, IsReportOfSource, refused, program, IsReportOfLog, up, misfit, IsReportFor, IsReportTo, IsReportOfFile, missing, long, fetched, IsReportOfWish, IsReport}
 use Rattle.chi_tool.specs.OnLogs.{IsNoLogWith}
-use Rattle.chi_tool.specs.Running.{runs_for, IsRunReport, run_report}
-use Rattle.chi_tool.specs.Settings.{Wanted, Unpicked, picked_by, ProgramAim, simulates, replays, judges, checks, lists, Aim, of_program, program_aim, lays_out, wanted_of, pair_aim, IsBounded, IsShortFor, MayBeAimedAt, MayBeAimed, plain, settings_with}
+use Rattle.chi_tool.specs.Running.{runs_for, IsRunReport, IsReportOfTrial, run_report, trial_report}
+use Rattle.chi_tool.specs.Settings.{Wanted, Unpicked, picked_by, Trying, ProgramAim, simulates, replays, judges, checks, lists, tries, Aim, of_program, program_aim, lays_out, wanted_of, pair_aim, IsBounded, IsShortFor, MayBeAimedAt, MayBeAimed, plain, settings_with}
 use Rattle.chi_tool.specs.Sources.{ComesTo}
 use Rattle.chi_tool.specs.Words.{Wish, nothing, of_task, wish_of}
 use Rattle.chi_tool.proofs.Layouts.{layout_some, layout_one}
 use Rattle.chi_tool.proofs.Explained.{explained_some, explained_one}
-use Rattle.chi_tool.proofs.LawClauses.{AnswerLaw, RunLaw, CodeLaw, CheckLaw, ExplainLaw, JudgeLaw, comes_sound, ValuesLaw, RangeLaw, LogLaw, PicksLaw}
+use Rattle.chi_tool.proofs.LawClauses.{AnswerLaw, RunLaw, CodeLaw, TrialLaw, CheckLaw, ExplainLaw, JudgeLaw, comes_sound, ValuesLaw, RangeLaw, LogLaw, PicksLaw}
 use Rattle.chi_tool.proofs.Runs.{may_be_aimed, pair_may_be_aimed, listed_lawful, asked_settings}
 use Rattle.chi_tool.proofs.Sources.{Comes, source_comes, one_refusal, refused_or_comes, one_core}
 use Rattle.chi_tool.proofs.Wishes.{IsBoundedWish, bounded_wish, factory_within}
@@ -83,8 +84,27 @@ module _ (law : LogLaw) where
   log_one text r s (misfit k p a) (up log q b) = absurd (law.apart text log k q p)
   log_one text r s (misfit j p a) (misfit k q b) = a ∙ ap refusal.misfit (law.one_line text j k p q) ∙ sym b
 
-module _ (runs : Runs) (answers : AnswerLaw) (ran : RunLaw runs) (coded : CodeLaw) (check : CheckLaw) (values_law : ValuesLaw) (picks_law : PicksLaw)
-    (judging : JudgeLaw) where
+-- what comes of an experiment that may be run can be told
+pub trial_told : TrialLaw → (source : List ℕ) (core : Core) → length source ≤ MOST_BYTES → ComesTo source core → (t : Trying) → MayBeAimedAt (tries t)
+    → (trial : Trial) → IsTrial core t.seed t.pick t.bound trial → (line : List ℕ) × Logs core trial line
+trial_told law source core within comes t may trial is =
+    let it = law.some source core within comes t may in
+    let same : it.0 ≡ trial = law.one source core within comes t it.0 trial it.1 is in
+    subst (λ (x : Trial). (line : List ℕ) × Logs core x line) same it.3
+
+-- and has one report
+trial_one : TrialLaw → (source : List ℕ) (core : Core) → length source ≤ MOST_BYTES → ComesTo source core → (t : Trying) (r s : Report)
+    → IsReportOfTrial core t r → IsReportOfTrial core t s → r ≡ s
+trial_one law source core within comes t r s p q =
+    let same : p.trial ≡ q.trial = law.one source core within comes t p.trial q.trial p.is q.is in
+    let ends : EndsSo q.trial p.ended = subst (λ (x : Trial). EndsSo x p.ended) same p.ends in
+    let logged : Logs core q.trial p.line = subst (λ (x : Trial). Logs core x p.line) same p.logged in
+    let ended : p.ended ≡ q.ended = law.one_ended q.trial p.ended q.ended ends q.ends in
+    let line : p.line ≡ q.line = law.one_line core q.trial p.line q.line logged q.logged in
+    p.told ∙ (λ i. trial_report (same i) (ended i) (line i)) ∙ sym q.told
+
+module _ (runs : Runs) (answers : AnswerLaw) (ran : RunLaw runs) (coded : CodeLaw) (tried : TrialLaw) (check : CheckLaw) (values_law : ValuesLaw)
+    (picks_law : PicksLaw) (judging : JudgeLaw) where
   -- a run of the program that is asked for with these arguments begins so
   begins_so : (core : Core) (u : Unpicked) (values : List Value) (d : ProcDef) → slice_get core.procs core.model ≡ Some d → values_of d.params u.texts ≡ Ok values
       → IsBeginning core (start core values u.seed u.until)
@@ -152,6 +172,11 @@ module _ (runs : Runs) (answers : AnswerLaw) (ran : RunLaw runs) (coded : CodeLa
   program_some checks bounded source core within comes = (accepted, refl)
   program_some lists bounded source core within comes =
       let there = coded.some source core within comes in (refusal.listed there.0, record { code = there.0; is = there.1; listed = refl })
+  program_some (tries t) bounded source core within comes =
+      let it = tried.some source core within comes t bounded in (
+        trial_report it.0 it.2.0 it.3.0,
+        record { trial = it.0; is = it.1; ended = it.2.0; ends = it.2.1; line = it.3.0; logged = it.3.1; told = refl },
+      )
 
   come_to_some : (aim : ProgramAim) → MayBeAimedAt aim → (source : List ℕ) → length source ≤ MOST_BYTES → Comes source → (r : Report) × IsReportOfSource runs source aim r
   come_to_some aim bounded source within (inl (r, is)) = (r, refused is)
@@ -248,6 +273,7 @@ module _ (runs : Runs) (answers : AnswerLaw) (ran : RunLaw runs) (coded : CodeLa
       with_one core u.texts (IsReportOnLog core purpose u text) (on_log_one core (comes_sound check source core short comes) purpose u text) r s p q
   program_one source core checks comes short r s p q = p ∙ sym q
   program_one source core lists comes short r s p q = p.listed ∙ ap refusal.listed (coded.one core p.code q.code p.is q.is) ∙ sym q.listed
+  program_one source core (tries t) comes short r s p q = trial_one tried source core short comes t r s p q
 
   checked_one : (source : List ℕ) (aim : ProgramAim) → IsShortFor (of_program aim) source → (r s : Report) → IsReportOfSource runs source aim r → IsReportOfSource runs source aim s → r ≡ s
   checked_one source aim short r s (refused p) (refused q) = one_refusal answers source r s p q
@@ -267,6 +293,7 @@ module _ (runs : Runs) (answers : AnswerLaw) (ran : RunLaw runs) (coded : CodeLa
   short_for (of_program (judges purpose u text)) source within = within
   short_for (of_program checks) source within = tt
   short_for (of_program lists) source within = tt
+  short_for (of_program (tries t)) source within = within
   short_for lays_out source within = tt
 
   purpose_one : ExplainLaw → (name : List ℕ) (purpose : Purpose) (source : List ℕ) → length source ≤ MOST_BYTES

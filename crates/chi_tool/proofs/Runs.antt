@@ -21,11 +21,11 @@ use Rattle.chi_tool.specs.declared.task.PairPurpose.TheVariants.{Replay, OnLog}
 use Rattle.chi_tool.specs.declared.task.Purpose.{Purpose}
 use Rattle.chi_tool.specs.declared.task.Purpose.TheVariants.{OfProgram, Explain, LayOut}
 use Rattle.chi_tool.specs.declared.task.ProgramPurpose.{ProgramPurpose}
-use Rattle.chi_tool.specs.declared.task.ProgramPurpose.TheVariants.{Simulate, Check, ListCode}
+use Rattle.chi_tool.specs.declared.task.ProgramPurpose.TheVariants.{Simulate, Check, ListCode, Experiment}
 use Rattle.chi_tool.specs.Arguments.{Misfits, is_misfit}
 use Rattle.chi_tool.specs.Headline.{IsRunAsked}
 use Rattle.chi_tool.specs.Running.{runs_for}
-use Rattle.chi_tool.specs.Settings.{Wanted, simulates, replays, judges, checks, lists, Aim, of_program, lays_out, program_aim, aim_of, pair_aim, IsBoundedFor, IsBoundedPair, IsBounded, MayBeAimedAt, MayBeAimed, settings_with}
+use Rattle.chi_tool.specs.Settings.{Wanted, simulates, replays, judges, checks, lists, tries, Aim, of_program, lays_out, program_aim, aim_of, pair_aim, IsBoundedFor, IsBoundedPair, IsBounded, MayBeAimedAt, MayBeAimed, settings_with}
 use Rattle.chi_tool.specs.Sources.{ComesTo}
 use Rattle.chi_tool.proofs.LawClauses.{CheckLaw, RunLaw, ValuesLaw, comes_sound}
 
@@ -34,6 +34,7 @@ may_be_aimed_at : (purpose : ProgramPurpose) → IsBoundedFor purpose → MayBeA
 may_be_aimed_at (Simulate a) bounded = (bounded, named_lawful a.terms.policy)
 may_be_aimed_at Check bounded = tt
 may_be_aimed_at ListCode bounded = tt
+may_be_aimed_at (Experiment t) bounded = (bounded, named_lawful t.pick)
 
 pub may_be_aimed : (purpose : Purpose) → IsBounded purpose → MayBeAimed (aim_of purpose)
 may_be_aimed (OfProgram purpose) bounded = may_be_aimed_at purpose bounded
@@ -55,6 +56,7 @@ run_may_be_asked (of_program (replays u text)) w is may = subst (λ (x : Wanted)
 run_may_be_asked (of_program (judges purpose u text)) w is may = absurd is
 run_may_be_asked (of_program checks) w is may = absurd is
 run_may_be_asked (of_program lists) w is may = absurd is
+run_may_be_asked (of_program (tries t)) w is may = absurd is
 run_may_be_asked lays_out w is may = absurd is
 
 -- settings that are wanted may be had
@@ -81,6 +83,7 @@ asked_runs runs check some one its_some its_one = record { some = some_for; one 
     some_for (of_program (judges purpose u text)) = found IsRunOf its_some
     some_for (of_program checks) = found IsRunOf its_some
     some_for (of_program lists) = found IsRunOf its_some
+    some_for (of_program (tries t)) = found IsRunOf its_some
     some_for lays_out = found IsRunOf its_some
 
     one_for : (aim : Aim) → ComesToOne (runs_for runs aim)
@@ -89,6 +92,7 @@ asked_runs runs check some one its_some its_one = record { some = some_for; one 
     one_for (of_program (judges purpose u text)) = its_one
     one_for (of_program checks) = its_one
     one_for (of_program lists) = its_one
+    one_for (of_program (tries t)) = its_one
     one_for lays_out = its_one
 
 -- what follows of a result, where there is one

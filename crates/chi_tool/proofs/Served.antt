@@ -4,6 +4,7 @@ use Rattle.chi_io.specs.Shelf.{Files}
 use Rattle.chi_lex.specs.declared.lexer.TheConstants.{MOST_BYTES}
 use Rattle.chi_core.specs.declared.verdict.Verdict.TheVariants as verdict
 use Rattle.chi_engine.specs.Courses.{Runs}
+use Rattle.chi_xper_machines.specs.declared.tale.Ended.TheVariants.{Missing, WithoutValue, Deadlocked, Faulted, OutOfSteps}
 use Rattle.chi_tool.specs.Call.{Call}
 use Rattle.chi_tool.specs.Delivery.{whole, out_broke, log_broke, DeliversReport}
 use Rattle.chi_tool.specs.Serving.{Serves, served, refused, ServesPair}
@@ -12,7 +13,7 @@ use Rattle.chi_tool.specs.declared.task.Purpose.TheVariants.{OfProgram}
 use Rattle.chi_tool.specs.declared.task.ProgramPurpose.TheVariants.{Simulate}
 use Rattle.chi_tool.specs.declared.task.Task.{Task}
 use Rattle.chi_tool.specs.declared.task.Task.TheVariants.{OfPair}
-use Rattle.chi_tool.specs.Headline.{Headline, IsAskedSource, held, beside, made, HasLexicalFault, HasSyntaxFault, IsMistyped, Ends, IsExit, IsFault, HasUnfitArguments, HasMispick, HasNoLog, IsTooLong, IsUnread, CannotBeRead, IsExactly, IsExactlyOf, Causes, IsComplete}
+use Rattle.chi_tool.specs.Headline.{Headline, IsAskedSource, held, beside, made, HasLexicalFault, HasSyntaxFault, IsMistyped, Ends, Tries, EndsOrTries, IsExit, IsFault, HasUnfitArguments, HasMispick, HasNoLog, IsTooLong, IsUnread, CannotBeRead, IsExactly, IsExactlyOf, Causes, IsComplete}
 use Rattle.chi_tool.specs.Refusals.{Report, usage}
 use Rattle.chi_tool.specs.Settings.{Aim, MayBeAimed, plain, settings_with}
 use Rattle.chi_tool.specs.Words.{Wish, nothing, of_task, wish_of}
@@ -20,7 +21,8 @@ use Rattle.chi_tool.proofs.Causes.{of_source_status, of_done_status, of_misfit_s
 use Rattle.chi_tool.proofs.Contents.{IsOfFile}
 use Rattle.chi_tool.proofs.Endings.{goes_stopped, Breaks, Ended, ended_for, delivered_ended, silent_ended, tells_ended, refuses_ended}
 use Rattle.chi_tool.proofs.LawClauses.{RunLaw, CodeLaw, ReportLaw, ValuesLaw, RangeLaw}
-use Rattle.chi_tool.proofs.StatusCauses.{StatusOf, exit_status, deadlock_status, fault_status, out_of_steps_status, stopped_status, lexical_status, syntax_status, mistyped_status, unfit_status, mispicked_status, no_log_status, too_long_status}
+use Rattle.chi_tool.proofs.StatusCauses.{StatusOf, exit_status, stopped_status, lexical_status, syntax_status, mistyped_status, unfit_status, mispicked_status, no_log_status, too_long_status}
+use Rattle.chi_tool.proofs.TrialCauses.{deadlock_status, fault_status, out_of_steps_status, without_value_status, no_experiment_status}
 use Rattle.chi_tool.proofs.TwoFiles.{names_pair, pair_one, pair_ended}
 use Rattle.chi_tool.proofs.Promises.{IsLost, met_of, asks_something, names_file, served_one, named-headline, usage-headline, lost-headline}
 use Rattle.chi_tool.proofs.Runs.{may_be_aimed, pair_may_be_aimed, run_may_be_asked, asked_settings}
@@ -52,10 +54,12 @@ module _ (runs : Runs) (law : ReportLaw runs) (coded : CodeLaw) (call : Call) (h
   causes breaks request unread = record {
     done = of_done_status runs law coded call head;
     exit = of_source 10 (Ends runs IsExit) (exit_status runs) (λ e. omega arith) (λ e. omega arith, λ e. omega arith);
-    deadlock = of_source 11 (Ends runs (λ v. v ≡ verdict.Deadlock)) (deadlock_status runs) (λ e. omega arith) (λ e. omega arith, λ e. omega arith);
-    fault = of_source 12 (Ends runs IsFault) (fault_status runs) (λ e. omega arith) (λ e. omega arith, λ e. omega arith);
-    out_of_steps = of_source 13 (Ends runs (λ v. v ≡ verdict.OutOfSteps)) (out_of_steps_status runs) (λ e. omega arith) (λ e. omega arith, λ e. omega arith);
+    deadlock = of_source 11 (EndsOrTries runs (λ v. v ≡ verdict.Deadlock) Deadlocked) (deadlock_status runs) (λ e. omega arith) (λ e. omega arith, λ e. omega arith);
+    fault = of_source 12 (EndsOrTries runs IsFault Faulted) (fault_status runs) (λ e. omega arith) (λ e. omega arith, λ e. omega arith);
+    out_of_steps = of_source 13 (EndsOrTries runs (λ v. v ≡ verdict.OutOfSteps) OutOfSteps) (out_of_steps_status runs) (λ e. omega arith) (λ e. omega arith, λ e. omega arith);
     stopped = of_source 14 (Ends runs (λ v. v ≡ verdict.Stopped)) (stopped_status runs) (λ e. omega arith) (λ e. omega arith, λ e. omega arith);
+    without_value = of_source 15 (Tries WithoutValue) (without_value_status runs) (λ e. omega arith) (λ e. omega arith, λ e. omega arith);
+    no_experiment = of_source 28 (Tries Missing) (no_experiment_status runs) (λ e. omega arith) (λ e. omega arith, λ e. omega arith);
     lexical = of_source 20 (λ aim. HasLexicalFault) (lexical_status runs) (λ e. omega arith) (λ e. omega arith, λ e. omega arith);
     syntax = of_source 21 (λ aim. HasSyntaxFault) (syntax_status runs) (λ e. omega arith) (λ e. omega arith, λ e. omega arith);
     typing = of_source 22 IsMistyped (mistyped_status runs) (λ e. omega arith) (λ e. omega arith, λ e. omega arith);

@@ -9,9 +9,11 @@ use Rattle.chi_sched.specs.Policies.{Answers, listed}
 use Rattle.chi_trace.specs.declared.filter.Filter.{Filter}
 use Rattle.chi_value.specs.declared.value.Value.{Value}
 use Rattle.chi_engine.specs.Courses.{Course, IsRunOf}
+use Rattle.chi_xper_machines.specs.declared.tale.Ended.{Ended}
+use Rattle.chi_xper_machines.specs.declared.tale.Ended.TheVariants.{Completed, Deadlocked, Faulted, OutOfSteps}
 use Rattle.chi_tool.specs.Arguments.{Means}
 use Rattle.chi_tool.specs.Call.{SinkUse, SinkStood}
-use Rattle.chi_tool.specs.Headline.{IsReportedOrLost, MeetsAlone, delivered, wanting, HasLexicalFault, HasSyntaxFault, IsMistyped, EndsAs, Ends, IsDone, IsExit, IsFault, HasUnfitArguments}
+use Rattle.chi_tool.specs.Headline.{IsReportedOrLost, MeetsAlone, delivered, wanting, HasLexicalFault, HasSyntaxFault, IsMistyped, EndsAs, Ends, EndsOrTries, IsDone, IsExit, IsFault, HasUnfitArguments}
 use Rattle.chi_tool.specs.Refusals.{Report}
 use Rattle.chi_tool.specs.Report as report
 use Rattle.chi_tool.specs.Report.{IsReportOfSource, program}
@@ -23,10 +25,12 @@ use Rattle.chi_tool.specs.Sources.{ComesTo}
 use Rattle.chi_tool.specs.Statuses.{status_of}
 use Rattle.chi_tool.proofs.Causes.{exactly}
 use Rattle.chi_tool.proofs.Contents.{status_ap, simulated_bound, IsOfContent, source_status}
-use Rattle.chi_tool.proofs.Endings.{Ended, tells_ended, delivered_status}
+use Rattle.chi_tool.proofs.Endings as endings
+use Rattle.chi_tool.proofs.Endings.{tells_ended, delivered_status}
 use Rattle.chi_tool.proofs.LawClauses.{HasRun, ValuesLaw, SourceLaw, OwnLaw}
 use Rattle.chi_tool.proofs.Promises.{alone-whole}
-use Rattle.chi_tool.proofs.StatusCauses.{StatusOf, done_status, exit_status, deadlock_status, fault_status, out_of_steps_status, stopped_status, lexical_status, syntax_status, mistyped_status, unfit_status}
+use Rattle.chi_tool.proofs.StatusCauses.{StatusOf, exit_status, stopped_status, lexical_status, syntax_status, mistyped_status, unfit_status}
+use Rattle.chi_tool.proofs.TrialCauses.{done_status, deadlock_status, fault_status, out_of_steps_status}
 use Rattle.chi_tool.proofs.Runs.{asked_settings}
 use Rattle.chi_tool.proofs.Sinks.{none_part}
 
@@ -78,11 +82,11 @@ module _ (law : SourceLaw) (s : Simulation) (within : length s.source ≤ MOST_B
   content : (r : Report) → IsReportOfSource IsRunOf s.source (simulates s.wanted) r → IsOfContent r.status
   content r is = source_status IsRunOf s.source (simulates s.wanted) r is
 
-  ended : Ended ⊥ ⊥ s.status s.out s.log
+  ended : endings.Ended ⊥ ⊥ s.status s.out s.log
   ended = tells_ended ⊥ ⊥ (IsReportOfSource IsRunOf s.source (simulates s.wanted)) s.status s.out s.log content tells
 
-  -- no log is brought up, nothing is laid out, and there are no picks that don't fit
-  above : (n : ℕ) → 24 ≤ n → (r : Report) → IsReportOfSource IsRunOf s.source (simulates s.wanted) r → r.status ≢ n
+  -- no log is brought up, nothing is laid out, there are no picks that don't fit, and no experiment is run
+  above : (n : ℕ) → (n ≡ 15) ⊎ (24 ≤ n) → (r : Report) → IsReportOfSource IsRunOf s.source (simulates s.wanted) r → r.status ≢ n
   above n high r is h = let b = simulated_bound IsRunOf s.source s.wanted r is in let far = high in grind arith
 
   met_by : Telling → Met s
@@ -95,10 +99,10 @@ module _ (law : SourceLaw) (s : Simulation) (within : length s.source ≤ MOST_B
   pub simulation-headline : SimulationHeadline s
   simulation-headline = record { report = met_by tells; out_stopped = ended.stopped }
 
-  above_by : (n : ℕ) → 24 ≤ n → Telling → s.status ≢ n
-  above_by n high (told r is d) e = delivered_status _ n _ _ _ s.out s.log (above n high r is) (λ h. omega arith) d e
-  above_by n high (cut_short r is status part log) e = omega arith
-  above_by n high (untold status out log) e = omega arith
+  above_by : (n : ℕ) → (n ≡ 15) ⊎ (24 ≤ n) → Telling → s.status ≢ n
+  above_by n high (told r is d) e = delivered_status _ n _ _ _ s.out s.log (above n high r is) (λ h. let far = high in grind arith) d e
+  above_by n high (cut_short r is status part log) e = let far = high in grind arith
+  above_by n high (untold status out log) e = let far = high in grind arith
 
   -- a status comes exactly of its cause
   module _ (n : ℕ) (P : Aim → List ℕ → Type 0) (status : StatusOf IsRunOf n P) where
@@ -122,17 +126,26 @@ module _ (law : SourceLaw) (s : Simulation) (within : length s.source ≤ MOST_B
   ends : (n : ℕ) (Q : Verdict → Type 0) → StatusOf IsRunOf n (Ends IsRunOf Q) → ComesOf s n (EndsAs IsRunOf Q s.wanted)
   ends n Q status = exactly_by n (Ends IsRunOf Q) status (EndsAs IsRunOf Q s.wanted s.source) (ends_here Q) (λ e. (s.wanted, refl, e)) (met_by tells)
 
+  -- and no experiment does
+  ends_alone : (Q : Verdict → Type 0) (e : Ended) → EndsOrTries IsRunOf Q e (of_program (simulates s.wanted)) s.source → EndsAs IsRunOf Q s.wanted s.source
+  ends_alone Q e (inl h) = ends_here Q h
+  ends_alone Q e (inr none) = absurd none
+
+  ends_or : (n : ℕ) (Q : Verdict → Type 0) (e : Ended) → StatusOf IsRunOf n (EndsOrTries IsRunOf Q e) → ComesOf s n (EndsAs IsRunOf Q s.wanted)
+  ends_or n Q e status =
+      exactly_by n (EndsOrTries IsRunOf Q e) status (EndsAs IsRunOf Q s.wanted s.source) (ends_alone Q e) (λ h. inl (s.wanted, refl, h)) (met_by tells)
+
   completed : IsDone IsRunOf (of_program (simulates s.wanted)) s.source → EndsAs IsRunOf (λ v. v ≡ verdict.Completed) s.wanted s.source
-  completed (inl e) = ends_here (λ v. v ≡ verdict.Completed) e
+  completed (inl e) = ends_alone (λ v. v ≡ verdict.Completed) Completed e
   completed (inr none) = absurd none
 
   pub simulation-causes : SimulationCauses s
   simulation-causes = record {
-    done = exactly_by 0 (IsDone IsRunOf) (done_status IsRunOf) (EndsAs IsRunOf (λ v. v ≡ verdict.Completed) s.wanted s.source) completed (λ e. inl (s.wanted, refl, e)) (met_by tells);
+    done = exactly_by 0 (IsDone IsRunOf) (done_status IsRunOf) (EndsAs IsRunOf (λ v. v ≡ verdict.Completed) s.wanted s.source) completed (λ e. inl (inl (s.wanted, refl, e))) (met_by tells);
     exit = ends 10 IsExit (exit_status IsRunOf);
-    deadlock = ends 11 (λ v. v ≡ verdict.Deadlock) (deadlock_status IsRunOf);
-    fault = ends 12 IsFault (fault_status IsRunOf);
-    out_of_steps = ends 13 (λ v. v ≡ verdict.OutOfSteps) (out_of_steps_status IsRunOf);
+    deadlock = ends_or 11 (λ v. v ≡ verdict.Deadlock) Deadlocked (deadlock_status IsRunOf);
+    fault = ends_or 12 IsFault Faulted (fault_status IsRunOf);
+    out_of_steps = ends_or 13 (λ v. v ≡ verdict.OutOfSteps) OutOfSteps (out_of_steps_status IsRunOf);
     stopped = ends 14 (λ v. v ≡ verdict.Stopped) (stopped_status IsRunOf);
     lexical = comes 20 (λ aim. HasLexicalFault) (lexical_status IsRunOf);
     syntax = comes 21 (λ aim. HasSyntaxFault) (syntax_status IsRunOf);
@@ -140,10 +153,12 @@ module _ (law : SourceLaw) (s : Simulation) (within : length s.source ≤ MOST_B
     arguments = comes 23 HasUnfitArguments (unfit_status IsRunOf);
     no_request = ended.request;
     not_read = ended.unread;
-    misfit = above_by 24 (omega arith) tells;
-    mispicked = above_by 26 (omega arith) tells;
-    no_log = above_by 25 (omega arith) tells;
-    layout_too_long = above_by 27 (omega arith) tells;
+    misfit = above_by 24 (inr (omega arith)) tells;
+    mispicked = above_by 26 (inr (omega arith)) tells;
+    no_log = above_by 25 (inr (omega arith)) tells;
+    layout_too_long = above_by 27 (inr (omega arith)) tells;
+    without_value = above_by 15 (inl refl) tells;
+    no_experiment = above_by 28 (inr (omega arith)) tells;
     not_written = (ended.breaks.stops, ended.breaks.tells);
     out_failed = ended.breaks.out_failed;
     log_failed = ended.breaks.log_failed;

@@ -10,52 +10,69 @@ use Rattle.chi_core.specs.declared.verdict.Verdict.TheVariants as verdict
 use Rattle.chi_sched.specs.Policies.{listed}
 use Rattle.chi_value.specs.declared.value.Value.{Value}
 use Rattle.chi_engine.specs.Courses.{Course, Runs, IsRunOf}
+use Rattle.chi_xper_machines.specs.Trials.{Trial, IsTrial, Logs}
 use Rattle.chi_tool.specs.Arguments.{Means}
 use Rattle.chi_tool.specs.declared.task.LogPurpose.{LogPurpose}
+use Rattle.chi_tool.specs.declared.task.PairPurpose.{PairPurpose}
+use Rattle.chi_tool.specs.declared.task.PairPurpose.TheVariants.{Replay, OnLog}
+use Rattle.chi_tool.specs.declared.task.ProgramPurpose.TheVariants.{Simulate, Check, ListCode, Experiment}
+use Rattle.chi_tool.specs.declared.task.Purpose.{Purpose}
+use Rattle.chi_tool.specs.declared.task.Purpose.TheVariants.{OfProgram, Explain, LayOut}
+use Rattle.chi_tool.specs.declared.task.Task.TheVariants.{OfFile}
 use Rattle.chi_tool.specs.Call.{Call}
-use Rattle.chi_tool.specs.Headline.{HasLexicalFault, HasSyntaxFault, IsMistyped, IsTooLong, IsAskedSource, held, beside, made, EndsAs, IsRunAsked, Ends, IsDone, GivesLog, IsExit, IsFault, HasUnfitArguments, HasMispick, GivesNoLog, HasNoLog}
+use Rattle.chi_tool.specs.Headline.{HasLexicalFault, HasSyntaxFault, IsMistyped, IsTooLong, IsAskedSource, held, beside, made, EndsAs, IsRunAsked, Ends, IsExit, HasUnfitArguments, HasMispick, GivesNoLog, HasNoLog}
 use Rattle.chi_tool.specs.Refusals as refusal
 use Rattle.chi_tool.specs.Refusals.{Report}
 use Rattle.chi_tool.specs.Report.{IsReportOfSource, refused, program, IsReportOfJudging, IsReportOfProgram, IsReportOfLayout, faulty, laid_out, too_long, IsReportFor}
 use Rattle.chi_tool.specs.Report as report
-use Rattle.chi_tool.specs.Running.{runs_for, IsRunReport, run_report}
-use Rattle.chi_tool.specs.Settings.{Wanted, Unpicked, picked_by, ProgramAim, simulates, replays, judges, checks, lists, Aim, of_program, lays_out, settings_with}
+use Rattle.chi_tool.specs.Running.{runs_for, IsRunReport, IsReportOfTrial, run_report}
+use Rattle.chi_tool.specs.Settings.{Wanted, Unpicked, picked_by, Trying, ProgramAim, simulates, replays, judges, checks, lists, tries, Aim, of_program, lays_out, aim_of, pair_aim, settings_with}
 use Rattle.chi_tool.specs.Sources.{IsUnparsed, by_lexer, by_parser, unparsed, by_checker, ComesTo}
 use Rattle.chi_tool.specs.Statuses.{status_of}
-use Rattle.chi_tool.proofs.Contents.{status_ap, is_log_status, ran_bound, judging_bound, replayed_bound, source_program, refused_bound, source_bound, simulated_bound, layout_bound}
-use Rattle.chi_tool.proofs.LawClauses.{CodeLaw}
-use Rattle.chi_tool.proofs.Verdicts.{status_bound, completed_by, exit_by, deadlock_by, fault_by, out_of_steps_by, stopped_by}
+use Rattle.chi_tool.specs.Words.{of_task, wish_of}
+use Rattle.chi_tool.proofs.Contents.{status_ap, is_log_status, ran_bound, trial_bound, judging_bound, replayed_bound, source_program, refused_bound, source_bound, simulated_bound, layout_bound}
+use Rattle.chi_tool.proofs.LawClauses.{CodeLaw, ReportLaw}
+use Rattle.chi_tool.proofs.Verdicts.{status_bound, exit_by, stopped_by}
 
 no_program : (runs : Runs) (n : ℕ) → (20 ≤ n) × (n ≤ 22) → (core : Core) (aim : ProgramAim) (r : Report) → IsReportOfProgram runs core aim r → r.status ≡ n → ⊥
 no_program runs n between core aim r is e = let b = source_program runs core aim r is in let low = between.0 in let high = between.1 in grind arith
 
--- what is to be listed is there: the code of the program that a source comes to
-abbrev pub IsListable : Aim → List ℕ → Type 0
-IsListable (of_program (simulates w)) source = Unit {0}
-IsListable (of_program (replays u text)) source = Unit {0}
-IsListable (of_program (judges purpose u text)) source = Unit {0}
-IsListable (of_program checks) source = Unit {0}
-IsListable lays_out source = Unit {0}
-IsListable (of_program lists) source = (core : Core) → ComesTo source core → (code : Code) × Codes core code
+-- what is to be told is there: the code of the program that a source comes to, or the line of what comes of its experiment
+abbrev pub IsTellable : Aim → List ℕ → Type 0
+IsTellable (of_program (simulates w)) source = Unit {0}
+IsTellable (of_program (replays u text)) source = Unit {0}
+IsTellable (of_program (judges purpose u text)) source = Unit {0}
+IsTellable (of_program checks) source = Unit {0}
+IsTellable lays_out source = Unit {0}
+IsTellable (of_program lists) source = (core : Core) → ComesTo source core → (code : Code) × Codes core code
+IsTellable (of_program (tries t)) source =
+    (core : Core) → ComesTo source core → (trial : Trial) → IsTrial core t.seed t.pick t.bound trial → (line : List ℕ) × Logs core trial line
 
-listable : CodeLaw → (source : List ℕ) → length source ≤ MOST_BYTES → (aim : Aim) → IsListable aim source
-listable coded source within (of_program (simulates w)) = tt
-listable coded source within (of_program (replays u text)) = tt
-listable coded source within (of_program (judges purpose u text)) = tt
-listable coded source within (of_program checks) = tt
-listable coded source within lays_out = tt
-listable coded source within (of_program lists) = λ core comes. coded.some source core within comes
+tellable : (runs : Runs) → ReportLaw runs → CodeLaw → (words : List (List ℕ)) (name : List ℕ) (purpose : Purpose) → wish_of words ≡ of_task (OfFile name purpose)
+    → (source : List ℕ) → length source ≤ MOST_BYTES → IsTellable (aim_of purpose) source
+tellable runs law coded words name (OfProgram (Simulate a)) asked source within = tt
+tellable runs law coded words name (OfProgram Check) asked source within = tt
+tellable runs law coded words name (OfProgram ListCode) asked source within = λ core comes. coded.some source core within comes
+tellable runs law coded words name (OfProgram (Experiment t)) asked source within = λ core comes trial is. law.tried words name t asked source within core comes trial is
+tellable runs law coded words name (Explain a) asked source within = tt
+tellable runs law coded words name LayOut asked source within = tt
 
-pub asked_listable : CodeLaw → (call : Call) (files : Files) (aim : Aim) (source : List ℕ) → IsAskedSource call files aim source → IsListable aim source
-asked_listable coded call files aim source (held name purpose asked there within same) = listable coded source within aim
-asked_listable coded call files aim source (beside pair text asked there within also short same) = listable coded source within aim
-asked_listable coded call files aim source (made size asked same plainly) = subst (λ (a : Aim). IsListable a source) (sym plainly) tt
+pair_tellable : (purpose : PairPurpose) (text source : List ℕ) → IsTellable (of_program (pair_aim purpose text)) source
+pair_tellable (Replay a) text source = tt
+pair_tellable (OnLog purpose a) text source = tt
+
+pub asked_tellable : (runs : Runs) → ReportLaw runs → CodeLaw → (call : Call) (files : Files) (aim : Aim) (source : List ℕ) → IsAskedSource call files aim source → IsTellable aim source
+asked_tellable runs law coded call files aim source (held name purpose asked there within same) =
+    subst (λ (a : Aim). IsTellable a source) (sym same) (tellable runs law coded call.words name purpose asked source within)
+asked_tellable runs law coded call files aim source (beside pair text asked there within also short same) =
+    subst (λ (a : Aim). IsTellable a source) (sym same) (pair_tellable pair.purpose text source)
+asked_tellable runs law coded call files aim source (made size asked same plainly) = subst (λ (a : Aim). IsTellable a source) (sym plainly) tt
 
 -- a status that a source's report has exactly for one cause, and that no other refusal has
 pub record StatusOf (runs : Runs) (n : ℕ) (P : Aim → List ℕ → Type 0) : Type 0 where
   pub other : (n ≢ 3) × (n ≢ 4) × (n ≢ 6)
   pub to : (aim : Aim) (source : List ℕ) (r : Report) → IsReportFor runs aim source r → r.status ≡ n → P aim source
-  pub from : (aim : Aim) (source : List ℕ) → IsListable aim source → P aim source → (r : Report) × IsReportFor runs aim source r × (r.status ≡ n)
+  pub from : (aim : Aim) (source : List ℕ) → IsTellable aim source → P aim source → (r : Report) × IsReportFor runs aim source r × (r.status ≡ n)
 
 -- the statuses of runs
 
@@ -72,6 +89,7 @@ ran_report runs (of_program (replays u text)) w is source core comes arguments m
 ran_report runs (of_program (judges purpose u text)) w is source core comes arguments means course run = absurd is
 ran_report runs (of_program checks) w is source core comes arguments means course run = absurd is
 ran_report runs (of_program lists) w is source core comes arguments means course run = absurd is
+ran_report runs (of_program (tries t)) w is source core comes arguments means course run = absurd is
 ran_report runs lays_out w is source core comes arguments means course run = absurd is
 
 module _ (runs : Runs) (n : ℕ) (Q : Verdict → Type 0) (low : (n ≡ 0) ⊎ ((10 ≤ n) × (n ≤ 14))) (to : (v : Verdict) → status_of v ≡ n → Q v)
@@ -94,12 +112,12 @@ module _ (runs : Runs) (n : ℕ) (Q : Verdict → Type 0) (low : (n ≡ 0) ⊎ (
     ends = to of.course.ending.verdict (sym (status_ap r _ of.is) ∙ is);
   }
 
-  run_ends : (w : Wanted) (source : List ℕ) (core : Core) (r : Report) → ComesTo source core → IsReportOfProgram runs core (simulates w) r → r.status ≡ n
+  pub run_ends : (w : Wanted) (source : List ℕ) (core : Core) (r : Report) → ComesTo source core → IsReportOfProgram runs core (simulates w) r → r.status ≡ n
       → Ends runs Q (of_program (simulates w)) source
   run_ends w source core r comes (report.unfit wanted fault misfits e) is = absurd (no_refusal 23 (inr (inr (inr (omega arith)))) (sym is ∙ status_ap r _ e))
   run_ends w source core r comes (report.fit values means of) is = (w, refl, ends_as runs w source core r comes values means of is)
 
-  replay_ends : (u : Unpicked) (text source : List ℕ) (core : Core) (r : Report) → ComesTo source core → IsReportOfProgram runs core (replays u text) r → r.status ≡ n
+  pub replay_ends : (u : Unpicked) (text source : List ℕ) (core : Core) (r : Report) → ComesTo source core → IsReportOfProgram runs core (replays u text) r → r.status ≡ n
       → Ends runs Q (of_program (replays u text)) source
   replay_ends u text source core r comes (report.unfit wanted fault misfits e) is = absurd (no_refusal 23 (inr (inr (inr (omega arith)))) (sym is ∙ status_ap r _ e))
   replay_ends u text source core r comes (report.fit values means (report.mispicked k misfits e)) is =
@@ -107,7 +125,7 @@ module _ (runs : Runs) (n : ℕ) (Q : Verdict → Type 0) (low : (n ≡ 0) ⊎ (
   replay_ends u text source core r comes (report.fit values means (report.replayed numbers has of)) is =
       let w = picked_by (listed numbers) u in (w, (numbers, has, refl), ends_as IsRunOf w source core r comes values means of is)
 
-  ends_run : (aim : Aim) (source : List ℕ) → Ends runs Q aim source → (r : Report) × IsReportFor runs aim source r × (r.status ≡ n)
+  pub ends_run : (aim : Aim) (source : List ℕ) → Ends runs Q aim source → (r : Report) × IsReportFor runs aim source r × (r.status ≡ n)
   ends_run aim source p =
       let e = p.2 in
       (run_report e.core e.course, ran_report runs aim p.0 p.1 source e.core e.program e.arguments e.fit e.course e.run, from e.course.ending.verdict e.ends)
@@ -116,85 +134,40 @@ module _ (runs : Runs) (n : ℕ) (Q : Verdict → Type 0) (low : (n ≡ 0) ⊎ (
   no_source_refusal : (m : ℕ) (r : Report) → 20 ≤ m → r.status ≡ m → r.status ≡ n → ⊥
   no_source_refusal m r high is e = no_refusal m (inr (inr (inr high))) (sym e ∙ is)
 
-  module _ (positive : 10 ≤ n) where
-    ends : (aim : Aim) (source : List ℕ) (r : Report) → IsReportFor runs aim source r → r.status ≡ n → Ends runs Q aim source
+  -- a status of runs, and of experiments where they can have it
+  module _ (positive : 10 ≤ n) (P : Aim → List ℕ → Type 0) (so : (aim : Aim) (source : List ℕ) → Ends runs Q aim source → P aim source)
+      (tried : (t : Trying) (source : List ℕ) (core : Core) (r : Report) → ComesTo source core → IsReportOfTrial core t r → r.status ≡ n → P (of_program (tries t)) source) where
+    ends : (aim : Aim) (source : List ℕ) (r : Report) → IsReportFor runs aim source r → r.status ≡ n → P aim source
     ends (of_program aim) source r (refused (unparsed (by_lexer fault has e))) is = absurd (no_source_refusal 20 r (omega arith) (status_ap r _ e) is)
     ends (of_program aim) source r (refused (unparsed (by_parser tokens fault has e))) is = absurd (no_source_refusal 21 r (omega arith) (status_ap r _ e) is)
     ends (of_program aim) source r (refused (by_checker fault has e)) is = absurd (no_source_refusal 22 r (omega arith) (status_ap r _ e) is)
-    ends (of_program (simulates w)) source r (program core comes of) is = run_ends w source core r comes of is
-    ends (of_program (replays u text)) source r (program core comes of) is = replay_ends u text source core r comes of is
+    ends (of_program (simulates w)) source r (program core comes of) is = so (of_program (simulates w)) source (run_ends w source core r comes of is)
+    ends (of_program (replays u text)) source r (program core comes of) is = so (of_program (replays u text)) source (replay_ends u text source core r comes of is)
     ends (of_program (judges purpose u text)) source r (program core comes of) is =
         let b = judging_bound core purpose u text r of in let l = low in let some = positive in absurd (grind arith)
     ends (of_program checks) source r (program core comes of) is = let none = status_ap r _ of in let some = positive in absurd (omega arith)
     ends (of_program lists) source r (program core comes of) is = let none = status_ap r _ of.listed in let some = positive in absurd (omega arith)
+    ends (of_program (tries t)) source r (program core comes of) is = tried t source core r comes of is
     ends lays_out source r of is = let b = layout_bound source r of in let l = low in let some = positive in absurd (grind arith)
 
-    run_status : StatusOf runs n (Ends runs Q)
-    run_status = record {
+    pub status_by : ((aim : Aim) (source : List ℕ) → IsTellable aim source → P aim source → (r : Report) × IsReportFor runs aim source r × (r.status ≡ n)) → StatusOf runs n P
+    status_by back = record {
       other = (no_refusal 3 (inl refl), no_refusal 4 (inr (inl refl)), no_refusal 6 (inr (inr (inl refl))));
       to = ends;
-      from = λ aim source may p. ends_run aim source p;
+      from = back;
     }
 
--- a log that the program can give
-given_of : (purpose : LogPurpose) (u : Unpicked) (text source : List ℕ) (core : Core) (r : Report) → ComesTo source core → IsReportOfJudging core purpose u text r → r.status ≡ 0
-    → GivesLog u text source
-given_of purpose u text source core r comes (report.unfit wanted fault misfits e) is = let h = status_ap r _ e in absurd (omega arith)
-given_of purpose u text source core r comes (report.fit values means (report.yes output numbers log e)) is =
-    record { core = core; program = comes; arguments = values; fit = means; output = output; numbers = numbers; is = log }
-given_of purpose u text source core r comes (report.fit values means (report.no k refuses e)) is = let h = status_ap r _ e in absurd (omega arith)
-
-of_given : (runs : Runs) (purpose : LogPurpose) (u : Unpicked) (text source : List ℕ) → GivesLog u text source
-    → (r : Report) × IsReportFor runs (of_program (judges purpose u text)) source r × (r.status ≡ 0)
-of_given runs purpose u text source g = (
-  refusal.is_log purpose g.output g.numbers,
-  program g.core g.program (report.fit g.arguments g.fit (report.yes g.output g.numbers g.is refl)),
-  is_log_status purpose g.output g.numbers,
-)
-
-done_of : (runs : Runs) (aim : Aim) (source : List ℕ) (r : Report) → IsReportFor runs aim source r → r.status ≡ 0 → IsDone runs aim source
-done_of runs (of_program aim) source r (refused (unparsed (by_lexer fault has e))) is = let h = status_ap r _ e in absurd (omega arith)
-done_of runs (of_program aim) source r (refused (unparsed (by_parser tokens fault has e))) is = let h = status_ap r _ e in absurd (omega arith)
-done_of runs (of_program aim) source r (refused (by_checker fault has e)) is = let h = status_ap r _ e in absurd (omega arith)
-done_of runs (of_program (simulates w)) source r (program core comes of) is =
-    inl (run_ends runs 0 (λ v. v ≡ verdict.Completed) (inl refl) completed_by (λ v e. ap status_of e) w source core r comes of is)
-done_of runs (of_program (replays u text)) source r (program core comes of) is =
-    inl (replay_ends runs 0 (λ v. v ≡ verdict.Completed) (inl refl) completed_by (λ v e. ap status_of e) u text source core r comes of is)
-done_of runs (of_program (judges purpose u text)) source r (program core comes of) is = inr (given_of purpose u text source core r comes of is)
-done_of runs (of_program checks) source r (program core comes of) is = inr (core, comes)
-done_of runs (of_program lists) source r (program core comes of) is = inr (core, comes)
-done_of runs lays_out source r (faulty (by_lexer fault has e)) is = let h = status_ap r _ e in absurd (omega arith)
-done_of runs lays_out source r (faulty (by_parser tokens fault has e)) is = let h = status_ap r _ e in absurd (omega arith)
-done_of runs lays_out source r (laid_out text has within e) is = inr (text, has, within)
-done_of runs lays_out source r (too_long text has above e) is = let h = status_ap r _ e in absurd (omega arith)
-
-of_done : (runs : Runs) (aim : Aim) (source : List ℕ) → IsListable aim source → IsDone runs aim source → (r : Report) × IsReportFor runs aim source r × (r.status ≡ 0)
-of_done runs aim source may (inl p) = ends_run runs 0 (λ v. v ≡ verdict.Completed) (inl refl) completed_by (λ v e. ap status_of e) aim source p
-of_done runs (of_program (simulates w)) source may (inr p) = absurd p
-of_done runs (of_program (replays u text)) source may (inr p) = absurd p
-of_done runs (of_program (judges purpose u text)) source may (inr p) = of_given runs purpose u text source p
-of_done runs (of_program checks) source may (inr p) = (refusal.accepted, program p.0 p.1 refl, refl)
-of_done runs (of_program lists) source may (inr p) =
-    let there = may p.0 p.1 in (refusal.listed there.0, program p.0 p.1 (record { code = there.0; is = there.1; listed = refl }), refl)
-of_done runs lays_out source may (inr p) = (refusal.laid_out p.0, laid_out p.0 p.1 p.2 refl, refl)
-
-pub done_status : (runs : Runs) → StatusOf runs 0 (IsDone runs)
-done_status runs = record { other = (λ e. omega arith, λ e. omega arith, λ e. omega arith); to = done_of runs; from = of_done runs }
+  -- no experiment has it
+  run_status : 10 ≤ n → (n ≡ 10) ⊎ (n ≡ 14) → StatusOf runs n (Ends runs Q)
+  run_status positive alone =
+      status_by positive (Ends runs Q) (λ aim source e. e)
+      (λ t source core r comes of is. let b = trial_bound core t r of in let a = alone in absurd (grind arith)) (λ aim source may p. ends_run aim source p)
 
 pub exit_status : (runs : Runs) → StatusOf runs 10 (Ends runs IsExit)
-exit_status runs = run_status runs 10 IsExit (inr (omega arith, omega arith)) exit_by (λ v e. ap status_of e.1) (omega arith)
-
-pub deadlock_status : (runs : Runs) → StatusOf runs 11 (Ends runs (λ v. v ≡ verdict.Deadlock))
-deadlock_status runs = run_status runs 11 (λ v. v ≡ verdict.Deadlock) (inr (omega arith, omega arith)) deadlock_by (λ v e. ap status_of e) (omega arith)
-
-pub fault_status : (runs : Runs) → StatusOf runs 12 (Ends runs IsFault)
-fault_status runs = run_status runs 12 IsFault (inr (omega arith, omega arith)) fault_by (λ v e. ap status_of e.3) (omega arith)
-
-pub out_of_steps_status : (runs : Runs) → StatusOf runs 13 (Ends runs (λ v. v ≡ verdict.OutOfSteps))
-out_of_steps_status runs = run_status runs 13 (λ v. v ≡ verdict.OutOfSteps) (inr (omega arith, omega arith)) out_of_steps_by (λ v e. ap status_of e) (omega arith)
+exit_status runs = run_status runs 10 IsExit (inr (omega arith, omega arith)) exit_by (λ v e. ap status_of e.1) (omega arith) (inl refl)
 
 pub stopped_status : (runs : Runs) → StatusOf runs 14 (Ends runs (λ v. v ≡ verdict.Stopped))
-stopped_status runs = run_status runs 14 (λ v. v ≡ verdict.Stopped) (inr (omega arith, omega arith)) stopped_by (λ v e. ap status_of e) (omega arith)
+stopped_status runs = run_status runs 14 (λ v. v ≡ verdict.Stopped) (inr (omega arith, omega arith)) stopped_by (λ v e. ap status_of e) (omega arith) (inr refl)
 
 -- the statuses of refusals
 
@@ -243,7 +216,7 @@ mistyped_of runs (of_program aim) source r (refused (by_checker fault has e)) is
 mistyped_of runs (of_program aim) source r (program core comes of) is = absurd (no_program runs 22 (omega arith, omega arith) core aim r of is)
 mistyped_of runs lays_out source r of is = let b = layout_bound source r of in absurd (grind arith)
 
-of_mistyped : (runs : Runs) (aim : Aim) (source : List ℕ) → IsListable aim source → IsMistyped aim source → (r : Report) × IsReportFor runs aim source r × (r.status ≡ 22)
+of_mistyped : (runs : Runs) (aim : Aim) (source : List ℕ) → IsTellable aim source → IsMistyped aim source → (r : Report) × IsReportFor runs aim source r × (r.status ≡ 22)
 of_mistyped runs (of_program aim) source may p = (refusal.typing p.0, refused (by_checker p.0 p.1 refl), refl)
 of_mistyped runs lays_out source may p = absurd p
 
@@ -284,9 +257,10 @@ unfit_of runs (of_program (replays u text)) source r (program core comes of) is 
 unfit_of runs (of_program (judges purpose u text)) source r (program core comes of) is = unfit_judging purpose u text source core r comes of is
 unfit_of runs (of_program checks) source r (program core comes of) is = let h = status_ap r _ of in absurd (omega arith)
 unfit_of runs (of_program lists) source r (program core comes of) is = let h = status_ap r _ of.listed in absurd (omega arith)
+unfit_of runs (of_program (tries t)) source r (program core comes of) is = let b = trial_bound core t r of in absurd (grind arith)
 unfit_of runs lays_out source r of is = let b = layout_bound source r of in absurd (grind arith)
 
-of_unfit : (runs : Runs) (aim : Aim) (source : List ℕ) → IsListable aim source → HasUnfitArguments aim source → (r : Report) × IsReportFor runs aim source r × (r.status ≡ 23)
+of_unfit : (runs : Runs) (aim : Aim) (source : List ℕ) → IsTellable aim source → HasUnfitArguments aim source → (r : Report) × IsReportFor runs aim source r × (r.status ≡ 23)
 of_unfit runs (of_program (simulates w)) source may p =
     (refusal.unfit_arguments p.wanted _ p.fault, program p.core p.program (report.unfit p.wanted p.fault p.misfits refl), refl)
 of_unfit runs (of_program (replays u text)) source may p =
@@ -295,6 +269,7 @@ of_unfit runs (of_program (judges purpose u text)) source may p =
     (refusal.unfit_arguments p.wanted _ p.fault, program p.core p.program (report.unfit p.wanted p.fault p.misfits refl), refl)
 of_unfit runs (of_program checks) source may p = absurd p
 of_unfit runs (of_program lists) source may p = absurd p
+of_unfit runs (of_program (tries t)) source may p = absurd p
 of_unfit runs lays_out source may p = absurd p
 
 pub unfit_status : (runs : Runs) → StatusOf runs 23 HasUnfitArguments
@@ -314,15 +289,17 @@ mispicked_of runs (of_program (replays u text)) source r (program core comes of)
 mispicked_of runs (of_program (judges purpose u text)) source r (program core comes of) is = let b = judging_bound core purpose u text r of in absurd (grind arith)
 mispicked_of runs (of_program checks) source r (program core comes of) is = let h = status_ap r _ of in absurd (omega arith)
 mispicked_of runs (of_program lists) source r (program core comes of) is = let h = status_ap r _ of.listed in absurd (omega arith)
+mispicked_of runs (of_program (tries t)) source r (program core comes of) is = let b = trial_bound core t r of in absurd (grind arith)
 mispicked_of runs lays_out source r of is = let b = layout_bound source r of in absurd (grind arith)
 
-of_mispicked : (runs : Runs) (aim : Aim) (source : List ℕ) → IsListable aim source → HasMispick aim source → (r : Report) × IsReportFor runs aim source r × (r.status ≡ 26)
+of_mispicked : (runs : Runs) (aim : Aim) (source : List ℕ) → IsTellable aim source → HasMispick aim source → (r : Report) × IsReportFor runs aim source r × (r.status ≡ 26)
 of_mispicked runs (of_program (simulates w)) source may p = absurd p
 of_mispicked runs (of_program (replays u text)) source may p =
     (refusal.mispicked p.k, program p.core p.program (report.fit p.arguments p.fit (report.mispicked p.k p.misfits refl)), refl)
 of_mispicked runs (of_program (judges purpose u text)) source may p = absurd p
 of_mispicked runs (of_program checks) source may p = absurd p
 of_mispicked runs (of_program lists) source may p = absurd p
+of_mispicked runs (of_program (tries t)) source may p = absurd p
 of_mispicked runs lays_out source may p = absurd p
 
 pub mispicked_status : (runs : Runs) → StatusOf runs 26 HasMispick
@@ -344,15 +321,17 @@ no_log_of runs (of_program (replays u text)) source r (program core comes of) is
 no_log_of runs (of_program (judges purpose u text)) source r (program core comes of) is = no_log_judging purpose u text source core r comes of is
 no_log_of runs (of_program checks) source r (program core comes of) is = let h = status_ap r _ of in absurd (omega arith)
 no_log_of runs (of_program lists) source r (program core comes of) is = let h = status_ap r _ of.listed in absurd (omega arith)
+no_log_of runs (of_program (tries t)) source r (program core comes of) is = let b = trial_bound core t r of in absurd (grind arith)
 no_log_of runs lays_out source r of is = let b = layout_bound source r of in absurd (grind arith)
 
-of_no_log : (runs : Runs) (aim : Aim) (source : List ℕ) → IsListable aim source → HasNoLog aim source → (r : Report) × IsReportFor runs aim source r × (r.status ≡ 25)
+of_no_log : (runs : Runs) (aim : Aim) (source : List ℕ) → IsTellable aim source → HasNoLog aim source → (r : Report) × IsReportFor runs aim source r × (r.status ≡ 25)
 of_no_log runs (of_program (simulates w)) source may p = absurd p
 of_no_log runs (of_program (replays u text)) source may p = absurd p
 of_no_log runs (of_program (judges purpose u text)) source may p =
     (refusal.no_log p.k, program p.core p.program (report.fit p.arguments p.fit (report.no p.k p.refuses refl)), refl)
 of_no_log runs (of_program checks) source may p = absurd p
 of_no_log runs (of_program lists) source may p = absurd p
+of_no_log runs (of_program (tries t)) source may p = absurd p
 of_no_log runs lays_out source may p = absurd p
 
 pub no_log_status : (runs : Runs) → StatusOf runs 25 HasNoLog
@@ -365,7 +344,7 @@ too_long_of runs lays_out source r (faulty (by_parser tokens fault has e)) is = 
 too_long_of runs lays_out source r (laid_out text has within e) is = let h = status_ap r _ e in absurd (omega arith)
 too_long_of runs lays_out source r (too_long text has above e) is = (text, has, above)
 
-of_too_long : (runs : Runs) (aim : Aim) (source : List ℕ) → IsListable aim source → IsTooLong aim source → (r : Report) × IsReportFor runs aim source r × (r.status ≡ 27)
+of_too_long : (runs : Runs) (aim : Aim) (source : List ℕ) → IsTellable aim source → IsTooLong aim source → (r : Report) × IsReportFor runs aim source r × (r.status ≡ 27)
 of_too_long runs (of_program aim) source may p = absurd p
 of_too_long runs lays_out source may p = (refusal.layout_too_long, too_long p.0 p.1 p.2 refl, refl)
 

@@ -33,6 +33,7 @@ by_reading : RangeLaw → (words : List (List ℕ)) (o : Result Request CliFault
 by_reading law words (Err fault) is = tt
 by_reading law words (Ok (request.Sim file texts seed bound until pick trace probe)) is = counted bound (law words _ is).1
 by_reading law words (Ok (request.Explain file texts seed bound until pick)) is = counted bound (law words _ is).1
+by_reading law words (Ok (request.Xper file seed bound pick)) is = counted bound (law words _ is).1
 by_reading law words (Ok (request.Check file)) is = tt
 by_reading law words (Ok (request.Code file)) is = tt
 by_reading law words (Ok (request.Fmt file)) is = tt

@@ -19,6 +19,9 @@ use Rattle.chi_value.specs.declared.value.Value.{Value}
 use Rattle.chi_cli.specs.declared.args.ArgFault.{ArgFault}
 use Rattle.chi_cli_help.specs.declared.topic.Topic.{Topic}
 use Rattle.chi_picks.specs.Lists as picks
+use Rattle.chi_xper_machines.specs.declared.tale.Ended.{Ended}
+use Rattle.chi_xper_machines.specs.declared.tale.Ended.TheVariants.{Missing, Completed, WithoutValue, Deadlocked, Faulted, OutOfSteps}
+use Rattle.chi_xper_machines.specs.Trials.{Trial, IsTrial, EndsSo}
 use Rattle.chi_sched.specs.Policies.{listed}
 use Rattle.chi_tool.specs.declared.task.TheConstants.{MOST_BESIDE}
 use Rattle.chi_tool.specs.declared.task.Pair.{Pair}
@@ -31,7 +34,7 @@ use Rattle.chi_tool.specs.Refusals.{Report, no_such_file, file_too_long}
 use Rattle.chi_tool.specs.Report.{IsReport}
 use Rattle.chi_tool.specs.OnLogs.{IsLogWith, IsNoLogWith}
 use Rattle.chi_tool.specs.Running.{runs_for}
-use Rattle.chi_tool.specs.Settings.{Wanted, Unpicked, picked_by, simulates, replays, judges, checks, lists, Aim, of_program, lays_out, wanted_of, aim_of, pair_aim, settings_with, plain}
+use Rattle.chi_tool.specs.Settings.{Wanted, Unpicked, picked_by, Trying, simulates, replays, judges, checks, lists, tries, Aim, of_program, lays_out, wanted_of, aim_of, pair_aim, settings_with, plain}
 use Rattle.chi_tool.specs.Sources.{IsNoProgram, BreaksRule, ComesTo}
 use Rattle.chi_tool.specs.Statuses as statuses
 use Rattle.chi_tool.specs.Statuses.{status_of}
@@ -174,11 +177,34 @@ IsRunAsked (of_program (replays u text)) w = (numbers : List ℕ) × picks.Has t
 IsRunAsked (of_program (judges purpose u text)) w = ⊥
 IsRunAsked (of_program checks) w = ⊥
 IsRunAsked (of_program lists) w = ⊥
+IsRunAsked (of_program (tries t)) w = ⊥
 IsRunAsked lays_out w = ⊥
 
 -- and ends so
 abbrev pub Ends : Runs → (Verdict → Type 0) → Aim → List ℕ → Type 0
 Ends runs P aim source = (w : Wanted) × IsRunAsked aim w × EndsAs (runs_for runs aim) P w source
+
+-- it comes to a program whose first experiment ends so
+pub record TriesAs (e : Ended) (t : Trying) (source : List ℕ) : Type 0 where
+  pub core : Core
+  pub program : ComesTo source core
+  pub trial : Trial
+  pub is : IsTrial core t.seed t.pick t.bound trial
+  pub ends : EndsSo trial e
+
+-- an experiment is asked for, and ends so
+abbrev pub Tries : Ended → Aim → List ℕ → Type 0
+Tries e (of_program (simulates w)) source = ⊥
+Tries e (of_program (replays u text)) source = ⊥
+Tries e (of_program (judges purpose u text)) source = ⊥
+Tries e (of_program checks) source = ⊥
+Tries e (of_program lists) source = ⊥
+Tries e (of_program (tries t)) source = TriesAs e t source
+Tries e lays_out source = ⊥
+
+-- a run is asked for, and ends with a verdict of which P holds; or an experiment, which ends so
+abbrev pub EndsOrTries : Runs → (Verdict → Type 0) → Ended → Aim → List ℕ → Type 0
+EndsOrTries runs P e aim source = Ends runs P aim source ⊎ Tries e aim source
 
 -- it comes to a program that can give this text as a log, with the arguments that are given
 pub record GivesLog (u : Unpicked) (text source : List ℕ) : Type 0 where
@@ -198,11 +224,12 @@ IsAccepted (of_program (replays u text)) source = ⊥
 IsAccepted (of_program (judges purpose u text)) source = GivesLog u text source
 IsAccepted (of_program checks) source = (core : Core) × ComesTo source core
 IsAccepted (of_program lists) source = (core : Core) × ComesTo source core
+IsAccepted (of_program (tries t)) source = ⊥
 IsAccepted lays_out source = (text : List ℕ) × HasLayout source text × (length text ≤ MOST_BYTES)
 
--- a run has completed, or a source is accepted, to be checked, listed or laid out, or with a log that its program can give
+-- a run or an experiment has completed, or a source is accepted, to be checked, listed or laid out, or with a log that its program can give
 abbrev pub IsDone : Runs → Aim → List ℕ → Type 0
-IsDone runs aim source = Ends runs (λ v. v ≡ verdict.Completed) aim source ⊎ IsAccepted aim source
+IsDone runs aim source = EndsOrTries runs (λ v. v ≡ verdict.Completed) Completed aim source ⊎ IsAccepted aim source
 
 -- it comes to a program whose parameters the given arguments don't fit
 pub record IsUnfit (texts : List (List ℕ)) (source : List ℕ) : Type 0 where
@@ -219,6 +246,7 @@ HasUnfitArguments (of_program (replays u text)) source = IsUnfit u.texts source
 HasUnfitArguments (of_program (judges purpose u text)) source = IsUnfit u.texts source
 HasUnfitArguments (of_program checks) source = ⊥
 HasUnfitArguments (of_program lists) source = ⊥
+HasUnfitArguments (of_program (tries t)) source = ⊥
 HasUnfitArguments lays_out source = ⊥
 
 -- it comes to a program whose parameters the arguments fit, and line k of the picks is the first that doesn't fit
@@ -237,6 +265,7 @@ HasMispick (of_program (replays u text)) source = IsMispicked u.texts text sourc
 HasMispick (of_program (judges purpose u text)) source = ⊥
 HasMispick (of_program checks) source = ⊥
 HasMispick (of_program lists) source = ⊥
+HasMispick (of_program (tries t)) source = ⊥
 HasMispick lays_out source = ⊥
 
 -- it comes to a program whose parameters the arguments fit, which can't give this text as a log: line k is the first wrong one
@@ -255,6 +284,7 @@ HasNoLog (of_program (replays u text)) source = ⊥
 HasNoLog (of_program (judges purpose u text)) source = GivesNoLog u text source
 HasNoLog (of_program checks) source = ⊥
 HasNoLog (of_program lists) source = ⊥
+HasNoLog (of_program (tries t)) source = ⊥
 HasNoLog lays_out source = ⊥
 
 -- a layout is asked for, which has more bytes than a source may have
@@ -304,7 +334,7 @@ pub record IsExactlyIn (call : Call) (n : ℕ) (P : Files → Type 0) : Type 0 w
 abbrev pub IsExactlyOf : Call → ℕ → (Aim → List ℕ → Type 0) → Type 0
 IsExactlyOf call n P = IsExactlyIn call n (λ files. AsksFor call files P)
 
--- a run has completed, a program is accepted, listed, laid out or can give a log, a log of old is brought up, or help is told
+-- a run or an experiment has completed, a program is accepted, listed, laid out or can give a log, a log of old is brought up, or help is told
 abbrev pub AsksForDone : Runs → Call → Files → Type 0
 AsksForDone runs call files = AsksFor call files (IsDone runs) ⊎ (AsksForLog call files ComesUp ⊎ AsksForHelp call)
 
@@ -316,10 +346,12 @@ StoppedByFailure sink = sink.stopped ≡ true → SinkRose sink
 pub record Causes (runs : Runs) (call : Call) : Type 0 where
   pub done : IsExactlyIn call statuses.completed (AsksForDone runs call)
   pub exit : IsExactlyOf call statuses.exited (Ends runs IsExit)
-  pub deadlock : IsExactlyOf call statuses.deadlocked (Ends runs (λ v. v ≡ verdict.Deadlock))
-  pub fault : IsExactlyOf call statuses.faulted (Ends runs IsFault)
-  pub out_of_steps : IsExactlyOf call statuses.out_of_steps (Ends runs (λ v. v ≡ verdict.OutOfSteps))
+  pub deadlock : IsExactlyOf call statuses.deadlocked (EndsOrTries runs (λ v. v ≡ verdict.Deadlock) Deadlocked)
+  pub fault : IsExactlyOf call statuses.faulted (EndsOrTries runs IsFault Faulted)
+  pub out_of_steps : IsExactlyOf call statuses.out_of_steps (EndsOrTries runs (λ v. v ≡ verdict.OutOfSteps) OutOfSteps)
   pub stopped : IsExactlyOf call statuses.stopped (Ends runs (λ v. v ≡ verdict.Stopped))
+  pub without_value : IsExactlyOf call statuses.without_value (Tries WithoutValue)
+  pub no_experiment : IsExactlyOf call statuses.no_experiment (Tries Missing)
   pub lexical : IsExactlyOf call statuses.lexical (λ aim. HasLexicalFault)
   pub syntax : IsExactlyOf call statuses.syntax (λ aim. HasSyntaxFault)
   pub typing : IsExactlyOf call statuses.typing IsMistyped

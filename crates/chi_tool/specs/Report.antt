@@ -29,8 +29,8 @@ use Rattle.chi_tool.specs.Refusals as refusal
 use Rattle.chi_tool.specs.Layouts.{HasLayout}
 use Rattle.chi_tool.specs.Refusals.{Report, usage, no_such_file, file_too_long, unfit_arguments, brought_up, accepted}
 use Rattle.chi_tool.specs.OnLogs.{IsLogWith, IsNoLogWith}
-use Rattle.chi_tool.specs.Running.{IsRunReport, IsRestTold, end_told}
-use Rattle.chi_tool.specs.Settings.{Wanted, Unpicked, picked_by, ProgramAim, simulates, replays, judges, checks, lists, Aim, of_program, program_aim, lays_out, wanted_of, pair_aim, settings_with, plain}
+use Rattle.chi_tool.specs.Running.{IsRunReport, IsReportOfTrial, IsRestTold, end_told}
+use Rattle.chi_tool.specs.Settings.{Wanted, Unpicked, picked_by, ProgramAim, simulates, replays, judges, checks, lists, tries, Aim, of_program, program_aim, lays_out, wanted_of, pair_aim, settings_with, plain}
 use Rattle.chi_tool.specs.Sources.{IsUnparsed, by_lexer, by_parser, IsRefused, unparsed, by_checker, ComesTo}
 use Rattle.chi_tool.specs.Words.{Wish, nothing, of_task, wish_of}
 
@@ -74,6 +74,7 @@ IsReportOfProgram runs core (replays u text) r = IsReportOfReplay core u text r
 IsReportOfProgram runs core (judges purpose u text) r = IsReportOfJudging core purpose u text r
 IsReportOfProgram runs core checks r = r ≡ accepted
 IsReportOfProgram runs core lists r = IsReportOfCode core r
+IsReportOfProgram runs core (tries t) r = IsReportOfTrial core t r
 
 -- a source's report where something is done with its program: its refusal, or that of the program that it comes to
 pub data IsReportOfSource (runs : Runs) (source : List ℕ) (aim : ProgramAim) (r : Report) : Type 0 where
@@ -146,7 +147,7 @@ IsReportOfWish runs (of_task t) files r = IsReportOfTask runs t files r
 -- r is the report of these words and files, with what comes of the runs that words ask to be simulated: the first refusal among
 -- words, files, bytes, tokens, program, arguments, and picks or log,
 -- or what was asked for: the output, trace and verdict of the run, or the same told at length, as its refusals then are, that a text is a log that the program can give, with its run's output
--- or its picks, that the program is accepted, the listing of its code, the layout of the source, what the log of old is brought up to, or
--- the text of help
+-- or its picks, what its first experiment wrote and how that ended, that the program is accepted, the listing of its code, the layout of the source, what the log of old is
+-- brought up to, or the text of help
 abbrev pub IsReport : Runs → List (List ℕ) → Files → Report → Type 0
 IsReport runs words files r = IsReportOfWish runs (wish_of words) files r

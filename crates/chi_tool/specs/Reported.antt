@@ -1,8 +1,8 @@
 -- Private to proofs: a report as the program holds it.
 use Rattle.std.specs.Prelude.{ℕ, List, ◌++◌, Result, Ok, Err}
 use Rattle.chi_base.specs.declared.no_memory.NoMemory.{NoMemory}
-use Rattle.chi_machine_traces.specs.declared.passing.PassFault.{PassFault}
-use Rattle.chi_machine_traces.specs.declared.passing.PassFault.TheVariants as fault
+use Rattle.chi_engine.specs.Below.chi_machine_traces.specs.declared.passing.PassFault.{PassFault}
+use Rattle.chi_engine.specs.Below.chi_machine_traces.specs.declared.passing.PassFault.TheVariants as fault
 use Rattle.chi_tool.specs.Refusals.{Report}
 use Rattle.chi_tool.specs.declared.report.Reported.{Reported}
 

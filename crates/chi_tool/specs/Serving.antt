@@ -5,8 +5,8 @@ use Rattle.chi_io.specs.Counts.{Rose}
 use Rattle.chi_io.specs.Shelf.{Files}
 use Rattle.chi_io.specs.Sink.{Grew}
 use Rattle.chi_lex.specs.declared.lexer.TheConstants.{MOST_BYTES}
-use Rattle.chi_machine_traces.specs.declared.passing.PassFault.{PassFault}
-use Rattle.chi_machine_traces.specs.declared.passing.PassFault.TheVariants.{Stopped, NoMemory}
+use Rattle.chi_engine.specs.Below.chi_machine_traces.specs.declared.passing.PassFault.{PassFault}
+use Rattle.chi_engine.specs.Below.chi_machine_traces.specs.declared.passing.PassFault.TheVariants.{Stopped, NoMemory}
 use Rattle.chi_engine.specs.Courses.{Runs, IsRunOf}
 use Rattle.chi_engine.specs.Running.{RunsTo}
 use Rattle.chi_engine.specs.Settings.{Settings}

@@ -8,6 +8,7 @@ use Rattle.chi_trace.specs.declared.filter.Filter.{Filter}
 use Rattle.chi_value.specs.declared.value.Value.{Value}
 use Rattle.chi_core.specs.Picks.{Pick, IsLawful}
 use Rattle.chi_engine.specs.Settings.{Settings, policy_of}
+use Rattle.chi_xper_machines.specs.declared.terms.Terms.{Terms}
 use Rattle.chi_tool.specs.declared.task.Asked.{Asked}
 use Rattle.chi_tool.specs.declared.settings.ByPicks.{ByPicks}
 use Rattle.chi_tool.specs.declared.task.LogPurpose.{LogPurpose}
@@ -16,7 +17,7 @@ use Rattle.chi_tool.specs.declared.task.PairPurpose.TheVariants.{Replay, OnLog}
 use Rattle.chi_tool.specs.declared.task.Purpose.{Purpose}
 use Rattle.chi_tool.specs.declared.task.Purpose.TheVariants.{OfProgram, Explain, LayOut}
 use Rattle.chi_tool.specs.declared.task.ProgramPurpose.{ProgramPurpose}
-use Rattle.chi_tool.specs.declared.task.ProgramPurpose.TheVariants.{Simulate, Check, ListCode}
+use Rattle.chi_tool.specs.declared.task.ProgramPurpose.TheVariants.{Simulate, Check, ListCode, Experiment}
 
 -- what a run's settings are, with the texts of its arguments
 pub record Wanted : Type 0 where
@@ -39,13 +40,22 @@ pub record Unpicked : Type 0 where
 abbrev pub picked_by : Pick → Unpicked → Wanted
 picked_by pick u = record { seed = u.seed; bound = u.bound; pick = pick; texts = u.texts; until = u.until; trace = u.trace }
 
--- what is done with a program: it is run, is run by the picks of a text, is asked of a text as its log, is only checked, or has its code listed
+-- on what terms an experiment is run: the seed of its first run, the bound on the costs of its own statements and on those of each run, and the policy
+-- by which each run is picked
+pub record Trying : Type 0 where
+  pub seed : ℕ
+  pub bound : ℕ
+  pub pick : Pick
+
+-- what is done with a program: it is run, is run by the picks of a text, is asked of a text as its log, is only checked, has its code listed, or has
+-- its first experiment run
 pub data ProgramAim : Type 0 where
   simulates : Wanted → ProgramAim
   replays : Unpicked → List ℕ → ProgramAim
   judges : LogPurpose → Unpicked → List ℕ → ProgramAim
   checks : ProgramAim
   lists : ProgramAim
+  tries : Trying → ProgramAim
 
 -- what is done with a source: something with its program, or it is laid out as it is written
 pub data Aim : Type 0 where
@@ -64,10 +74,14 @@ wanted_of a = record { seed = a.terms.seed; bound = a.terms.bound; pick = policy
 abbrev pub unpicked_of : Asked ByPicks → Unpicked
 unpicked_of a = record { seed = a.terms.seed; bound = a.terms.bound; texts = a.texts; until = a.terms.until; trace = a.terms.trace }
 
+abbrev pub trying_of : Terms → Trying
+trying_of t = record { seed = t.seed; bound = t.bound; pick = policy_of t.pick }
+
 abbrev pub program_aim : ProgramPurpose → ProgramAim
 program_aim (Simulate a) = simulates (wanted_of a)
 program_aim Check = checks
 program_aim ListCode = lists
+program_aim (Experiment t) = tries (trying_of t)
 
 -- what is told at length is simulated, as words ask
 abbrev pub aim_of : Purpose → Aim
@@ -93,6 +107,7 @@ abbrev pub IsBoundedFor : ProgramPurpose → Type 0
 IsBoundedFor (Simulate a) = a.terms.bound < 2 ^ 63
 IsBoundedFor Check = Unit {0}
 IsBoundedFor ListCode = Unit {0}
+IsBoundedFor (Experiment t) = t.bound < 2 ^ 63
 
 abbrev pub IsBoundedPair : PairPurpose → Type 0
 IsBoundedPair (Replay a) = a.terms.bound < 2 ^ 63
@@ -110,12 +125,14 @@ MayBeAimedAt (replays u text) = u.bound < 2 ^ 63
 MayBeAimedAt (judges purpose u text) = Unit {0}
 MayBeAimedAt checks = Unit {0}
 MayBeAimedAt lists = Unit {0}
+MayBeAimedAt (tries t) = (t.bound < 2 ^ 63) × IsLawful t.pick
 
 abbrev pub MayBeAimed : Aim → Type 0
 MayBeAimed (of_program a) = MayBeAimedAt a
 MayBeAimed lays_out = Unit {0}
 
--- a source whose program is asked of a log is within the limit
+-- a source whose program is asked of a log, or whose experiment is run, is within the limit
 abbrev pub IsShortFor : Aim → List ℕ → Type 0
 IsShortFor (of_program (judges purpose u text)) source = length source ≤ MOST_BYTES
+IsShortFor (of_program (tries t)) source = length source ≤ MOST_BYTES
 IsShortFor _ source = Unit {0}

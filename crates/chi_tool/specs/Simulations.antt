@@ -64,13 +64,15 @@ pub record SimulationCauses (s : Simulation) : Type 0 where
   pub syntax : ComesOf s statuses.syntax HasSyntaxFault
   pub typing : ComesOf s statuses.typing HasTypeFault
   pub arguments : ComesOf s statuses.arguments (IsUnfit s.wanted.texts)
-  -- no words, no file, no text of picks and no log are to blame
+  -- no words, no file, no text of picks, no log and no experiment are to blame
   pub no_request : s.status ≢ statuses.no_request
   pub not_read : s.status ≢ statuses.not_read
   pub misfit : s.status ≢ statuses.misfit
   pub mispicked : s.status ≢ statuses.mispicked
   pub no_log : s.status ≢ statuses.no_log
   pub layout_too_long : s.status ≢ statuses.layout_too_long
+  pub without_value : s.status ≢ statuses.without_value
+  pub no_experiment : s.status ≢ statuses.no_experiment
   pub not_written : (s.status ≡ statuses.not_written) ↔ ((s.out.stopped ≡ true) ⊎ (s.log.stopped ≡ true))
   -- each sink by its own count
   pub out_failed : StoppedByFailure s.out

@@ -2,6 +2,8 @@
 use Rattle.std.specs.Prelude.{ℕ}
 use Rattle.chi_core.specs.declared.verdict.Verdict.{Verdict}
 use Rattle.chi_core.specs.declared.verdict.Verdict.TheVariants as verdict
+use Rattle.chi_xper_machines.specs.declared.tale.Ended.{Ended}
+use Rattle.chi_xper_machines.specs.declared.tale.Ended.TheVariants as ended
 
 -- a run has ended by itself
 
@@ -34,7 +36,26 @@ status_of (verdict.Fault kind name line) = faulted
 status_of verdict.OutOfSteps = out_of_steps
 status_of verdict.Stopped = stopped
 
--- or there is none: a program that was to be checked is accepted
+-- an experiment has ended with a run that has no value for it
+
+abbrev pub without_value : ℕ
+without_value = 15
+
+-- or the program has no experiment
+
+abbrev pub no_experiment : ℕ
+no_experiment = 28
+
+-- the status of an experiment, by how it ended
+abbrev pub status_of_trial : Ended → ℕ
+status_of_trial ended.Missing = no_experiment
+status_of_trial ended.Completed = completed
+status_of_trial ended.WithoutValue = without_value
+status_of_trial ended.Deadlocked = deadlocked
+status_of_trial ended.Faulted = faulted
+status_of_trial ended.OutOfSteps = out_of_steps
+
+-- or nothing is run: a program that was to be checked is accepted
 
 abbrev pub accepted : ℕ
 accepted = 0

@@ -15,20 +15,21 @@ use Rattle.chi_tool.specs.declared.task.Task.{Task}
 use Rattle.chi_tool.specs.declared.task.Task.TheVariants as task
 use Rattle.chi_tool.specs.declared.task.PairPurpose.TheVariants.{Replay, OnLog}
 use Rattle.chi_tool.specs.declared.task.Purpose.TheVariants.{OfProgram, Explain, LayOut}
-use Rattle.chi_tool.specs.declared.task.ProgramPurpose.TheVariants.{Simulate, Check, ListCode}
+use Rattle.chi_tool.specs.declared.task.ProgramPurpose.TheVariants.{Simulate, Check, ListCode, Experiment}
 
 -- what a program is asked for with where its picks come from the second file
 abbrev pub unpicked : List (List ℕ) → ℕ → ℕ → Option ℤ → Option Filter → Asked ByPicks
 unpicked texts seed bound until trace =
     record { terms = record { seed = seed; bound = bound; policy = record {}; until = until; trace = trace }; texts = texts }
 
--- a run, a run that is told at length, a run by picks, the judgement on a log or its picks, a check, a listing of code, a layout, a run of a factory, a log of old that is to
--- be brought up, or help
+-- a run, a run that is told at length, the run of an experiment, a run by picks, the judgement on a log or its picks, a check, a listing of code, a layout, a run of a factory,
+-- a log of old that is to be brought up, or help
 abbrev pub task_of : Request → Task
 task_of (request.Sim file texts seed bound until pick trace probe) =
     task.OfFile file (OfProgram (Simulate (record { terms = record { seed = seed; bound = bound; policy = pick; until = until; trace = trace_by trace probe }; texts = texts })))
 task_of (request.Explain file texts seed bound until pick) =
     task.OfFile file (Explain (record { terms = record { seed = seed; bound = bound; policy = pick; until = until; trace = None }; texts = texts }))
+task_of (request.Xper file seed bound pick) = task.OfFile file (OfProgram (Experiment (record { seed = seed; bound = bound; pick = pick })))
 task_of (request.Check file) = task.OfFile file (OfProgram Check)
 task_of (request.Code file) = task.OfFile file (OfProgram ListCode)
 task_of (request.Fmt file) = task.OfFile file LayOut

@@ -20,11 +20,10 @@ use crate::task::Asked;
 use chi_cli::Pick;
 use chi_code::Code;
 use chi_core::Core;
-use chi_engine::{Engine, Job};
+use chi_engine::{Engine, Job, PassFault};
 use chi_gen::generate;
 use chi_io::Sink;
 use chi_machine_agenda::Ending;
-use chi_machine_traces::PassFault;
 use chi_value::Value;
 use std::alloc::Global;
 

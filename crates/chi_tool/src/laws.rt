@@ -7,7 +7,7 @@ ghost use Rattle.chi_tree_laws.specs.Answers.{IsProgram};
 ghost use Rattle.chi_core.specs.declared.program.Core.{Core};
 ghost use Rattle.chi_core.specs.Runs.{Told};
 ghost use Rattle.chi_engine.specs.Courses.{ComesToOne, Course, IsRunOf, MayHave};
-ghost use Rattle.chi_engine.specs.Settings.{Settings};
+ghost use Rattle.chi_engine.specs.Settings.{Settings, policy_of};
 ghost use Rattle.chi_lex.specs.declared.lexer.TheConstants.{MOST_BYTES};
 ghost use Rattle.chi_lex.specs.Reading.{Reads};
 ghost use Rattle.chi_tree_spell.specs.Statements.{spelled};
@@ -22,10 +22,14 @@ ghost use Rattle.chi_tool.specs.Refusals.{Report};
 ghost use Rattle.chi_tool.specs.Report.{IsExplained, IsReport, IsReportFor, IsReportOfSource};
 ghost use Rattle.chi_tool.specs.RuleNumbers.{RulesAre};
 ghost use Rattle.chi_tool.specs.Running.{runs_for};
+ghost use Rattle.chi_xper_machines.specs.declared.tale.Ended.{Ended};
+ghost use Rattle.chi_xper_machines.specs.declared.terms.Terms.{Terms};
+ghost use Rattle.chi_xper_machines.specs.Trials.{Trial, IsTrial, EndsSo, Logs};
+ghost use Rattle.chi_tool.specs.declared.task.ProgramPurpose.TheVariants.{Experiment};
 ghost use Rattle.chi_tool.specs.declared.task.Asked.{Asked};
-ghost use Rattle.chi_tool.specs.declared.task.Purpose.TheVariants.{Explain};
+ghost use Rattle.chi_tool.specs.declared.task.Purpose.TheVariants.{OfProgram, Explain};
 ghost use Rattle.chi_tool.specs.declared.task.Task.TheVariants.{OfFile};
-ghost use Rattle.chi_tool.specs.Settings.{Aim, IsShortFor, MayBeAimed, simulates, wanted_of};
+ghost use Rattle.chi_tool.specs.Settings.{Trying, Aim, IsShortFor, MayBeAimed, MayBeAimedAt, simulates, tries, wanted_of};
 ghost use Rattle.chi_tool.specs.Words.{of_task, wish_of};
 ghost use Rattle.chi_tool.specs.Simulations.{AreOwnPicks, IsDerived, course_of};
 ghost use Rattle.chi_tool.specs.Sources.{ComesTo, IsWritten};
@@ -48,6 +52,7 @@ use chi_log::{judging_law, one_log_law};
 use chi_picks::picks_law;
 use chi_trace::logs_law;
 use chi_tree_laws::answer_law;
+use chi_xper_machines::trial_law;
 
 /// The program that a source within the limit comes to has exactly one run with settings that it may have.
 pub fn one_run_law()
@@ -88,6 +93,20 @@ pub fn one_code_law()
     code_is_unique();
 }
 
+/// Of the first experiment of the program that a source within the limit comes to comes exactly one thing, on terms that may be
+/// had; that ends in one way, and one line tells how.
+pub fn one_trial_law()
+    ensures some { (source : List ℕ) (core : Core) → length source ≤ MOST_BYTES → ComesTo source core → (t : Trying) → MayBeAimedAt (tries t)
+        → (trial : Trial) × IsTrial core t.seed t.pick t.bound trial × ((ended : Ended) × EndsSo trial ended) × ((line : List ℕ) × Logs core trial line) }
+    ensures one { (source : List ℕ) (core : Core) → length source ≤ MOST_BYTES → ComesTo source core → (t : Trying) (trial other : Trial)
+        → IsTrial core t.seed t.pick t.bound trial → IsTrial core t.seed t.pick t.bound other → trial ≡ other }
+    ensures one_ended { (trial : Trial) (ended other : Ended) → EndsSo trial ended → EndsSo trial other → ended ≡ other }
+    ensures one_line { (core : Core) (trial : Trial) (line other : List ℕ) → Logs core trial line → Logs core trial other → line ≡ other }
+{
+    parsed_programs_are_sound();
+    trial_law();
+}
+
 /// A source within the limit has exactly one report by the runs of the meaning, for each aim that may be had with it.
 pub fn source_law()
     ensures some { (source : List ℕ) (aim : Aim) → length source ≤ MOST_BYTES → MayBeAimed aim → (r : Report) × IsReportFor IsRunOf aim source r }
@@ -97,14 +116,15 @@ pub fn source_law()
     parsed_programs_are_sound();
     asked_runs_law(&Machines);
     one_code_law();
+    one_trial_law();
     values_are_of_parameters();
     picks_law();
     judging_law();
     one_log_law();
 }
 
-/// Words and files have exactly one report with an engine; and where words ask that a simulation be told at length, each report of
-/// it can be told so.
+/// Words and files have exactly one report with an engine; where words ask that a simulation be told at length, each report of
+/// it can be told so; and where they ask for an experiment, what comes of it can be told.
 pub fn report_law<E: Engine>(engine: &E)
     ensures some { (words : List (List ℕ)) (files : Files) → (r : Report) × IsReport (E.outcome engine.now) words files r }
     ensures one { (words : List (List ℕ)) (files : Files) (r other : Report)
@@ -112,12 +132,16 @@ pub fn report_law<E: Engine>(engine: &E)
     ensures explained { (words : List (List ℕ)) (file : List ℕ) (a : Asked Pick) → wish_of words ≡ of_task (OfFile file (Explain a))
         → (source : List ℕ) → length source ≤ MOST_BYTES → (plain : Report) → IsReportOfSource (E.outcome engine.now) source (simulates (wanted_of a)) plain
         → (r : Report) × IsExplained (E.outcome engine.now) file (wanted_of a) source r × (r.status ≡ plain.status) }
+    ensures tried { (words : List (List ℕ)) (file : List ℕ) (t : Terms) → wish_of words ≡ of_task (OfFile file (OfProgram (Experiment t)))
+        → (source : List ℕ) → length source ≤ MOST_BYTES → (core : Core) → ComesTo source core
+        → (trial : Trial) → IsTrial core t.seed (policy_of t.pick) t.bound trial → (line : List ℕ) × Logs core trial line }
 {
     waiting_law();
     answer_law();
     parsed_programs_are_sound();
     asked_runs_law(engine);
     one_code_law();
+    one_trial_law();
     numbers_are_in_range();
     values_are_of_parameters();
     faults_of_arguments_name_them();

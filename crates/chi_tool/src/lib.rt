@@ -28,11 +28,12 @@ mod status;
 mod syntax;
 mod task;
 mod top;
+mod trials;
 mod words;
 
 pub use laws::{
-    layout_law, limits_law, meets_law, one_code_law, one_run_law, own_picks_law, report_law,
-    rules_law, source_law, tokens_law,
+    layout_law, limits_law, meets_law, one_code_law, one_run_law, one_trial_law, own_picks_law,
+    report_law, rules_law, source_law, tokens_law,
 };
 pub use library::{replay, simulate, simulate_probed};
 pub use top::chi;

@@ -17,9 +17,9 @@ use crate::source::{Source, read};
 use crate::status::status_without;
 use crate::task::{MOST_BESIDE, Pair, PairPurpose};
 use chi_core::Core;
+use chi_engine::PassFault;
 use chi_io::{Shelf, Sink};
 use chi_lex::MOST_BYTES;
-use chi_machine_traces::PassFault;
 use std::alloc::Global;
 
 /// The report of a program and a text.

@@ -19,10 +19,10 @@ use crate::run::run;
 use crate::settings::Terms;
 use crate::status::ACCEPTED;
 use crate::task::ProgramPurpose;
+use crate::trials::report_of_trial;
 use chi_core::Core;
-use chi_engine::Engine;
+use chi_engine::{Engine, PassFault};
 use chi_io::Sink;
-use chi_machine_traces::PassFault;
 use chi_sched::Chooser;
 use chi_token::Bytes;
 use chi_trace::Sieve;
@@ -49,7 +49,7 @@ pub fn report_of_run<P: Chooser + Drop, S: Sieve + Drop, O: Sink>(
     }
 }
 
-/// The report of a program: of its run by an engine, that it is accepted, or the listing of its code.
+/// The report of a program: of its run by an engine, that it is accepted, the listing of its code, or what comes of its experiment.
 pub fn report_of_program<E: Engine, O: Sink>(
     alloc: Global,
     core: &Core,
@@ -66,5 +66,6 @@ pub fn report_of_program<E: Engine, O: Sink>(
         ProgramPurpose::Check => unpassed(one_line(alloc, ACCEPTED, b"accepted")),
         ProgramPurpose::Simulate(asked) => report_by_engine(alloc, core, asked, out, engine),
         ProgramPurpose::ListCode => unpassed(report_of_code(alloc, core)),
+        ProgramPurpose::Experiment(terms) => unpassed(report_of_trial(alloc, core, *terms)),
     }
 }

@@ -2,7 +2,7 @@ ghost use Rattle.std.specs.Prelude.{◌≡◌};
 ghost use Rattle.chi_tool.specs.Reported.{unpassed};
 
 use chi_base::NoMemory;
-use chi_machine_traces::PassFault;
+use chi_engine::PassFault;
 
 /// A report: the status, and what is to be written.
 #[derive(Debug, Drop)]

@@ -14,11 +14,10 @@ use crate::report::{Reported, unpassed};
 use crate::source::{Source, read};
 use crate::status::{NO_MEMORY, status_without};
 use crate::task::{FileTask, ProgramPurpose, Purpose, unasked};
-use chi_engine::Engine;
+use chi_engine::{Engine, PassFault};
 use chi_io::{Shelf, Sink};
 use chi_lex::MOST_BYTES;
 use chi_load::{MOST_MACHINES, factory};
-use chi_machine_traces::PassFault;
 use std::alloc::Global;
 
 /// The report of a source with whose program something is done: its refusal, or that of its program.

@@ -1,11 +1,12 @@
 ghost use Rattle.std.specs.Prelude.{◌≡◌};
 ghost use Rattle.chi_tool.specs.Serving.{status_without};
-ghost use Rattle.chi_tool.specs.Statuses.{status_of};
+ghost use Rattle.chi_tool.specs.Statuses.{status_of, status_of_trial};
 
 use chi_core::Verdict;
-use chi_machine_traces::PassFault;
+use chi_engine::PassFault;
+use chi_xper_machines::Ended;
 
-/// The run completed.
+/// The run, or the experiment, completed.
 const COMPLETED: u8 = 0;
 
 /// A program that was to be checked is accepted.
@@ -59,6 +60,12 @@ const OUT_OF_STEPS: u8 = 13;
 /// Nothing can happen in the run before the stopping time has passed.
 const STOPPED: u8 = 14;
 
+/// A run of the experiment has no value for it.
+const WITHOUT_VALUE: u8 = 15;
+
+/// The program has no experiment.
+const NO_EXPERIMENT: u8 = 28;
+
 /// The source has a lexical fault.
 pub const LEXICAL: u8 = 20;
 
@@ -91,6 +98,20 @@ pub fn status_of(verdict: &Verdict) -> u8
         Verdict::Fault(_, _, _) => FAULTED,
         Verdict::OutOfSteps => OUT_OF_STEPS,
         Verdict::Stopped => STOPPED,
+    }
+}
+
+/// The status of an experiment.
+pub fn status_of_trial(ended: Ended) -> u8
+    ensures { result ≡ status_of_trial ended }
+{
+    match ended {
+        Ended::Missing => NO_EXPERIMENT,
+        Ended::Completed => COMPLETED,
+        Ended::WithoutValue => WITHOUT_VALUE,
+        Ended::Deadlocked => DEADLOCKED,
+        Ended::Faulted => FAULTED,
+        Ended::OutOfSteps => OUT_OF_STEPS,
     }
 }
 

@@ -44,6 +44,8 @@ pub enum ProgramPurpose {
     Check,
     /// Its code is listed.
     ListCode,
+    /// Its first experiment is run, on these terms.
+    Experiment(chi_xper_machines::Terms),
 }
 
 /// What is done with a source.

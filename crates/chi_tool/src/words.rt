@@ -57,6 +57,18 @@ pub fn task_of(request: Request) -> Task
                 purpose: Purpose::Explain(Asked { terms, texts: args }),
             }
         }
+        Request::Xper {
+            file,
+            seed,
+            bound,
+            pick,
+        } => {
+            let terms = chi_xper_machines::Terms { seed, bound, pick };
+            Task::OfFile {
+                file,
+                purpose: Purpose::OfProgram(ProgramPurpose::Experiment(terms)),
+            }
+        }
         Request::Check { file } => Task::OfFile {
             file,
             purpose: Purpose::OfProgram(ProgramPurpose::Check),

@@ -1,6 +1,6 @@
-use Rattle.std.proofs.Common.{◌≡◌, ◌++◌, List, ◌∙◌, ap}
+use Rattle.std.proofs.Common.{◌≡◌, ◌++◌, ◌∙◌, ap}
 use Rattle.chi_engine.specs.Settings.{settings_of}
-use Rattle.chi_machine_traces.specs.Told.{RunsCode}
+use Rattle.chi_engine.specs.Below.chi_machine_traces.specs.Told.{RunsCode}
 use Rattle.chi_tool.specs.Call.{sink_use}
 use Rattle.chi_tool.proofs.Made.{runs_logged, runs_lost}
 use Rattle.chi_tool.proofs.by_engine.run_job.Goals as goal

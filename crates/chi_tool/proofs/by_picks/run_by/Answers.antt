@@ -1,6 +1,6 @@
 use Rattle.std.proofs.Common.{refl, subst}
 use Rattle.chi_picks.specs.Lists.{IsRefused}
-use Rattle.chi_machine_traces.specs.declared.passing.PassFault.TheVariants.{NoMemory}
+use Rattle.chi_engine.specs.Below.chi_machine_traces.specs.declared.passing.PassFault.TheVariants.{NoMemory}
 use Rattle.chi_tool.specs.Call.{sink_use}
 use Rattle.chi_tool.specs.Settings.{unpicked_of}
 use Rattle.chi_tool.specs.Report.{IsReportByPicks}

@@ -1,4 +1,4 @@
-use Rattle.std.proofs.Common.{◌≤◌, ◌<◌, ◌^◌, Err, length, arith, sym, subst}
+use Rattle.std.proofs.Common.{◌<◌, ◌^◌, Err, length, arith, sym, subst}
 use Rattle.std.specs.Prelude.{IfOk}
 use Rattle.chi_explain_syntax.specs.Syntax.{IsSyntaxExplanation}
 use Rattle.chi_tree_laws.specs.Answers.{IsAnswer}

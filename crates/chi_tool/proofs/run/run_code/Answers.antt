@@ -2,7 +2,7 @@ use Rattle.std.proofs.Common.{◌≡◌, ℕ, Option, ℤ, List, ◌++◌, ◌�
 use Rattle.std.specs.Prelude.{Ok, Err}
 use Rattle.chi_engine.specs.Courses.{IsRunOf}
 use Rattle.chi_engine.specs.Settings.{Settings}
-use Rattle.chi_machine_traces.specs.Told.{RunsCode}
+use Rattle.chi_engine.specs.Below.chi_machine_traces.specs.Told.{RunsCode}
 use Rattle.chi_tool.specs.Call.{sink_use}
 use Rattle.chi_tool.specs.Running.{IsRunReport}
 use Rattle.chi_tool.proofs.Made.{RanSo, makes_fault, ran_makes, fault_makes}

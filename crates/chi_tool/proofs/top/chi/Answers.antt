@@ -20,20 +20,20 @@ serve-requires-clause-bounded g c =
 
 pub returns-in-OfFile-clause-headline : goal.returns-in-OfFile-clause-headline
 returns-in-OfFile-clause-headline g c =
-    let law : ReportLaw (g.E.Engine.outcome c.args.engine.now) = record { some = c.report_law.ensures.some; one = c.report_law.ensures.one; explained = c.report_law.ensures.explained } in
+    let law : ReportLaw (g.E.Engine.outcome c.args.engine.now) = record { some = c.report_law.ensures.some; one = c.report_law.ensures.one; explained = c.report_law.ensures.explained; tried = c.report_law.ensures.tried } in
     served-headline (g.E.Engine.outcome c.args.engine.now) (OfFile c.in-OfFile.file c.in-OfFile.purpose) c.in-OfFile.file MOST_BYTES (IsReportTo (g.E.Engine.outcome c.args.engine.now) c.in-OfFile.file c.in-OfFile.purpose) (source_of_file (g.E.Engine.outcome c.args.engine.now) c.in-OfFile.file c.in-OfFile.purpose) _
     (wish_task (texts c.args.words.now) c.in-Ok.request (OfFile c.in-OfFile.file c.in-OfFile.purpose) c.in-Ok.ensures.request c.in-OfFile.ensures) law c.serve.ensures
 
 pub returns-in-OfFile-clause-causes : goal.returns-in-OfFile-clause-causes
 returns-in-OfFile-clause-causes g c =
-    let law : ReportLaw (g.E.Engine.outcome c.args.engine.now) = record { some = c.report_law.ensures.some; one = c.report_law.ensures.one; explained = c.report_law.ensures.explained } in
+    let law : ReportLaw (g.E.Engine.outcome c.args.engine.now) = record { some = c.report_law.ensures.some; one = c.report_law.ensures.one; explained = c.report_law.ensures.explained; tried = c.report_law.ensures.tried } in
     let coded : CodeLaw = record { some = c.one_code_law.ensures.some; one = c.one_code_law.ensures.one } in
     served-causes (g.E.Engine.outcome c.args.engine.now) (OfFile c.in-OfFile.file c.in-OfFile.purpose) c.in-OfFile.file MOST_BYTES (IsReportTo (g.E.Engine.outcome c.args.engine.now) c.in-OfFile.file c.in-OfFile.purpose) (source_of_file (g.E.Engine.outcome c.args.engine.now) c.in-OfFile.file c.in-OfFile.purpose) _
     (wish_task (texts c.args.words.now) c.in-Ok.request (OfFile c.in-OfFile.file c.in-OfFile.purpose) c.in-Ok.ensures.request c.in-OfFile.ensures) law coded c.serve.ensures
 
 pub returns-in-OfFile-clause-complete : goal.returns-in-OfFile-clause-complete
 returns-in-OfFile-clause-complete g c =
-    let law : ReportLaw (g.E.Engine.outcome c.args.engine.now) = record { some = c.report_law.ensures.some; one = c.report_law.ensures.one; explained = c.report_law.ensures.explained } in
+    let law : ReportLaw (g.E.Engine.outcome c.args.engine.now) = record { some = c.report_law.ensures.some; one = c.report_law.ensures.one; explained = c.report_law.ensures.explained; tried = c.report_law.ensures.tried } in
     let coded : CodeLaw = record { some = c.one_code_law.ensures.some; one = c.one_code_law.ensures.one } in
     let ran : RunLaw (g.E.Engine.outcome c.args.engine.now) = record { some = c.asked_runs_law.ensures.some; one = c.asked_runs_law.ensures.one } in
     served-complete (g.E.Engine.outcome c.args.engine.now) (OfFile c.in-OfFile.file c.in-OfFile.purpose) c.in-OfFile.file MOST_BYTES (IsReportTo (g.E.Engine.outcome c.args.engine.now) c.in-OfFile.file c.in-OfFile.purpose) (source_of_file (g.E.Engine.outcome c.args.engine.now) c.in-OfFile.file c.in-OfFile.purpose) _
@@ -50,18 +50,18 @@ serve_pair-requires-clause-bounded g c =
 
 pub returns-in-OfPair-clause-headline : goal.returns-in-OfPair-clause-headline
 returns-in-OfPair-clause-headline g c =
-    let law : ReportLaw (g.E.Engine.outcome c.args.engine.now) = record { some = c.report_law.ensures.some; one = c.report_law.ensures.one; explained = c.report_law.ensures.explained } in
+    let law : ReportLaw (g.E.Engine.outcome c.args.engine.now) = record { some = c.report_law.ensures.some; one = c.report_law.ensures.one; explained = c.report_law.ensures.explained; tried = c.report_law.ensures.tried } in
     pair-headline (g.E.Engine.outcome c.args.engine.now) c.in-OfPair.pair _ (wish_task (texts c.args.words.now) c.in-Ok.request (OfPair c.in-OfPair.pair) c.in-Ok.ensures.request c.in-OfPair.ensures) law c.serve_pair.ensures
 
 pub returns-in-OfPair-clause-causes : goal.returns-in-OfPair-clause-causes
 returns-in-OfPair-clause-causes g c =
-    let law : ReportLaw (g.E.Engine.outcome c.args.engine.now) = record { some = c.report_law.ensures.some; one = c.report_law.ensures.one; explained = c.report_law.ensures.explained } in
+    let law : ReportLaw (g.E.Engine.outcome c.args.engine.now) = record { some = c.report_law.ensures.some; one = c.report_law.ensures.one; explained = c.report_law.ensures.explained; tried = c.report_law.ensures.tried } in
     let coded : CodeLaw = record { some = c.one_code_law.ensures.some; one = c.one_code_law.ensures.one } in
     pair-causes (g.E.Engine.outcome c.args.engine.now) c.in-OfPair.pair _ (wish_task (texts c.args.words.now) c.in-Ok.request (OfPair c.in-OfPair.pair) c.in-Ok.ensures.request c.in-OfPair.ensures) law coded c.serve_pair.ensures
 
 pub returns-in-OfPair-clause-complete : goal.returns-in-OfPair-clause-complete
 returns-in-OfPair-clause-complete g c =
-    let law : ReportLaw (g.E.Engine.outcome c.args.engine.now) = record { some = c.report_law.ensures.some; one = c.report_law.ensures.one; explained = c.report_law.ensures.explained } in
+    let law : ReportLaw (g.E.Engine.outcome c.args.engine.now) = record { some = c.report_law.ensures.some; one = c.report_law.ensures.one; explained = c.report_law.ensures.explained; tried = c.report_law.ensures.tried } in
     let coded : CodeLaw = record { some = c.one_code_law.ensures.some; one = c.one_code_law.ensures.one } in
     let ran : RunLaw (g.E.Engine.outcome c.args.engine.now) = record { some = c.asked_runs_law.ensures.some; one = c.asked_runs_law.ensures.one } in
     pair-complete (g.E.Engine.outcome c.args.engine.now) c.in-OfPair.pair _ (wish_task (texts c.args.words.now) c.in-Ok.request (OfPair c.in-OfPair.pair) c.in-Ok.ensures.request c.in-OfPair.ensures) law coded ran
@@ -73,20 +73,20 @@ returns-in-OfPair-clause-untouched g c =
 
 pub returns-in-OfLog-clause-headline : goal.returns-in-OfLog-clause-headline
 returns-in-OfLog-clause-headline g c =
-    let law : ReportLaw (g.E.Engine.outcome c.args.engine.now) = record { some = c.report_law.ensures.some; one = c.report_law.ensures.one; explained = c.report_law.ensures.explained } in
+    let law : ReportLaw (g.E.Engine.outcome c.args.engine.now) = record { some = c.report_law.ensures.some; one = c.report_law.ensures.one; explained = c.report_law.ensures.explained; tried = c.report_law.ensures.tried } in
     served-headline (g.E.Engine.outcome c.args.engine.now) (OfLog c.in-OfLog.file) c.in-OfLog.file MOST_LOG_BYTES IsReportOfLog (log_of_file (g.E.Engine.outcome c.args.engine.now) c.in-OfLog.file) _
     (wish_task (texts c.args.words.now) c.in-Ok.request (OfLog c.in-OfLog.file) c.in-Ok.ensures.request c.in-OfLog.ensures) law (rw (c.as_slice.ensures.same) at c.serve_log.ensures)
 
 pub returns-in-OfLog-clause-causes : goal.returns-in-OfLog-clause-causes
 returns-in-OfLog-clause-causes g c =
-    let law : ReportLaw (g.E.Engine.outcome c.args.engine.now) = record { some = c.report_law.ensures.some; one = c.report_law.ensures.one; explained = c.report_law.ensures.explained } in
+    let law : ReportLaw (g.E.Engine.outcome c.args.engine.now) = record { some = c.report_law.ensures.some; one = c.report_law.ensures.one; explained = c.report_law.ensures.explained; tried = c.report_law.ensures.tried } in
     let coded : CodeLaw = record { some = c.one_code_law.ensures.some; one = c.one_code_law.ensures.one } in
     served-causes (g.E.Engine.outcome c.args.engine.now) (OfLog c.in-OfLog.file) c.in-OfLog.file MOST_LOG_BYTES IsReportOfLog (log_of_file (g.E.Engine.outcome c.args.engine.now) c.in-OfLog.file) _
     (wish_task (texts c.args.words.now) c.in-Ok.request (OfLog c.in-OfLog.file) c.in-Ok.ensures.request c.in-OfLog.ensures) law coded (rw (c.as_slice.ensures.same) at c.serve_log.ensures)
 
 pub returns-in-OfLog-clause-complete : goal.returns-in-OfLog-clause-complete
 returns-in-OfLog-clause-complete g c =
-    let law : ReportLaw (g.E.Engine.outcome c.args.engine.now) = record { some = c.report_law.ensures.some; one = c.report_law.ensures.one; explained = c.report_law.ensures.explained } in
+    let law : ReportLaw (g.E.Engine.outcome c.args.engine.now) = record { some = c.report_law.ensures.some; one = c.report_law.ensures.one; explained = c.report_law.ensures.explained; tried = c.report_law.ensures.tried } in
     let coded : CodeLaw = record { some = c.one_code_law.ensures.some; one = c.one_code_law.ensures.one } in
     let ran : RunLaw (g.E.Engine.outcome c.args.engine.now) = record { some = c.asked_runs_law.ensures.some; one = c.asked_runs_law.ensures.one } in
     served-complete (g.E.Engine.outcome c.args.engine.now) (OfLog c.in-OfLog.file) c.in-OfLog.file MOST_LOG_BYTES IsReportOfLog (log_of_file (g.E.Engine.outcome c.args.engine.now) c.in-OfLog.file) _
@@ -99,18 +99,18 @@ returns-in-OfLog-clause-untouched g c =
 
 pub returns-then-not-is_refusal-clause-headline : goal.returns-then-not-is_refusal-clause-headline
 returns-then-not-is_refusal-clause-headline g c =
-    let law : ReportLaw (g.E.Engine.outcome c.args.engine.now) = record { some = c.report_law.ensures.some; one = c.report_law.ensures.one; explained = c.report_law.ensures.explained } in
+    let law : ReportLaw (g.E.Engine.outcome c.args.engine.now) = record { some = c.report_law.ensures.some; one = c.report_law.ensures.one; explained = c.report_law.ensures.explained; tried = c.report_law.ensures.tried } in
     lost-headline (g.E.Engine.outcome c.args.engine.now) law _ (record { status = refl; out = record { took = still _; goes = c.requires.out_goes }; log = record { took = still _; goes = c.requires.log_goes } })
 
 pub returns-then-not-is_refusal-clause-causes : goal.returns-then-not-is_refusal-clause-causes
 returns-then-not-is_refusal-clause-causes g c =
-    let law : ReportLaw (g.E.Engine.outcome c.args.engine.now) = record { some = c.report_law.ensures.some; one = c.report_law.ensures.one; explained = c.report_law.ensures.explained } in
+    let law : ReportLaw (g.E.Engine.outcome c.args.engine.now) = record { some = c.report_law.ensures.some; one = c.report_law.ensures.one; explained = c.report_law.ensures.explained; tried = c.report_law.ensures.tried } in
     let coded : CodeLaw = record { some = c.one_code_law.ensures.some; one = c.one_code_law.ensures.one } in
     lost-causes (g.E.Engine.outcome c.args.engine.now) law coded _ (record { status = refl; out = record { took = still _; goes = c.requires.out_goes }; log = record { took = still _; goes = c.requires.log_goes } })
 
 pub returns-then-not-is_refusal-clause-complete : goal.returns-then-not-is_refusal-clause-complete
 returns-then-not-is_refusal-clause-complete g c =
-    let law : ReportLaw (g.E.Engine.outcome c.args.engine.now) = record { some = c.report_law.ensures.some; one = c.report_law.ensures.one; explained = c.report_law.ensures.explained } in
+    let law : ReportLaw (g.E.Engine.outcome c.args.engine.now) = record { some = c.report_law.ensures.some; one = c.report_law.ensures.one; explained = c.report_law.ensures.explained; tried = c.report_law.ensures.tried } in
     let coded : CodeLaw = record { some = c.one_code_law.ensures.some; one = c.one_code_law.ensures.one } in
     let ran : RunLaw (g.E.Engine.outcome c.args.engine.now) = record { some = c.asked_runs_law.ensures.some; one = c.asked_runs_law.ensures.one } in
     lost-complete (g.E.Engine.outcome c.args.engine.now) ran c.values_are_of_parameters.ensures c.numbers_are_in_range.ensures law coded _ (record { status = refl; out = record { took = still _; goes = c.requires.out_goes }; log = record { took = still _; goes = c.requires.log_goes } })
@@ -120,13 +120,13 @@ returns-else-not-is_refusal-clause-headline g c = usage-headline (g.E.Engine.out
 
 pub returns-else-not-is_refusal-clause-causes : goal.returns-else-not-is_refusal-clause-causes
 returns-else-not-is_refusal-clause-causes g c =
-    let law : ReportLaw (g.E.Engine.outcome c.args.engine.now) = record { some = c.report_law.ensures.some; one = c.report_law.ensures.one; explained = c.report_law.ensures.explained } in
+    let law : ReportLaw (g.E.Engine.outcome c.args.engine.now) = record { some = c.report_law.ensures.some; one = c.report_law.ensures.one; explained = c.report_law.ensures.explained; tried = c.report_law.ensures.tried } in
     let coded : CodeLaw = record { some = c.one_code_law.ensures.some; one = c.one_code_law.ensures.one } in
     usage-causes (g.E.Engine.outcome c.args.engine.now) law coded _ (wish_nothing (texts c.args.words.now) c.in-Err.fault (sym c.is_refusal.ensures ∙ c.if-not-is_refusal.false) c.in-Err.ensures.fault) c.deliver.ensures
 
 pub returns-else-not-is_refusal-clause-complete : goal.returns-else-not-is_refusal-clause-complete
 returns-else-not-is_refusal-clause-complete g c =
-    let law : ReportLaw (g.E.Engine.outcome c.args.engine.now) = record { some = c.report_law.ensures.some; one = c.report_law.ensures.one; explained = c.report_law.ensures.explained } in
+    let law : ReportLaw (g.E.Engine.outcome c.args.engine.now) = record { some = c.report_law.ensures.some; one = c.report_law.ensures.one; explained = c.report_law.ensures.explained; tried = c.report_law.ensures.tried } in
     let coded : CodeLaw = record { some = c.one_code_law.ensures.some; one = c.one_code_law.ensures.one } in
     let ran : RunLaw (g.E.Engine.outcome c.args.engine.now) = record { some = c.asked_runs_law.ensures.some; one = c.asked_runs_law.ensures.one } in
     usage-complete (g.E.Engine.outcome c.args.engine.now) ran c.values_are_of_parameters.ensures c.numbers_are_in_range.ensures law coded _ (wish_nothing (texts c.args.words.now) c.in-Err.fault (sym c.is_refusal.ensures ∙ c.if-not-is_refusal.false) c.in-Err.ensures.fault) c.deliver.ensures
@@ -141,36 +141,36 @@ serve_factory-requires-clause-most g c =
 
 pub returns-in-OfFactory-clause-headline : goal.returns-in-OfFactory-clause-headline
 returns-in-OfFactory-clause-headline g c =
-    let law : ReportLaw (g.E.Engine.outcome c.args.engine.now) = record { some = c.report_law.ensures.some; one = c.report_law.ensures.one; explained = c.report_law.ensures.explained } in
+    let law : ReportLaw (g.E.Engine.outcome c.args.engine.now) = record { some = c.report_law.ensures.some; one = c.report_law.ensures.one; explained = c.report_law.ensures.explained; tried = c.report_law.ensures.tried } in
     unfiled-headline (g.E.Engine.outcome c.args.engine.now) (OfFactory c.in-OfFactory.size) (IsOfFactory (g.E.Engine.outcome c.args.engine.now) c.in-OfFactory.size) (of_factory (g.E.Engine.outcome c.args.engine.now) c.in-OfFactory.size) _ (wish_task (texts c.args.words.now) c.in-Ok.request (OfFactory c.in-OfFactory.size) c.in-Ok.ensures.request c.in-OfFactory.ensures) law c.serve_factory.ensures
 
 pub returns-in-OfFactory-clause-causes : goal.returns-in-OfFactory-clause-causes
 returns-in-OfFactory-clause-causes g c =
-    let law : ReportLaw (g.E.Engine.outcome c.args.engine.now) = record { some = c.report_law.ensures.some; one = c.report_law.ensures.one; explained = c.report_law.ensures.explained } in
+    let law : ReportLaw (g.E.Engine.outcome c.args.engine.now) = record { some = c.report_law.ensures.some; one = c.report_law.ensures.one; explained = c.report_law.ensures.explained; tried = c.report_law.ensures.tried } in
     let coded : CodeLaw = record { some = c.one_code_law.ensures.some; one = c.one_code_law.ensures.one } in
     unfiled-causes (g.E.Engine.outcome c.args.engine.now) (OfFactory c.in-OfFactory.size) (IsOfFactory (g.E.Engine.outcome c.args.engine.now) c.in-OfFactory.size) (of_factory (g.E.Engine.outcome c.args.engine.now) c.in-OfFactory.size) _ (wish_task (texts c.args.words.now) c.in-Ok.request (OfFactory c.in-OfFactory.size) c.in-Ok.ensures.request c.in-OfFactory.ensures) law coded c.serve_factory.ensures
 
 pub returns-in-OfFactory-clause-complete : goal.returns-in-OfFactory-clause-complete
 returns-in-OfFactory-clause-complete g c =
-    let law : ReportLaw (g.E.Engine.outcome c.args.engine.now) = record { some = c.report_law.ensures.some; one = c.report_law.ensures.one; explained = c.report_law.ensures.explained } in
+    let law : ReportLaw (g.E.Engine.outcome c.args.engine.now) = record { some = c.report_law.ensures.some; one = c.report_law.ensures.one; explained = c.report_law.ensures.explained; tried = c.report_law.ensures.tried } in
     let coded : CodeLaw = record { some = c.one_code_law.ensures.some; one = c.one_code_law.ensures.one } in
     let ran : RunLaw (g.E.Engine.outcome c.args.engine.now) = record { some = c.asked_runs_law.ensures.some; one = c.asked_runs_law.ensures.one } in
     unfiled-complete (g.E.Engine.outcome c.args.engine.now) (OfFactory c.in-OfFactory.size) (IsOfFactory (g.E.Engine.outcome c.args.engine.now) c.in-OfFactory.size) (of_factory (g.E.Engine.outcome c.args.engine.now) c.in-OfFactory.size) _ (wish_task (texts c.args.words.now) c.in-Ok.request (OfFactory c.in-OfFactory.size) c.in-Ok.ensures.request c.in-OfFactory.ensures) ran c.values_are_of_parameters.ensures c.numbers_are_in_range.ensures law coded c.serve_factory.ensures
 
 pub returns-in-OfTopic-clause-headline : goal.returns-in-OfTopic-clause-headline
 returns-in-OfTopic-clause-headline g c =
-    let law : ReportLaw (g.E.Engine.outcome c.args.engine.now) = record { some = c.report_law.ensures.some; one = c.report_law.ensures.one; explained = c.report_law.ensures.explained } in
+    let law : ReportLaw (g.E.Engine.outcome c.args.engine.now) = record { some = c.report_law.ensures.some; one = c.report_law.ensures.one; explained = c.report_law.ensures.explained; tried = c.report_law.ensures.tried } in
     unfiled-headline (g.E.Engine.outcome c.args.engine.now) (OfTopic c.in-OfTopic.topic) (IsOfTopic c.in-OfTopic.topic) (of_topic (g.E.Engine.outcome c.args.engine.now) c.in-OfTopic.topic) _ (wish_task (texts c.args.words.now) c.in-Ok.request (OfTopic c.in-OfTopic.topic) c.in-Ok.ensures.request c.in-OfTopic.ensures) law c.serve_help.ensures
 
 pub returns-in-OfTopic-clause-causes : goal.returns-in-OfTopic-clause-causes
 returns-in-OfTopic-clause-causes g c =
-    let law : ReportLaw (g.E.Engine.outcome c.args.engine.now) = record { some = c.report_law.ensures.some; one = c.report_law.ensures.one; explained = c.report_law.ensures.explained } in
+    let law : ReportLaw (g.E.Engine.outcome c.args.engine.now) = record { some = c.report_law.ensures.some; one = c.report_law.ensures.one; explained = c.report_law.ensures.explained; tried = c.report_law.ensures.tried } in
     let coded : CodeLaw = record { some = c.one_code_law.ensures.some; one = c.one_code_law.ensures.one } in
     unfiled-causes (g.E.Engine.outcome c.args.engine.now) (OfTopic c.in-OfTopic.topic) (IsOfTopic c.in-OfTopic.topic) (of_topic (g.E.Engine.outcome c.args.engine.now) c.in-OfTopic.topic) _ (wish_task (texts c.args.words.now) c.in-Ok.request (OfTopic c.in-OfTopic.topic) c.in-Ok.ensures.request c.in-OfTopic.ensures) law coded c.serve_help.ensures
 
 pub returns-in-OfTopic-clause-complete : goal.returns-in-OfTopic-clause-complete
 returns-in-OfTopic-clause-complete g c =
-    let law : ReportLaw (g.E.Engine.outcome c.args.engine.now) = record { some = c.report_law.ensures.some; one = c.report_law.ensures.one; explained = c.report_law.ensures.explained } in
+    let law : ReportLaw (g.E.Engine.outcome c.args.engine.now) = record { some = c.report_law.ensures.some; one = c.report_law.ensures.one; explained = c.report_law.ensures.explained; tried = c.report_law.ensures.tried } in
     let coded : CodeLaw = record { some = c.one_code_law.ensures.some; one = c.one_code_law.ensures.one } in
     let ran : RunLaw (g.E.Engine.outcome c.args.engine.now) = record { some = c.asked_runs_law.ensures.some; one = c.asked_runs_law.ensures.one } in
     unfiled-complete (g.E.Engine.outcome c.args.engine.now) (OfTopic c.in-OfTopic.topic) (IsOfTopic c.in-OfTopic.topic) (of_topic (g.E.Engine.outcome c.args.engine.now) c.in-OfTopic.topic) _ (wish_task (texts c.args.words.now) c.in-Ok.request (OfTopic c.in-OfTopic.topic) c.in-Ok.ensures.request c.in-OfTopic.ensures) ran c.values_are_of_parameters.ensures c.numbers_are_in_range.ensures law coded c.serve_help.ensures
