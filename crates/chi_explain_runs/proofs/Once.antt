@@ -1,5 +1,5 @@
 -- What is told of where a run comes to rest is one text, since a policy picks one run.
-use Rattle.std.proofs.Common.{◌≡◌, ℕ, List, sym, ◌∙◌, ap, refl}
+use Rattle.std.proofs.Common.{sym, ◌∙◌, ap, refl}
 use Rattle.chi_core_runs.specs.Picked.{PickedOnce, PickedAlways}
 use Rattle.chi_explain_runs.specs.Laws.{WaitingToldOnce, WaitingToldAlways}
 use Rattle.chi_explain_runs.specs.Waits.{waits_of}

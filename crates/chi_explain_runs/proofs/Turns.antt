@@ -1,19 +1,18 @@
 -- The turns of a run: what each of them leaves of it.
-use Rattle.std.proofs.Common.{◌≡◌, ℕ, ◌+◌, ◌*◌, ◌-◌, ◌<◌, ◌≤◌, ◌^◌, List, [], ◌∷◌, ◌++◌, Option, Some, None, length, sym, ◌∙◌, ap, subst, subst₂, refl, arith, length-append, append_assoc, append-nil}
+use Rattle.std.proofs.Common.{◌≡◌, ℕ, ◌+◌, ◌*◌, ◌-◌, ◌<◌, ◌≤◌, ◌^◌, List, [], ◌∷◌, ◌++◌, Option, Some, None, length, sym, ◌∙◌, ap, subst, subst₂, refl, arith, length-append}
 use Rattle.std.specs.Prelude.{option_map, Result, Ok, Err, IfOk}
-use Rattle.std.specs.Option.{option_and_then}
 use Rattle.std.specs.List.{slice_get}
 use Rattle.std.proofs.Math.Logic.{∥∥₁_elim}
 use Rattle.std.specs.Coded.{Coded-set, coded_ℕ}
 use Rattle.chi_sched.specs.Policies.{Answers, GivesOne, IsAsked}
 use Rattle.chi_core.specs.declared.program.Core.{Core}
 use Rattle.chi_core.specs.declared.label.Label.{Label}
-use Rattle.chi_core.specs.declared.label.Label.TheVariants.{Local, Pair, Wake, Join, Advance}
+use Rattle.chi_core.specs.declared.label.Label.TheVariants.{Advance}
 use Rattle.chi_core.specs.declared.verdict.Verdict.{Verdict}
 use Rattle.chi_core.specs.declared.verdict.Verdict.TheVariants.{OutOfSteps}
 use Rattle.chi_core.specs.Beginning.{Beginning, Begins, Breaks}
 use Rattle.chi_core.specs.Beginning as beginning
-use Rattle.chi_core.specs.Config.{Config, Instance}
+use Rattle.chi_core.specs.Config.{Config}
 use Rattle.chi_core.specs.Options.{Ending, ending_at, actors, options}
 use Rattle.chi_core.specs.Options as option
 use Rattle.chi_core.specs.Picks.{Pick, MayPick}
@@ -23,16 +22,14 @@ use Rattle.chi_core_runs.specs.Once.{EachMayCome}
 use Rattle.chi_core_runs.specs.Time.{EachCosts}
 use Rattle.chi_core_runs.specs.Turns.{UnderWay, WayBegins, WayGoesOn, WayIsOver, WayIsCutOff, WayRests}
 use Rattle.chi_core.specs.Step as outcome
-use Rattle.chi_core.specs.Runs.{told_after}
 use Rattle.chi_core.specs.Step.{Outcome, step}
 use Rattle.chi_plain.specs.declared.stepped.Stepped.{Stepped}
 use Rattle.chi_plain.specs.declared.stepped.Stepped.TheVariants.{Next, Over, Spent}
 use Rattle.chi_plain.specs.Stage.{Stage, At, Ended, Lost, Runner, Begun, actors_at, options_at, verdict_at, MayStep, Steps, Appends}
 use Rattle.chi_explain_labels.specs.Labels.{takers, Counted}
 use Rattle.chi_explain_runs.specs.declared.notes.Done.{Done}
-use Rattle.chi_explain_runs.specs.Waits.{waits_along, waits_of, IsWaitingTold}
-use Rattle.chi_explain_runs.specs.Turns.{done_next, done_by, done_at, with_done, GoesOn, PicksAt, IsThere, ToldIn, Leads, Keeps, told_in, HasRun}
-use Rattle.chi_explain_waiting.specs.WaitingText.{waiting_text}
+use Rattle.chi_explain_runs.specs.Waits.{IsWaitingTold}
+use Rattle.chi_explain_runs.specs.Turns.{done_by, done_at, with_done, GoesOn, PicksAt, IsThere, ToldIn, Leads, Keeps, told_in, HasRun}
 use Rattle.chi_explain_runs.proofs.Counts.{counts_more, few_more}
 use Rattle.chi_explain_runs.proofs.Telling.{told_last, told_on, told_over, told_rest, told_spent}
 
