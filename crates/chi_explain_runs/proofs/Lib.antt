@@ -1,2 +1,4 @@
+mod Counts
+mod Telling
 mod Turns
 mod Once

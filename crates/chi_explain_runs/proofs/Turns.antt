@@ -1,19 +1,18 @@
 -- The turns of a run: what each of them leaves of it.
-use Rattle.std.proofs.Common.{◌≡◌, ℕ, ◌+◌, ◌*◌, ◌-◌, ◌<◌, ◌≤◌, ◌^◌, List, [], ◌∷◌, ◌++◌, Option, Some, None, length, sym, ◌∙◌, ap, subst, refl, arith, length-append, append_assoc, append-nil}
+use Rattle.std.proofs.Common.{◌≡◌, ℕ, ◌+◌, ◌*◌, ◌-◌, ◌<◌, ◌≤◌, ◌^◌, List, [], ◌∷◌, ◌++◌, Option, Some, None, length, sym, ◌∙◌, ap, subst, subst₂, refl, arith, length-append}
 use Rattle.std.specs.Prelude.{option_map, Result, Ok, Err, IfOk}
-use Rattle.std.specs.Option.{option_and_then}
 use Rattle.std.specs.List.{slice_get}
 use Rattle.std.proofs.Math.Logic.{∥∥₁_elim}
 use Rattle.std.specs.Coded.{Coded-set, coded_ℕ}
 use Rattle.chi_sched.specs.Policies.{Answers, GivesOne, IsAsked}
 use Rattle.chi_core.specs.declared.program.Core.{Core}
 use Rattle.chi_core.specs.declared.label.Label.{Label}
-use Rattle.chi_core.specs.declared.label.Label.TheVariants.{Local, Pair, Wake, Join, Advance}
+use Rattle.chi_core.specs.declared.label.Label.TheVariants.{Advance}
 use Rattle.chi_core.specs.declared.verdict.Verdict.{Verdict}
 use Rattle.chi_core.specs.declared.verdict.Verdict.TheVariants.{OutOfSteps}
 use Rattle.chi_core.specs.Beginning.{Beginning, Begins, Breaks}
 use Rattle.chi_core.specs.Beginning as beginning
-use Rattle.chi_core.specs.Config.{Config, Instance}
+use Rattle.chi_core.specs.Config.{Config}
 use Rattle.chi_core.specs.Options.{Ending, ending_at, actors, options}
 use Rattle.chi_core.specs.Options as option
 use Rattle.chi_core.specs.Picks.{Pick, MayPick}
@@ -23,16 +22,16 @@ use Rattle.chi_core_runs.specs.Once.{EachMayCome}
 use Rattle.chi_core_runs.specs.Time.{EachCosts}
 use Rattle.chi_core_runs.specs.Turns.{UnderWay, WayBegins, WayGoesOn, WayIsOver, WayIsCutOff, WayRests}
 use Rattle.chi_core.specs.Step as outcome
-use Rattle.chi_core.specs.Runs.{told_after}
 use Rattle.chi_core.specs.Step.{Outcome, step}
 use Rattle.chi_plain.specs.declared.stepped.Stepped.{Stepped}
 use Rattle.chi_plain.specs.declared.stepped.Stepped.TheVariants.{Next, Over, Spent}
 use Rattle.chi_plain.specs.Stage.{Stage, At, Ended, Lost, Runner, Begun, actors_at, options_at, verdict_at, MayStep, Steps, Appends}
-use Rattle.chi_explain_runs.specs.declared.lines.Done.{Done}
-use Rattle.chi_explain_runs.specs.Waits.{waits_along, waits_of, IsWaitingTold}
-use Rattle.chi_explain_runs.specs.Turns.{done_next, done_by, done_at, with_done, GoesOn, PicksAt, IsThere, ToldIn, Leads, Keeps, told_in, HasRun}
-use Rattle.chi_explain_waiting.specs.WaitingText.{waiting_text}
-use Rattle.chi_explain_waiting.specs.Whereabouts.{next_line, with_line, line_done, lines_after}
+use Rattle.chi_explain_labels.specs.Labels.{takers, Counted}
+use Rattle.chi_explain_runs.specs.declared.notes.Done.{Done}
+use Rattle.chi_explain_runs.specs.Waits.{IsWaitingTold}
+use Rattle.chi_explain_runs.specs.Turns.{done_by, done_at, with_done, GoesOn, PicksAt, IsThere, ToldIn, Leads, Keeps, told_in, HasRun}
+use Rattle.chi_explain_runs.proofs.Counts.{counts_more, few_more}
+use Rattle.chi_explain_runs.proofs.Telling.{told_last, told_on, told_over, told_rest, told_spent}
 
 -- what is picked at a turn, as its law gives it
 pub record ChoiceLaw : Type 0 where
@@ -115,89 +114,29 @@ turns_left left (At config) = 2 * left + 1
 turns_left left (Ended end) = 2 * left
 turns_left left Lost = 0
 
--- the lines that instances did last
-
-done_lines : (lines : List ℕ) (p : ℕ) (found : Option Instance) → with_done lines (option_and_then (done_next p) found) ≡ line_done lines p found
-done_lines lines p None = refl
-done_lines lines p (Some i) = by_line (next_line i)
-  where
-    by_line : (next : Option ℕ) → with_done lines (option_map (λ line. record { pid = p; line = line }) next) ≡ with_line lines p next
-    by_line None = refl
-    by_line (Some line) = refl
-
-same_lines : (config : Config) (label : Label) (lines : List ℕ) → with_done lines (done_by config label) ≡ lines_after config label lines
-same_lines config (Local p) lines = done_lines lines p (slice_get config.instances p)
-same_lines config (Pair p a q b) lines = refl
-same_lines config (Wake p a) lines = refl
-same_lines config (Join p) lines = refl
-same_lines config Advance lines = refl
-
--- what is told
-
-module _ (core : Core) (source : List ℕ) where
-  waits-none : (lines : List ℕ) (config : Config) (left : ℕ) → waits_along core source lines config left [] ≡ waiting_text core source lines config
-  unfolding waits_along
-  waits-none lines config left = refl
-
-  waits-first : (lines : List ℕ) (config : Config) (left : ℕ) (label : Label) (labels : List Label)
-      → waits_along core source lines config left (label ∷ labels)
-      ≡ told_after (λ new rest. waits_along core source (lines_after config label lines) new rest labels) (step core config label left)
-  unfolding waits_along
-  waits-first lines config left label labels = refl
-
-  waits-step : (lines : List ℕ) (config : Config) (left : ℕ) (label : Label) (labels : List Label) (s : Outcome) → step core config label left ≡ s
-      → waits_along core source lines config left (label ∷ labels)
-      ≡ told_after (λ new rest. waits_along core source (lines_after config label lines) new rest labels) s
-  waits-step lines config left label labels s e =
-      waits-first lines config left label labels ∙ ap (told_after (λ new rest. waits_along core source (lines_after config label lines) new rest labels)) e
-
-  told_on : (beginning : Beginning) (bound : ℕ) (labels : List Label) (lines : List ℕ) (config : Config) (left : ℕ) → ToldIn core source beginning bound labels lines config left
-      → (label : Label) (new : Config) (text : List ℕ) (rest : ℕ) → step core config label left ≡ outcome.Next new text rest
-      → ToldIn core source beginning bound (labels ++ label ∷ []) (with_done lines (done_by config label)) new rest
-  told_on (Begins first) bound labels lines config left so label new text rest goes = λ more.
-      ap (waits_along core source [] first bound) (append_assoc labels (label ∷ []) more)
-      ∙ so (label ∷ more)
-      ∙ waits-step lines config left label more (outcome.Next new text rest) goes
-      ∙ ap (λ l. waits_along core source l new rest more) (sym (same_lines config label lines))
-  told_on (Breaks end) bound labels lines config left so label new text rest goes = absurd so
-  told_on beginning.Amiss bound labels lines config left so label new text rest goes = absurd so
-
-  told_over : (beginning : Beginning) (bound : ℕ) (labels : List Label) (lines : List ℕ) (config : Config) (left : ℕ) → ToldIn core source beginning bound labels lines config left
-      → (label : Label) (verdict : Verdict) → step core config label left ≡ outcome.Over verdict
-      → [] ≡ waits_of core source beginning bound (labels ++ label ∷ [])
-  told_over (Begins first) bound labels lines config left so label verdict goes =
-      sym (so (label ∷ []) ∙ waits-step lines config left label [] (outcome.Over verdict) goes)
-  told_over (Breaks end) bound labels lines config left so label verdict goes = refl
-  told_over beginning.Amiss bound labels lines config left so label verdict goes = refl
-
-  told_last : (beginning : Beginning) (bound : ℕ) (labels : List Label) (lines : List ℕ) (config : Config) (left : ℕ) → ToldIn core source beginning bound labels lines config left
-      → waiting_text core source lines config ≡ waits_of core source beginning bound labels
-  told_last (Begins first) bound labels lines config left so =
-      sym (ap (waits_along core source [] first bound) (sym (append-nil labels)) ∙ so [] ∙ waits-none lines config left)
-  told_last (Breaks end) bound labels lines config left so = absurd so
-  told_last beginning.Amiss bound labels lines config left so = absurd so
-
 module _ (law : TurnLaw) (gives : ℕ → ℕ → ℕ → Type 0) (core : Core) (first : Stage) (bound : ℕ) where
   -- a run begins
-  leads_first : (beginning : Beginning) (stage : Stage) → Begun beginning stage → (pick : Pick) → Leads core beginning pick bound stage 0 bound []
+  leads_first : (beginning : Beginning) (stage : Stage) → Begun beginning stage → (pick : Pick) → Leads core beginning pick bound stage 0 bound [] []
   leads_first (Begins config) stage is pick =
-      let P : Stage → Type 0 = λ s. Leads core (Begins config) pick bound s 0 bound [] in
-      subst P (sym is) ([], refl, ([], law.begins core pick bound config), λ source more. refl)
+      let P : Stage → Type 0 = λ s. Leads core (Begins config) pick bound s 0 bound [] [] in
+      subst P (sym is) ([], refl, ([], law.begins core pick bound config), (λ last more. refl), λ p. refl)
   leads_first (Breaks end) stage is pick =
-      let P : Stage → Type 0 = λ s. Leads core (Breaks end) pick bound s 0 bound [] in
+      let P : Stage → Type 0 = λ s. Leads core (Breaks end) pick bound s 0 bound [] [] in
       subst P (sym is) (λ source. record { told = record { labels = []; ending = end; output = [] }; picked = refl; is = refl })
   leads_first beginning.Amiss stage is pick = absurd is
 
-  pub begins : (runner : Runner) (lines : List ℕ) → lines ≡ [] → runner.core ≡ core → runner.stage ≡ first → IsThere runner.stage → Keeps gives core first bound runner 0 bound lines
-  begins runner lines none same is there = subst (λ (l : List ℕ). Keeps gives core first bound runner 0 bound l) (sym none) (record {
+  pub begins : (runner : Runner) (lines counts : List ℕ) → lines ≡ [] → counts ≡ [] → runner.core ≡ core → runner.stage ≡ first → IsThere runner.stage
+      → Keeps gives core first bound runner 0 bound lines counts
+  begins runner lines counts none none' same is there = subst₂ (λ (l m : List ℕ). Keeps gives core first bound runner 0 bound l m) (sym none) (sym none') (record {
     same_core = same;
     there = there;
     room = omega arith;
+    few = λ p. let least : 0 ≤ 0 = omega arith in least;
     leads = λ beginning begun pick answers. leads_first beginning runner.stage (subst (λ s. Begun beginning s) (sym is) begun) pick;
   })
 
-  pub goes_on : (runner : Runner) (turn left : ℕ) (lines : List ℕ) → Keeps gives core first bound runner turn left lines → verdict_at runner.stage ≡ None → GoesOn runner.stage
-  goes_on runner turn left lines k e = by_stage runner.stage k.there e
+  pub goes_on : (runner : Runner) (turn left : ℕ) (lines counts : List ℕ) → Keeps gives core first bound runner turn left lines counts → verdict_at runner.stage ≡ None → GoesOn runner.stage
+  goes_on runner turn left lines counts k e = by_stage runner.stage k.there e
     where
       by_ending : (o : Option Ending) → option_map (λ end. end.verdict) o ≡ None → o ≡ None
       by_ending None e' = refl
@@ -209,21 +148,21 @@ module _ (law : TurnLaw) (gives : ℕ → ℕ → ℕ → Type 0) (core : Core) 
       by_stage Lost there e' = absurd there
 
   -- the run is over
-  pub rests : (runner : Runner) (turn left : ℕ) (lines : List ℕ) (verdict : Verdict) → Keeps gives core first bound runner turn left lines → verdict_at runner.stage ≡ Some verdict
-      → HasRun gives core first bound runner.stage lines
-  rests runner turn left lines verdict k e begin begun pick answers source = by_stage runner.stage (k.leads begin begun pick answers) e
+  pub rests : (runner : Runner) (turn left : ℕ) (lines counts : List ℕ) (verdict : Verdict) → Keeps gives core first bound runner turn left lines counts → verdict_at runner.stage ≡ Some verdict
+      → HasRun gives core first bound runner.stage lines counts None
+  rests runner turn left lines counts verdict k e begin begun pick answers source = by_stage runner.stage (k.leads begin begun pick answers) e
     where
-      ends_at : (config : Config) → Leads core begin pick bound (At config) turn left lines → (o : Option Ending) → option.ending config ≡ o
-          → option_map (λ end. end.verdict) o ≡ Some verdict → IsWaitingTold core source begin pick bound (waiting_text core source lines config)
+      ends_at : (config : Config) → Leads core begin pick bound (At config) turn left lines counts → (o : Option Ending) → option.ending config ≡ o
+          → option_map (λ end. end.verdict) o ≡ Some verdict → IsWaitingTold core source begin pick bound (told_in core source (At config) lines counts None)
       ends_at config l None is e' = absurd (cc)
       ends_at config l (Some end) is e' = record {
         told = record { labels = l.0; ending = end; output = l.2.0 };
         picked = law.at_rest core begin pick bound l.0 l.2.0 config left l.2.1 end is;
-        is = told_last core source begin bound l.0 lines config left (l.3 source);
+        is = told_rest core source bound l.0 lines config end is ∙ told_last core source begin bound l.0 lines config left l.3 end l.2.0;
       }
 
-      by_stage : (stage : Stage) → Leads core begin pick bound stage turn left lines → verdict_at stage ≡ Some verdict
-          → IsWaitingTold core source begin pick bound (told_in core source stage lines)
+      by_stage : (stage : Stage) → Leads core begin pick bound stage turn left lines counts → verdict_at stage ≡ Some verdict
+          → IsWaitingTold core source begin pick bound (told_in core source stage lines counts None)
       by_stage (At config) l e' = ends_at config l (option.ending config) refl e'
       by_stage (Ended end) l e' = l source
       by_stage Lost l e' = absurd l
@@ -238,31 +177,31 @@ module _ (law : TurnLaw) (gives : ℕ → ℕ → ℕ → Type 0) (core : Core) 
     pub same_core : new.core ≡ old.core
     pub steps : Appends before after' (λ text. Steps old.core old.stage new.stage label left text answer)
 
-  stepped : (old new : Runner) (turn : ℕ) (label : Label) (left : ℕ) (lines before after' : List ℕ) (answer : Stepped) → Keeps gives core first bound old turn left lines
+  stepped : (old new : Runner) (turn : ℕ) (label : Label) (left : ℕ) (lines counts before after' : List ℕ) (answer : Stepped) → Keeps gives core first bound old turn left lines counts
       → Took old new turn label left before after' answer → Appends before after' (λ text. Steps core old.stage new.stage label left text answer)
-  stepped old new turn label left lines before after' answer k t =
+  stepped old new turn label left lines counts before after' answer k t =
       let P : Core → Type 0 = λ c. Appends before after' (λ text. Steps c old.stage new.stage label left text answer) in subst P k.same_core t.steps
 
   -- the next label costs too much
-  pub spends : (old new : Runner) (turn : ℕ) (label : Label) (left : ℕ) (lines before after' : List ℕ) → Keeps gives core first bound old turn left lines
-      → Took old new turn label left before after' Spent → HasRun gives core first bound new.stage lines
-  spends old new turn label left lines before after' k t begin begun pick answers source =
-      let s = stepped old new turn label left lines before after' Spent k t in
+  pub spends : (old new : Runner) (turn : ℕ) (label : Label) (left : ℕ) (lines counts before after' : List ℕ) → Keeps gives core first bound old turn left lines counts
+      → Took old new turn label left before after' Spent → HasRun gives core first bound new.stage lines counts (Some bound)
+  spends old new turn label left lines counts before after' k t begin begun pick answers source =
+      let s = stepped old new turn label left lines counts before after' Spent k t in
       by_stage old.stage new.stage (k.leads begin begun pick answers) t.picked s.0 s.2
     where
-      stays : (config : Config) (stage' : Stage) → Leads core begin pick bound (At config) turn left lines → PicksAt gives turn (At config) label
+      stays : (config : Config) (stage' : Stage) → Leads core begin pick bound (At config) turn left lines counts → PicksAt gives turn (At config) label
           → (text : List ℕ) → (step core config label left ≡ outcome.Spent) × (stage' ≡ At config) × (text ≡ [])
-          → IsWaitingTold core source begin pick bound (told_in core source stage' lines)
+          → IsWaitingTold core source begin pick bound (told_in core source stage' lines counts (Some bound))
       stays config stage' l p text s =
-          subst (λ x. IsWaitingTold core source begin pick bound (told_in core source x lines)) (sym s.1)
+          subst (λ x. IsWaitingTold core source begin pick bound (told_in core source x lines counts (Some bound))) (sym s.1)
           (record {
             told = record { labels = l.0; ending = ending_at OutOfSteps config; output = l.2.0 };
             picked = law.cut_off core begin pick bound l.0 l.2.0 config left l.2.1 label (may_at pick config label l.0 l.1 (p pick answers)) s.0;
-            is = told_last core source begin bound l.0 lines config left (l.3 source);
+            is = told_spent core source bound l.0 lines counts config l.4 ∙ told_last core source begin bound l.0 lines config left l.3 (ending_at OutOfSteps config) l.2.0;
           })
 
-      by_stage : (stage stage' : Stage) → Leads core begin pick bound stage turn left lines → PicksAt gives turn stage label
-          → (text : List ℕ) → Steps core stage stage' label left text Spent → IsWaitingTold core source begin pick bound (told_in core source stage' lines)
+      by_stage : (stage stage' : Stage) → Leads core begin pick bound stage turn left lines counts → PicksAt gives turn stage label
+          → (text : List ℕ) → Steps core stage stage' label left text Spent → IsWaitingTold core source begin pick bound (told_in core source stage' lines counts (Some bound))
       by_stage (Ended end) stage' l p text s = absurd p
       by_stage Lost stage' l p text s = absurd p
       by_stage (At config) (At config') l p text s = stays config (At config') l p text s
@@ -270,10 +209,11 @@ module _ (law : TurnLaw) (gives : ℕ → ℕ → ℕ → Type 0) (core : Core) 
       by_stage (At config) Lost l p text s = stays config Lost l p text s
 
   -- the run goes on
-  pub goes_next : (old new : Runner) (turn : ℕ) (label : Label) (left cost : ℕ) (lines before after' : List ℕ) → Keeps gives core first bound old turn left lines
-      → (0 < cost) × (cost ≤ left) → Took old new turn label left before after' (Next cost) → Keeps gives core first bound new (turn + 1) (left - cost) (with_done lines (done_at old.stage label))
-  goes_next old new turn label left cost lines before after' k some t =
-      let s = stepped old new turn label left lines before after' (Next cost) k t in
+  pub goes_next : (old new : Runner) (turn : ℕ) (label : Label) (left cost : ℕ) (lines counts before after' : List ℕ) → Keeps gives core first bound old turn left lines counts
+      → (0 < cost) × (cost ≤ left) → Took old new turn label left before after' (Next cost)
+      → (newer : List ℕ) → Counted (takers label) counts newer → Keeps gives core first bound new (turn + 1) (left - cost) (with_done lines (done_at old.stage label)) newer
+  goes_next old new turn label left cost lines counts before after' k some t newer counted =
+      let s = stepped old new turn label left lines counts before after' (Next cost) k t in
       let n = by_stage old.stage new.stage k.leads t.picked s.0 s.2 in
       let room = k.room in
       let positive = some.0 in
@@ -282,13 +222,14 @@ module _ (law : TurnLaw) (gives : ℕ → ℕ → ℕ → Type 0) (core : Core) 
         same_core = t.same_core ∙ k.same_core;
         there = n.0;
         room = omega arith;
+        few = few_more label counts newer turn counted k.few;
         leads = n.2;
       }
     where
-      leads_on : (config new' : Config) → ((begin : Beginning) → Begun begin first → (pick : Pick) → Answers gives pick → Leads core begin pick bound (At config) turn left lines)
+      leads_on : (config new' : Config) → ((begin : Beginning) → Begun begin first → (pick : Pick) → Answers gives pick → Leads core begin pick bound (At config) turn left lines counts)
           → PicksAt gives turn (At config) label
           → (text : List ℕ) → (rest : ℕ) → step core config label left ≡ outcome.Next new' text rest → left - cost ≡ rest
-          → (begin : Beginning) → Begun begin first → (pick : Pick) → Answers gives pick → Leads core begin pick bound (At new') (turn + 1) (left - cost) (with_done lines (done_by config label))
+          → (begin : Beginning) → Begun begin first → (pick : Pick) → Answers gives pick → Leads core begin pick bound (At new') (turn + 1) (left - cost) (with_done lines (done_by config label)) newer
       leads_on config new' l p text rest e same begin begun pick answers =
           let old' = l begin begun pick answers in
           let long : length (old'.0 ++ label ∷ []) ≡ turn + 1 = length-append old'.0 (label ∷ []) ∙ ap (λ n. n + 1) old'.1 in
@@ -296,14 +237,15 @@ module _ (law : TurnLaw) (gives : ℕ → ℕ → ℕ → Type 0) (core : Core) 
             old'.0 ++ label ∷ [],
             long,
             (old'.2.0 ++ text, subst (λ n. UnderWay core begin pick bound (old'.0 ++ label ∷ []) (old'.2.0 ++ text) new' n) (sym same) on),
-            λ source. subst (λ n. ToldIn core source begin bound (old'.0 ++ label ∷ []) (with_done lines (done_by config label)) new' n) (sym same)
-                (told_on core source begin bound old'.0 lines config left (old'.3 source) label new' text rest e),
+            subst (λ n. ToldIn core begin bound (old'.0 ++ label ∷ []) (with_done lines (done_by config label)) new' n) (sym same)
+                (told_on core begin bound old'.0 lines config left old'.3 label new' text rest e),
+            counts_more old'.0 label counts newer counted old'.4,
           )
 
-      by_stage : (stage stage' : Stage) → ((begin : Beginning) → Begun begin first → (pick : Pick) → Answers gives pick → Leads core begin pick bound stage turn left lines)
+      by_stage : (stage stage' : Stage) → ((begin : Beginning) → Begun begin first → (pick : Pick) → Answers gives pick → Leads core begin pick bound stage turn left lines counts)
           → PicksAt gives turn stage label
           → (text : List ℕ) → Steps core stage stage' label left text (Next cost)
-          → IsThere stage' × (cost ≤ left) × ((begin : Beginning) → Begun begin first → (pick : Pick) → Answers gives pick → Leads core begin pick bound stage' (turn + 1) (left - cost) (with_done lines (done_at stage label)))
+          → IsThere stage' × (cost ≤ left) × ((begin : Beginning) → Begun begin first → (pick : Pick) → Answers gives pick → Leads core begin pick bound stage' (turn + 1) (left - cost) (with_done lines (done_at stage label)) newer)
       by_stage (Ended end) stage' l p text s = absurd p
       by_stage Lost stage' l p text s = absurd p
       by_stage (At config) (Ended end) l p text s = absurd s
@@ -314,34 +256,35 @@ module _ (law : TurnLaw) (gives : ℕ → ℕ → ℕ → Type 0) (core : Core) 
           (tt, omega arith, leads_on config config' l p text s.0 s.1 same)
 
   -- or is over
-  pub goes_over : (old new : Runner) (turn : ℕ) (label : Label) (left : ℕ) (lines before after' : List ℕ) → Keeps gives core first bound old turn left lines
-      → Took old new turn label left before after' Over → Keeps gives core first bound new turn left lines
-  goes_over old new turn label left lines before after' k t =
-      let s = stepped old new turn label left lines before after' Over k t in
+  pub goes_over : (old new : Runner) (turn : ℕ) (label : Label) (left : ℕ) (lines counts before after' : List ℕ) → Keeps gives core first bound old turn left lines counts
+      → Took old new turn label left before after' Over → Keeps gives core first bound new turn left lines counts
+  goes_over old new turn label left lines counts before after' k t =
+      let s = stepped old new turn label left lines counts before after' Over k t in
       let n = by_stage old.stage new.stage k.leads t.picked s.0 s.2 in
       record {
         same_core = t.same_core ∙ k.same_core;
         there = n.0;
         room = k.room;
+        few = k.few;
         leads = n.1;
       }
     where
-      leads_over : (config : Config) (end : Ending) → ((begin : Beginning) → Begun begin first → (pick : Pick) → Answers gives pick → Leads core begin pick bound (At config) turn left lines)
+      leads_over : (config : Config) (end : Ending) → ((begin : Beginning) → Begun begin first → (pick : Pick) → Answers gives pick → Leads core begin pick bound (At config) turn left lines counts)
           → PicksAt gives turn (At config) label
           → (text : List ℕ) → (step core config label left ≡ outcome.Over end.verdict) × (end ≡ ending_at end.verdict config) × (text ≡ [])
-          → (begin : Beginning) → Begun begin first → (pick : Pick) → Answers gives pick → Leads core begin pick bound (Ended end) turn left lines
+          → (begin : Beginning) → Begun begin first → (pick : Pick) → Answers gives pick → Leads core begin pick bound (Ended end) turn left lines counts
       leads_over config end l p text s begin begun pick answers source =
           let old' = l begin begun pick answers in
           record {
             told = record { labels = old'.0 ++ label ∷ []; ending = ending_at end.verdict config; output = old'.2.0 };
             picked = law.over core begin pick bound old'.0 old'.2.0 config left old'.2.1 label (may_at pick config label old'.0 old'.1 (p pick answers)) end.verdict s.0;
-            is = told_over core source begin bound old'.0 lines config left (old'.3 source) label end.verdict s.0;
+            is = told_over core source begin bound old'.0 lines config left old'.3 label end.verdict (ending_at end.verdict config) old'.2.0 s.0;
           }
 
-      by_stage : (stage stage' : Stage) → ((begin : Beginning) → Begun begin first → (pick : Pick) → Answers gives pick → Leads core begin pick bound stage turn left lines)
+      by_stage : (stage stage' : Stage) → ((begin : Beginning) → Begun begin first → (pick : Pick) → Answers gives pick → Leads core begin pick bound stage turn left lines counts)
           → PicksAt gives turn stage label
           → (text : List ℕ) → Steps core stage stage' label left text Over
-          → IsThere stage' × ((begin : Beginning) → Begun begin first → (pick : Pick) → Answers gives pick → Leads core begin pick bound stage' turn left lines)
+          → IsThere stage' × ((begin : Beginning) → Begun begin first → (pick : Pick) → Answers gives pick → Leads core begin pick bound stage' turn left lines counts)
       by_stage (Ended end) stage' l p text s = absurd p
       by_stage Lost stage' l p text s = absurd p
       by_stage (At config) (At config') l p text s = absurd s
@@ -349,10 +292,10 @@ module _ (law : TurnLaw) (gives : ℕ → ℕ → ℕ → Type 0) (core : Core) 
       by_stage (At config) (Ended end) l p text s = (tt, leads_over config end l p text s)
 
   -- it costs something, and no more than is left
-  pub costs_next : EachCosts → (old new : Runner) (turn : ℕ) (label : Label) (left cost : ℕ) (lines before after' : List ℕ) → Keeps gives core first bound old turn left lines
+  pub costs_next : EachCosts → (old new : Runner) (turn : ℕ) (label : Label) (left cost : ℕ) (lines counts before after' : List ℕ) → Keeps gives core first bound old turn left lines counts
       → Took old new turn label left before after' (Next cost) → (0 < cost) × (cost ≤ left) × (turns_left (left - cost) new.stage < turns_left left old.stage)
-  costs_next law' old new turn label left cost lines before after' k t =
-      let s = stepped old new turn label left lines before after' (Next cost) k t in
+  costs_next law' old new turn label left cost lines counts before after' k t =
+      let s = stepped old new turn label left lines counts before after' (Next cost) k t in
       by_stage old.stage new.stage t.picked s.0 s.2
     where
       by_stage : (stage stage' : Stage) → PicksAt gives turn stage label → (text : List ℕ) → Steps core stage stage' label left text (Next cost)
@@ -368,10 +311,10 @@ module _ (law : TurnLaw) (gives : ℕ → ℕ → ℕ → Type 0) (core : Core) 
           let within : cost ≤ left = omega arith in
           (some, within, omega arith)
 
-  pub ends_over : (old new : Runner) (turn : ℕ) (label : Label) (left : ℕ) (lines before after' : List ℕ) → Keeps gives core first bound old turn left lines
+  pub ends_over : (old new : Runner) (turn : ℕ) (label : Label) (left : ℕ) (lines counts before after' : List ℕ) → Keeps gives core first bound old turn left lines counts
       → Took old new turn label left before after' Over → turns_left left new.stage < turns_left left old.stage
-  ends_over old new turn label left lines before after' k t =
-      let s = stepped old new turn label left lines before after' Over k t in
+  ends_over old new turn label left lines counts before after' k t =
+      let s = stepped old new turn label left lines counts before after' Over k t in
       by_stage old.stage new.stage t.picked s.0 s.2
     where
       by_stage : (stage stage' : Stage) → PicksAt gives turn stage label → (text : List ℕ) → Steps core stage stage' label left text Over
@@ -383,12 +326,12 @@ module _ (law : TurnLaw) (gives : ℕ → ℕ → ℕ → Type 0) (core : Core) 
       by_stage (At config) (Ended end) p text s = omega arith
 
   -- and notes what it did
-  pub noted_next : (old new : Runner) (turn : ℕ) (label : Label) (left cost : ℕ) (lines noted before after' : List ℕ) (made : Option Done)
-      → made ≡ done_at old.stage label → noted ≡ with_done lines made → Keeps gives core first bound old turn left lines
-      → (0 < cost) × (cost ≤ left) → Took old new turn label left before after' (Next cost) → Keeps gives core first bound new (turn + 1) (left - cost) noted
-  noted_next old new turn label left cost lines noted before after' made is so k some t =
-      subst (λ l. Keeps gives core first bound new (turn + 1) (left - cost) l) (sym (so ∙ ap (with_done lines) is))
-      (goes_next old new turn label left cost lines before after' k some t)
+  pub noted_next : (old new : Runner) (turn : ℕ) (label : Label) (left cost : ℕ) (lines counts noted newer before after' : List ℕ) (made : Option Done)
+      → made ≡ done_at old.stage label → noted ≡ with_done lines made → Counted (takers label) counts newer → Keeps gives core first bound old turn left lines counts
+      → (0 < cost) × (cost ≤ left) → Took old new turn label left before after' (Next cost) → Keeps gives core first bound new (turn + 1) (left - cost) noted newer
+  noted_next old new turn label left cost lines counts noted newer before after' made is so counted k some t =
+      subst (λ l. Keeps gives core first bound new (turn + 1) (left - cost) l newer) (sym (so ∙ ap (with_done lines) is))
+      (goes_next old new turn label left cost lines counts before after' k some t newer counted)
 
 -- what follows of a result, where there is one
 pub if_ok : {A E : Type 0} {P Q : A → Type 0} (result : Result A E) → ((a : A) → P a → Q a) → IfOk result P → IfOk result Q
@@ -396,9 +339,10 @@ if_ok (Ok r) follows is = follows r is
 if_ok (Err lost) follows is = tt
 
 -- what is told where the runner is left is told of the run
-pub rest_told : (gives : ℕ → ℕ → ℕ → Type 0) (core other : Core) (source : List ℕ) (first : Stage) (bound : ℕ) (stage : Stage) (lines text : List ℕ) → other ≡ core
-    → HasRun gives other first bound stage lines → text ≡ told_in core source stage lines
+pub rest_told : (gives : ℕ → ℕ → ℕ → Type 0) (core other : Core) (source : List ℕ) (first : Stage) (bound : ℕ) (stage : Stage) (lines counts : List ℕ)
+    → (spent : Option ℕ) (text : List ℕ) → other ≡ core
+    → HasRun gives other first bound stage lines counts spent → text ≡ told_in core source stage lines counts spent
     → (begin : Beginning) → Begun begin first → (pick : Pick) → Answers gives pick → IsWaitingTold core source begin pick bound text
-rest_told gives core other source first bound stage lines text same ran is begin begun pick answers =
+rest_told gives core other source first bound stage lines counts spent text same ran is begin begun pick answers =
     subst (λ (t : List ℕ). IsWaitingTold core source begin pick bound t) (sym is)
-    (subst (λ (c : Core). IsWaitingTold c source begin pick bound (told_in c source stage lines)) same (ran begin begun pick answers source))
+    (subst (λ (c : Core). IsWaitingTold c source begin pick bound (told_in c source stage lines counts spent)) same (ran begin begun pick answers source))

@@ -2,7 +2,7 @@
 #![tactic(auto)]
 
 mod laws;
-mod lines;
+mod notes;
 mod run;
 
 pub use laws::waiting_law;

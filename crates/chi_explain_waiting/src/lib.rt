@@ -10,5 +10,5 @@ mod waiting;
 mod whereabouts;
 
 pub use pieces::MOST_TOLD;
-pub use waiting::explain_waiting;
+pub use waiting::{explain_waiting, name_of};
 pub use whereabouts::next_line;

@@ -109,9 +109,9 @@ fn put_state(
     }
 }
 
-/// The name of the process of this number.
+/// The name of the process of this number; nothing where there is none.
 #[tactic(auto, using(crate::proofs::Telling::telling))]
-fn name_of(core: &Core, definition: u32) -> &[u8]
+pub fn name_of(core: &Core, definition: u32) -> &[u8]
     ensures { result.now ≡ name_told core.now definition }
 {
     match core.procs.as_slice().get(definition as usize) {

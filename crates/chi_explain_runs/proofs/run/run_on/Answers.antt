@@ -11,7 +11,7 @@ turn-init g c =
       cut_off = c.turn_law.ensures.cut_off;
       at_rest = c.turn_law.ensures.at_rest;
     } in
-    begins law (g.P.Chooser.gives c.args.policy.now) _ _ _ c.args.runner.now _ c.new-lines.ensures.items refl refl c.requires.there
+    begins law (g.P.Chooser.gives c.args.policy.now) _ _ _ c.args.runner.now _ _ c.requires.no_lines c.requires.no_counts refl refl c.requires.there
 
 pub picked_label-label-requires-clause-goes_on : goal.picked_label-label-requires-clause-goes_on
 picked_label-label-requires-clause-goes_on g c =
@@ -22,7 +22,7 @@ picked_label-label-requires-clause-goes_on g c =
       cut_off = c.turn_law.ensures.cut_off;
       at_rest = c.turn_law.ensures.at_rest;
     } in
-    goes_on law _ _ _ _ _ _ _ _ c.turn.invariant (sym c.in-None.ensures.verdict)
+    goes_on law _ _ _ _ _ _ _ _ _ c.turn.invariant (sym c.in-None.ensures.verdict)
 
 pub picked_label-label-requires-clause-early : goal.picked_label-label-requires-clause-early
 picked_label-label-requires-clause-early g c = let room = c.turn.invariant.room in let below = c.requires.bound in omega arith
@@ -39,7 +39,7 @@ overflow_sub-left g c =
       cut_off = c.turn_law.ensures.cut_off;
       at_rest = c.turn_law.ensures.at_rest;
     } in
-    (costs_next law _ _ _ _ c.time_law.ensures.costs _ _ _ _ _ _ _ _ _ c.turn.invariant
+    (costs_next law _ _ _ _ c.time_law.ensures.costs _ _ _ _ _ _ _ _ _ _ c.turn.invariant
     (record { picked = c.picked_label-label.ensures.picks; same_core = c.in-Next.ensures.same_core; steps = c.in-Next.ensures.steps })).1
 
 pub turn-smaller-in-Next : goal.turn-smaller-in-Next
@@ -51,7 +51,7 @@ turn-smaller-in-Next g c =
       cut_off = c.turn_law.ensures.cut_off;
       at_rest = c.turn_law.ensures.at_rest;
     } in
-    (costs_next law _ _ _ _ c.time_law.ensures.costs _ _ _ _ _ _ _ _ _ c.turn.invariant
+    (costs_next law _ _ _ _ c.time_law.ensures.costs _ _ _ _ _ _ _ _ _ _ c.turn.invariant
     (record { picked = c.picked_label-label.ensures.picks; same_core = c.in-Next.ensures.same_core; steps = c.in-Next.ensures.steps })).2
 
 pub turn-preserved-in-Next : goal.turn-preserved-in-Next
@@ -63,9 +63,9 @@ turn-preserved-in-Next g c =
       cut_off = c.turn_law.ensures.cut_off;
       at_rest = c.turn_law.ensures.at_rest;
     } in
-    let costs = costs_next law _ _ _ _ c.time_law.ensures.costs _ _ _ _ _ _ _ _ _ c.turn.invariant
+    let costs = costs_next law _ _ _ _ c.time_law.ensures.costs _ _ _ _ _ _ _ _ _ _ c.turn.invariant
     (record { picked = c.picked_label-label.ensures.picks; same_core = c.in-Next.ensures.same_core; steps = c.in-Next.ensures.steps }) in
-    noted_next law _ _ _ _ _ _ _ _ _ _ _ _ _ _ _ c.done_at-done.ensures c.in_ok-note-in-Next.ensures c.turn.invariant (costs.0, costs.1)
+    noted_next law _ _ _ _ _ _ _ _ _ _ _ _ _ _ _ _ _ c.done_at-done.ensures c.in_ok-note-in-Next.ensures.lines c.in_ok-note-in-Next.ensures.counts c.turn.invariant (costs.0, costs.1)
     (record { picked = c.picked_label-label.ensures.picks; same_core = c.in-Next.ensures.same_core; steps = c.in-Next.ensures.steps })
 
 pub turn-smaller : goal.turn-smaller
@@ -77,7 +77,7 @@ turn-smaller g c =
       cut_off = c.turn_law.ensures.cut_off;
       at_rest = c.turn_law.ensures.at_rest;
     } in
-    ends_over law _ _ _ _ _ _ _ _ _ _ _ _ c.turn.invariant
+    ends_over law _ _ _ _ _ _ _ _ _ _ _ _ _ c.turn.invariant
     (record { picked = c.picked_label-label.ensures.picks; same_core = c.in-Over.ensures.same_core; steps = c.in-Over.ensures.steps })
 
 pub turn-preserved : goal.turn-preserved
@@ -89,7 +89,7 @@ turn-preserved g c =
       cut_off = c.turn_law.ensures.cut_off;
       at_rest = c.turn_law.ensures.at_rest;
     } in
-    goes_over law _ _ _ _ _ _ _ _ _ _ _ _ c.turn.invariant
+    goes_over law _ _ _ _ _ _ _ _ _ _ _ _ _ c.turn.invariant
     (record { picked = c.picked_label-label.ensures.picks; same_core = c.in-Over.ensures.same_core; steps = c.in-Over.ensures.steps })
 
 pub returns-in-Some : goal.returns-in-Some
@@ -101,7 +101,7 @@ returns-in-Some g c =
       cut_off = c.turn_law.ensures.cut_off;
       at_rest = c.turn_law.ensures.at_rest;
     } in
-    record { ran = rests law _ _ _ _ _ _ _ _ _ c.turn.invariant (sym c.in-Some.ensures.verdict) }
+    record { ran = rests law _ _ _ _ _ _ _ _ _ _ c.turn.invariant (sym c.in-Some.ensures.verdict) }
 
 pub returns-in-Spent : goal.returns-in-Spent
 returns-in-Spent g c =
@@ -113,6 +113,6 @@ returns-in-Spent g c =
       at_rest = c.turn_law.ensures.at_rest;
     } in
     record {
-      ran = spends law _ _ _ _ _ _ _ _ _ _ _ _ c.turn.invariant
+      ran = spends law _ _ _ _ _ _ _ _ _ _ _ _ _ c.turn.invariant
           (record { picked = c.picked_label-label.ensures.picks; same_core = c.in-Spent.ensures.same_core; steps = c.in-Spent.ensures.steps });
     }

@@ -1,14 +1,39 @@
-//! The lines that instances did last.
+//! What is noted of instances along a run: the lines that they did last, and how many labels they took.
 
-ghost use Rattle.std.specs.Prelude.{◌≡◌, ◌++◌, ◌-◌, length, replicate, Some, OnOk};
+ghost use Rattle.std.specs.Prelude.{◌≡◌, ℕ, ◌+◌, ◌-◌, ◌^◌, ◌<◌, [], ◌++◌, length, replicate, slice_index, Some, OnOk};
+ghost use Rattle.chi_explain_labels.specs.Labels.{takers, Counted};
 ghost use Rattle.chi_explain_runs.specs.Turns.{done_at, done_by, with_done};
 ghost use Rattle.chi_explain_waiting.specs.Whereabouts.{with_line};
 
 use chi_base::NoMemory;
 use chi_core::Label;
+use chi_explain_labels::count_label;
 use chi_explain_waiting::next_line;
 use chi_plain::Plain;
 use chi_plain_steps::Configuration;
+use std::alloc::Global;
+
+/// What is noted of instances, each by its number. One that a list doesn't have did nothing yet.
+#[derive(Drop)]
+pub struct Notes {
+    /// The line of the item that it did last.
+    pub lines: Vec<u32>,
+    /// How many labels it took.
+    pub counts: Vec<u64>,
+}
+
+impl Notes {
+    /// Nothing is noted.
+    pub fn new(alloc: Global) -> Notes
+        ensures no_lines { result.lines.items ≡ [] }
+        ensures no_counts { result.counts.items ≡ [] }
+    {
+        Notes {
+            lines: Vec::new(alloc),
+            counts: Vec::new(alloc),
+        }
+    }
+}
 
 /// An instance that does an item, and the item's line.
 #[derive(Clone, Copy, Debug)]
@@ -61,11 +86,21 @@ fn set_line(lines: &mut Vec<u32>, pid: u32, line: u32) -> Result<(), NoMemory>
 }
 
 /// Notes the item that an instance did last, where it did one.
-pub fn note(lines: &mut Vec<u32>, done: Option<Done>) -> Result<(), NoMemory>
+fn note_done(lines: &mut Vec<u32>, done: Option<Done>) -> Result<(), NoMemory>
     ensures { OnOk result (lines.new.items ≡ with_done lines.old.items done) }
 {
     match done {
         Some(Done { pid, line }) => set_line(lines, pid, line),
         None => Ok(()),
     }
+}
+
+/// Notes a label, and the item that it has an instance do.
+pub fn note(notes: &mut Notes, done: Option<Done>, label: &Label) -> Result<(), NoMemory>
+    requires { (p : ℕ) → slice_index notes.old.counts.items p + 2 < 2 ^ 64 }
+    ensures lines { OnOk result (notes.new.lines.items ≡ with_done notes.old.lines.items done) }
+    ensures counts { OnOk result (Counted (takers label.now) notes.old.counts.items notes.new.counts.items) }
+{
+    note_done(&mut notes.lines, done)?;
+    count_label(&mut notes.counts, label)
 }
