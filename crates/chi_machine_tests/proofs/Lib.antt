@@ -1,0 +1,4 @@
+pub mod Begun
+pub mod Constants
+pub mod Kept
+pub mod Values
