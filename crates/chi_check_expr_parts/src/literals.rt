@@ -40,6 +40,7 @@ pub fn real_literal(digits: &Bytes) -> Option<Made>
     }
 }
 
+/// A literal of these bytes, of the type `string`.
 pub fn text_literal(alloc: Global, bytes: &Bytes) -> Result<Made, NoMemory>
     ensures { IfOk result (λ m. m ≡ spec.text_literal bytes.now) }
 {
@@ -50,6 +51,7 @@ pub fn text_literal(alloc: Global, bytes: &Bytes) -> Result<Made, NoMemory>
     })
 }
 
+/// The literal `true` or `false`.
 pub fn bool_literal(truth: bool) -> Made
     ensures { result ≡ spec.bool_literal truth }
 {

@@ -34,6 +34,7 @@ pub fn converted(alloc: Global, made: Made, wanted: &Ty) -> Result<CExpr, NoMemo
     Ok(CExpr::Op(OpName::Widen, list_of_one(alloc, core)?))
 }
 
+/// Each part, brought to the wanted type: an int where a real is wanted, by a conversion; any other as it is.
 pub fn all_converted(
     alloc: Global,
     parts: Items<Made>,

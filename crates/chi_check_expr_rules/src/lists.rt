@@ -5,6 +5,7 @@ ghost use Rattle.std.specs.Prelude.{◌≡◌, [], ◌∷◌, ◌++◌, IfOk};
 use chi_base::{Items, NoMemory};
 use std::alloc::Global;
 
+/// The list of this element alone.
 pub fn list_of_one<T: Drop>(alloc: Global, a: T) -> Result<Items<T>, NoMemory>
     ensures { IfOk result (λ list. list ≡ a ∷ []) }
 {
@@ -13,6 +14,7 @@ pub fn list_of_one<T: Drop>(alloc: Global, a: T) -> Result<Items<T>, NoMemory>
     Ok(Items::of(alloc, list)?)
 }
 
+/// The list of these two elements.
 pub fn list_of_two<T: Drop>(alloc: Global, a: T, b: T) -> Result<Items<T>, NoMemory>
     ensures { IfOk result (λ list. list ≡ a ∷ b ∷ []) }
 {

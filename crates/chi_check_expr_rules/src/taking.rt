@@ -10,6 +10,7 @@ use chi_core::{CExpr, OpName};
 use chi_types::Ty;
 use std::alloc::Global;
 
+/// What was made, without its type.
 pub fn core_of(m: Made) -> CExpr
     ensures { result ≡ m.core }
 {
@@ -17,6 +18,7 @@ pub fn core_of(m: Made) -> CExpr
     core
 }
 
+/// What was made, and its type.
 pub fn core_and_type(m: Made) -> (CExpr, Ty)
     ensures core { result.0 ≡ m.core }
     ensures type_of { result.1 ≡ m.ty }
@@ -25,6 +27,7 @@ pub fn core_and_type(m: Made) -> (CExpr, Ty)
     (core, ty)
 }
 
+/// The type that a tree means, without what is said of sizes.
 pub fn type_meant(m: Meant) -> Ty
     ensures { result ≡ m.ty }
 {

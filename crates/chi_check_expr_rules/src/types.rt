@@ -9,6 +9,7 @@ ghost use Rattle.chi_check_expr_rules.specs.Operators.{number_of};
 use chi_check_types::{Made, is_int};
 use chi_types::Ty;
 
+/// Whether each part is an int.
 pub fn are_ints(parts: &[Made]) -> bool
     ensures { result ≡ list_all (λ m. is_int (out-Ty m.ty)) parts.now }
 {

@@ -338,6 +338,7 @@ fn delaying(alloc: Global, made: Made) -> Result<Option<CComm>, NoMemory>
     }
 }
 
+/// The offer of a delay, whose length is an int, a real or a timer; else the broken rule is noted.
 pub fn delay_of(
     alloc: Global,
     place: Place,

@@ -79,6 +79,7 @@ pub fn predefined_of(name: &Bytes) -> Option<Predefined>
     row_of(&PREDEFINED, name.as_slice())
 }
 
+/// Whether the language itself gives the name.
 pub fn is_predefined(name: &Bytes) -> bool
     ensures { result ≡ spec.is_predefined name.now }
 {

@@ -32,6 +32,7 @@ impl Model for Scope {
 }
 
 impl Scope {
+    /// No names at all.
     pub fn new(alloc: Global) -> Scope
         ensures { result ≡ [] }
     {
@@ -58,6 +59,7 @@ impl Scope {
         self.names.get(name.as_slice())
     }
 
+    /// How many names are visible.
     pub fn count(&self) -> u32
         ensures { result ≡ length self.now }
     {

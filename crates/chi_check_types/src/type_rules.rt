@@ -79,6 +79,7 @@ fn word_type(word: TypeWord) -> Ty
     }
 }
 
+/// A type that is a word.
 pub fn word_of(
     alloc: Global,
     place: Place,
@@ -92,6 +93,7 @@ pub fn word_of(
     Ok(settled(meant, true, place, kept))
 }
 
+/// A list of elements of this type, where the tree of the element is a type.
 pub fn list_of(
     alloc: Global,
     place: Place,
@@ -108,6 +110,7 @@ pub fn list_of(
     Ok(settled(meant, true, place, kept))
 }
 
+/// A set of elements of this type, which is plain; else the broken rule is noted.
 pub fn set_of(
     alloc: Global,
     place: Place,
@@ -126,6 +129,7 @@ pub fn set_of(
     Ok(settled(meant, plain, place, kept))
 }
 
+/// A dictionary with keys of a type, which is plain, and values of another; else the broken rule is noted.
 pub fn dict_of(
     alloc: Global,
     place: Place,
@@ -159,6 +163,7 @@ pub fn is_drawn(ty: &Ty) -> bool
     }
 }
 
+/// A distribution over a type, which is `bool`, `int` or `real`; else the broken rule is noted.
 pub fn dist_of(
     alloc: Global,
     place: Place,
@@ -187,6 +192,7 @@ fn way_of(way: chi_tree::Way) -> Way
     }
 }
 
+/// A channel that carries values of this type, and the way in which it may be used.
 pub fn chan_of(
     alloc: Global,
     place: Place,
@@ -218,6 +224,7 @@ pub fn void_chan_of(
     Ok(settled(meant, true, place, kept))
 }
 
+/// Whether it is the type of ints.
 pub fn is_int(ty: &Ty) -> bool
     ensures { result ≡ spec.is_int (out-Ty ty.now) }
 {

@@ -74,6 +74,7 @@ pub fn without_keys(alloc: Global, a: &Value, b: &Value, view: &View) -> Result<
     Ok(minus_keys(alloc, a, b)?)
 }
 
+/// What a key of a dictionary has.
 #[tactic(auto, using(crate::proofs::Operations::operations))]
 pub fn looked_up(alloc: Global, a: &Value, key: &Value, view: &View) -> Result<Value, Failure>
     requires { done (lookup a.now key.now) view.now ≢ Amiss }

@@ -8,6 +8,7 @@ use chi_num::Real;
 use chi_value::Value;
 use std::alloc::Global;
 
+/// The truth value that the value is.
 pub fn truth_in(value: &Value) -> bool
     requires { truth_of value.now ≢ None }
     ensures { truth_of value.now ≡ Some result }
@@ -29,6 +30,7 @@ pub fn truth_in(value: &Value) -> bool
     }
 }
 
+/// The int that the value is.
 pub fn int_in(value: &Value) -> i64
     requires { int_of value.now ≢ None }
     ensures { int_of value.now ≡ Some result }
@@ -50,6 +52,7 @@ pub fn int_in(value: &Value) -> i64
     }
 }
 
+/// The real that the value is.
 pub fn real_in(value: &Value) -> Real
     requires { real_of value.now ≢ None }
     ensures { real_of value.now ≡ Some result }

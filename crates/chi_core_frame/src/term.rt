@@ -77,6 +77,7 @@ impl<'a> Term<'a> {
         Ok(Term { tasks })
     }
 
+    /// Whether nothing is left to do.
     #[tactic(auto, using(crate::proofs::Tasks::not_empty))]
     pub fn is_empty(&self) -> bool
         ensures { IsTrue result ↔ (self.now ≡ []) }

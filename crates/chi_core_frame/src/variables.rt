@@ -82,6 +82,7 @@ impl Variables {
         Ok(Variables { slots: variables })
     }
 
+    /// A copy, whose values share what they hold with these.
     pub fn copy(&self, alloc: Global) -> Result<Variables, NoMemory>
         ensures { IfOk result (λ variables. variables ≡ self.now) }
     {
@@ -138,6 +139,7 @@ impl Variables {
         }
     }
 
+    /// Gives a slot a value; what it had is let go.
     #[inline(always)]
     pub fn set(&mut self, slot: u32, value: Value)
         requires { slot < length self.old }

@@ -40,12 +40,14 @@ impl Ending {
         Ending { verdict, clock }
     }
 
+    /// How the run ended.
     pub fn verdict(&self) -> &Verdict
         ensures { result.now ≡ self.now.verdict }
     {
         &self.verdict
     }
 
+    /// When the run ended, in units of 10^-9.
     pub fn clock(&self) -> i64
         ensures { result ≡ self.now.clock }
     {

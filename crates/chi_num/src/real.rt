@@ -22,12 +22,14 @@ impl Model for Real {
 }
 
 impl Real {
+    /// The real of so many units of 10^-9.
     pub fn from_units(units: i64) -> Real
         ensures same { result ≡ units }
     {
         Real { units }
     }
 
+    /// How many units of 10^-9 it is.
     pub fn units(self) -> i64
         ensures same { result ≡ self }
     {

@@ -16,6 +16,7 @@ pub fn real_of(a: i64) -> Result<Real, NumFault>
     Ok(Real::from_units(units))
 }
 
+/// The real with the other sign. Only the least real has none.
 pub fn real_neg(a: Real) -> Result<Real, NumFault>
     ensures { Gives result (λ r. r ≡ neg_ℤ a) }
 {
@@ -23,6 +24,7 @@ pub fn real_neg(a: Real) -> Result<Real, NumFault>
     Ok(Real::from_units(units))
 }
 
+/// How far a real is from 0. Only for the least real that is no real.
 pub fn real_abs(a: Real) -> Result<Real, NumFault>
     ensures { Gives result (λ r. r ≡ pos (unsigned_abs a)) }
 {
@@ -30,6 +32,7 @@ pub fn real_abs(a: Real) -> Result<Real, NumFault>
     Ok(Real::from_units(units))
 }
 
+/// The sum of two reals, if it is one. Nothing is rounded.
 pub fn real_add(a: Real, b: Real) -> Result<Real, NumFault>
     ensures { Gives result (λ r. r ≡ a +ℤ b) }
 {
@@ -37,6 +40,7 @@ pub fn real_add(a: Real, b: Real) -> Result<Real, NumFault>
     Ok(Real::from_units(units))
 }
 
+/// The first real less the second, if that is one. Nothing is rounded.
 pub fn real_sub(a: Real, b: Real) -> Result<Real, NumFault>
     ensures { Gives result (λ r. r ≡ a -ℤ b) }
 {

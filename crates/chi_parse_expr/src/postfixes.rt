@@ -226,6 +226,7 @@ fn optional_expr(
     Ok((None, at))
 }
 
+/// An expression, in a box of its own.
 pub fn boxed_expr(
     alloc: Global,
     tokens: &[Spanned],

@@ -41,6 +41,7 @@ pub fn any_type(
     named_type(alloc, tokens, at)
 }
 
+/// A type, in a box of its own.
 pub fn boxed_type(
     alloc: Global,
     tokens: &[Spanned],

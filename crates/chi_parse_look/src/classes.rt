@@ -223,50 +223,74 @@ pub const FIRST_OF_DEFINITION: [Class; 7] = [
     Class::Word(Keyword::XperWord),
 ];
 
+/// The word `not`.
 pub const NOT: Class = Class::Word(Keyword::NotWord);
 
+/// The word `and`.
 pub const AND: Class = Class::Word(Keyword::AndWord);
 
+/// The word `or`.
 pub const OR: Class = Class::Word(Keyword::OrWord);
 
+/// The word `list`.
 pub const LIST: Class = Class::Word(Keyword::ListWord);
 
+/// The word `set`.
 pub const SET: Class = Class::Word(Keyword::SetWord);
 
+/// The word `dist`.
 pub const DIST: Class = Class::Word(Keyword::DistWord);
 
+/// The word `dict`.
 pub const DICT: Class = Class::Word(Keyword::DictWord);
 
+/// The word `tuple`.
 pub const TUPLE: Class = Class::Word(Keyword::TupleWord);
 
+/// The word `chan`.
 pub const CHAN: Class = Class::Word(Keyword::ChanWord);
 
+/// The word `void`.
 pub const VOID: Class = Class::Word(Keyword::VoidWord);
 
+/// The sign `(`.
 pub const LEFT_PAREN: Class = Class::Sign(Sign::LeftParen);
 
+/// The sign `)`.
 pub const RIGHT_PAREN: Class = Class::Sign(Sign::RightParen);
 
+/// The sign `[`.
 pub const LEFT_BRACKET: Class = Class::Sign(Sign::LeftBracket);
 
+/// The sign `]`.
 pub const RIGHT_BRACKET: Class = Class::Sign(Sign::RightBracket);
 
+/// The sign `{`.
 pub const LEFT_BRACE: Class = Class::Sign(Sign::LeftBrace);
 
+/// The sign `}`.
 pub const RIGHT_BRACE: Class = Class::Sign(Sign::RightBrace);
 
+/// The sign `<`.
 pub const LESS: Class = Class::Sign(Sign::Less);
 
+/// The sign `>`.
 pub const GREATER: Class = Class::Sign(Sign::Greater);
 
+/// The sign `^`.
 pub const CARET: Class = Class::Sign(Sign::Caret);
 
+/// The sign `,`.
 pub const COMMA: Class = Class::Sign(Sign::Comma);
 
+/// The sign `;`.
 pub const SEMICOLON: Class = Class::Sign(Sign::Semicolon);
 
+/// The sign `:`.
 pub const COLON: Class = Class::Sign(Sign::Colon);
 
+/// The sign `.`.
 pub const DOT: Class = Class::Sign(Sign::Dot);
 
+/// Any free name.
 pub const NAME: Class = Class::Name;

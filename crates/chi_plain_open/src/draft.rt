@@ -33,6 +33,7 @@ impl<'v> Model for Draft<'v> {
 }
 
 impl<'v> Draft<'v> {
+    /// The variables as they are; nothing is copied before a change.
     pub fn of(origin: &'v Variables) -> Draft<'v>
         ensures { result ≡ record { origin = origin.now; variables = origin.now } }
     {
@@ -42,6 +43,7 @@ impl<'v> Draft<'v> {
         }
     }
 
+    /// The variables as they are now.
     pub fn get(&self) -> &Variables
         ensures { result.now ≡ self.now.variables }
     {

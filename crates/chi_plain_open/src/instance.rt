@@ -22,6 +22,7 @@ use std::alloc::Global;
 use std::marker::Model;
 use std::mem;
 
+/// What an instance is at.
 #[derive(Debug, Drop)]
 pub enum State<'a> {
     Running,
@@ -117,12 +118,14 @@ impl<'a> Instance<'a> {
         })
     }
 
+    /// The number of its definition.
     pub fn definition(&self) -> u32
         ensures { result ≡ self.now.definition }
     {
         self.definition
     }
 
+    /// Its variables.
     pub fn variables(&self) -> &Variables
         ensures { result.now ≡ self.now.variables }
     {
@@ -136,6 +139,7 @@ impl<'a> Instance<'a> {
         self.term.first()
     }
 
+    /// What it is at.
     pub fn state(&self) -> &State<'a>
         ensures state { state_of result.now ≡ self.now.state }
         ensures within { length (offers_in (state_of result.now)) ≤ MOST_OFFERS }
@@ -143,6 +147,7 @@ impl<'a> Instance<'a> {
         &self.state
     }
 
+    /// Whether it has finished.
     pub fn has_finished(&self) -> bool
         ensures { result ≡ has_finished self.now }
     {

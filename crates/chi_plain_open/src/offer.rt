@@ -35,6 +35,7 @@ impl<'a> Model for Offer<'a> {
 }
 
 impl<'a> Offer<'a> {
+    /// An offer to do `act`, and then `body` with these slots bound.
     pub fn new(act: Act, bindings: Items<(u32, Value)>, body: &'a [CStat]) -> Offer<'a>
         ensures { result ≡ record { act = act; bindings = bindings; body = body.now } }
     {
@@ -45,6 +46,7 @@ impl<'a> Offer<'a> {
         }
     }
 
+    /// What it offers to do.
     pub fn act(&self) -> &Act
         ensures { result.now ≡ self.now.act }
     {
@@ -122,6 +124,7 @@ pub fn receiver_at(offers: &[Offer], channel: u32, i: u64) -> u32
     unreachable!()
 }
 
+/// The less of two times, of which each may be missing.
 #[tactic(auto, unfolding(crate::specs::Offered::sooner))]
 pub fn sooner(one: Option<i64>, other: Option<i64>) -> Option<i64>
     ensures { result ≡ sooner one other }

@@ -60,6 +60,7 @@ impl<'v, 'a> Model for Opening<'v, 'a> {
 }
 
 impl<'v, 'a> Opening<'v, 'a> {
+    /// No offers yet, over these variables.
     pub fn new(alloc: Global, variables: &'v Variables) -> Opening<'v, 'a>
         ensures { result ≡ record { origin = variables.now; variables = variables.now; offers = [] } }
     {
@@ -69,6 +70,7 @@ impl<'v, 'a> Opening<'v, 'a> {
         }
     }
 
+    /// The variables, with the names of the unwinds around bound.
     pub fn variables(&self) -> &Variables
         ensures { result.now ≡ self.now.variables }
     {

@@ -39,6 +39,7 @@ impl<'v, 'a> Model for Starting<'v, 'a> {
 }
 
 impl<'v, 'a> Starting<'v, 'a> {
+    /// No instances yet, over these variables.
     pub fn new(alloc: Global, variables: &'v Variables) -> Starting<'v, 'a>
         ensures { result ≡ record { origin = variables.now; variables = variables.now; made = [] } }
     {
@@ -48,6 +49,7 @@ impl<'v, 'a> Starting<'v, 'a> {
         }
     }
 
+    /// The variables, with the names of the unwinds around bound.
     pub fn variables(&self) -> &Variables
         ensures { result.now ≡ self.now.variables }
     {

@@ -23,18 +23,21 @@ impl Model for Ending {
 }
 
 impl Ending {
+    /// The ending with this verdict, at a time.
     pub fn of(verdict: Verdict, clock: i64) -> Ending
         ensures { result ≡ record { verdict = verdict; clock = clock } }
     {
         Ending { verdict, clock }
     }
 
+    /// How the run ended.
     pub fn verdict(&self) -> &Verdict
         ensures { result.now ≡ self.now.verdict }
     {
         &self.verdict
     }
 
+    /// When the run ended, in units of 10^-9.
     pub fn clock(&self) -> i64
         ensures { result ≡ self.now.clock }
     {

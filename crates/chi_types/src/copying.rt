@@ -6,6 +6,7 @@ use chi_token::Bytes;
 use std::alloc::Global;
 
 impl Ty {
+    /// A copy that shares nothing with it.
     #[cycle(copy)]
     pub fn copy(&self, alloc: Global) -> Result<Ty, NoMemory>
         ensures copied { IfOk result (λ ty. ty ≡ self.now) }
