@@ -1,5 +1,5 @@
 -- Options: which labels may come next, and how a run ends where there is none.
-use Rattle.std.specs.Prelude.{ℕ, zero, suc, ℤ, List, [], ◌∷◌, ◌++◌, Option, Some, None, Bool, false, length, nat_eq, nat_lt, int_lt, not, filter, map, slice_get, if◌then◌else◌}
+use Rattle.std.specs.Prelude.{ℕ, zero, suc, ℤ, List, [], ◌∷◌, ◌++◌, Option, Some, None, Bool, false, length, nat_eq, nat_lt, int_lt, filter, map, slice_get, if◌then◌else◌}
 use Rattle.std.specs.List.{flat_map, list_all}
 use Rattle.std.specs.Option.{option_to_list}
 use Rattle.chi_core.specs.declared.label.Label.{Label}
@@ -7,7 +7,7 @@ use Rattle.chi_core.specs.declared.label.Label.TheVariants.{Local, Pair, Wake, J
 use Rattle.chi_core.specs.declared.verdict.Verdict.{Verdict}
 use Rattle.chi_core.specs.declared.verdict.Verdict.TheVariants.{Completed, Deadlock, Stopped}
 use Rattle.chi_core.specs.Config.{Config, Instance, Offer, Act, Send, Receive, Delay, State, Running, Waiting, Joining, Finished, offers_in, has_finished}
-use Rattle.chi_core.specs.Meeting.{next_due, may_reach}
+use Rattle.chi_core.specs.Meeting.{are_over, next_due, may_reach}
 
 -- the numbers below n, ascending
 abbrev pub numbers : ℕ → List ℕ
@@ -50,19 +50,11 @@ abbrev pub options_for : Config → ℕ → ℕ → Option Offer → List Label
 options_for config p a None = []
 options_for config p a (Some offer) = options_by config p a offer.act
 
-abbrev pub is_under_way : Option Instance → Bool
-is_under_way None = false
-is_under_way (Some i) = not (has_finished i)
-
--- none of these is an instance that hasn't finished
-abbrev pub none_under_way : Config → List ℕ → Bool
-none_under_way config waited = list_all (λ q. not (is_under_way (slice_get config.instances q))) waited
-
 abbrev pub options_in : Config → ℕ → State → List Label
 options_in config p Running = Local p ∷ []
 options_in config p (Waiting offers) =
     flat_map (λ a. options_for config p a (slice_get offers a)) (numbers (length offers))
-options_in config p (Joining waited) = if none_under_way config waited then Join p ∷ [] else []
+options_in config p (Joining waited) = if are_over config waited then Join p ∷ [] else []
 options_in config p Finished = []
 
 abbrev pub options_of : Config → ℕ → Option Instance → List Label

@@ -2,7 +2,6 @@ pub mod Bests
 pub mod Bounding
 pub mod Casting
 pub mod Drawing
-pub mod Inserting
 pub mod Lists
 pub mod Numbers
 pub mod Operations

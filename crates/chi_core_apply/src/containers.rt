@@ -3,7 +3,7 @@
 ghost use Rattle.std.specs.Prelude.{◌≡◌, ◌≢◌, ℤ, IfOk, IfErr};
 ghost use Rattle.chi_value.specs.declared.value.Value.{out-Value};
 ghost use Rattle.chi_ops.specs.Operations.{has, sub, lookup, pop, union, meet, minus, minus_keys, keys_of, values_of};
-ghost use Rattle.chi_ops.specs.Sequences.{index, insert_at, del, join, enumerate, range};
+ghost use Rattle.chi_ops.specs.Sequences.{index, del, join, enumerate, range};
 ghost use Rattle.chi_core.specs.Answer.{Gives, Amiss};
 ghost use Rattle.chi_core.specs.Comparisons.{tells};
 ghost use Rattle.chi_core.specs.Containers.{done, range_of, element_at, without, size_of, is_empty};
@@ -11,12 +11,12 @@ ghost use Rattle.chi_core_apply.specs.Failures.{IsFailure};
 
 use crate::failure::Failure;
 use crate::reading::int_in;
-use chi_core::{FaultKind, View};
+use chi_core::View;
 use chi_ops::{
-    del, enumerate, has, index, insert_at, join, keys, lookup, meet, minus, minus_keys, pop, range,
-    size, sub, union, values,
+    del, enumerate, has, index, join, keys, lookup, meet, minus, minus_keys, pop, range, size, sub,
+    union, values,
 };
-use chi_value::{MOST_ELEMENTS, Value};
+use chi_value::Value;
 use std::alloc::Global;
 
 #[tactic(auto, using(crate::proofs::Operations::operations))]
@@ -166,34 +166,6 @@ pub fn without(alloc: Global, a: &Value, i: &Value, view: &View) -> Result<Value
     ensures fails { IfErr result (λ failure. IsFailure failure (without a.now i.now view.now)) }
 {
     Ok(deleted(alloc, a, int_in(i), view)?)
-}
-
-#[tactic(auto, using(crate::proofs::Operations::operations))]
-fn inserted(alloc: Global, a: &Value, place: u32, x: &Value, view: &View) -> Result<Value, Failure>
-    requires { done (insert_at a.now place x.now) view.now ≢ Amiss }
-    ensures value { IfOk result (λ v. done (insert_at a.now place x.now) view.now ≡ Gives v view.now) }
-    ensures fails { IfErr result (λ failure. IsFailure failure (done (insert_at a.now place x.now) view.now)) }
-{
-    Ok(insert_at(alloc, a, place, x)?)
-}
-
-/// A list with one more element at a place.
-#[tactic(auto, using(crate::proofs::Inserting::inserting))]
-pub fn inserted_at(
-    alloc: Global,
-    a: &Value,
-    place: usize,
-    x: &Value,
-    view: &View,
-) -> Result<Value, Failure>
-    requires { done (insert_at a.now place x.now) view.now ≢ Amiss }
-    ensures value { IfOk result (λ v. done (insert_at a.now place x.now) view.now ≡ Gives v view.now) }
-    ensures fails { IfErr result (λ failure. IsFailure failure (done (insert_at a.now place x.now) view.now)) }
-{
-    if place >= MOST_ELEMENTS {
-        return Err(Failure::Fault(FaultKind::TooLarge));
-    }
-    Ok(inserted(alloc, a, place as u32, x, view)?)
 }
 
 /// An element is in a list or set, or a key in a dictionary.

@@ -17,7 +17,7 @@ mod scenery;
 mod slicing;
 mod summing;
 
-pub use containers::{element_at, inserted_at, looked_up};
+pub use containers::{element_at, looked_up};
 pub use failure::Failure;
 pub use making::{fresh, made_of, times_in};
 pub use operating::{apply, of_one, of_one_used, of_two, of_two_used};

@@ -1,10 +1,9 @@
 -- Why something has no value, or isn't done.
 use Rattle.std.specs.Prelude.{◌≡◌}
 use Rattle.chi_ops.specs.declared.fault.OpFault.{OpFault}
-use Rattle.chi_ops.specs.declared.fault.OpFault.TheVariants as operation
-use Rattle.chi_core.specs.declared.fault.FaultKind.TheVariants.{IndexRange, KeyMissing, EmptyPop, TooLarge, SliceStep}
 use Rattle.chi_core_apply.specs.declared.failure.Failure.{Failure}
 use Rattle.chi_core_apply.specs.declared.failure.Failure.TheVariants as failure
+use Rattle.chi_core_apply.specs.Failures.{failure_of_operation}
 use Rattle.chi_core.specs.Answer as answer
 use Rattle.chi_core.specs.Answer.{Answer, Fails}
 use Rattle.chi_core_frame.specs.declared.stop.Stop.{Stop}
@@ -23,9 +22,4 @@ stop_of_failure failure.NoMemory = NoMemory
 
 -- what refuses an operation on containers
 abbrev pub stop_of_operation : OpFault → Stop
-stop_of_operation operation.Index = Fault IndexRange
-stop_of_operation operation.Key = Fault KeyMissing
-stop_of_operation operation.Empty = Fault EmptyPop
-stop_of_operation operation.Limit = Fault TooLarge
-stop_of_operation operation.SliceStep = Fault SliceStep
-stop_of_operation operation.NoMemory = NoMemory
+stop_of_operation fault = stop_of_failure (failure_of_operation fault)

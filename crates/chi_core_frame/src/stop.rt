@@ -68,13 +68,6 @@ impl From<OpFault> for Stop {
     ghost from_gives = { λ fault stop. stop ≡ stop_of_operation fault };
 
     fn from(fault: OpFault) -> Stop {
-        match fault {
-            OpFault::Index => Stop::Fault(FaultKind::IndexRange),
-            OpFault::Key => Stop::Fault(FaultKind::KeyMissing),
-            OpFault::Empty => Stop::Fault(FaultKind::EmptyPop),
-            OpFault::Limit => Stop::Fault(FaultKind::TooLarge),
-            OpFault::SliceStep => Stop::Fault(FaultKind::SliceStep),
-            OpFault::NoMemory => Stop::NoMemory,
-        }
+        Stop::from(Failure::from(fault))
     }
 }
