@@ -35,6 +35,7 @@ fn exit_of(alloc: Global, home: &Home) -> Result<Option<Option<Ty>>, NoMemory>
 fn arity_of(params: &[Ty]) -> Result<u32, NoMemory>
     ensures { IfOk result (λ arity. arity ≡ length params.now) }
 {
+    // At most 2^32 - 1 formals: no source within 1,048,576 bytes has more.
     match u32::try_from(params.len()) {
         Ok(arity) => Ok(arity),
         Err(_) => Err(NoMemory),

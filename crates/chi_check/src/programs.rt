@@ -173,6 +173,7 @@ pub fn check(alloc: Global, tree: &Program) -> Result<Core, TypeFault>
         Some(Fault { rule, place }) => Err(TypeFault::Broken { rule, place }),
         None => match made {
             Some(core) => Ok(with_streams(alloc, core)?),
+            // No parsed program comes here (`parsed_programs_are_sound`): each formal has a type before it.
             None => Err(TypeFault::NoMemory),
         },
     }

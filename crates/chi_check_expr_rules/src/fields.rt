@@ -19,6 +19,7 @@ fn position_of(
 {
     for (number, part) in parts.iter().enumerate() {
         if name.as_slice() == part.0.as_slice() {
+            // Parts are numbered below 2^32: no source within 1,048,576 bytes has a tuple of more.
             let Ok(number) = u32::try_from(number) else {
                 return Err(NoMemory);
             };

@@ -21,6 +21,7 @@ use std::alloc::Global;
 pub fn after(count: u32) -> Result<u32, NoMemory>
     ensures { IfOk result (λ next. next ≡ count + 1) }
 {
+    // At most 2^32 - 1 of anything that is named: no source within 1,048,576 bytes has more.
     match count.checked_add(1) {
         Some(next) => Ok(next),
         None => Err(NoMemory),

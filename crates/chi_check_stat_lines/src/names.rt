@@ -44,6 +44,7 @@ pub fn add_name(scope: &mut Scope, name: &Bytes, known: Known) -> Result<(), NoM
         drop(known);
         return Ok(());
     }
+    // At most 2^32 - 1 names are visible: no source within 1,048,576 bytes has more.
     if scope.count() == u32::MAX {
         drop(known);
         return Err(NoMemory);
@@ -76,6 +77,7 @@ pub fn copied(alloc: Global, ty: Option<&Ty>) -> Result<Option<Ty>, NoMemory>
 pub fn next_slot(state: &State) -> Result<u32, NoMemory>
     ensures { IfOk result (λ slot. slot ≡ spec.next_slot state.now) }
 {
+    // Slots are numbered below 2^32: no source within 1,048,576 bytes has more names to bind.
     match u32::try_from(state.slots.count()) {
         Ok(slot) => Ok(slot),
         Err(_) => Err(NoMemory),

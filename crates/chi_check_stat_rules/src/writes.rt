@@ -34,6 +34,7 @@ fn ended(alloc: Global, ends_line: bool, format: &Bytes) -> Result<Vec<u8>, NoMe
 fn pieces_of(alloc: Global, text: &[u8]) -> Result<Option<Items<Piece>>, NoMemory>
     ensures { IfOk result (λ pieces. pieces ≡ spec.pieces_of text.now) }
 {
+    // A format is shorter than 2^32 bytes: no source within 1,048,576 bytes has a longer one.
     if text.len() > u32::MAX as usize {
         return Err(NoMemory);
     }

@@ -34,6 +34,7 @@ fn operation(
     if !has_stream(name) {
         return Ok(CExpr::Op(name, operands));
     }
+    // At most 2^64 - 1 calls make distributions: no source within 1,048,576 bytes comes to more.
     let Some(next) = count.checked_add(1) else {
         return Err(NoMemory);
     };
