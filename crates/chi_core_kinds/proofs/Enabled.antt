@@ -11,8 +11,8 @@ use Rattle.chi_core.specs.declared.act.Act.TheVariants as act
 use Rattle.chi_core.specs.declared.label.Label.{Label}
 use Rattle.chi_core.specs.declared.label.Label.TheVariants as label
 use Rattle.chi_core.specs.Config.{Config, Instance, Offer, State, Running, Waiting, Joining, Finished, offers_in}
-use Rattle.chi_core.specs.Meeting.{next_due, may_reach}
-use Rattle.chi_core.specs.Options.{numbers, receives_on, is_receiver, receivers, pairs_with, options_by, options_for, none_under_way, options_in, options_of, options, actors, advance_to, enabled_of, enabled}
+use Rattle.chi_core.specs.Meeting.{are_over, next_due, may_reach}
+use Rattle.chi_core.specs.Options.{numbers, receives_on, is_receiver, receivers, pairs_with, options_by, options_for, options_in, options_of, options, actors, advance_to, enabled_of, enabled}
 
 -- an instance offers
 pub record Offers (config : Config) (p a : ℕ) (o : Offer) : Type 0 where
@@ -25,7 +25,7 @@ pub data IsEnabled (config : Config) : Label → Type 0 where
   meets : (p a q b : ℕ) (o r : Offer) (channel : ℕ) (x : Option Value) (slot : Option ℕ) → Offers config p a o → Offers config q b r → nat_eq q p ≡ false
       → o.act ≡ act.Send channel x → r.act ≡ act.Receive channel slot → IsEnabled config (label.Pair p a q b)
   wakes : (p a : ℕ) (o : Offer) (due : ℤ) → Offers config p a o → o.act ≡ act.Delay due → int_lt config.clock due ≡ false → IsEnabled config (label.Wake p a)
-  joins : (p : ℕ) (i : Instance) (waited : List ℕ) → slice_get config.instances p ≡ Some i → i.state ≡ Joining waited → IsTrue (none_under_way config waited) → IsEnabled config (label.Join p)
+  joins : (p : ℕ) (i : Instance) (waited : List ℕ) → slice_get config.instances p ≡ Some i → i.state ≡ Joining waited → IsTrue (are_over config waited) → IsEnabled config (label.Join p)
   goes_on : (t : ℤ) → next_due config ≡ Some t → IsTrue (may_reach config.until t) → IsEnabled config label.Advance
 
 append_cases : {A : Type 0} (xs ys : List A) (k : ℕ) (x : A) → slice_get (xs ++ ys) k ≡ Some x → (slice_get xs k ≡ Some x) ⊎ ((j : ℕ) × (slice_get ys j ≡ Some x))
@@ -108,7 +108,7 @@ module _ (config : Config) where
   by_offer p i at a l None e k here = absurd (cc)
   by_offer p i at a l (Some o) e k here = by_act p a o l (record { i = i; is = at; at = e }) o.act refl k here
 
-  by_wait : (p : ℕ) (i : Instance) (waited : List ℕ) (l : Label) → slice_get config.instances p ≡ Some i → i.state ≡ Joining waited → (over : Bool) → none_under_way config waited ≡ over → (k : ℕ)
+  by_wait : (p : ℕ) (i : Instance) (waited : List ℕ) (l : Label) → slice_get config.instances p ≡ Some i → i.state ≡ Joining waited → (over : Bool) → are_over config waited ≡ over → (k : ℕ)
       → slice_get (cond over (label.Join p ∷ []) []) k ≡ Some l → Is l
   by_wait p i waited l at s true e k here = subst Is (only (label.Join p) l k here) (joins p i waited at s e)
   by_wait p i waited l at s false e k here = absurd (cc)
@@ -118,7 +118,7 @@ module _ (config : Config) where
   by_state p i l at (Waiting offers) s k here =
       joined (Is l) (λ a. options_for config p a (slice_get offers a)) l
       (λ a j it. by_offer p i at a l (slice_get offers a) (ap (λ z. slice_get (offers_in z) a) s) j it) (numbers (length offers)) k here
-  by_state p i l at (Joining waited) s k here = by_wait p i waited l at s (none_under_way config waited) refl k here
+  by_state p i l at (Joining waited) s k here = by_wait p i waited l at s (are_over config waited) refl k here
   by_state p i l at Finished s k here = absurd (cc)
 
   by_instance : (p : ℕ) (l : Label) (o : Option Instance) → slice_get config.instances p ≡ o → (k : ℕ) → slice_get (options_of config p o) k ≡ Some l → Is l

@@ -1,6 +1,6 @@
 -- Instances whose offers are taken, or whose waiting is over, go on at a place.
-use Rattle.std.proofs.Common.{◌≡◌, ◌<◌, ℕ, zero, Bool, true, false, not, List, [], ◌∷◌, length, Option, Some, None, refl, sym, ap, subst, ◌∙◌}
-use Rattle.std.specs.Prelude.{slice_get, IsTrue, ◌&&◌}
+use Rattle.std.proofs.Common.{◌≡◌, ℕ, true, ◌∷◌, Option, Some, None, refl, sym, ap, subst, ◌∙◌}
+use Rattle.std.specs.Prelude.{slice_get}
 use Rattle.std.specs.Option.{IsSomeAnd}
 use Rattle.chi_types.specs.declared.ty.Ty.{out-Ty}
 use Rattle.chi_value.specs.declared.value.Value.{Value, out-Value}
@@ -9,18 +9,16 @@ use Rattle.chi_core.specs.declared.communication.CComm.{CComm}
 use Rattle.chi_core.specs.declared.program.Core.{Core}
 use Rattle.chi_core.specs.declared.view.View.{View}
 use Rattle.chi_core.specs.Answer.{Gives, then_do, wanted, giving}
-use Rattle.chi_core.specs.Config.{Config, Instance, Offer, State, Running, Waiting, Joining, Finished, offers_in, has_finished, settled}
+use Rattle.chi_core.specs.Config.{Instance, Offer, State, Running, Waiting, Joining, Finished, offers_in, settled}
 use Rattle.chi_core.specs.Kinded.{Held, ActFits, sends, sends_void, receives, receives_void, OfferFits, At, KindedInstance}
-use Rattle.chi_core.specs.Kinds.{Kind, Every, is_void}
-use Rattle.chi_core.specs.Meeting.{filled, resumed, is_over, are_over}
+use Rattle.chi_core.specs.Kinds.{Kind, is_void}
+use Rattle.chi_core.specs.Meeting.{filled, resumed}
 use Rattle.chi_core.specs.Of.{World, Of}
-use Rattle.chi_core.specs.Options.{is_under_way, none_under_way}
 use Rattle.chi_core.specs.Scopes.{Scope, Home, process_home}
 use Rattle.chi_core.specs.SetSlots.{Known, also, also_all}
 use Rattle.chi_core.specs.Standing.{Inner, in_body}
 use Rattle.chi_core.specs.Terms.{Term, first_the}
 use Rattle.chi_core.specs.Variables.{Variables, bind, with_slot}
-use Rattle.chi_core_kinds.proofs.Elements.{every_tail, there}
 use Rattle.chi_core_kinds.proofs.Held.{within_also, held_less, held_with, held_bind}
 use Rattle.chi_core_kinds.proofs.Instances.{in_state, kinded_settled}
 
@@ -116,24 +114,3 @@ module _ (core : Core) (exit : Option Kind) (w : World) where
   pub goes_on_from : (i : Instance) (k : KindedInstance core exit w i) → KindedInstance core exit w (settled (record i { state = Running }))
   goes_on_from i k =
       kinded_settled core exit w k.d (record i { state = Running }) k.is k.exits (in_state w (process_home core k.d) i.variables i.term i.state Running k.at tt)
-
--- instances that are there and aren't under way are over
-pub all_over : (config : Config) (waited : List ℕ) → Every (λ q. q < length config.instances) waited → IsTrue (none_under_way config waited) → IsTrue (are_over config waited)
-all_over config [] all none = refl
-all_over config (q ∷ waited) all none =
-    let parts = both (not (is_under_way (slice_get config.instances q))) (none_under_way config waited) none in
-    let rest : IsTrue (are_over config waited) = all_over config waited (every_tail (λ q. q < length config.instances) q waited all) parts.1 in
-    let here : IsTrue (is_over (slice_get config.instances q)) = over (slice_get config.instances q) (there config.instances q (all zero q refl)) parts.0 in
-    ap (λ b. b && are_over config waited) here ∙ rest
-  where
-    both : (a b : Bool) → IsTrue (a && b) → IsTrue a × IsTrue b
-    both true b e = (refl, e)
-    both false b e = absurd (cc)
-
-    twice : (b : Bool) → not (not b) ≡ true → b ≡ true
-    twice true e = refl
-    twice false e = e
-
-    over : (o : Option Instance) → (i : Instance) × (o ≡ Some i) → IsTrue (not (is_under_way o)) → IsTrue (is_over o)
-    over None found e = absurd (let no : None ≡ Some found.0 = found.1 in cc)
-    over (Some i) found e = twice (has_finished i) e

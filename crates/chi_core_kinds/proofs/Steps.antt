@@ -1,6 +1,6 @@
 -- A step of an enabled label in a kinded configuration of a sound program leads to a kinded one in a world as wide or
 -- wider, or ends with a verdict that can be told.
-use Rattle.std.proofs.Common.{◌≡◌, ◌<◌, ℕ, zero, suc, ℤ, false, cond, nat_eq, eq-eqb, ne_eqb, List, [], ◌∷◌, length, Option, Some, None, refl, sym, ap, subst, ◌∙◌}
+use Rattle.std.proofs.Common.{◌≡◌, ℕ, zero, suc, ℤ, false, cond, nat_eq, eq-eqb, ne_eqb, List, [], ◌∷◌, Option, Some, None, refl, sym, ap, subst, ◌∙◌}
 use Rattle.std.proofs.lemmas.Bool.{eqb-false}
 use Rattle.std.specs.Prelude.{slice_get, int_lt, IsTrue}
 use Rattle.std.specs.Option.{option_map}
@@ -14,11 +14,11 @@ use Rattle.chi_core.specs.declared.view.View.{View}
 use Rattle.chi_core.specs.Answer as answer
 use Rattle.chi_core.specs.Answer.{Answer, Gives, Fails, then_do, giving}
 use Rattle.chi_core.specs.Config.{Config, Instance, Offer, State, Running, Waiting, Joining, Finished, rested, with_instance, view_of}
-use Rattle.chi_core.specs.Kinded.{ActFits, StateFits, KindedInstance, Kinded}
-use Rattle.chi_core.specs.Kinds.{Kind, Every}
-use Rattle.chi_core.specs.Meeting.{offer_at, resumed, met, paired, woken_by, woken, joined_in, joined, next_due, may_reach, advanced}
+use Rattle.chi_core.specs.Kinded.{ActFits, KindedInstance, Kinded}
+use Rattle.chi_core.specs.Kinds.{Kind}
+use Rattle.chi_core.specs.Meeting.{are_over, offer_at, resumed, met, paired, woken_by, woken, joined_in, joined, next_due, may_reach, advanced}
 use Rattle.chi_core.specs.Of.{World, Wider}
-use Rattle.chi_core.specs.Options.{none_under_way, enabled}
+use Rattle.chi_core.specs.Options.{enabled}
 use Rattle.chi_core.specs.Performing.{Change, Goes, Exits, quietly, performed}
 use Rattle.chi_core.specs.Scopes.{process_home, exit_of}
 use Rattle.chi_core.specs.Sound.{Sound}
@@ -31,7 +31,7 @@ use Rattle.chi_core_kinds.specs.Keeps.{SoundVerdict, GoesKinded, KeepsKinded, Go
 use Rattle.chi_core_kinds.proofs.Configs.{ConfigFits, ChangeFits, kinded_with, fits_with}
 use Rattle.chi_core_kinds.proofs.Enabled.{Offers, IsEnabled, runs, meets, wakes, joins, goes_on, enabled_is}
 use Rattle.chi_core_kinds.proofs.Operations.{Laws}
-use Rattle.chi_core_kinds.proofs.Meetings.{Receives, nothing, met_receives, Resumes, act_fits, resumes, goes_on_from, all_over}
+use Rattle.chi_core_kinds.proofs.Meetings.{Receives, nothing, met_receives, Resumes, act_fits, resumes, goes_on_from}
 use Rattle.chi_core_kinds.proofs.Performing.{FirstWell, well_performed}
 
 -- both that are said of a step
@@ -168,22 +168,19 @@ module _ (laws : Laws) (core : Core) (fine : Sound core) (config : Config) (h : 
           ∙ ap (λ t. cond t answer.Amiss (giving (λ woken. quietly (with_instance config p woken)) (resumed o None None f.i (view_of config left)))) reached
           ∙ ap (giving (λ woken. quietly (with_instance config p woken))) (now.gives_it (view_of config left))
 
-  goes_join : (p : ℕ) (i : Instance) (waited : List ℕ) → slice_get config.instances p ≡ Some i → i.state ≡ Joining waited → IsTrue (none_under_way config waited) → (left : ℕ)
+  goes_join : (p : ℕ) (i : Instance) (waited : List ℕ) → slice_get config.instances p ≡ Some i → i.state ≡ Joining waited → IsTrue (are_over config waited) → (left : ℕ)
       → GoesOn core w (taken core config (label.Join p) (view_of config left))
-  goes_join p i waited e waits none left =
+  goes_join p i waited e waits over left =
       goes_to _ (with_instance config p (record i { state = Running })) left answers
       (fits_with core h.model w config fits w (same_world w) refl p (record i { state = Running }) (goes_on_from core exit w i k))
     where
       k : KindedInstance core exit w i
       k = h.each p i e
 
-      there : Every (λ n. n < length config.instances) waited
-      there n m at = subst (λ z. m < z) h.instances (subst (StateFits w (process_home core k.d) k.at.rest k.at.frames k.at.known) waits k.at.state n m at)
-
       answers : joined config p (slice_get config.instances p) (view_of config left) ≡ Gives (quietly (with_instance config p (record i { state = Running }))) (view_of config left)
       answers =
           ap (λ z. joined config p z (view_of config left)) e ∙ ap (λ s. joined_in config p i s (view_of config left)) waits
-          ∙ ap (λ t. cond t (Gives (quietly (with_instance config p (record i { state = Running }))) (view_of config left)) answer.Amiss) (all_over config waited there none)
+          ∙ ap (λ t. cond t (Gives (quietly (with_instance config p (record i { state = Running }))) (view_of config left)) answer.Amiss) over
 
   goes_advance : (t : ℤ) → next_due config ≡ Some t → IsTrue (may_reach config.until t) → (left : ℕ) → GoesOn core w (taken core config label.Advance (view_of config left))
   goes_advance t e reach left =
@@ -195,7 +192,7 @@ module _ (laws : Laws) (core : Core) (fine : Sound core) (config : Config) (h : 
   goes_taken _ (runs p i e running) left = goes_local p i e running left
   goes_taken _ (meets p a q b o r channel x slot f g other sends receives) left = goes_pair p a q b o r channel x slot f g other sends receives left
   goes_taken _ (wakes p a o due f delays reached) left = goes_wake p a o due f delays reached left
-  goes_taken _ (joins p i waited e waits none) left = goes_join p i waited e waits none left
+  goes_taken _ (joins p i waited e waits over) left = goes_join p i waited e waits over left
   goes_taken _ (goes_on t e reach) left = goes_advance t e reach left
 
   goes_step : (l : Label) → IsEnabled config l → (left : ℕ) → GoesOn core w (step core config l left)
