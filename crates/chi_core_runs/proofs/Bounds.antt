@@ -11,8 +11,9 @@ use Rattle.chi_core.specs.declared.program.Core.{Core}
 use Rattle.chi_core.specs.declared.statement.CStat.{CStat}
 use Rattle.chi_core.specs.Config.{Config, Instance, Offer, State, Running, Waiting, Joining, Finished, offers_in}
 use Rattle.chi_core.specs.Kinded.{Kinded, StateFits}
+use Rattle.chi_core.specs.Meeting.{are_over}
 use Rattle.chi_core.specs.Of.{World}
-use Rattle.chi_core.specs.Options.{numbers, is_receiver, receivers, pairs_with, options_by, options_for, none_under_way, options_in, options_of, options, actors}
+use Rattle.chi_core.specs.Options.{numbers, is_receiver, receivers, pairs_with, options_by, options_for, options_in, options_of, options, actors}
 use Rattle.chi_core.specs.Scopes.{Home}
 use Rattle.chi_core.specs.SetSlots.{Known}
 use Rattle.chi_core.specs.Standing.{Frame}
@@ -76,7 +77,7 @@ module _ (core : Core) (config : Config) (kinded : Kinded core config) where
       let here : length (offers_in i.state) ≤ MOST_OFFERS = offers_of p i at in
       let few : length offers ≤ MOST_OFFERS = subst (λ (s : State). length (offers_in s) ≤ MOST_OFFERS) is here in
       omega arith
-  few_options_in p i at (Joining waited) is = by_over (none_under_way config waited)
+  few_options_in p i at (Joining waited) is = by_over (are_over config waited)
     where
       by_over : (t : Bool) → length (cond t (Join p ∷ []) []) < 2 ^ 64
       by_over true = omega arith

@@ -9,7 +9,8 @@ use Rattle.chi_core.specs.Kinds.{Every}
 use Rattle.chi_core.specs.declared.act.Act.{Act}
 use Rattle.chi_core.specs.declared.act.Act.TheVariants.{Send, Receive, Delay}
 use Rattle.chi_core.specs.Config.{Config, Instance, Offer, State, Running, Waiting, Joining, Finished, offers_in}
-use Rattle.chi_core.specs.Options.{numbers, is_receiver, receivers, pairs_with, options_by, options_for, none_under_way, options_in, options_of, options, actors}
+use Rattle.chi_core.specs.Meeting.{are_over}
+use Rattle.chi_core.specs.Options.{numbers, is_receiver, receivers, pairs_with, options_by, options_for, options_in, options_of, options, actors}
 use Rattle.chi_core_runs.proofs.Lists.{Joined, joined-at, keeps, mapped-at, Distinct, distinct-none, distinct-one, distinct-joined, distinct-filter, distinct-map, number-at, distinct-numbers}
 
 -- the instance that takes a label as its option, the alternative by which it does, and the other instance
@@ -72,7 +73,7 @@ module _ (P : Label → Type 0) where
   every-options_in config p own join wake pair (Waiting offers) =
       every-joined P (λ a. options_for config p a (slice_get offers a))
       (λ a. every-options_for config p a (wake a) (pair a) (slice_get offers a)) (numbers (length offers))
-  every-options_in config p own join wake pair (Joining waited) = by_over (none_under_way config waited)
+  every-options_in config p own join wake pair (Joining waited) = by_over (are_over config waited)
     where
       by_over : (t : Bool) → Every P (cond t (Join p ∷ []) [])
       by_over true = every-one P (Join p) join
@@ -131,7 +132,7 @@ distinct-options config p = by_instance (slice_get config.instances p)
         let second : alternative_of y ≡ c = every-options_for (λ l. alternative_of l ≡ c) config p c refl (λ q b. refl) (slice_get offers c) k y g in
         sym first ∙ second)
         (numbers (length offers)) (distinct-numbers (length offers))
-    by_state (Joining waited) = by_over (none_under_way config waited)
+    by_state (Joining waited) = by_over (are_over config waited)
       where
         by_over : (t : Bool) → Distinct (cond t (Join p ∷ []) [])
         by_over true = distinct-one (Join p)
