@@ -1,5 +1,6 @@
 pub mod Begun
 pub mod Binding
+pub mod Inserting
 pub mod Leaving
 pub mod Slots
 pub mod Spreading

@@ -58,7 +58,7 @@ pub fn part_of(alloc: Global, whole: Value, number: u32, view: &View) -> Result<
 }
 
 /// A list with an element put before a place. Where nobody else has the list, it grows where it is.
-#[tactic(auto, using(crate::proofs::Storing::done_stops, crate::proofs::Unspent::insertion_unspent, chi_core_apply::proofs::Inserting::inserting, chi_core_apply::proofs::Operations::operations))]
+#[tactic(auto, using(crate::proofs::Storing::done_stops, crate::proofs::Unspent::insertion_unspent, crate::proofs::Inserting::inserting, chi_core_apply::proofs::Operations::operations))]
 pub fn insertion_of(
     alloc: Global,
     xs: Value,
