@@ -5,6 +5,8 @@ mod excerpts;
 mod explanations;
 mod lexical;
 
-pub use excerpts::{MOST_BEFORE, MOST_SHOWN, excerpt, line_alone, place_law, put_as_shown};
+pub use excerpts::{
+    MOST_BEFORE, MOST_SHOWN, excerpt, from_place, line_alone, place_law, put_as_shown,
+};
 pub use explanations::{explained, put_number};
 pub use lexical::{explain_lexical, lexical_explanation_law};

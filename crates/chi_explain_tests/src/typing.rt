@@ -14,7 +14,7 @@ fn a_broken_rule_is_explained(rt: HostRuntime) -> Result<(), Fail> {
     )?;
     assert_eq!(rt;
         text.as_slice(),
-        b"m.chi:2:3: nothing that is visible here has this name; a `type` or `const` sees only those before it, and enumerations: rule 2\n      count = 1\n      ^\n".as_slice()
+        b"m.chi:2:3: nothing that is visible here has the name `count`; a `type` or `const` sees only those before it, and enumerations: rule 2\n      count = 1\n      ^\n".as_slice()
     );
     let unknown = explain_typing(
         rt.alloc(),
@@ -26,6 +26,33 @@ fn a_broken_rule_is_explained(rt: HostRuntime) -> Result<(), Fail> {
     assert_eq!(rt;
         unknown.as_slice(),
         b"m.chi:1:1: rule 43\n    pass\n    ^\n".as_slice()
+    );
+    Ok(())
+}
+
+#[test]
+fn a_new_name_is_explained(rt: HostRuntime) -> Result<(), Fail> {
+    let predefined = explain_typing(
+        rt.alloc(),
+        b"m.chi",
+        b"int size",
+        1,
+        Place { line: 1, column: 5 },
+    )?;
+    assert_eq!(rt;
+        predefined.as_slice(),
+        b"m.chi:1:5: the name `size` can't be given here: it is predefined: rule 1\n    int size\n        ^\n".as_slice()
+    );
+    let given = explain_typing(
+        rt.alloc(),
+        b"m.chi",
+        b"int x, x",
+        1,
+        Place { line: 1, column: 8 },
+    )?;
+    assert_eq!(rt;
+        given.as_slice(),
+        b"m.chi:1:8: the name `x` can't be given here: it is visible already, or stands twice: rule 1\n    int x, x\n           ^\n".as_slice()
     );
     Ok(())
 }

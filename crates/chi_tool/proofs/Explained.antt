@@ -87,7 +87,7 @@ module _ (answers : AnswerLaw) (law : ExplainLaw) (runs : Runs) where
       → (r : Report) (is : IsReportOfSource runs source (simulates w) r) → (text : List ℕ) × IsExplanation runs file source w r is text
   explanation_some check values_law file source within w bounded r (refused (unparsed (by_lexer fault has is))) = law.lexical_some file source fault has
   explanation_some check values_law file source within w bounded r (refused (unparsed (by_parser tokens fault has is))) = law.syntax_some file source tokens fault (fault_answer tokens fault has.has)
-  explanation_some check values_law file source within w bounded r (refused (by_checker fault has is)) = (explained file source fault.place (broken_words fault.rule), refl)
+  explanation_some check values_law file source within w bounded r (refused (by_checker fault has is)) = (explained file source fault.place (broken_words source fault.rule fault.place), refl)
   explanation_some check values_law file source within w bounded r (program core comes (unfit wanted fault misfits is)) = misfit_some law misfits.model.params w.texts fault misfits.read
   explanation_some check values_law file source within w bounded r (program core comes (fit values means of)) =
       let begins : IsBeginning core (start core values w.seed w.until) = record {
@@ -160,7 +160,7 @@ module _ (answers : AnswerLaw) (law : ExplainLaw) (runs : Runs) where
     explanation_one r s (refused (unparsed p)) (refused (by_checker f q j)) text other x y = absurd (unparsed_or_written answers source r q.tree p q.written)
     explanation_one r s (refused (by_checker e p i)) (refused (unparsed q)) text other x y = absurd (unparsed_or_written answers source s p.tree q p.written)
     explanation_one r s (refused (by_checker e p i)) (refused (by_checker f q j)) text other x y =
-        x ∙ ap (λ (g : Fault). explained file source g.place (broken_words g.rule)) (one_rule answers source e f p q) ∙ sym y
+        x ∙ ap (λ (g : Fault). explained file source g.place (broken_words source g.rule g.place)) (one_rule answers source e f p q) ∙ sym y
     explanation_one r s (refused p) (program core q b) text other x y = absurd (refused_or_comes answers source r core p q)
     explanation_one r s (program core p a) (refused q) text other x y = absurd (refused_or_comes answers source s core q p)
     explanation_one r s (program core p a) (program another q b) text other x y =

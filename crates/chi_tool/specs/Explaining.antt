@@ -28,7 +28,7 @@ IsUnparsedText file source (unparsed.Syntax tokens fault) text = IsSyntaxExplana
 -- or why it is no program that can be run
 abbrev pub IsRefusalText : List ℕ → List ℕ → Refusal → List ℕ → Type 0
 IsRefusalText file source (refused.Unparsed it) text = IsUnparsedText file source it text
-IsRefusalText file source (refused.Broken rule place) text = text ≡ explained file source place (broken_words rule)
+IsRefusalText file source (refused.Broken rule place) text = text ≡ explained file source place (broken_words source rule place)
 
 abbrev pub refusal_status : Refusal → ℕ
 refusal_status (refused.Unparsed (unparsed.Lexical fault)) = statuses.lexical

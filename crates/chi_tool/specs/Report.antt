@@ -86,7 +86,7 @@ pub data IsReportOfSource (runs : Runs) (source : List ℕ) (aim : ProgramAim) (
 abbrev pub IsExplanation : (runs : Runs) (file source : List ℕ) (w : Wanted) (r : Report) → IsReportOfSource runs source (simulates w) r → List ℕ → Type 0
 IsExplanation runs file source w r (refused (unparsed (by_lexer fault has is))) text = lexical.IsExplanation file source fault text
 IsExplanation runs file source w r (refused (unparsed (by_parser tokens fault has is))) text = IsSyntaxExplanation file source tokens fault text
-IsExplanation runs file source w r (refused (by_checker fault has is)) text = text ≡ explained file source fault.place (broken_words fault.rule)
+IsExplanation runs file source w r (refused (by_checker fault has is)) text = text ≡ explained file source fault.place (broken_words source fault.rule fault.place)
 IsExplanation runs file source w r (program core comes (unfit wanted fault misfits is)) text = IsMisfitExplained misfits.model.params w.texts fault text
 IsExplanation runs file source w r (program core comes (fit values means of)) text =
     (rest : List ℕ) × IsRestTold core source (settings_with w values) rest × (text ≡ of.course.log ++ end_told source core rest of.course.ending)
