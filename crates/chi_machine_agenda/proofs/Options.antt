@@ -1,12 +1,13 @@
 -- The options of an instance, and who has one, by what is kept.
 use Rattle.std.proofs.Common.{◌≡◌, ℕ, zero, suc, ◌<◌, ◌≤◌, ℤ, List, [], ◌∷◌, ◌++◌, Option, Some, None, Bool, true, false, cond, map, length, get_or, ◌⊎◌, inl, inr, sym, ◌∙◌, ap, subst, refl, arith}
 use Rattle.std.proofs.lemmas.List.{length-map}
-use Rattle.std.specs.Prelude.{filter, not, nat_eq, nat_lt, option_map, ◌&&◌}
+use Rattle.std.specs.Prelude.{filter, nat_eq, nat_lt, option_map, ◌&&◌}
 use Rattle.std.specs.List.{slice_get, list_all}
 use Rattle.chi_core.specs.declared.label.Label.{Label}
 use Rattle.chi_core.specs.declared.label.Label.TheVariants as label
 use Rattle.chi_core.specs.Config.{Config, Instance}
-use Rattle.chi_core.specs.Options.{numbers, is_under_way, none_under_way, options_of, options, actors}
+use Rattle.chi_core.specs.Meeting.{is_over, are_over}
+use Rattle.chi_core.specs.Options.{numbers, options_of, options, actors}
 use Rattle.chi_chan.specs.declared.offers.Offer.{Offer}
 use Rattle.chi_chan.specs.declared.offers.Offer.TheVariants.{Send, Receive, Delay}
 use Rattle.chi_chan.specs.Held as chan
@@ -200,35 +201,31 @@ module _ (clock : ℤ) (until : Option ℤ) (ss : List Standing) (ended : List B
   options-waits p e =
       agree old its agrees p (instance_of (Waiting (offers_or (held old p)))) (map offer_of (offers_or (held old p))) (instance-is p (Some stands.Waiting) e) refl
 
-  way-stood : (q : ℕ) (s : Standing) → is_under_way (stood q (Some s)) ≡ not (is_finished s)
-  way-stood q stands.Running = refl
-  way-stood q stands.Waiting = refl
-  way-stood q stands.Joining = refl
-  way-stood q stands.Finished = refl
+  over-stood : (q : ℕ) (s : Standing) → is_over (stood q (Some s)) ≡ is_finished s
+  over-stood q stands.Running = refl
+  over-stood q stands.Waiting = refl
+  over-stood q stands.Joining = refl
+  over-stood q stands.Finished = refl
 
-  way-is : (q : ℕ) → q < length ss → is_under_way (slice_get its.instances q) ≡ not (has_ended ended q)
-  way-is q h =
+  over-is : (q : ℕ) → q < length ss → is_over (slice_get its.instances q) ≡ has_ended ended q
+  over-is q h =
       let at = got ss q stands.Running h in
-      ap is_under_way (instance-is q (Some (get_or ss q stands.Running)) at) ∙ way-stood q (get_or ss q stands.Running)
-      ∙ sym (ap not (ended-is clock ss ended old marks times joins is q (get_or ss q stands.Running) at))
+      ap is_over (instance-is q (Some (get_or ss q stands.Running)) at) ∙ over-stood q (get_or ss q stands.Running)
+      ∙ sym (ended-is clock ss ended old marks times joins is q (get_or ss q stands.Running) at)
 
-  none-way : (p : ℕ) → Watches ended joins.numbers joins.left.items joins.watchers p → none_under_way its (numbers_at joins.numbers p) ≡ nat_eq (get_or joins.left.items p 0) 0
-  none-way p w = by_count (get_or joins.left.items p 0) refl
+  all-over : (p : ℕ) → Watches ended joins.numbers joins.left.items joins.watchers p → are_over its (numbers_at joins.numbers p) ≡ nat_eq (get_or joins.left.items p 0) 0
+  all-over p w = by_count (get_or joins.left.items p 0) refl
     where
       own : List ℕ
       own = numbers_at joins.numbers p
 
       test : ℕ → Bool
-      test q = not (is_under_way (slice_get its.instances q))
+      test q = is_over (slice_get its.instances q)
 
       by_ended : (q : ℕ) → q < length ss → (b : Bool) → has_ended ended q ≡ b → test q ≡ b
-      by_ended q h b e = ap not (way-is q h ∙ ap not e) ∙ twice b
-        where
-          twice : (b : Bool) → not (not b) ≡ b
-          twice true = refl
-          twice false = refl
+      by_ended q h b e = over-is q h ∙ e
 
-      by_count : (n : ℕ) → get_or joins.left.items p 0 ≡ n → none_under_way its own ≡ nat_eq (get_or joins.left.items p 0) 0
+      by_count : (n : ℕ) → get_or joins.left.items p 0 ≡ n → are_over its own ≡ nat_eq (get_or joins.left.items p 0) 0
       by_count zero e =
           all-yes test own (λ k q g. by_ended q (is.ahead.there p k q g) true (w.over k q (omega (arith, e)) g)) ∙ sym (eq-yes (get_or joins.left.items p 0) 0 e)
       by_count (suc n) e =
@@ -240,7 +237,7 @@ module _ (clock : ℤ) (until : Option ℤ) (ss : List Standing) (ended : List B
   pub options-joins : (p : ℕ) → slice_get ss p ≡ Some stands.Joining → options its p ≡ cond (nat_eq (get_or joins.left.items p 0) 0) (label.Join p ∷ []) []
   options-joins p e =
       options-stood p (Some stands.Joining) e
-      ∙ ap (λ b. cond b (label.Join p ∷ []) []) (none-way p (subst (IsJoined ended joins.numbers joins.left.items joins.watchers p) e (is.joined p)))
+      ∙ ap (λ b. cond b (label.Join p ∷ []) []) (all-over p (subst (IsJoined ended joins.numbers joins.left.items joins.watchers p) e (is.joined p)))
 
   -- who has one
 
