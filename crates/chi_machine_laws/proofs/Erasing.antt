@@ -1,7 +1,7 @@
 -- What may come next doesn't depend on variables, on what is left to do, or on the bodies of offers.
 use Rattle.std.proofs.Common.{◌≡◌, ℕ, zero, suc, ℤ, List, [], ◌∷◌, ◌++◌, map, length, Option, Some, None, cond, refl, ap, ◌∙◌}
 use Rattle.std.proofs.lemmas.List.{length-map}
-use Rattle.std.specs.Prelude.{slice_get, option_map, filter, nat_eq, nat_lt, not, ◌&&◌, ◌+◌, ◌*◌}
+use Rattle.std.specs.Prelude.{slice_get, option_map, filter, nat_eq, nat_lt, ◌&&◌, ◌+◌, ◌*◌}
 use Rattle.std.specs.List.{flat_map, list_all}
 use Rattle.std.specs.Option.{option_and_then, option_to_list}
 use Rattle.chi_core.specs.declared.act.Act.{Act}
@@ -11,7 +11,7 @@ use Rattle.chi_core.specs.declared.label.Label.TheVariants as label
 use Rattle.chi_core.specs.declared.verdict.Verdict.TheVariants.{Completed}
 use Rattle.chi_core.specs.Config.{Config, Instance, Offer, State, Running, Waiting, Joining, Finished, offers_in, has_finished, is_finished}
 use Rattle.chi_core.specs.Meeting.{is_over, are_over, due_in, least_time, next_due}
-use Rattle.chi_core.specs.Options.{numbers, is_receiver, receivers, pairs_with, pairs, options_by, options_for, is_under_way, none_under_way, options_in, options_of, options, actors, advance_to, advance, enabled_of, enabled, Ending, ending_at, stopped_at, at_rest, ending_of, ending}
+use Rattle.chi_core.specs.Options.{numbers, is_receiver, receivers, pairs_with, pairs, options_by, options_for, options_in, options_of, options, actors, advance_to, advance, enabled_of, enabled, Ending, ending_at, stopped_at, at_rest, ending_of, ending}
 use Rattle.chi_core.specs.Picks.{Pick, picked_from, picked_among, picked_label}
 
 abbrev pub bare_offer : Offer → Offer
@@ -57,10 +57,6 @@ paired_with : (p a channel q : ℕ) (o : Option Instance) → pairs_with p a cha
 paired_with p a channel q None = refl
 paired_with p a channel q (Some i) = ap (λ bs. cond (nat_eq q p) [] (map (λ b. label.Pair p a q b) bs)) (ap (receivers channel) (offers_bare i.state) ∙ received channel (offers_in i.state))
 
-under_way : (o : Option Instance) → is_under_way (option_map bare o) ≡ is_under_way o
-under_way None = refl
-under_way (Some i) = ap not (finished_bare i.state)
-
 over : (o : Option Instance) → is_over (option_map bare o) ≡ is_over o
 over None = refl
 over (Some i) = finished_bare i.state
@@ -84,14 +80,11 @@ module _ (config : Config) where
   options_for_bare p a None = refl
   options_for_bare p a (Some o) = options_by_bare p a o.act
 
-  none_bare : (waited : List ℕ) → none_under_way (bare_config config) waited ≡ none_under_way config waited
-  none_bare waited = λ j. list_all (λ q. not ((ap is_under_way (got bare config.instances q) ∙ under_way (slice_get config.instances q)) j)) waited
-
   options_in_bare : (p : ℕ) (s : State) → options_in (bare_config config) p (bare_state s) ≡ options_in config p s
   options_in_bare p Running = refl
   options_in_bare p (Waiting offers) =
       λ j. flat_map (λ a. (ap (options_for (bare_config config) p a) (got bare_offer offers a) ∙ options_for_bare p a (slice_get offers a)) j) (numbers (length-map offers bare_offer j))
-  options_in_bare p (Joining waited) = ap (λ b. cond b (label.Join p ∷ []) []) (none_bare waited)
+  options_in_bare p (Joining waited) = ap (λ b. cond b (label.Join p ∷ []) []) (over_bare waited)
   options_in_bare p Finished = refl
 
   options_of_bare : (p : ℕ) (o : Option Instance) → options_of (bare_config config) p (option_map bare o) ≡ options_of config p o
