@@ -7,8 +7,8 @@ use Rattle.chi_core.specs.Evaluation.{Run, Evaluates, eval}
 use Rattle.chi_core.specs.Functions.{run_at}
 use Rattle.chi_core.specs.Beginning.{no_call}
 use Rattle.chi_plain_eval.specs.declared.calls.Calls.{Calls}
-use Rattle.chi_plain_eval.specs.declared.calls.Headroom.{Headroom}
 use Rattle.chi_plain_eval.specs.declared.calls.Calls.TheVariants.{Never, Within}
+use Rattle.chi_plain_eval.specs.declared.here.Here.{Here}
 use Rattle.chi_plain_eval.specs.declared.surroundings.Surroundings.{Surroundings}
 use Rattle.chi_plain_eval.specs.Surroundings.{scene_in}
 
@@ -16,11 +16,11 @@ unfoldable pub run_of : Calls → Surroundings → Run
 run_of Never s = no_call
 run_of (Within more) s = run_at more s.functions.now (scene_in s)
 
-abbrev pub run_by : Headroom → Surroundings → Run
-run_by room s = run_of room.calls s
+abbrev pub run_by : Here → Run
+run_by here = run_of here.room.calls here.surroundings.now
 
-abbrev pub meaning : Headroom → Surroundings → Variables → Evaluates
-meaning room s variables = eval (run_by room s) (scene_in s) variables
+abbrev pub meaning : Here → Variables → Evaluates
+meaning here variables = eval (run_by here) (scene_in here.surroundings.now) variables
 
 -- whether a function says that an element stands before another
 abbrev pub before_by : Run → ℕ → Value → Value → Does Value
@@ -29,6 +29,3 @@ before_by run function x y = run function (x ∷ y ∷ [])
 abbrev pub more_in : Calls → ℕ
 more_in Never = 0
 more_in (Within more) = more
-
-abbrev pub more_of : Headroom → ℕ
-more_of room = more_in room.calls

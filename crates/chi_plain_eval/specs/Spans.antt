@@ -10,6 +10,8 @@ use Rattle.chi_core.specs.declared.target.CStep.{CStep}
 use Rattle.chi_core.specs.declared.target.CStep.TheVariants as step
 use Rattle.chi_core.specs.declared.program.FuncDef.{FuncDef}
 use Rattle.chi_core.specs.Terms.{Item, Do, Loop, Walk}
+use Rattle.chi_plain_eval.specs.declared.here.Here.{Here}
+use Rattle.chi_plain_eval.specs.Calls.{more_in}
 
 abbrev pub itself : ℕ → ℕ
 itself n = n
@@ -54,3 +56,7 @@ body_span f = most span f.body
 -- more than anything in the functions
 unfoldable pub reach : List FuncDef → ℕ
 reach functions = (6 * most body_span functions) + 20
+
+-- more than anything in the calls that there may yet be
+abbrev pub reach_in : Here → ℕ
+reach_in here = more_in here.room.calls * reach here.surroundings.now.functions.now

@@ -8,33 +8,31 @@ ghost use Rattle.chi_plain_eval.specs.Calls.{meaning, run_by};
 ghost use Rattle.chi_core_frame.specs.Stops.{Stops};
 ghost use Rattle.chi_plain_eval.specs.Surroundings.{scene_in};
 
-use crate::calls::{Calls, Headroom};
+use crate::calls::Calls;
 use crate::expressions::eval_all;
+use crate::here::Here;
 use crate::items::act;
-use crate::surroundings::{Surroundings, function};
+use crate::surroundings::function;
 use chi_core::{CExpr, CStat, FaultKind, View};
 use chi_core_frame::{Stop, Term, Variables};
 use chi_value::Value;
-use std::alloc::Global;
 
 /// A call of a function, whose arguments are evaluated from left to right.
 #[cycle(eval)]
 #[tactic(auto, using(chi_core_frame::proofs::Stopping::stopping, crate::proofs::Operating::gathering))]
 pub fn call_with(
     parts: &[CExpr],
-    alloc: Global,
-    s: &Surroundings<'_>,
-    room: Headroom,
+    here: &Here<'_>,
     number: u32,
     variables: &Variables,
     view: &mut View,
 ) -> Result<Value, Stop>
-    requires { then_do (in_turn (map (meaning room s.now variables.now) parts.now) view.old) (run_by room s.now number) ≢ Amiss }
-    ensures value { IfOk result (λ v. then_do (in_turn (map (meaning room s.now variables.now) parts.now) view.old) (run_by room s.now number) ≡ Gives v view.new) }
-    ensures stops { IfErr result (λ stop. Stops stop (then_do (in_turn (map (meaning room s.now variables.now) parts.now) view.old) (run_by room s.now number))) }
+    requires { then_do (in_turn (map (meaning here.now variables.now) parts.now) view.old) (run_by here.now number) ≢ Amiss }
+    ensures value { IfOk result (λ v. then_do (in_turn (map (meaning here.now variables.now) parts.now) view.old) (run_by here.now number) ≡ Gives v view.new) }
+    ensures stops { IfErr result (λ stop. Stops stop (then_do (in_turn (map (meaning here.now variables.now) parts.now) view.old) (run_by here.now number))) }
 {
-    let arguments = eval_all(parts, alloc, s, room, variables, view)?;
-    call(number, arguments, alloc, s, room, view)
+    let arguments = eval_all(parts, here, variables, view)?;
+    call(number, arguments, here, view)
 }
 
 /// A call of a function.
@@ -43,26 +41,29 @@ pub fn call_with(
 pub fn call(
     number: u32,
     arguments: Vec<Value>,
-    alloc: Global,
-    s: &Surroundings<'_>,
-    room: Headroom,
+    here: &Here<'_>,
     view: &mut View,
 ) -> Result<Value, Stop>
-    requires { run_by room s.now number arguments.items view.old ≢ Amiss }
-    ensures value { IfOk result (λ v. run_by room s.now number arguments.items view.old ≡ Gives v view.new) }
-    ensures stops { IfErr result (λ stop. Stops stop (run_by room s.now number arguments.items view.old)) }
+    requires { run_by here.now number arguments.items view.old ≢ Amiss }
+    ensures value { IfOk result (λ v. run_by here.now number arguments.items view.old ≡ Gives v view.new) }
+    ensures stops { IfErr result (λ stop. Stops stop (run_by here.now number arguments.items view.old)) }
 {
-    match room.calls {
+    match here.room.calls {
         Calls::Never => unreachable!(),
         Calls::Within(more) => {
             if more == 0 {
                 return Err(Stop::Fault(FaultKind::CallDepth));
             }
-            let f = function(s, number, arguments.len());
-            let mut variables = Variables::new(alloc, f.slots.as_slice().len(), arguments)?;
+            let f = function(here.surroundings, number, arguments.len());
+            let mut variables = Variables::new(here.alloc, f.slots.as_slice().len(), arguments)?;
             let body = f.body.as_slice();
-            let inner = room.within(Calls::Within(more - 1));
-            run_body(body, alloc, s, inner, &mut variables, view)
+            let inner = here.room.within(Calls::Within(more - 1));
+            let there = Here {
+                alloc: here.alloc,
+                surroundings: here.surroundings,
+                room: inner,
+            };
+            run_body(body, &there, &mut variables, view)
         }
     }
 }
@@ -72,17 +73,15 @@ pub fn call(
 #[tactic(auto, using(chi_core_frame::proofs::Stopping::stopping, crate::proofs::Turns::turns))]
 fn run_body(
     body: &[CStat],
-    alloc: Global,
-    s: &Surroundings<'_>,
-    room: Headroom,
+    here: &Here<'_>,
     variables: &mut Variables,
     view: &mut View,
 ) -> Result<Value, Stop>
-    requires { exec view.old.left (run_by room s.now) (scene_in s.now) variables.old (map Do body.now) view.old ≢ Amiss }
-    ensures value { IfOk result (λ v. exec view.old.left (run_by room s.now) (scene_in s.now) variables.old (map Do body.now) view.old ≡ Gives v view.new) }
-    ensures stops { IfErr result (λ stop. Stops stop (exec view.old.left (run_by room s.now) (scene_in s.now) variables.old (map Do body.now) view.old)) }
+    requires { exec view.old.left (run_by here.now) (scene_in here.now.surroundings.now) variables.old (map Do body.now) view.old ≢ Amiss }
+    ensures value { IfOk result (λ v. exec view.old.left (run_by here.now) (scene_in here.now.surroundings.now) variables.old (map Do body.now) view.old ≡ Gives v view.new) }
+    ensures stops { IfErr result (λ stop. Stops stop (exec view.old.left (run_by here.now) (scene_in here.now.surroundings.now) variables.old (map Do body.now) view.old)) }
 {
-    let mut term = Term::new(alloc, body)?;
+    let mut term = Term::new(here.alloc, body)?;
     for turn in 0..view.left {
         if term.is_empty() {
             return Err(Stop::Fault(FaultKind::NoReturn));
@@ -91,7 +90,7 @@ fn run_body(
             return Err(Stop::Spent);
         }
         view.left -= 1;
-        match act(&mut term, alloc, s, room, variables, view)? {
+        match act(&mut term, here, variables, view)? {
             Some(value) => return Ok(value),
             None => {}
         }

@@ -11,6 +11,7 @@ ghost use Rattle.chi_plain_eval.specs.Terms.{act_first, came_to};
 
 use crate::calls::{CONSTANT, OUTSIDE};
 use crate::expressions::{eval, eval_all};
+use crate::here::Here;
 use crate::items;
 use crate::places::path_of;
 use crate::surroundings::Surroundings;
@@ -32,7 +33,12 @@ pub fn value_of(
     ensures value { IfOk result (λ v. value_in surroundings.now variables.now e.now view.old ≡ Gives v view.new) }
     ensures stops { IfErr result (λ stop. Stops stop (value_in surroundings.now variables.now e.now view.old)) }
 {
-    Ok(eval(e, alloc, surroundings, OUTSIDE, variables, view)?)
+    let here = Here {
+        alloc,
+        surroundings,
+        room: OUTSIDE,
+    };
+    Ok(eval(e, &here, variables, view)?)
 }
 
 /// The values of expressions, from left to right.
@@ -48,7 +54,12 @@ pub fn values_of(
     ensures values { IfOk result (λ vs. in_turn (map (value_in surroundings.now variables.now) es.now) view.old ≡ Gives vs.items view.new) }
     ensures stops { IfErr result (λ stop. Stops stop (in_turn (map (value_in surroundings.now variables.now) es.now) view.old)) }
 {
-    Ok(eval_all(es, alloc, surroundings, OUTSIDE, variables, view)?)
+    let here = Here {
+        alloc,
+        surroundings,
+        room: OUTSIDE,
+    };
+    Ok(eval_all(es, &here, variables, view)?)
 }
 
 /// The value of a constant's expression, which calls no function.
@@ -64,7 +75,12 @@ pub fn constant_value(
     ensures stops { IfErr result (λ stop. Stops stop (constant_in surroundings.now e.now view.old)) }
 {
     let variables = Variables::new(alloc, 0, Vec::new(alloc))?;
-    Ok(eval(e, alloc, surroundings, CONSTANT, &variables, view)?)
+    let here = Here {
+        alloc,
+        surroundings,
+        room: CONSTANT,
+    };
+    Ok(eval(e, &here, &variables, view)?)
 }
 
 /// The spot of a target: its indexes are evaluated from left to right.
@@ -81,7 +97,12 @@ pub fn spot_of(
     ensures stops { IfErr result (λ stop. Stops stop (spot_of (value_in surroundings.now variables.now) target.now view.old)) }
 {
     let steps = target.steps.as_slice();
-    let path = path_of(steps, alloc, surroundings, OUTSIDE, variables, view)?;
+    let here = Here {
+        alloc,
+        surroundings,
+        room: OUTSIDE,
+    };
+    let path = path_of(steps, &here, variables, view)?;
     let slot = target.slot;
     Ok(Spot { slot, path })
 }
@@ -101,5 +122,10 @@ pub fn act<'a>(
     ensures stops { IfErr result (λ stop. Stops stop (act_first (value_in surroundings.now variables.old) variables.old term.old view.old)) }
     ensures kept { result ≡ Err Stop.Spent → (variables.new ≡ variables.old) × (term.new ≡ term.old) }
 {
-    Ok(items::act(term, alloc, surroundings, OUTSIDE, variables, view)?)
+    let here = Here {
+        alloc,
+        surroundings,
+        room: OUTSIDE,
+    };
+    Ok(items::act(term, &here, variables, view)?)
 }

@@ -8,40 +8,54 @@ ghost use Rattle.chi_plain_eval.specs.Calls.{meaning};
 ghost use Rattle.chi_core_frame.specs.Stops.{Stops};
 ghost use Rattle.chi_plain_eval.specs.Terms.{act_first, came_to};
 
-use crate::calls::Headroom;
 use crate::expressions::{eval, eval_all};
+use crate::here::Here;
 use crate::places::spots_of;
 use crate::reading::truth_of;
 use crate::setting::{parted_of, set_each, set_to, whole_of};
-use crate::surroundings::Surroundings;
 use chi_core::{Branch, CExpr, CStat, CTarget, View};
 use chi_core_frame::{Elements, Head, Stop, Term, Variables, spread, store_each};
 use chi_value::Value;
-use std::alloc::Global;
+
+/// The parts of a `while`.
+#[derive(Clone, Copy)]
+struct While<'a> {
+    line: u32,
+    test: &'a CExpr,
+    block: &'a [CStat],
+}
+
+/// The parts of a `for`.
+#[derive(Clone, Copy)]
+struct For<'a> {
+    line: u32,
+    slots: &'a [u32],
+    over: &'a CExpr,
+    block: &'a [CStat],
+}
 
 /// The first item of a term.
 #[cycle(eval)]
 #[tactic(auto, using(chi_core_frame::proofs::Stopping::stopping, crate::proofs::Turns::acts, crate::proofs::Acting::walks))]
 pub fn act<'a>(
     term: &mut Term<'a>,
-    alloc: Global,
-    s: &Surroundings<'_>,
-    room: Headroom,
+    here: &Here<'_>,
     variables: &mut Variables,
     view: &mut View,
 ) -> Result<Option<Value>, Stop>
-    requires { act_first (meaning room s.now variables.old) variables.old term.old view.old ≢ Amiss }
-    ensures value { IfOk result (λ r. act_first (meaning room s.now variables.old) variables.old term.old view.old ≡ Gives (came_to r variables.new term.new) view.new) }
-    ensures stops { IfErr result (λ stop. Stops stop (act_first (meaning room s.now variables.old) variables.old term.old view.old)) }
+    requires { act_first (meaning here.now variables.old) variables.old term.old view.old ≢ Amiss }
+    ensures value { IfOk result (λ r. act_first (meaning here.now variables.old) variables.old term.old view.old ≡ Gives (came_to r variables.new term.new) view.new) }
+    ensures stops { IfErr result (λ stop. Stops stop (act_first (meaning here.now variables.old) variables.old term.old view.old)) }
     ensures kept { result ≡ Err Stop.Spent → (variables.new ≡ variables.old) × (term.new ≡ term.old) }
 {
     match term.head() {
-        Head::Do(statement) => act_on(statement, alloc, s, room, term, variables, view),
+        Head::Do(statement) => act_on(statement, here, term, variables, view),
         Head::Loop(line, test, block) => {
-            test_loop(test, alloc, s, room, line, block, term, variables, view)
+            let parts = While { line, test, block };
+            test_loop(&parts, here, term, variables, view)
         }
         Head::Walk => {
-            term.walk(alloc, variables)?;
+            term.walk(here.alloc, variables)?;
             Ok(None)
         }
         Head::End => unreachable!(),
@@ -53,38 +67,47 @@ pub fn act<'a>(
 #[tactic(auto, using(chi_core_frame::proofs::Stopping::stopping, crate::proofs::Acting::acting))]
 fn act_on<'a>(
     statement: &'a CStat,
-    alloc: Global,
-    s: &Surroundings<'_>,
-    room: Headroom,
+    here: &Here<'_>,
     term: &mut Term<'a>,
     variables: &mut Variables,
     view: &mut View,
 ) -> Result<Option<Value>, Stop>
-    requires { act_stat (meaning room s.now variables.old) variables.old (out-CStat statement.now) (drop 1 term.old) view.old ≢ Amiss }
-    ensures value { IfOk result (λ r. act_stat (meaning room s.now variables.old) variables.old (out-CStat statement.now) (drop 1 term.old) view.old ≡ Gives (came_to r variables.new term.new) view.new) }
-    ensures stops { IfErr result (λ stop. Stops stop (act_stat (meaning room s.now variables.old) variables.old (out-CStat statement.now) (drop 1 term.old) view.old)) }
+    requires { act_stat (meaning here.now variables.old) variables.old (out-CStat statement.now) (drop 1 term.old) view.old ≢ Amiss }
+    ensures value { IfOk result (λ r. act_stat (meaning here.now variables.old) variables.old (out-CStat statement.now) (drop 1 term.old) view.old ≡ Gives (came_to r variables.new term.new) view.new) }
+    ensures stops { IfErr result (λ stop. Stops stop (act_stat (meaning here.now variables.old) variables.old (out-CStat statement.now) (drop 1 term.old) view.old)) }
     ensures kept { result ≡ Err Stop.Spent → (variables.new ≡ variables.old) × (term.new ≡ term.old) }
 {
     match statement {
-        CStat::Declare(_, slot, e) => { declare(e, alloc, s, room, *slot, term, variables, view) }
+        CStat::Declare(_, slot, e) => { declare(e, here, *slot, term, variables, view) }
         CStat::Assign(_, targets, values) => {
             let places = targets.as_slice();
             let expressions = values.as_slice();
-            assign(expressions, alloc, s, room, places, term, variables, view)
+            assign(expressions, here, places, term, variables, view)
         }
         CStat::If(_, branches, otherwise) => {
             let tests = branches.as_slice();
             let last = otherwise.as_slice();
-            choose(tests, alloc, s, room, last, term, variables, view)
+            choose(tests, here, last, term, variables, view)
         }
         CStat::While(line, test, block) => {
             let turn = block.as_slice();
-            test_loop(test, alloc, s, room, *line, turn, term, variables, view)
+            let parts = While {
+                line: *line,
+                test,
+                block: turn,
+            };
+            test_loop(&parts, here, term, variables, view)
         }
         CStat::For(line, slots, e, block) => {
             let names = slots.as_slice();
             let turn = block.as_slice();
-            begin_walk(e, alloc, s, room, *line, names, turn, term, variables, view)
+            let parts = For {
+                line: *line,
+                slots: names,
+                over: e,
+                block: turn,
+            };
+            begin_walk(&parts, here, term, variables, view)
         }
         CStat::Break(_) => {
             term.drop_first();
@@ -100,7 +123,7 @@ fn act_on<'a>(
             term.drop_first();
             Ok(None)
         }
-        CStat::Return(_, e) => Ok(Some(eval(e, alloc, s, room, variables, view)?)),
+        CStat::Return(_, e) => Ok(Some(eval(e, here, variables, view)?)),
         CStat::Exit(_, _) => unreachable!(),
         CStat::Write(_, _, _) => unreachable!(),
         CStat::Select(_, _) => unreachable!(),
@@ -115,20 +138,18 @@ fn act_on<'a>(
 #[tactic(auto, using(chi_core_frame::proofs::Stopping::stopping, crate::proofs::Wholes::declaring))]
 fn declare(
     e: &CExpr,
-    alloc: Global,
-    s: &Surroundings<'_>,
-    room: Headroom,
+    here: &Here<'_>,
     slot: u32,
     term: &mut Term<'_>,
     variables: &mut Variables,
     view: &mut View,
 ) -> Result<Option<Value>, Stop>
-    requires { declared (meaning room s.now variables.old) variables.old slot e.now (drop 1 term.old) view.old ≢ Amiss }
-    ensures value { IfOk result (λ r. declared (meaning room s.now variables.old) variables.old slot e.now (drop 1 term.old) view.old ≡ Gives (came_to r variables.new term.new) view.new) }
-    ensures stops { IfErr result (λ stop. Stops stop (declared (meaning room s.now variables.old) variables.old slot e.now (drop 1 term.old) view.old)) }
+    requires { declared (meaning here.now variables.old) variables.old slot e.now (drop 1 term.old) view.old ≢ Amiss }
+    ensures value { IfOk result (λ r. declared (meaning here.now variables.old) variables.old slot e.now (drop 1 term.old) view.old ≡ Gives (came_to r variables.new term.new) view.new) }
+    ensures stops { IfErr result (λ stop. Stops stop (declared (meaning here.now variables.old) variables.old slot e.now (drop 1 term.old) view.old)) }
     ensures kept { result ≡ Err Stop.Spent → (variables.new ≡ variables.old) × (term.new ≡ term.old) }
 {
-    set_to(e, alloc, s, room, slot, variables, view)?;
+    set_to(e, here, slot, variables, view)?;
     term.drop_first();
     Ok(None)
 }
@@ -137,25 +158,25 @@ fn declare(
 #[cycle(eval)]
 #[tactic(auto, using(chi_core_frame::proofs::Stopping::stopping, crate::proofs::Acting::beginning))]
 fn begin_walk<'a>(
-    e: &CExpr,
-    alloc: Global,
-    s: &Surroundings<'_>,
-    room: Headroom,
-    line: u32,
-    slots: &'a [u32],
-    block: &'a [CStat],
+    parts: &For<'a>,
+    here: &Here<'_>,
     term: &mut Term<'a>,
     variables: &Variables,
     view: &mut View,
 ) -> Result<Option<Value>, Stop>
-    requires { walking (meaning room s.now variables.now) variables.now line slots.now e.now block.now (drop 1 term.old) view.old ≢ Amiss }
-    ensures value { IfOk result (λ r. walking (meaning room s.now variables.now) variables.now line slots.now e.now block.now (drop 1 term.old) view.old ≡ Gives (came_to r variables.now term.new) view.new) }
-    ensures stops { IfErr result (λ stop. Stops stop (walking (meaning room s.now variables.now) variables.now line slots.now e.now block.now (drop 1 term.old) view.old)) }
+    requires { walking (meaning here.now variables.now) variables.now parts.now.line parts.now.slots.now parts.now.over.now parts.now.block.now (drop 1 term.old) view.old ≢ Amiss }
+    ensures value { IfOk result (λ r. walking (meaning here.now variables.now) variables.now parts.now.line parts.now.slots.now parts.now.over.now parts.now.block.now (drop 1 term.old) view.old ≡ Gives (came_to r variables.now term.new) view.new) }
+    ensures stops { IfErr result (λ stop. Stops stop (walking (meaning here.now variables.now) variables.now parts.now.line parts.now.slots.now parts.now.over.now parts.now.block.now (drop 1 term.old) view.old)) }
     ensures kept { result ≡ Err Stop.Spent → term.new ≡ term.old }
 {
-    let container = eval(e, alloc, s, room, variables, view)?;
+    let container = eval(parts.over, here, variables, view)?;
     term.drop_first();
-    term.put_walk(line, slots, Elements::of(container), block)?;
+    term.put_walk(
+        parts.line,
+        parts.slots,
+        Elements::of(container),
+        parts.block,
+    )?;
     Ok(None)
 }
 
@@ -163,26 +184,22 @@ fn begin_walk<'a>(
 #[cycle(eval)]
 #[tactic(auto, using(chi_core_frame::proofs::Stopping::stopping, crate::proofs::Acting::testing))]
 fn test_loop<'a>(
-    test: &'a CExpr,
-    alloc: Global,
-    s: &Surroundings<'_>,
-    room: Headroom,
-    line: u32,
-    block: &'a [CStat],
+    parts: &While<'a>,
+    here: &Here<'_>,
     term: &mut Term<'a>,
     variables: &Variables,
     view: &mut View,
 ) -> Result<Option<Value>, Stop>
-    requires { tested (meaning room s.now variables.now) variables.now line test.now block.now (drop 1 term.old) view.old ≢ Amiss }
-    ensures value { IfOk result (λ r. tested (meaning room s.now variables.now) variables.now line test.now block.now (drop 1 term.old) view.old ≡ Gives (came_to r variables.now term.new) view.new) }
-    ensures stops { IfErr result (λ stop. Stops stop (tested (meaning room s.now variables.now) variables.now line test.now block.now (drop 1 term.old) view.old)) }
+    requires { tested (meaning here.now variables.now) variables.now parts.now.line parts.now.test.now parts.now.block.now (drop 1 term.old) view.old ≢ Amiss }
+    ensures value { IfOk result (λ r. tested (meaning here.now variables.now) variables.now parts.now.line parts.now.test.now parts.now.block.now (drop 1 term.old) view.old ≡ Gives (came_to r variables.now term.new) view.new) }
+    ensures stops { IfErr result (λ stop. Stops stop (tested (meaning here.now variables.now) variables.now parts.now.line parts.now.test.now parts.now.block.now (drop 1 term.old) view.old)) }
     ensures kept { result ≡ Err Stop.Spent → term.new ≡ term.old }
 {
-    let value = eval(test, alloc, s, room, variables, view)?;
+    let value = eval(parts.test, here, variables, view)?;
     term.drop_first();
     if truth_of(value) {
-        term.put_loop(line, test, block)?;
-        term.put_first(block)?;
+        term.put_loop(parts.line, parts.test, parts.block)?;
+        term.put_first(parts.block)?;
         Ok(None)
     } else {
         Ok(None)
@@ -194,21 +211,19 @@ fn test_loop<'a>(
 #[tactic(auto, using(chi_core_frame::proofs::Stopping::stopping, crate::proofs::Choosing::choosing))]
 fn choose<'a>(
     branches: &'a [Branch],
-    alloc: Global,
-    s: &Surroundings<'_>,
-    room: Headroom,
+    here: &Here<'_>,
     otherwise: &'a [CStat],
     term: &mut Term<'a>,
     variables: &Variables,
     view: &mut View,
 ) -> Result<Option<Value>, Stop>
-    requires { chosen (meaning room s.now variables.now) variables.now branches.now otherwise.now (drop 1 term.old) view.old ≢ Amiss }
-    ensures value { IfOk result (λ r. chosen (meaning room s.now variables.now) variables.now branches.now otherwise.now (drop 1 term.old) view.old ≡ Gives (came_to r variables.now term.new) view.new) }
-    ensures stops { IfErr result (λ stop. Stops stop (chosen (meaning room s.now variables.now) variables.now branches.now otherwise.now (drop 1 term.old) view.old)) }
+    requires { chosen (meaning here.now variables.now) variables.now branches.now otherwise.now (drop 1 term.old) view.old ≢ Amiss }
+    ensures value { IfOk result (λ r. chosen (meaning here.now variables.now) variables.now branches.now otherwise.now (drop 1 term.old) view.old ≡ Gives (came_to r variables.now term.new) view.new) }
+    ensures stops { IfErr result (λ stop. Stops stop (chosen (meaning here.now variables.now) variables.now branches.now otherwise.now (drop 1 term.old) view.old)) }
     ensures kept { result ≡ Err Stop.Spent → term.new ≡ term.old }
 {
     for branch in branches {
-        let holds = eval(&branch.test, alloc, s, room, variables, view)?;
+        let holds = eval(&branch.test, here, variables, view)?;
         if truth_of(holds) {
             term.drop_first();
             term.put_first(branch.block.as_slice())?;
@@ -226,26 +241,24 @@ fn choose<'a>(
 #[tactic(auto, using(chi_core_frame::proofs::Stopping::stopping, crate::proofs::Wholes::assigning))]
 fn assign(
     values: &[CExpr],
-    alloc: Global,
-    s: &Surroundings<'_>,
-    room: Headroom,
+    here: &Here<'_>,
     targets: &[CTarget],
     term: &mut Term<'_>,
     variables: &mut Variables,
     view: &mut View,
 ) -> Result<Option<Value>, Stop>
-    requires { assigned (meaning room s.now variables.old) variables.old targets.now values.now (drop 1 term.old) view.old ≢ Amiss }
-    ensures value { IfOk result (λ r. assigned (meaning room s.now variables.old) variables.old targets.now values.now (drop 1 term.old) view.old ≡ Gives (came_to r variables.new term.new) view.new) }
-    ensures stops { IfErr result (λ stop. Stops stop (assigned (meaning room s.now variables.old) variables.old targets.now values.now (drop 1 term.old) view.old)) }
+    requires { assigned (meaning here.now variables.old) variables.old targets.now values.now (drop 1 term.old) view.old ≢ Amiss }
+    ensures value { IfOk result (λ r. assigned (meaning here.now variables.old) variables.old targets.now values.now (drop 1 term.old) view.old ≡ Gives (came_to r variables.new term.new) view.new) }
+    ensures stops { IfErr result (λ stop. Stops stop (assigned (meaning here.now variables.old) variables.old targets.now values.now (drop 1 term.old) view.old)) }
     ensures kept { result ≡ Err Stop.Spent → (variables.new ≡ variables.old) × (term.new ≡ term.old) }
 {
     match whole_of(targets, values) {
         Some((slot, e)) => {
-            set_to(e, alloc, s, room, slot, variables, view)?;
+            set_to(e, here, slot, variables, view)?;
             term.drop_first();
             Ok(None)
         }
-        None => assign_several(values, alloc, s, room, targets, term, variables, view),
+        None => assign_several(values, here, targets, term, variables, view),
     }
 }
 
@@ -254,26 +267,24 @@ fn assign(
 #[tactic(auto, using(chi_core_frame::proofs::Stopping::stopping, crate::proofs::Released::assigning))]
 fn assign_several(
     values: &[CExpr],
-    alloc: Global,
-    s: &Surroundings<'_>,
-    room: Headroom,
+    here: &Here<'_>,
     targets: &[CTarget],
     term: &mut Term<'_>,
     variables: &mut Variables,
     view: &mut View,
 ) -> Result<Option<Value>, Stop>
-    requires { assigned (meaning room s.now variables.old) variables.old targets.now values.now (drop 1 term.old) view.old ≢ Amiss }
-    ensures value { IfOk result (λ r. assigned (meaning room s.now variables.old) variables.old targets.now values.now (drop 1 term.old) view.old ≡ Gives (came_to r variables.new term.new) view.new) }
-    ensures stops { IfErr result (λ stop. Stops stop (assigned (meaning room s.now variables.old) variables.old targets.now values.now (drop 1 term.old) view.old)) }
+    requires { assigned (meaning here.now variables.old) variables.old targets.now values.now (drop 1 term.old) view.old ≢ Amiss }
+    ensures value { IfOk result (λ r. assigned (meaning here.now variables.old) variables.old targets.now values.now (drop 1 term.old) view.old ≡ Gives (came_to r variables.new term.new) view.new) }
+    ensures stops { IfErr result (λ stop. Stops stop (assigned (meaning here.now variables.old) variables.old targets.now values.now (drop 1 term.old) view.old)) }
     ensures kept { result ≡ Err Stop.Spent → (variables.new ≡ variables.old) × (term.new ≡ term.old) }
 {
     match parted_of(targets, values) {
         Some((slot, e)) => {
-            set_each(e, alloc, s, room, slot, targets, variables, view)?;
+            set_each(e, here, slot, targets, variables, view)?;
             term.drop_first();
             Ok(None)
         }
-        None => assign_all(values, alloc, s, room, targets, term, variables, view),
+        None => assign_all(values, here, targets, term, variables, view),
     }
 }
 
@@ -282,23 +293,21 @@ fn assign_several(
 #[tactic(auto, using(chi_core_frame::proofs::Stopping::stopping, crate::proofs::Assigned::assigning))]
 fn assign_all(
     values: &[CExpr],
-    alloc: Global,
-    s: &Surroundings<'_>,
-    room: Headroom,
+    here: &Here<'_>,
     targets: &[CTarget],
     term: &mut Term<'_>,
     variables: &mut Variables,
     view: &mut View,
 ) -> Result<Option<Value>, Stop>
-    requires { assigned (meaning room s.now variables.old) variables.old targets.now values.now (drop 1 term.old) view.old ≢ Amiss }
-    ensures value { IfOk result (λ r. assigned (meaning room s.now variables.old) variables.old targets.now values.now (drop 1 term.old) view.old ≡ Gives (came_to r variables.new term.new) view.new) }
-    ensures stops { IfErr result (λ stop. Stops stop (assigned (meaning room s.now variables.old) variables.old targets.now values.now (drop 1 term.old) view.old)) }
+    requires { assigned (meaning here.now variables.old) variables.old targets.now values.now (drop 1 term.old) view.old ≢ Amiss }
+    ensures value { IfOk result (λ r. assigned (meaning here.now variables.old) variables.old targets.now values.now (drop 1 term.old) view.old ≡ Gives (came_to r variables.new term.new) view.new) }
+    ensures stops { IfErr result (λ stop. Stops stop (assigned (meaning here.now variables.old) variables.old targets.now values.now (drop 1 term.old) view.old)) }
     ensures kept { result ≡ Err Stop.Spent → (variables.new ≡ variables.old) × (term.new ≡ term.old) }
 {
-    let given = eval_all(values, alloc, s, room, variables, view)?;
-    let each = spread(alloc, targets, given)?;
-    let spots = spots_of(targets, alloc, s, room, variables, view)?;
-    store_each(alloc, spots, each, variables, view)?;
+    let given = eval_all(values, here, variables, view)?;
+    let each = spread(here.alloc, targets, given)?;
+    let spots = spots_of(targets, here, variables, view)?;
+    store_each(here.alloc, spots, each, variables, view)?;
     term.drop_first();
     Ok(None)
 }

@@ -6,6 +6,7 @@ mod bodies;
 mod calls;
 mod evaluating;
 mod expressions;
+mod here;
 mod inserting;
 mod items;
 mod literals;

@@ -8,14 +8,12 @@ ghost use Rattle.chi_plain_eval.specs.Calls.{meaning};
 ghost use Rattle.chi_core_frame.specs.Spots.{spot_in};
 ghost use Rattle.chi_core_frame.specs.Stops.{Stops};
 
-use crate::calls::Headroom;
 use crate::expressions::eval;
-use crate::surroundings::Surroundings;
+use crate::here::Here;
 use chi_core::{CStep, CTarget, View};
 use chi_core_frame::{Spot, Stop, Variables};
 use chi_ops::Path;
 use chi_value::Value;
-use std::alloc::Global;
 
 /// The way into a variable that the steps of a target name: their indexes are evaluated from left to
 /// right.
@@ -23,19 +21,17 @@ use std::alloc::Global;
 #[tactic(auto, using(chi_core_frame::proofs::Stopping::stopping, crate::proofs::Spotting::paths))]
 pub fn path_of(
     steps: &[CStep],
-    alloc: Global,
-    s: &Surroundings<'_>,
-    room: Headroom,
+    here: &Here<'_>,
     variables: &Variables,
     view: &mut View,
 ) -> Result<Vec<Path>, Stop>
-    requires { in_turn (map (step_at (meaning room s.now variables.now)) steps.now) view.old ≢ Amiss }
-    ensures path { IfOk result (λ path. in_turn (map (step_at (meaning room s.now variables.now)) steps.now) view.old ≡ Gives (steps_of path.items) view.new) }
-    ensures stops { IfErr result (λ stop. Stops stop (in_turn (map (step_at (meaning room s.now variables.now)) steps.now) view.old)) }
+    requires { in_turn (map (step_at (meaning here.now variables.now)) steps.now) view.old ≢ Amiss }
+    ensures path { IfOk result (λ path. in_turn (map (step_at (meaning here.now variables.now)) steps.now) view.old ≡ Gives (steps_of path.items) view.new) }
+    ensures stops { IfErr result (λ stop. Stops stop (in_turn (map (step_at (meaning here.now variables.now)) steps.now) view.old)) }
 {
-    let mut path = Vec::new(alloc);
+    let mut path = Vec::new(here.alloc);
     for step in steps {
-        let next = step_on(step, alloc, s, room, variables, view)?;
+        let next = step_on(step, here, variables, view)?;
         path.push(next)?;
     }
     Ok(path)
@@ -46,18 +42,16 @@ pub fn path_of(
 #[tactic(auto, using(chi_core_frame::proofs::Stopping::stopping, crate::proofs::Spotting::steps))]
 fn step_on(
     step: &CStep,
-    alloc: Global,
-    s: &Surroundings<'_>,
-    room: Headroom,
+    here: &Here<'_>,
     variables: &Variables,
     view: &mut View,
 ) -> Result<Path, Stop>
-    requires { step_at (meaning room s.now variables.now) step.now view.old ≢ Amiss }
-    ensures step { IfOk result (λ path. step_at (meaning room s.now variables.now) step.now view.old ≡ Gives (step_of path) view.new) }
-    ensures stops { IfErr result (λ stop. Stops stop (step_at (meaning room s.now variables.now) step.now view.old)) }
+    requires { step_at (meaning here.now variables.now) step.now view.old ≢ Amiss }
+    ensures step { IfOk result (λ path. step_at (meaning here.now variables.now) step.now view.old ≡ Gives (step_of path) view.new) }
+    ensures stops { IfErr result (λ stop. Stops stop (step_at (meaning here.now variables.now) step.now view.old)) }
 {
     match step {
-        CStep::Index(e) => Ok(Path::Key(eval(e, alloc, s, room, variables, view)?)),
+        CStep::Index(e) => Ok(Path::Key(eval(e, here, variables, view)?)),
         CStep::Part(number) => Ok(Path::Part(*number)),
     }
 }
@@ -67,19 +61,17 @@ fn step_on(
 #[tactic(auto, using(chi_core_frame::proofs::Stopping::stopping, crate::proofs::Spotting::places))]
 pub fn spots_of(
     targets: &[CTarget],
-    alloc: Global,
-    s: &Surroundings<'_>,
-    room: Headroom,
+    here: &Here<'_>,
     variables: &Variables,
     view: &mut View,
 ) -> Result<Vec<Spot>, Stop>
-    requires { in_turn (map (spot_of (meaning room s.now variables.now)) targets.now) view.old ≢ Amiss }
-    ensures spots { IfOk result (λ spots. in_turn (map (spot_of (meaning room s.now variables.now)) targets.now) view.old ≡ Gives (map spot_in spots.items) view.new) }
-    ensures stops { IfErr result (λ stop. Stops stop (in_turn (map (spot_of (meaning room s.now variables.now)) targets.now) view.old)) }
+    requires { in_turn (map (spot_of (meaning here.now variables.now)) targets.now) view.old ≢ Amiss }
+    ensures spots { IfOk result (λ spots. in_turn (map (spot_of (meaning here.now variables.now)) targets.now) view.old ≡ Gives (map spot_in spots.items) view.new) }
+    ensures stops { IfErr result (λ stop. Stops stop (in_turn (map (spot_of (meaning here.now variables.now)) targets.now) view.old)) }
 {
-    let mut spots = Vec::new(alloc);
+    let mut spots = Vec::new(here.alloc);
     for target in targets {
-        let path = path_of(target.steps.as_slice(), alloc, s, room, variables, view)?;
+        let path = path_of(target.steps.as_slice(), here, variables, view)?;
         let slot = target.slot;
         spots.push(Spot { slot, path })?;
     }

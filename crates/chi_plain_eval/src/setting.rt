@@ -9,9 +9,8 @@ ghost use Rattle.chi_core_frame.specs.Stops.{Stops};
 ghost use Rattle.chi_plain_eval.specs.Calls.{meaning};
 ghost use Rattle.chi_plain_eval.specs.Settings.{is_whole, names, parted, set_each, set_to, whole_spot};
 
-use crate::calls::Headroom;
 use crate::expressions::eval_off;
-use crate::surroundings::Surroundings;
+use crate::here::Here;
 use chi_base::NoMemory;
 use chi_core::{CExpr, CTarget, View};
 use chi_core_frame::{Spot, Stop, Variables, spread, store_each};
@@ -143,22 +142,20 @@ fn set_parted(
 #[tactic(auto, using(chi_core_frame::proofs::Stopping::stopping, crate::proofs::Released::releasing))]
 pub fn set_each(
     e: &CExpr,
-    alloc: Global,
-    s: &Surroundings<'_>,
-    room: Headroom,
+    here: &Here<'_>,
     slot: u32,
     targets: &[CTarget],
     variables: &mut Variables,
     view: &mut View,
 ) -> Result<(), Stop>
     requires among { IsTrue (list_any (names slot) targets.now) }
-    requires there { set_each (meaning room s.now variables.old) targets.now e.now variables.old view.old ≢ Amiss }
-    ensures value { OnOk result (set_each (meaning room s.now variables.old) targets.now e.now variables.old view.old ≡ Gives variables.new view.new) }
-    ensures stops { IfErr result (λ stop. Stops stop (set_each (meaning room s.now variables.old) targets.now e.now variables.old view.old)) }
+    requires there { set_each (meaning here.now variables.old) targets.now e.now variables.old view.old ≢ Amiss }
+    ensures value { OnOk result (set_each (meaning here.now variables.old) targets.now e.now variables.old view.old ≡ Gives variables.new view.new) }
+    ensures stops { IfErr result (λ stop. Stops stop (set_each (meaning here.now variables.old) targets.now e.now variables.old view.old)) }
     ensures kept { result ≡ Err Stop.Spent → variables.new ≡ variables.old }
 {
-    let value = eval_off(e, alloc, s, room, slot, variables, view)?;
-    set_parted(alloc, targets, value, variables, view)?;
+    let value = eval_off(e, here, slot, variables, view)?;
+    set_parted(here.alloc, targets, value, variables, view)?;
     Ok(())
 }
 
@@ -167,19 +164,17 @@ pub fn set_each(
 #[tactic(auto, using(chi_core_frame::proofs::Stopping::stopping, crate::proofs::Wholes::setting))]
 pub fn set_to(
     e: &CExpr,
-    alloc: Global,
-    s: &Surroundings<'_>,
-    room: Headroom,
+    here: &Here<'_>,
     slot: u32,
     variables: &mut Variables,
     view: &mut View,
 ) -> Result<(), Stop>
-    requires { set_to (meaning room s.now variables.old) slot e.now variables.old view.old ≢ Amiss }
-    ensures value { OnOk result (set_to (meaning room s.now variables.old) slot e.now variables.old view.old ≡ Gives variables.new view.new) }
-    ensures stops { IfErr result (λ stop. Stops stop (set_to (meaning room s.now variables.old) slot e.now variables.old view.old)) }
+    requires { set_to (meaning here.now variables.old) slot e.now variables.old view.old ≢ Amiss }
+    ensures value { OnOk result (set_to (meaning here.now variables.old) slot e.now variables.old view.old ≡ Gives variables.new view.new) }
+    ensures stops { IfErr result (λ stop. Stops stop (set_to (meaning here.now variables.old) slot e.now variables.old view.old)) }
     ensures kept { result ≡ Err Stop.Spent → variables.new ≡ variables.old }
 {
-    let value = eval_off(e, alloc, s, room, slot, variables, view)?;
+    let value = eval_off(e, here, slot, variables, view)?;
     variables.set(slot, value);
     Ok(())
 }
