@@ -1,7 +1,6 @@
 ghost use Rattle.std.specs.Prelude.{◌≡◌, ◌≤◌, length, slice_get};
 ghost use Rattle.chi_core.specs.declared.limits.TheConstants.{MOST_INSTANCES};
-ghost use Rattle.chi_core.specs.Meeting.{next_due};
-ghost use Rattle.chi_core.specs.Options.{is_under_way};
+ghost use Rattle.chi_core.specs.Meeting.{is_over, next_due};
 
 use chi_plain_open::{Instance, least_due, sooner};
 use chi_value::Value;
@@ -67,12 +66,12 @@ impl<'a> Configuration<'a> {
         self.instances.as_slice()
     }
 
-    /// Whether there is an instance of this number that hasn't finished.
-    pub fn is_under_way(&self, pid: u32) -> bool
-        ensures { result ≡ is_under_way (slice_get self.now.instances pid) }
+    /// Whether there is an instance of this number that has finished.
+    pub fn is_over(&self, pid: u32) -> bool
+        ensures { result ≡ is_over (slice_get self.now.instances pid) }
     {
         match self.finished.get(pid as usize) {
-            Some(finished) => !*finished,
+            Some(finished) => *finished,
             None => false,
         }
     }
