@@ -8,7 +8,8 @@ use Rattle.chi_core.specs.declared.act.Act.{Act}
 use Rattle.chi_core.specs.declared.act.Act.TheVariants.{Send, Receive, Delay}
 use Rattle.chi_core.specs.declared.label.Label.TheVariants.{Pair, Join}
 use Rattle.chi_core.specs.Config.{Config, Instance, Offer, Waiting, Joining, offers_in}
-use Rattle.chi_core.specs.Options.{numbers, receives_on, is_receiver, receivers, pairs_with, pairs, options_for, options_in, options_of, none_under_way}
+use Rattle.chi_core.specs.Meeting.{are_over}
+use Rattle.chi_core.specs.Options.{numbers, receives_on, is_receiver, receivers, pairs_with, pairs, options_for, options_in, options_of}
 use Rattle.chi_core_runs.proofs.Lists.{some_below, joined-none, kept, number-at}
 use Rattle.chi_plain_options.specs.Scanning.{offered_below}
 use Rattle.chi_plain_options.specs.declared.parties.Parties.{Parties}
@@ -214,7 +215,7 @@ pub acts-waiting : (config : Config) (p : ℕ) (offers : List Offer) (has : Bool
 unfolding offered_below
 acts-waiting config p offers has e = e
 
-pub acts-joining : (config : Config) (p : ℕ) (waited : List ℕ) (has : Bool) → has ≡ none_under_way config waited
+pub acts-joining : (config : Config) (p : ℕ) (waited : List ℕ) (has : Bool) → has ≡ are_over config waited
     → has ≡ nat_lt 0 (length (options_in config p (Joining waited)))
 acts-joining config p waited true e = ap (λ b. nat_lt 0 (length (cond b (Join p ∷ []) []))) e
 acts-joining config p waited false e = ap (λ b. nat_lt 0 (length (cond b (Join p ∷ []) []))) e

@@ -5,7 +5,8 @@ use Rattle.std.proofs.lemmas.Option.{slice_get_within}
 use Rattle.chi_core.specs.declared.label.Label.{Label}
 use Rattle.chi_core.specs.declared.label.Label.TheVariants.{Join}
 use Rattle.chi_core.specs.Config.{Config, Instance, Offer, Waiting, Joining}
-use Rattle.chi_core.specs.Options.{none_under_way, options_in, options_of, options}
+use Rattle.chi_core.specs.Meeting.{are_over}
+use Rattle.chi_core.specs.Options.{options_in, options_of, options}
 use Rattle.chi_plain_options.specs.Scanning.{offered_below}
 
 pub options-some : (config : Config) (p : ℕ) (i : Instance) → slice_get config.instances p ≡ Some i → options config p ≡ options_in config p i.state
@@ -18,10 +19,10 @@ pub options-waiting : (config : Config) (p : ℕ) (offers : List Offer) → opti
 unfolding offered_below
 options-waiting config p offers = refl
 
-pub options-free : (config : Config) (p : ℕ) (waited : List ℕ) → none_under_way config waited ≡ true → options_in config p (Joining waited) ≡ Join p ∷ []
+pub options-free : (config : Config) (p : ℕ) (waited : List ℕ) → are_over config waited ≡ true → options_in config p (Joining waited) ≡ Join p ∷ []
 options-free config p waited e = ap (λ b. if b then Join p ∷ [] else []) e
 
-pub options-held : (config : Config) (p : ℕ) (waited : List ℕ) → none_under_way config waited ≡ false → options_in config p (Joining waited) ≡ []
+pub options-held : (config : Config) (p : ℕ) (waited : List ℕ) → are_over config waited ≡ false → options_in config p (Joining waited) ≡ []
 options-held config p waited e = ap (λ b. if b then Join p ∷ [] else []) e
 
 pub options-within : (config : Config) (p i : ℕ) → i < length (options config p) → p < length config.instances

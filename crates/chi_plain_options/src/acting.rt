@@ -7,7 +7,7 @@ ghost use Rattle.chi_plain_options.specs.Scanning.{offered_below};
 ghost use Rattle.chi_plain_options.specs.Listing.{AllParties};
 ghost use Rattle.chi_plain_options.specs.Acting.{acts};
 
-use crate::choices::{none_under_way, partner_count};
+use crate::choices::{are_over, partner_count};
 use crate::parties::Parties;
 use chi_core::Act;
 use chi_plain_open::{Offer, State};
@@ -67,7 +67,7 @@ fn has_option_in(config: &Configuration<'_>, parties: &Parties, pid: u32, state:
     match state {
         State::Running => true,
         State::Waiting(offers) => has_option_among(config, parties, pid, offers.as_slice()),
-        State::Joining(waited) => none_under_way(config, waited.as_slice()),
+        State::Joining(waited) => are_over(config, waited.as_slice()),
         State::Finished => false,
     }
 }

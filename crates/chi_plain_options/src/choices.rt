@@ -3,7 +3,8 @@
 ghost use Rattle.std.specs.Prelude.{◌≡◌, ℕ, ◌<◌, ◌≤◌, length, slice_get, Some};
 ghost use Rattle.chi_core.specs.declared.limits.TheConstants.{MOST_OFFERS};
 ghost use Rattle.chi_core.specs.Config.{offers_in};
-ghost use Rattle.chi_core.specs.Options.{none_under_way, pairs_with, pairs, options_for, options_in, options};
+ghost use Rattle.chi_core.specs.Meeting.{are_over};
+ghost use Rattle.chi_core.specs.Options.{pairs_with, pairs, options_for, options_in, options};
 ghost use Rattle.chi_plain_open.specs.Instances.{state_of};
 ghost use Rattle.chi_plain_options.specs.Scanning.{MOST_PAIRS, offered_below};
 ghost use Rattle.chi_plain_options.specs.Listing.{AllParties};
@@ -188,12 +189,12 @@ fn offered_at(
     unreachable!()
 }
 
-/// Whether none of these is an instance that hasn't finished.
-pub fn none_under_way(config: &Configuration<'_>, waited: &[u32]) -> bool
-    ensures { result ≡ none_under_way config.now waited.now }
+/// Whether there are instances of all these numbers that have finished.
+pub fn are_over(config: &Configuration<'_>, waited: &[u32]) -> bool
+    ensures { result ≡ are_over config.now waited.now }
 {
     for pid in waited {
-        if config.is_under_way(*pid) {
+        if !config.is_over(*pid) {
             return false;
         }
     }
@@ -211,7 +212,7 @@ fn option_count_in(config: &Configuration<'_>, parties: &Parties, pid: u32, stat
         State::Running => 1,
         State::Waiting(offers) => offered_count(config, parties, pid, offers.as_slice()),
         State::Joining(waited) => {
-            if none_under_way(config, waited.as_slice()) {
+            if are_over(config, waited.as_slice()) {
                 1
             } else {
                 0

@@ -1,6 +1,6 @@
 use Rattle.std.proofs.Common.{◌≡◌, drop}
-use Rattle.chi_core.specs.Options.{none_under_way}
-use Rattle.chi_plain_options.proofs.choices.none_under_way.Given as goal
+use Rattle.chi_core.specs.Meeting.{are_over}
+use Rattle.chi_plain_options.proofs.choices.are_over.Given as goal
 
 abbrev pub invariant-loop-pid : goal.invariant-loop-pid
-invariant-loop-pid l = none_under_way l.fn.config (drop l.pid-index l.waited) ≡ none_under_way l.fn.config l.waited
+invariant-loop-pid l = are_over l.fn.config (drop l.pid-index l.waited) ≡ are_over l.fn.config l.waited
