@@ -10,8 +10,8 @@ use Rattle.chi_core.specs.declared.act.Act.TheVariants.{Send, Receive, Delay}
 use Rattle.chi_core.specs.declared.label.Label.{Label}
 use Rattle.chi_core.specs.declared.label.Label.TheVariants.{Pair, Wake, Join, Advance}
 use Rattle.chi_core.specs.Config.{Config, Instance, Offer, State, Running, Waiting, Joining, Finished, offers_in}
-use Rattle.chi_core.specs.Meeting.{may_reach, next_due}
-use Rattle.chi_core.specs.Options.{numbers, receivers, pairs_with, options_by, options_for, none_under_way, options_in, options_of, options, actors, advance_to, advance, enabled, enabled_of, Ending, at_rest, ending, ending_of}
+use Rattle.chi_core.specs.Meeting.{are_over, may_reach, next_due}
+use Rattle.chi_core.specs.Options.{numbers, receivers, pairs_with, options_by, options_for, options_in, options_of, options, actors, advance_to, advance, enabled, enabled_of, Ending, at_rest, ending, ending_of}
 use Rattle.chi_core_runs.proofs.Lists.{kept}
 use Rattle.chi_plain_options.proofs.Lists.{none-of, lt-true, lt-false}
 use Rattle.chi_plain.specs.Watching.{is_advance}
@@ -77,7 +77,7 @@ module _ (config : Config) (p : ℕ) where
   in-none Running = refl
   in-none (Waiting offers) =
       none-flat is_advance (λ a. options_for config p a (slice_get offers a)) (numbers (length offers)) (λ a. for-none a (slice_get offers a))
-  in-none (Joining waited) = by_test (none_under_way config waited)
+  in-none (Joining waited) = by_test (are_over config waited)
     where
       by_test : (b : Bool) → list_any is_advance (cond b (Join p ∷ []) []) ≡ false
       by_test true = refl

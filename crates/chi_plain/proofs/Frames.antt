@@ -1,6 +1,6 @@
 -- Who isn't affected by a step has an option where it had one.
 use Rattle.std.proofs.Common.{◌≡◌, ◌≢◌, ℕ, zero, suc, ◌<◌, ◌≤◌, List, [], ◌∷◌, ◌++◌, Option, Some, None, Bool, true, false, cond, length, ◌⊎◌, inl, inr, sym, ◌∙◌, ap, subst, refl, arith}
-use Rattle.std.specs.Prelude.{nat_eq, nat_lt, int_lt, not, ◌&&◌}
+use Rattle.std.specs.Prelude.{nat_eq, nat_lt, int_lt, ◌&&◌}
 use Rattle.std.specs.List.{slice_get, Contains, flat_map, list_all}
 use Rattle.std.proofs.lemmas.Bool.{eq-eqb, false≢true}
 use Rattle.std.proofs.lemmas.Grind.{flat_map-append}
@@ -10,7 +10,8 @@ use Rattle.chi_core.specs.declared.act.Act.{Act}
 use Rattle.chi_core.specs.declared.act.Act.TheVariants.{Send, Receive, Delay}
 use Rattle.chi_core.specs.declared.label.Label.TheVariants.{Wake, Join}
 use Rattle.chi_core.specs.Config.{Config, Instance, Offer, State, Running, Waiting, Joining, Finished, offers_in}
-use Rattle.chi_core.specs.Options.{numbers, receivers, pairs_with, pairs, options_by, options_for, options_in, options_of, options, is_under_way, none_under_way}
+use Rattle.chi_core.specs.Meeting.{is_over, are_over}
+use Rattle.chi_core.specs.Options.{numbers, receivers, pairs_with, pairs, options_by, options_for, options_in, options_of, options}
 use Rattle.chi_plain_options.specs.declared.parties.Parties.{Parties}
 use Rattle.chi_plain_options.specs.Listing.{AllJoiners, AllParties, IsJoiner, IsListedFor, IsParty, IsPartyBy, Keeps, listed_at, waited_in}
 use Rattle.chi_plain_options.specs.Reaching.{Covers, Reaches}
@@ -138,42 +139,41 @@ module _ (old new : Config) (parties : Parties) (joiners : List (List ℕ)) (p q
         let party : IsParty parties x (Some i) = subst (λ (m : Option Instance). IsParty parties x m) at (parts x) in
         same_by a o.act (party a o offered)
 
-    -- those for which it waits are under way as they were
-    same_under_way : (waited : List ℕ) → IsListedFor joiners x waited → (r : ℕ) → Contains waited r
-        → is_under_way (slice_get new.instances r) ≡ is_under_way (slice_get old.instances r)
-    same_under_way waited listed r waits = by_first (eq-cases r p)
+    -- those for which it waits are over as they were
+    same_over : (waited : List ℕ) → IsListedFor joiners x waited → (r : ℕ) → Contains waited r
+        → is_over (slice_get new.instances r) ≡ is_over (slice_get old.instances r)
+    same_over waited listed r waits = by_first (eq-cases r p)
       where
-        U : List Instance → ℕ → Bool
-        U is k = is_under_way (slice_get is k)
+        over : List Instance → ℕ → Bool
+        over is k = is_over (slice_get is k)
 
         not_all : Keeps (listed_at joiners r) some → ⊥
         not_all all = out (all x (listed r waits))
 
-        at_named : (m : ℕ) → r ≡ m → IsJoined joiners new.instances m (U old.instances m) some → U new.instances r ≡ U old.instances r
+        at_named : (m : ℕ) → r ≡ m → IsJoined joiners new.instances m (over old.instances m) some → over new.instances r ≡ over old.instances r
         at_named m e (inl all) = absurd (not_all (subst (λ (k : ℕ). Keeps (listed_at joiners k) some) (sym e) all))
-        at_named m e (inr same) = ap (U new.instances) e ∙ same ∙ sym (ap (U old.instances) e)
+        at_named m e (inr same) = ap (over new.instances) e ∙ same ∙ sym (ap (over old.instances) e)
 
-        by_new : length old.instances ≤ r → (r < length new.instances) ⊎ (length new.instances ≤ r) → U new.instances r ≡ U old.instances r
+        by_new : length old.instances ≤ r → (r < length new.instances) ⊎ (length new.instances ≤ r) → over new.instances r ≡ over old.instances r
         by_new h (inl l) = absurd (not_all (affected.added r h l).1)
-        by_new h (inr g) = ap is_under_way (slice_get_past new.instances r g ∙ sym (slice_get_past old.instances r h))
+        by_new h (inr g) = ap is_over (slice_get_past new.instances r g ∙ sym (slice_get_past old.instances r h))
 
-        by_old : r ≢ p → r ≢ q → (r < length old.instances) ⊎ (length old.instances ≤ r) → U new.instances r ≡ U old.instances r
-        by_old f g (inl l) = ap is_under_way (others.same r f g l)
+        by_old : r ≢ p → r ≢ q → (r < length old.instances) ⊎ (length old.instances ≤ r) → over new.instances r ≡ over old.instances r
+        by_old f g (inl l) = ap is_over (others.same r f g l)
         by_old f g (inr h) = by_new h (let c : (r < length new.instances) ⊎ (length new.instances ≤ r) = grind arith in c)
 
-        by_second : r ≢ p → (r ≡ q) ⊎ (r ≢ q) → U new.instances r ≡ U old.instances r
+        by_second : r ≢ p → (r ≡ q) ⊎ (r ≢ q) → over new.instances r ≡ over old.instances r
         by_second f (inl e) = at_named q e affected.second_joined
         by_second f (inr g) = by_old f g (let c : (r < length old.instances) ⊎ (length old.instances ≤ r) = grind arith in c)
 
-        by_first : (r ≡ p) ⊎ (r ≢ p) → U new.instances r ≡ U old.instances r
+        by_first : (r ≡ p) ⊎ (r ≢ p) → over new.instances r ≡ over old.instances r
         by_first (inl e) = at_named p e affected.first_joined
         by_first (inr f) = by_second f (eq-cases r q)
 
     same_joining : (i : Instance) (waited : List ℕ) → slice_get old.instances x ≡ Some i → i.state ≡ Joining waited
-        → none_under_way new waited ≡ none_under_way old waited
+        → are_over new waited ≡ are_over old waited
     same_joining i waited at is =
-        all-same (λ r. not (is_under_way (slice_get new.instances r))) (λ r. not (is_under_way (slice_get old.instances r))) waited
-        (λ r c. ap not (same_under_way waited listed r c))
+        all-same (λ r. is_over (slice_get new.instances r)) (λ r. is_over (slice_get old.instances r)) waited (same_over waited listed)
       where
         listed : IsListedFor joiners x waited
         listed =

@@ -6,7 +6,7 @@ use Rattle.chi_core.specs.declared.label.Label.{Label}
 use Rattle.chi_core.specs.declared.label.Label.TheVariants.{Advance}
 use Rattle.chi_core.specs.declared.program.Core.{Core}
 use Rattle.chi_core.specs.Config.{Config, Instance}
-use Rattle.chi_core.specs.Options.{is_under_way}
+use Rattle.chi_core.specs.Meeting.{is_over}
 use Rattle.chi_core.specs.Step.{Next, step}
 use Rattle.chi_core_runs.proofs.Time.{stands_still}
 use Rattle.chi_plain_steps.specs.declared.stepping.Went.{Went}
@@ -26,15 +26,15 @@ use Rattle.chi_plain.proofs.Touched.{touches}
 use Rattle.chi_plain.proofs.Mending.{RightBut, holds_of_all, right-led, settles_still, settles_later}
 
 pub is_before : (parties : Parties) (label : Label) (old : List Instance) (b : Before) (one : List ℕ) → b.first ≡ first_named label
-    → b.second ≡ second_named label → b.count ≡ length old → b.first_under_way ≡ is_under_way (slice_get old b.first)
-    → b.second_under_way ≡ is_under_way (slice_get old b.second) → Covers parties old b.first one → Keeps one b.covered.items
+    → b.second ≡ second_named label → b.count ≡ length old → b.first_over ≡ is_over (slice_get old b.first)
+    → b.second_over ≡ is_over (slice_get old b.second) → Covers parties old b.first one → Keeps one b.covered.items
     → Covers parties old b.second b.covered.items → IsBefore parties label old b
 is_before parties label old b one first second count under other covered keeps also = record {
   first = first;
   second = second;
   count = count;
-  first_under_way = under ∙ ap (λ k. is_under_way (slice_get old k)) first;
-  second_under_way = other ∙ ap (λ k. is_under_way (slice_get old k)) second;
+  first_over = under ∙ ap (λ k. is_over (slice_get old k)) first;
+  second_over = other ∙ ap (λ k. is_over (slice_get old k)) second;
   first_covered = subst (λ (k : ℕ). Covers parties old k b.covered.items) first (covers-kept parties old b.first one b.covered.items covered keeps);
   second_covered = subst (λ (k : ℕ). Covers parties old k b.covered.items) second also;
 }
@@ -42,14 +42,14 @@ is_before parties label old b one first second count under other covered keeps a
 module _ (parties : Parties) (joiners : List (List ℕ)) (new : List Instance) (b : Before) (one two three four some : List ℕ)
     (k1 : Keeps b.covered.items one) (first : Covers parties new b.first one) (k2 : Keeps one two) (second : Covers parties new b.second two)
     (k3 : Keeps two three) (added : CoversFrom parties joiners new b.count three)
-    (k4 : Keeps three four) (first_joined : IsJoined joiners new b.first b.first_under_way four)
-    (k5 : Keeps four some) (second_joined : IsJoined joiners new b.second b.second_under_way some) where
+    (k4 : Keeps three four) (first_joined : IsJoined joiners new b.first b.first_over four)
+    (k5 : Keeps four some) (second_joined : IsJoined joiners new b.second b.second_over some) where
   -- what is told of a number is told of the one that is named
   joined-named : (k m : ℕ) (was before : Bool) → k ≡ m → was ≡ before → IsJoined joiners new k was some → IsJoined joiners new m before some
   joined-named k m was before e is (inl all) = inl (subst (λ (r : ℕ). Keeps (listed_at joiners r) some) e all)
-  joined-named k m was before e is (inr same) = inr (ap (λ r. is_under_way (slice_get new r)) (sym e) ∙ same ∙ is)
+  joined-named k m was before e is (inr same) = inr (ap (λ r. is_over (slice_get new r)) (sym e) ∙ same ∙ is)
 
-  joined-kept : IsJoined joiners new b.first b.first_under_way four → IsJoined joiners new b.first b.first_under_way some
+  joined-kept : IsJoined joiners new b.first b.first_over four → IsJoined joiners new b.first b.first_over some
   joined-kept (inl all) = inl (keeps-trans (listed_at joiners b.first) four some all k5)
   joined-kept (inr same) = inr same
 
@@ -63,10 +63,10 @@ module _ (parties : Parties) (joiners : List (List ℕ)) (new : List Instance) (
     added = λ r h l.
         let both = added r (subst (λ (k : ℕ). k ≤ r) (sym before.count) h) l in
         (covers-kept parties new r three some both.0 from_three, keeps-trans (listed_at joiners r) three some both.1 from_three);
-    first_joined = joined-named b.first (first_named label) b.first_under_way (is_under_way (slice_get old (first_named label))) before.first
-        before.first_under_way (joined-kept first_joined);
-    second_joined = joined-named b.second (second_named label) b.second_under_way (is_under_way (slice_get old (second_named label))) before.second
-        before.second_under_way second_joined;
+    first_joined = joined-named b.first (first_named label) b.first_over (is_over (slice_get old (first_named label))) before.first
+        before.first_over (joined-kept first_joined);
+    second_joined = joined-named b.second (second_named label) b.second_over (is_over (slice_get old (second_named label))) before.second
+        before.second_over second_joined;
   }
     where
       from_three : Keeps three some

@@ -3,7 +3,7 @@ use Rattle.std.specs.Prelude.{◌≡◌, ◌≢◌, ℕ, ◌⊎◌, List, length
 use Rattle.chi_core.specs.declared.label.Label.{Label}
 use Rattle.chi_core.specs.declared.label.Label.TheVariants.{Advance}
 use Rattle.chi_core.specs.Config.{Config, Instance}
-use Rattle.chi_core.specs.Options.{is_under_way}
+use Rattle.chi_core.specs.Meeting.{is_over}
 use Rattle.chi_plain_options.specs.declared.parties.Parties.{Parties}
 use Rattle.chi_plain.specs.declared.watching.Before.{Before}
 use Rattle.chi_plain.specs.declared.watching.Kept.{Kept}
@@ -17,8 +17,8 @@ pub record IsBefore (parties : Parties) (label : Label) (old : List Instance) (b
   pub first : b.first ≡ first_named label
   pub second : b.second ≡ second_named label
   pub count : b.count ≡ length old
-  pub first_under_way : b.first_under_way ≡ is_under_way (slice_get old (first_named label))
-  pub second_under_way : b.second_under_way ≡ is_under_way (slice_get old (second_named label))
+  pub first_over : b.first_over ≡ is_over (slice_get old (first_named label))
+  pub second_over : b.second_over ≡ is_over (slice_get old (second_named label))
   pub first_covered : Covers parties old (first_named label) b.covered.items
   pub second_covered : Covers parties old (second_named label) b.covered.items
 

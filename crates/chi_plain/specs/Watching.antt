@@ -3,7 +3,7 @@ use Rattle.std.specs.Prelude.{◌≡◌, ℕ, ◌≤◌, ◌<◌, ◌⊎◌, Lis
 use Rattle.chi_core.specs.declared.label.Label.{Label}
 use Rattle.chi_core.specs.declared.label.Label.TheVariants.{Local, Pair, Wake, Join, Advance}
 use Rattle.chi_core.specs.Config.{Config, Instance}
-use Rattle.chi_core.specs.Options.{is_under_way}
+use Rattle.chi_core.specs.Meeting.{is_over}
 use Rattle.chi_plain_options.specs.declared.parties.Parties.{Parties}
 use Rattle.chi_plain_options.specs.Acting.{acts}
 use Rattle.chi_plain_options.specs.Listing.{AllJoiners, AllParties, Keeps, listed_at}
@@ -50,9 +50,9 @@ is_advance (Wake p a) = false
 is_advance (Join p) = false
 is_advance Advance = true
 
--- all that wait for instance r are among some, or it is under way as it was before
+-- all that wait for instance r are among some, or it is over as it was before
 abbrev pub IsJoined : List (List ℕ) → List Instance → ℕ → Bool → List ℕ → Type 0
-IsJoined joiners new r before some = Keeps (listed_at joiners r) some ⊎ (is_under_way (slice_get new r) ≡ before)
+IsJoined joiners new r before some = Keeps (listed_at joiners r) some ⊎ (is_over (slice_get new r) ≡ before)
 
 -- all those are among some that may have an option now and had none, or had one and have none now
 pub record IsAffected (parties : Parties) (joiners : List (List ℕ)) (p q : ℕ) (old new : List Instance) (some : List ℕ) : Type 0 where
@@ -61,5 +61,5 @@ pub record IsAffected (parties : Parties) (joiners : List (List ℕ)) (p q : ℕ
   pub first_new : Covers parties new p some
   pub second_new : Covers parties new q some
   pub added : CoversFrom parties joiners new (length old) some
-  pub first_joined : IsJoined joiners new p (is_under_way (slice_get old p)) some
-  pub second_joined : IsJoined joiners new q (is_under_way (slice_get old q)) some
+  pub first_joined : IsJoined joiners new p (is_over (slice_get old p)) some
+  pub second_joined : IsJoined joiners new q (is_over (slice_get old q)) some

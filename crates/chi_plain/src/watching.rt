@@ -64,14 +64,14 @@ impl<'a> Watched<'a> {
 }
 
 /// What is known before a step: the instances that its label names, how many instances there are, whether those
-/// two are under way, and some that may lose an option.
+/// two have finished, and some that may lose an option.
 #[derive(Debug, Drop)]
 pub struct Before {
     first: u32,
     second: u32,
     count: u32,
-    first_under_way: bool,
-    second_under_way: bool,
+    first_over: bool,
+    second_over: bool,
     covered: Vec<u32>,
 }
 
@@ -135,25 +135,25 @@ pub fn noted(
         first,
         second,
         count: config.instances().len() as u32,
-        first_under_way: config.is_under_way(first),
-        second_under_way: config.is_under_way(second),
+        first_over: config.is_over(first),
+        second_over: config.is_over(second),
         covered,
     })
 }
 
-/// Adds those that wait for an instance, where it is under way now and wasn't before, or was and isn't now.
+/// Adds those that wait for an instance, where it has finished now and hadn't before, or had and hasn't now.
 #[tactic(auto, using(chi_plain_options::proofs::Keeping::keeping))]
 fn cover_changed(
     config: &Configuration<'_>,
     joiners: &ListedAt,
     pid: u32,
-    was_under_way: bool,
+    was_over: bool,
     covered: &mut Vec<u32>,
 ) -> Result<(), NoMemory>
     ensures keeps { Keeps covered.old.items covered.new.items }
-    ensures joined { OnOk result (IsJoined joiners.now config.now.instances pid was_under_way covered.new.items) }
+    ensures joined { OnOk result (IsJoined joiners.now config.now.instances pid was_over covered.new.items) }
 {
-    if config.is_under_way(pid) != was_under_way {
+    if config.is_over(pid) != was_over {
         cover_joiners(joiners, pid, covered)?;
     }
     Ok(())
@@ -173,15 +173,15 @@ fn affected(
         first,
         second,
         count,
-        first_under_way,
-        second_under_way,
+        first_over,
+        second_over,
         mut covered,
     } = before;
     cover(config, parties, first, &mut covered)?;
     cover(config, parties, second, &mut covered)?;
     cover_from(config, parties, joiners, count, &mut covered)?;
-    cover_changed(config, joiners, first, first_under_way, &mut covered)?;
-    cover_changed(config, joiners, second, second_under_way, &mut covered)?;
+    cover_changed(config, joiners, first, first_over, &mut covered)?;
+    cover_changed(config, joiners, second, second_over, &mut covered)?;
     Ok(covered)
 }
 
