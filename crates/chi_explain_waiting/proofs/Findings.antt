@@ -1,8 +1,8 @@
 -- Instances that are found, one after another, and those that are reached from them.
 use Rattle.std.proofs.Common.{◌≡◌, ℕ, zero, suc, ◌+◌, ◌<◌, ◌≤◌, ◌⊎◌, inl, inr, Bool, true, false, List, [], ◌∷◌, ◌++◌, length, get_or, take, set, replicate, refl, sym, ap, ◌∙◌, subst, arith}
-use Rattle.std.specs.List.{All, Contains, flat_map}
+use Rattle.std.specs.List.{Contains, flat_map}
 use Rattle.std.proofs.lemmas.Bool.{cases_eq, cases_lt, false≢true}
-use Rattle.std.proofs.lemmas.List.{get_or_append_left, get_or_default, get_or_past, get_or-replicate, length-replicate, get_or-set_same, get_or-set_other, length_push, take_more, take_all}
+use Rattle.std.proofs.lemmas.List.{get_or_append_left, get_or_default, get_or_past, get_or-replicate, length-replicate, get_or-set_same, get_or-set_other, length-set, length_push, take_more, take_all}
 use Rattle.std.proofs.lemmas.List.Elements.{Contains-append_cases, Contains-append_left, Contains-append_right, Contains-get_or, Contains-push, Contains-push_cases}
 use Rattle.chi_explain_waiting.specs.Finding.{Adds, Begins, IsMarked, Reaches}
 use Rattle.chi_explain_waiting.specs.Joins.{through}
@@ -111,9 +111,6 @@ adds_more old mid new pids i x p q l e =
 pub adds_all : (old new pids : List ℕ) (i : ℕ) → Adds old new (take i pids) → length pids ≤ i → Adds old new pids
 adds_all old new pids i p l = subst (λ (s : List ℕ). Adds old new s) (take_all i pids l) p
 
-pub within_at : (pids : List ℕ) (n m i x : ℕ) → All (λ p. p < n) pids → i < length pids → x ≡ get_or pids i 0 → m ≡ n → x < m
-within_at pids n m i x all l e same = let h : get_or pids i 0 < n = all i 0 l in omega (arith, h)
-
 -- marks
 
 false_or_true : (b : Bool) → b ≡ false → b ≡ true → ⊥
@@ -129,14 +126,14 @@ unmarked n p = by_cases (cases_lt p n)
 pub marked_none : (numbers : List ℕ) (marks : List Bool) (n : ℕ) → numbers ≡ [] → marks ≡ replicate n false → IsMarked numbers marks
 marked_none numbers marks n e f = record {
   marked = λ p t. absurd (false_or_true _ (ap (λ (ms : List Bool). get_or ms p false) f ∙ unmarked n p) t);
-  found = λ p c. absurd (none_in p (subst (λ (ns : List ℕ). Contains ns p) e c));
+  found = λ p l c. absurd (none_in p (subst (λ (ns : List ℕ). Contains ns p) e c));
 }
 
 pub marked_push : (numbers : List ℕ) (marks : List Bool) (p : ℕ) → IsMarked numbers marks → p < length marks
     → IsMarked (numbers ++ p ∷ []) (set marks p true)
 marked_push numbers marks p m l = record {
   marked = λ q t. by_mark q (cases_eq q p) t;
-  found = λ q c. by_place q (cases_eq q p) (Contains-push_cases numbers p q c);
+  found = λ q g c. by_place q (omega (arith, g, length-set {A = Bool} marks p true)) (cases_eq q p) (Contains-push_cases numbers p q c);
 }
   where
     by_mark : (q : ℕ) → (q ≡ p) ⊎ (q ≡ p → ⊥) → get_or (set marks p true) q false ≡ true → Contains (numbers ++ p ∷ []) q
@@ -146,10 +143,21 @@ marked_push numbers marks p m l = record {
     here : (q : ℕ) → q ≡ p → get_or (set marks p true) q false ≡ true
     here q e = ap (λ (r : ℕ). get_or (set marks p true) r false) e ∙ get_or-set_same marks p true false l
 
-    by_place : (q : ℕ) → (q ≡ p) ⊎ (q ≡ p → ⊥) → Contains numbers q ⊎ (p ≡ q) → get_or (set marks p true) q false ≡ true
-    by_place q (inl e) c = here q e
-    by_place q (inr n) (inl c) = get_or-set_other marks p q true false n ∙ m.found q c
-    by_place q (inr n) (inr e) = here q (sym e)
+    by_place : (q : ℕ) → q < length marks → (q ≡ p) ⊎ (q ≡ p → ⊥) → Contains numbers q ⊎ (p ≡ q) → get_or (set marks p true) q false ≡ true
+    by_place q g (inl e) c = here q e
+    by_place q g (inr n) (inl c) = get_or-set_other marks p q true false n ∙ m.found q g c
+    by_place q g (inr n) (inr e) = here q (sym e)
+
+-- a number past all marks has none
+pub marked_past : (numbers : List ℕ) (marks : List Bool) (p : ℕ) → IsMarked numbers marks → length marks ≤ p → IsMarked (numbers ++ p ∷ []) marks
+marked_past numbers marks p m past = record {
+  marked = λ q t. Contains-append_left numbers (p ∷ []) q (m.marked q t);
+  found = λ q g c. by_place q g (Contains-push_cases numbers p q c);
+}
+  where
+    by_place : (q : ℕ) → q < length marks → Contains numbers q ⊎ (p ≡ q) → get_or marks q false ≡ true
+    by_place q g (inl c) = m.found q g c
+    by_place q g (inr e) = absurd (omega (arith, g, past, e))
 
 -- what is reached
 
@@ -247,6 +255,6 @@ round_next step p n first stop old new r q is = subst (λ (m : ℕ). Round step 
       within = omega (arith, is, q.begins.longer);
     }
 
-pub ruleset finding = (adds_none, adds_known, adds_push, adds_more, adds_all, within_at, marked_none, marked_push)
+pub ruleset finding = (adds_none, adds_known, adds_push, adds_more, adds_all, marked_none, marked_push, marked_past)
 
 pub ruleset reaching = (reaches_none, reaches_more, round_first, round_next)

@@ -1,32 +1,13 @@
 -- Whether an instance waits for itself: it is found among those that are reached from it.
-use Rattle.std.proofs.Common.{◌≡◌, ℕ, ◌<◌, Bool, true, false, List, [], Some, None, Option, length, get_or, refl, sym, ap, ◌∙◌, subst, eqb}
-use Rattle.std.specs.List.{All, Contains, list_any, slice_get}
+use Rattle.std.proofs.Common.{◌≡◌, ℕ, ◌<◌, Bool, true, false, List, [], Some, None, length, get_or, refl, sym, ap, ◌∙◌, subst, eqb}
+use Rattle.std.specs.List.{Contains, list_any, slice_get}
 use Rattle.std.proofs.lemmas.Bool.{false≢true, eqb-true, eq-eqb}
 use Rattle.std.proofs.lemmas.List.{get_or_default}
-use Rattle.std.proofs.lemmas.List.Elements.{All-nil, All-weaker, filter_passes}
 use Rattle.std.proofs.lemmas.List.Folds.{Any-from_list_any, list_any_at}
-use Rattle.std.proofs.lemmas.Option.{slice_get_within}
 use Rattle.chi_core.specs.Config.{Config, Instance}
-use Rattle.chi_core.specs.Options.{is_under_way}
 use Rattle.chi_explain_waiting.specs.Finding.{IsMarked}
-use Rattle.chi_explain_waiting.specs.Joins.{through, under_way, waited, waited_by, waited_in}
+use Rattle.chi_explain_waiting.specs.Joins.{through, waited, waited_by, waited_in}
 use Rattle.chi_explain_waiting.proofs.Findings.{Round, round_first, round_next}
-
-under_way_within : (config : Config) (q : ℕ) → is_under_way (slice_get config.instances q) ≡ true → q < length config.instances
-under_way_within config q e = by_instance (slice_get config.instances q) refl e
-  where
-    by_instance : (o : Option Instance) → slice_get config.instances q ≡ o → is_under_way o ≡ true → q < length config.instances
-    by_instance None at t = absurd (false≢true t)
-    by_instance (Some i) at t = slice_get_within config.instances q i at
-
-pub all_within : (config : Config) (some pids : List ℕ) → some ≡ under_way config pids → All (λ q. q < length config.instances) some
-all_within config some pids e =
-    subst (λ (ns : List ℕ). All (λ q. q < length config.instances) ns) (sym e)
-    (All-weaker (λ q. is_under_way (slice_get config.instances q) ≡ true) (λ q. q < length config.instances) (under_way_within config) (under_way config pids)
-    (filter_passes (λ q. is_under_way (slice_get config.instances q)) pids))
-
-pub none_within : (config : Config) (some : List ℕ) → some ≡ [] → All (λ q. q < length config.instances) some
-none_within config some e = subst (λ (ns : List ℕ). All (λ q. q < length config.instances) ns) (sym e) (All-nil (λ q. q < length config.instances))
 
 pub waited-some : (config : Config) (p : ℕ) (i : Instance) (some : List ℕ) → slice_get config.instances p ≡ Some i → some ≡ waited_in config i.state
     → some ≡ waited config p
@@ -59,10 +40,10 @@ ring_is step p n m first numbers marks ring r k same l is = by_mark ring (is ∙
 
     by_any : (b : Bool) → list_any (λ q. eqb q p) reached ≡ b → false ≡ get_or marks p false → false ≡ b
     by_any false e f = refl
-    by_any true e f = absurd (false≢true (f ∙ k.found p (from_reached (in_any reached p e))))
+    by_any true e f = absurd (false≢true (f ∙ k.found p l (from_reached (in_any reached p e))))
 
     by_mark : (b : Bool) → b ≡ get_or marks p false → b ≡ list_any (λ q. eqb q p) reached
     by_mark true e = sym (any_in reached p (to_reached (k.marked p (sym e))))
     by_mark false e = by_any (list_any (λ q. eqb q p) reached) refl e
 
-pub ruleset rings = (all_within, none_within, waited-some, waited-none, ring_is, round_first, round_next)
+pub ruleset rings = (waited-some, waited-none, ring_is, round_first, round_next)

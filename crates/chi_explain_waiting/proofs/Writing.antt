@@ -6,7 +6,7 @@ use Rattle.std.proofs.lemmas.List.{append_assoc, drop_more}
 use Rattle.chi_core.specs.declared.act.Act.{Act}
 use Rattle.chi_core.specs.Config.{Config, Offer}
 use Rattle.chi_explain.specs.Excerpts.{line_alone}
-use Rattle.chi_explain_waiting.specs.Joins.{is_in_ring, under_way}
+use Rattle.chi_explain_waiting.specs.Joins.{is_in_ring, not_over}
 use Rattle.chi_explain_waiting.specs.Partners.{is_answered}
 use Rattle.chi_explain_waiting.specs.WaitingText.{act_words, and_more, joins_told, left_told, listed, offer_told, open_told, ring_told}
 use Rattle.chi_explain_waiting.specs.Whereabouts.{line_told, trimmed}
@@ -45,7 +45,7 @@ left-told config p left told more ring old a b c d new is d_is c_is b_is a_is fi
     ∙ ap (λ (r : Bool). old ++ ((((words ++ listed (take 100 left)) ++ 10 ∷ []) ++ and_more (codes "  more instances: ") (length left - 100)) ++ ring_told r)) asked
 
 pub joining-told : (config : Config) (p : ℕ) (pids left given old new : List ℕ) → new ≡ old ++ joins_told config p given → given ≡ left
-    → left ≡ under_way config pids → new ≡ old ++ joins_told config p (under_way config pids)
+    → left ≡ not_over config pids → new ≡ old ++ joins_told config p (not_over config pids)
 joining-told config p pids left given old new is same those =
     is ∙ ap (λ (ns : List ℕ). old ++ joins_told config p ns) (same ∙ those)
 

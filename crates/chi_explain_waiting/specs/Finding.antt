@@ -1,10 +1,10 @@
 -- Private to proofs: instances that are found, one after another.
 use Rattle.std.specs.Prelude.{◌≡◌, ℕ, ◌≤◌, ◌<◌, ◌⊎◌, Bool, true, false, List, length, slice_index, slice_index_or, Contains}
 
--- at the number of each that is found there is a mark, and at no other's
+-- at the number of each that is found, among so many, there is a mark, and at no other's
 pub record IsMarked (numbers : List ℕ) (marks : List Bool) : Type 0 where
   pub marked : (p : ℕ) → slice_index_or marks p false ≡ true → Contains numbers p
-  pub found : (p : ℕ) → Contains numbers p → slice_index_or marks p false ≡ true
+  pub found : (p : ℕ) → p < length marks → Contains numbers p → slice_index_or marks p false ≡ true
 
 -- the old numbers stay where they are
 pub record Begins (old new : List ℕ) : Type 0 where

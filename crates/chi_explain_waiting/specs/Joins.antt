@@ -1,17 +1,17 @@
 -- For whom instances wait that join, and whether one waits for itself.
-use Rattle.std.specs.Prelude.{ℕ, zero, suc, nat_eq, Bool, List, [], ◌++◌, length, filter, Option, Some, None, slice_get}
+use Rattle.std.specs.Prelude.{ℕ, zero, suc, nat_eq, Bool, not, List, [], ◌++◌, length, filter, Option, Some, None, slice_get}
 use Rattle.std.specs.List.{flat_map, list_any}
 use Rattle.chi_core.specs.Config.{Config, Instance, State, Running, Waiting, Joining, Finished}
-use Rattle.chi_core.specs.Options.{is_under_way}
+use Rattle.chi_core.specs.Meeting.{is_over}
 
 -- those of these instances that haven't finished
-abbrev pub under_way : Config → List ℕ → List ℕ
-under_way config numbers = filter (λ q. is_under_way (slice_get config.instances q)) numbers
+abbrev pub not_over : Config → List ℕ → List ℕ
+not_over config numbers = filter (λ q. not (is_over (slice_get config.instances q))) numbers
 
 abbrev pub waited_in : Config → State → List ℕ
 waited_in config Running = []
 waited_in config (Waiting offers) = []
-waited_in config (Joining numbers) = under_way config numbers
+waited_in config (Joining numbers) = not_over config numbers
 waited_in config Finished = []
 
 abbrev pub waited_by : Config → Option Instance → List ℕ

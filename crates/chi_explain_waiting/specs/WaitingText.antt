@@ -10,7 +10,7 @@ use Rattle.chi_core.specs.Options.{numbers}
 use Rattle.chi_core.specs.Step.{name_of}
 use Rattle.chi_explain.specs.Excerpts.{ended}
 use Rattle.chi_explain_waiting.specs.declared.pieces.TheConstants.{MOST_TOLD}
-use Rattle.chi_explain_waiting.specs.Joins.{is_in_ring, under_way}
+use Rattle.chi_explain_waiting.specs.Joins.{is_in_ring, not_over}
 use Rattle.chi_explain_waiting.specs.Partners.{is_answered}
 use Rattle.chi_explain_waiting.specs.Whereabouts.{at_line, line_at}
 
@@ -70,7 +70,7 @@ joins_told config p left =
 abbrev pub state_told : Config → ℕ → State → List ℕ
 state_told config p Running = ended (codes "  runs: this line is next")
 state_told config p (Waiting offers) = offers_told config p offers
-state_told config p (Joining numbers) = joins_told config p (under_way config numbers)
+state_told config p (Joining numbers) = joins_told config p (not_over config numbers)
 state_told config p Finished = []
 
 -- the name of the process
@@ -79,7 +79,7 @@ name_told core definition = unwrap_or (name_of core definition) []
 
 -- the instances that haven't finished, ascending
 abbrev pub unfinished : Config → List ℕ
-unfinished config = under_way config (numbers (length config.instances))
+unfinished config = not_over config (numbers (length config.instances))
 
 -- with a program, its source, and the lines that instances did last
 module _ (core : Core) (source : List ℕ) (lines : List ℕ) (config : Config) where

@@ -1,16 +1,16 @@
 //! For whom instances wait that join, and whether one waits for itself.
 
-ghost use Rattle.std.specs.Prelude.{◌≡◌, ◌≤◌, ◌<◌, [], ◌∷◌, length, All, IfOk, OnOk};
+ghost use Rattle.std.specs.Prelude.{◌≡◌, ◌≤◌, ◌<◌, [], ◌∷◌, length, IfOk, OnOk};
 ghost use Rattle.chi_plain_open.specs.Instances.{state_of};
 ghost use Rattle.chi_explain_waiting.specs.Finding.{Adds, IsMarked, Reaches};
-ghost use Rattle.chi_explain_waiting.specs.Joins.{is_in_ring, under_way, waited, waited_in};
+ghost use Rattle.chi_explain_waiting.specs.Joins.{is_in_ring, not_over, waited, waited_in};
 
 use chi_base::NoMemory;
 use chi_plain_open::State;
 use chi_plain_steps::Configuration;
 use std::alloc::Global;
 
-/// Instances that were found: their numbers, each once, and a mark for each number.
+/// Instances that were found: their numbers, and a mark for each that is there, which is found once.
 #[derive(Drop)]
 pub struct Found {
     numbers: Vec<u32>,
@@ -34,15 +34,17 @@ impl Found {
     /// Adds an instance, where it isn't found yet.
     #[tactic(auto, using(crate::proofs::Findings::finding))]
     fn add(&mut self, pid: u32) -> Result<(), NoMemory>
-        requires marked { IsMarked self.old.numbers.items self.old.marks.items }
-        requires within { pid < length self.old.marks.items }
+        requires { IsMarked self.old.numbers.items self.old.marks.items }
         ensures marked { OnOk result (IsMarked self.new.numbers.items self.new.marks.items) }
         ensures room { OnOk result (length self.new.marks.items ≡ length self.old.marks.items) }
         ensures adds { OnOk result (Adds self.old.numbers.items self.new.numbers.items (pid ∷ [])) }
     {
-        if !self.marks[pid as usize] {
+        let at = pid as usize;
+        if at >= self.marks.len() {
             self.numbers.push(pid)?;
-            self.marks[pid as usize] = true;
+        } else if !self.marks[at] {
+            self.numbers.push(pid)?;
+            self.marks[at] = true;
         }
         Ok(())
     }
@@ -50,8 +52,7 @@ impl Found {
     /// Adds those of these instances that aren't found yet.
     #[tactic(auto, using(crate::proofs::Findings::finding))]
     fn add_all(&mut self, pids: &[u32]) -> Result<(), NoMemory>
-        requires marked { IsMarked self.old.numbers.items self.old.marks.items }
-        requires within { All (λ p. p < length self.old.marks.items) pids.now }
+        requires { IsMarked self.old.numbers.items self.old.marks.items }
         ensures marked { OnOk result (IsMarked self.new.numbers.items self.new.marks.items) }
         ensures room { OnOk result (length self.new.marks.items ≡ length self.old.marks.items) }
         ensures adds { OnOk result (Adds self.old.numbers.items self.new.numbers.items pids.now) }
@@ -64,18 +65,17 @@ impl Found {
 }
 
 /// Those of these instances that haven't finished.
-#[tactic(auto, using(crate::proofs::Numbers::numbering, crate::proofs::Rings::rings))]
-pub fn under_way(
+#[tactic(auto, using(crate::proofs::Numbers::numbering))]
+pub fn not_over(
     alloc: Global,
     configuration: &Configuration<'_>,
     pids: &[u32],
 ) -> Result<Vec<u32>, NoMemory>
-    ensures under_way { IfOk result (λ some. some.items ≡ under_way configuration.now pids.now) }
-    ensures within { IfOk result (λ some. All (λ q. q < length configuration.now.instances) some.items) }
+    ensures { IfOk result (λ some. some.items ≡ not_over configuration.now pids.now) }
 {
     let mut some = Vec::new(alloc);
     for pid in pids {
-        if configuration.is_under_way(*pid) {
+        if !configuration.is_over(*pid) {
             some.push(*pid)?;
         }
     }
@@ -89,11 +89,10 @@ fn waited_in(
     configuration: &Configuration<'_>,
     state: &State<'_>,
 ) -> Result<Vec<u32>, NoMemory>
-    ensures waited { IfOk result (λ some. some.items ≡ waited_in configuration.now (state_of state.now)) }
-    ensures within { IfOk result (λ some. All (λ q. q < length configuration.now.instances) some.items) }
+    ensures { IfOk result (λ some. some.items ≡ waited_in configuration.now (state_of state.now)) }
 {
     match state {
-        State::Joining(pids) => under_way(alloc, configuration, pids.as_slice()),
+        State::Joining(pids) => not_over(alloc, configuration, pids.as_slice()),
         State::Running | State::Waiting(_) | State::Finished => Ok(Vec::new(alloc)),
     }
 }
@@ -101,8 +100,7 @@ fn waited_in(
 /// The instances for which instance `pid` waits, and that haven't finished.
 #[tactic(auto, using(crate::proofs::Rings::rings))]
 fn waited(alloc: Global, configuration: &Configuration<'_>, pid: u32) -> Result<Vec<u32>, NoMemory>
-    ensures waited { IfOk result (λ some. some.items ≡ waited configuration.now pid) }
-    ensures within { IfOk result (λ some. All (λ q. q < length configuration.now.instances) some.items) }
+    ensures { IfOk result (λ some. some.items ≡ waited configuration.now pid) }
 {
     match configuration.instances().get(pid as usize) {
         Some(instance) => waited_in(alloc, configuration, instance.state()),
@@ -120,7 +118,6 @@ fn reach(
     found: &mut Found,
 ) -> Result<(), NoMemory>
     requires marked { IsMarked found.old.numbers.items found.old.marks.items }
-    requires room { length found.old.marks.items ≡ length configuration.now.instances }
     requires order { from ≤ to }
     requires within { to ≤ length found.old.numbers.items }
     ensures marked { OnOk result (IsMarked found.new.numbers.items found.new.marks.items) }

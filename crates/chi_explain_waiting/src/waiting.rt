@@ -5,10 +5,10 @@ ghost use Rattle.std.specs.Fmt.{decimal};
 ghost use Rattle.chi_explain.specs.Excerpts.{ended};
 ghost use Rattle.chi_explain_waiting.specs.Whereabouts.{at_line};
 ghost use Rattle.chi_plain_open.specs.Instances.{state_of};
-ghost use Rattle.chi_explain_waiting.specs.Joins.{under_way};
+ghost use Rattle.chi_explain_waiting.specs.Joins.{not_over};
 ghost use Rattle.chi_explain_waiting.specs.WaitingText.{instance_told, joins_told, left_told, name_told, ring_told, state_told, unfinished, waiting_text};
 
-use crate::joins::{is_in_ring, under_way};
+use crate::joins::{is_in_ring, not_over};
 use crate::offers::put_offers;
 use crate::pieces::{MOST_TOLD, first_numbers, put_listed, put_more};
 use crate::whereabouts::{line_at, put_at_line};
@@ -80,9 +80,9 @@ fn put_joining(
     out: &mut Vec<u8>,
 ) -> Result<(), NoMemory>
     requires { pid < length configuration.now.instances }
-    ensures { OnOk result (out.new.items ≡ out.old.items ++ joins_told configuration.now pid (under_way configuration.now pids.now)) }
+    ensures { OnOk result (out.new.items ≡ out.old.items ++ joins_told configuration.now pid (not_over configuration.now pids.now)) }
 {
-    let left = under_way(alloc, configuration, pids)?;
+    let left = not_over(alloc, configuration, pids)?;
     put_joins(alloc, configuration, pid, &left, out)?;
     Ok(())
 }
@@ -172,7 +172,7 @@ fn unfinished(alloc: Global, configuration: &Configuration<'_>) -> Result<Vec<u3
 {
     let mut some = Vec::new(alloc);
     for pid in 0..configuration.instances().len() as u32 {
-        if configuration.is_under_way(pid) {
+        if !configuration.is_over(pid) {
             some.push(pid)?;
         }
     }

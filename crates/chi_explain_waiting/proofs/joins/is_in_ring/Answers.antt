@@ -9,7 +9,7 @@ loop-round-init c = (
   c.in_ok-add_all.ensures.marked,
   c.in_ok-add_all.ensures.room ∙ c.in_ok-found.ensures.room ∙ ap length c.instances-count.ensures.instances,
   round_first (waited c.args.configuration.now) c.args.pid c.in_ok-found.found.numbers.items _ c.deref.result.now c.in_ok-first.first.items
-      c.in_ok-add_all.ensures.adds c.in_ok-found.ensures.none c.deref.ensures.value c.in_ok-first.ensures.waited,
+      c.in_ok-add_all.ensures.adds c.in_ok-found.ensures.none c.deref.ensures.value c.in_ok-first.ensures,
 )
 
 pub loop-round-preserved : goal.loop-round-preserved

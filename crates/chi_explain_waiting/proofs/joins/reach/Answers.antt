@@ -12,7 +12,7 @@ loop-at-preserved c =
       c.in_ok-add_all.ensures.room ∙ c.loop-at.invariant.1,
       reaches_more (waited c.args.configuration.now) c.args.from c.loop-at.at c.args.found.now.numbers.items c.loop-at.found.numbers.items _ _ c.loop-at.invariant.2
           c.in_ok-add_all.ensures.adds (omega arith)
-          (c.deref.ensures.value ∙ c.in_ok-more.ensures.waited
+          (c.deref.ensures.value ∙ c.in_ok-more.ensures
           ∙ ap (waited c.args.configuration.now)
           (get_or_read c.loop-at.found.numbers.items c.loop-at.at _ (omega (arith, longer)) c.index-pid.ensures 0)),
     )
