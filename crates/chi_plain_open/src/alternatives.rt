@@ -18,6 +18,23 @@ use chi_plain_eval::{Surroundings, channel_in, due_in, elements_in, real_in, tru
 use chi_value::Value;
 use std::alloc::Global;
 
+/// What is around alternatives, and none of them changes.
+#[derive(Clone, Copy)]
+struct Around<'s> {
+    alloc: Global,
+    scene: &'s Surroundings<'s>,
+    /// The names that the unwinds around bind, the outermost first.
+    names: &'s [u32],
+}
+
+/// The parts of an unwind.
+#[derive(Clone, Copy)]
+struct UnwindParts<'a> {
+    slots: &'a [u32],
+    over: &'a CExpr,
+    alternatives: &'a [CAlt],
+}
+
 /// A delay that begins at a time, in units of a real.
 fn delayed_by(clock: i64, delay: Real, view: &View) -> Result<Act, Stop>
     ensures act { IfOk result (λ act. delayed_by clock delay view.now ≡ Gives act view.now) }
@@ -74,51 +91,54 @@ fn act_of(
 /// The communication of an alternative whose guard holds.
 #[tactic(auto, using(crate::proofs::Going::going))]
 fn offer<'a>(
-    alloc: Global,
-    scene: &Surroundings<'_>,
-    names: &[u32],
+    around: &Around<'_>,
     communication: &'a CComm,
     body: &'a [CStat],
     opening: &mut Opening<'_, 'a>,
     view: &mut View,
 ) -> Result<(), Stop>
-    requires { offered (value_in scene.now) scene.now.clock names.now communication.now body.now (opening_of opening.old) view.old ≢ Amiss }
-    ensures offered { OnOk result (offered (value_in scene.now) scene.now.clock names.now communication.now body.now (opening_of opening.old) view.old ≡ Gives (opening_of opening.new) view.new) }
-    ensures stops { IfErr result (λ stop. Stops stop (offered (value_in scene.now) scene.now.clock names.now communication.now body.now (opening_of opening.old) view.old)) }
+    requires { offered (value_in around.now.scene.now) around.now.scene.now.clock around.now.names.now communication.now body.now (opening_of opening.old) view.old ≢ Amiss }
+    ensures offered { OnOk result (offered (value_in around.now.scene.now) around.now.scene.now.clock around.now.names.now communication.now body.now (opening_of opening.old) view.old ≡ Gives (opening_of opening.new) view.new) }
+    ensures stops { IfErr result (λ stop. Stops stop (offered (value_in around.now.scene.now) around.now.scene.now.clock around.now.names.now communication.now body.now (opening_of opening.old) view.old)) }
     ensures origin { opening.new.origin ≡ opening.old.origin }
 {
-    let act = act_of(alloc, scene, opening.variables(), communication, view)?;
-    opening.keep(alloc, names, body, act, view)?;
+    let alloc = around.alloc;
+    let act = act_of(
+        alloc,
+        around.scene,
+        opening.variables(),
+        communication,
+        view,
+    )?;
+    opening.keep(alloc, around.names, body, act, view)?;
     Ok(())
 }
 
 /// An alternative with its guard.
 #[tactic(auto, using(crate::proofs::Going::going))]
 fn guard<'a>(
-    alloc: Global,
-    scene: &Surroundings<'_>,
+    around: &Around<'_>,
     guard: &Option<CExpr>,
-    names: &[u32],
     communication: &'a CComm,
     body: &'a [CStat],
     opening: &mut Opening<'_, 'a>,
     view: &mut View,
 ) -> Result<(), Stop>
-    requires { guarded (value_in scene.now) scene.now.clock guard.now names.now communication.now body.now (opening_of opening.old) view.old ≢ Amiss }
-    ensures guarded { OnOk result (guarded (value_in scene.now) scene.now.clock guard.now names.now communication.now body.now (opening_of opening.old) view.old ≡ Gives (opening_of opening.new) view.new) }
-    ensures stops { IfErr result (λ stop. Stops stop (guarded (value_in scene.now) scene.now.clock guard.now names.now communication.now body.now (opening_of opening.old) view.old)) }
+    requires { guarded (value_in around.now.scene.now) around.now.scene.now.clock guard.now around.now.names.now communication.now body.now (opening_of opening.old) view.old ≢ Amiss }
+    ensures guarded { OnOk result (guarded (value_in around.now.scene.now) around.now.scene.now.clock guard.now around.now.names.now communication.now body.now (opening_of opening.old) view.old ≡ Gives (opening_of opening.new) view.new) }
+    ensures stops { IfErr result (λ stop. Stops stop (guarded (value_in around.now.scene.now) around.now.scene.now.clock guard.now around.now.names.now communication.now body.now (opening_of opening.old) view.old)) }
     ensures origin { opening.new.origin ≡ opening.old.origin }
 {
     match guard {
         Some(test) => {
-            let holds = value_of(alloc, scene, opening.variables(), test, view)?;
+            let holds = value_of(around.alloc, around.scene, opening.variables(), test, view)?;
             if truth_in(&holds) {
-                Ok(offer(alloc, scene, names, communication, body, opening, view)?)
+                Ok(offer(around, communication, body, opening, view)?)
             } else {
                 Ok(())
             }
         }
-        None => Ok(offer(alloc, scene, names, communication, body, opening, view)?),
+        None => Ok(offer(around, communication, body, opening, view)?),
     }
 }
 
@@ -126,40 +146,28 @@ fn guard<'a>(
 #[cycle(open)]
 #[tactic(auto, using(crate::proofs::Going::going))]
 fn open<'a>(
-    alloc: Global,
-    scene: &Surroundings<'_>,
+    around: &Around<'_>,
     alternative: &'a CAlt,
-    names: &[u32],
     opening: &mut Opening<'_, 'a>,
     view: &mut View,
 ) -> Result<(), Stop>
-    requires { opens (value_in scene.now) scene.now.clock alternative.now names.now (opening_of opening.old) view.old ≢ Amiss }
-    ensures opened { OnOk result (opens (value_in scene.now) scene.now.clock alternative.now names.now (opening_of opening.old) view.old ≡ Gives (opening_of opening.new) view.new) }
-    ensures stops { IfErr result (λ stop. Stops stop (opens (value_in scene.now) scene.now.clock alternative.now names.now (opening_of opening.old) view.old)) }
+    requires { opens (value_in around.now.scene.now) around.now.scene.now.clock alternative.now around.now.names.now (opening_of opening.old) view.old ≢ Amiss }
+    ensures opened { OnOk result (opens (value_in around.now.scene.now) around.now.scene.now.clock alternative.now around.now.names.now (opening_of opening.old) view.old ≡ Gives (opening_of opening.new) view.new) }
+    ensures stops { IfErr result (λ stop. Stops stop (opens (value_in around.now.scene.now) around.now.scene.now.clock alternative.now around.now.names.now (opening_of opening.old) view.old)) }
     ensures origin { opening.new.origin ≡ opening.old.origin }
 {
     match alternative {
-        CAlt::Guarded(test, communication, body) => Ok(guard(
-            alloc,
-            scene,
-            test,
-            names,
-            communication,
-            body.as_slice(),
-            opening,
-            view,
-        )?),
-        CAlt::Unwind(slots, over, alternatives) => Ok(unwind(
-            alloc,
-            scene,
-            alternative,
-            alternatives.as_slice(),
-            slots.as_slice(),
-            over,
-            names,
-            opening,
-            view,
-        )?),
+        CAlt::Guarded(test, communication, body) => {
+            Ok(guard(around, test, communication, body.as_slice(), opening, view)?)
+        }
+        CAlt::Unwind(slots, over, alternatives) => {
+            let parts = UnwindParts {
+                slots: slots.as_slice(),
+                over,
+                alternatives: alternatives.as_slice(),
+            };
+            Ok(unwind(around, alternative, &parts, opening, view)?)
+        }
     }
 }
 
@@ -167,20 +175,18 @@ fn open<'a>(
 #[cycle(open)]
 #[tactic(auto, using(crate::proofs::Going::going, crate::proofs::Through::mapped))]
 fn open_each<'a>(
-    alloc: Global,
-    scene: &Surroundings<'_>,
+    around: &Around<'_>,
     alternatives: &'a [CAlt],
-    names: &[u32],
     opening: &mut Opening<'_, 'a>,
     view: &mut View,
 ) -> Result<(), Stop>
-    requires { each_opens (value_in scene.now) scene.now.clock names.now (map (opens (value_in scene.now) scene.now.clock) alternatives.now) (opening_of opening.old) view.old ≢ Amiss }
-    ensures opened { OnOk result (each_opens (value_in scene.now) scene.now.clock names.now (map (opens (value_in scene.now) scene.now.clock) alternatives.now) (opening_of opening.old) view.old ≡ Gives (opening_of opening.new) view.new) }
-    ensures stops { IfErr result (λ stop. Stops stop (each_opens (value_in scene.now) scene.now.clock names.now (map (opens (value_in scene.now) scene.now.clock) alternatives.now) (opening_of opening.old) view.old)) }
+    requires { each_opens (value_in around.now.scene.now) around.now.scene.now.clock around.now.names.now (map (opens (value_in around.now.scene.now) around.now.scene.now.clock) alternatives.now) (opening_of opening.old) view.old ≢ Amiss }
+    ensures opened { OnOk result (each_opens (value_in around.now.scene.now) around.now.scene.now.clock around.now.names.now (map (opens (value_in around.now.scene.now) around.now.scene.now.clock) alternatives.now) (opening_of opening.old) view.old ≡ Gives (opening_of opening.new) view.new) }
+    ensures stops { IfErr result (λ stop. Stops stop (each_opens (value_in around.now.scene.now) around.now.scene.now.clock around.now.names.now (map (opens (value_in around.now.scene.now) around.now.scene.now.clock) alternatives.now) (opening_of opening.old) view.old)) }
     ensures origin { opening.new.origin ≡ opening.old.origin }
 {
     for alternative in alternatives {
-        open(alloc, scene, alternative, names, opening, view)?;
+        open(around, alternative, opening, view)?;
     }
     Ok(())
 }
@@ -188,64 +194,39 @@ fn open_each<'a>(
 /// An alternative that is an unwind.
 #[cycle(open)]
 fn unwind<'a>(
-    alloc: Global,
-    scene: &Surroundings<'_>,
+    around: &Around<'_>,
     alternative: &'a CAlt,
-    alternatives: &'a [CAlt],
-    slots: &[u32],
-    over: &CExpr,
-    names: &[u32],
+    parts: &UnwindParts<'a>,
     opening: &mut Opening<'_, 'a>,
     view: &mut View,
 ) -> Result<(), Stop>
-    requires well { opens (value_in scene.now) scene.now.clock alternative.now names.now (opening_of opening.old) view.old ≢ Amiss }
-    requires is { alternative.now ≡ CAlt.Unwind slots.now over.now alternatives.now }
-    ensures opened { OnOk result (unwinds (value_in scene.now) scene.now.clock slots.now over.now (map (opens (value_in scene.now) scene.now.clock) alternatives.now) names.now (opening_of opening.old) view.old ≡ Gives (opening_of opening.new) view.new) }
-    ensures stops { IfErr result (λ stop. Stops stop (unwinds (value_in scene.now) scene.now.clock slots.now over.now (map (opens (value_in scene.now) scene.now.clock) alternatives.now) names.now (opening_of opening.old) view.old)) }
+    requires well { opens (value_in around.now.scene.now) around.now.scene.now.clock alternative.now around.now.names.now (opening_of opening.old) view.old ≢ Amiss }
+    requires is { alternative.now ≡ CAlt.Unwind parts.now.slots.now parts.now.over.now parts.now.alternatives.now }
+    ensures opened { OnOk result (unwinds (value_in around.now.scene.now) around.now.scene.now.clock parts.now.slots.now parts.now.over.now (map (opens (value_in around.now.scene.now) around.now.scene.now.clock) parts.now.alternatives.now) around.now.names.now (opening_of opening.old) view.old ≡ Gives (opening_of opening.new) view.new) }
+    ensures stops { IfErr result (λ stop. Stops stop (unwinds (value_in around.now.scene.now) around.now.scene.now.clock parts.now.slots.now parts.now.over.now (map (opens (value_in around.now.scene.now) around.now.scene.now.clock) parts.now.alternatives.now) around.now.names.now (opening_of opening.old) view.old)) }
     ensures origin { opening.new.origin ≡ opening.old.origin }
 {
-    Ok(unwind_over(
-        alloc,
-        scene,
-        alternatives,
-        slots,
-        over,
-        names,
-        opening,
-        view,
-    )?)
+    Ok(unwind_over(around, parts, opening, view)?)
 }
 
 /// Alternatives once more for each element of a container.
 #[cycle(open)]
 #[tactic(auto, using(crate::proofs::Going::going))]
 fn unwind_over<'a>(
-    alloc: Global,
-    scene: &Surroundings<'_>,
-    alternatives: &'a [CAlt],
-    slots: &[u32],
-    over: &CExpr,
-    names: &[u32],
+    around: &Around<'_>,
+    parts: &UnwindParts<'a>,
     opening: &mut Opening<'_, 'a>,
     view: &mut View,
 ) -> Result<(), Stop>
-    requires { unwinds (value_in scene.now) scene.now.clock slots.now over.now (map (opens (value_in scene.now) scene.now.clock) alternatives.now) names.now (opening_of opening.old) view.old ≢ Amiss }
-    ensures opened { OnOk result (unwinds (value_in scene.now) scene.now.clock slots.now over.now (map (opens (value_in scene.now) scene.now.clock) alternatives.now) names.now (opening_of opening.old) view.old ≡ Gives (opening_of opening.new) view.new) }
-    ensures stops { IfErr result (λ stop. Stops stop (unwinds (value_in scene.now) scene.now.clock slots.now over.now (map (opens (value_in scene.now) scene.now.clock) alternatives.now) names.now (opening_of opening.old) view.old)) }
+    requires { unwinds (value_in around.now.scene.now) around.now.scene.now.clock parts.now.slots.now parts.now.over.now (map (opens (value_in around.now.scene.now) around.now.scene.now.clock) parts.now.alternatives.now) around.now.names.now (opening_of opening.old) view.old ≢ Amiss }
+    ensures opened { OnOk result (unwinds (value_in around.now.scene.now) around.now.scene.now.clock parts.now.slots.now parts.now.over.now (map (opens (value_in around.now.scene.now) around.now.scene.now.clock) parts.now.alternatives.now) around.now.names.now (opening_of opening.old) view.old ≡ Gives (opening_of opening.new) view.new) }
+    ensures stops { IfErr result (λ stop. Stops stop (unwinds (value_in around.now.scene.now) around.now.scene.now.clock parts.now.slots.now parts.now.over.now (map (opens (value_in around.now.scene.now) around.now.scene.now.clock) parts.now.alternatives.now) around.now.names.now (opening_of opening.old) view.old)) }
     ensures origin { opening.new.origin ≡ opening.old.origin }
 {
-    let container = value_of(alloc, scene, opening.variables(), over, view)?;
+    let alloc = around.alloc;
+    let container = value_of(alloc, around.scene, opening.variables(), parts.over, view)?;
     let elements = elements_in(alloc, container)?;
-    unwind_each(
-        alloc,
-        scene,
-        alternatives,
-        slots,
-        elements,
-        names,
-        opening,
-        view,
-    )?;
+    unwind_each(around, parts, elements, opening, view)?;
     Ok(())
 }
 
@@ -253,35 +234,22 @@ fn unwind_over<'a>(
 #[cycle(open)]
 #[tactic(auto, using(crate::proofs::Going::going, crate::proofs::Through::moved))]
 fn unwind_each<'a>(
-    alloc: Global,
-    scene: &Surroundings<'_>,
-    alternatives: &'a [CAlt],
-    slots: &[u32],
+    around: &Around<'_>,
+    parts: &UnwindParts<'a>,
     elements: Vec<Value>,
-    names: &[u32],
     opening: &mut Opening<'_, 'a>,
     view: &mut View,
 ) -> Result<(), Stop>
-    requires { through (unwound (value_in scene.now) scene.now.clock names.now slots.now (map (opens (value_in scene.now) scene.now.clock) alternatives.now)) elements.items (opening_of opening.old) view.old ≢ Amiss }
-    ensures opened { OnOk result (through (unwound (value_in scene.now) scene.now.clock names.now slots.now (map (opens (value_in scene.now) scene.now.clock) alternatives.now)) elements.items (opening_of opening.old) view.old ≡ Gives (opening_of opening.new) view.new) }
-    ensures stops { IfErr result (λ stop. Stops stop (through (unwound (value_in scene.now) scene.now.clock names.now slots.now (map (opens (value_in scene.now) scene.now.clock) alternatives.now)) elements.items (opening_of opening.old) view.old)) }
+    requires { through (unwound (value_in around.now.scene.now) around.now.scene.now.clock around.now.names.now parts.now.slots.now (map (opens (value_in around.now.scene.now) around.now.scene.now.clock) parts.now.alternatives.now)) elements.items (opening_of opening.old) view.old ≢ Amiss }
+    ensures opened { OnOk result (through (unwound (value_in around.now.scene.now) around.now.scene.now.clock around.now.names.now parts.now.slots.now (map (opens (value_in around.now.scene.now) around.now.scene.now.clock) parts.now.alternatives.now)) elements.items (opening_of opening.old) view.old ≡ Gives (opening_of opening.new) view.new) }
+    ensures stops { IfErr result (λ stop. Stops stop (through (unwound (value_in around.now.scene.now) around.now.scene.now.clock around.now.names.now parts.now.slots.now (map (opens (value_in around.now.scene.now) around.now.scene.now.clock) parts.now.alternatives.now)) elements.items (opening_of opening.old) view.old)) }
     ensures origin { opening.new.origin ≡ opening.old.origin }
 {
-    let mut inner = Vec::new(alloc);
-    inner.extend_from_slice(names)?;
-    inner.extend_from_slice(slots)?;
+    let mut inner = Vec::new(around.alloc);
+    inner.extend_from_slice(around.names)?;
+    inner.extend_from_slice(parts.slots)?;
     for element in elements {
-        unwind_one(
-            alloc,
-            scene,
-            alternatives,
-            slots,
-            element,
-            names,
-            inner.as_slice(),
-            opening,
-            view,
-        )?;
+        unwind_one(around, parts, element, inner.as_slice(), opening, view)?;
     }
     Ok(())
 }
@@ -290,24 +258,28 @@ fn unwind_each<'a>(
 #[cycle(open)]
 #[tactic(auto, using(crate::proofs::Going::going))]
 fn unwind_one<'a>(
-    alloc: Global,
-    scene: &Surroundings<'_>,
-    alternatives: &'a [CAlt],
-    slots: &[u32],
+    around: &Around<'_>,
+    parts: &UnwindParts<'a>,
     element: Value,
-    names: &[u32],
     inner: &[u32],
     opening: &mut Opening<'_, 'a>,
     view: &mut View,
 ) -> Result<(), Stop>
-    requires well { unwound (value_in scene.now) scene.now.clock names.now slots.now (map (opens (value_in scene.now) scene.now.clock) alternatives.now) element (opening_of opening.old) view.old ≢ Amiss }
-    requires inner { inner.now ≡ names.now ++ slots.now }
-    ensures opened { OnOk result (unwound (value_in scene.now) scene.now.clock names.now slots.now (map (opens (value_in scene.now) scene.now.clock) alternatives.now) element (opening_of opening.old) view.old ≡ Gives (opening_of opening.new) view.new) }
-    ensures stops { IfErr result (λ stop. Stops stop (unwound (value_in scene.now) scene.now.clock names.now slots.now (map (opens (value_in scene.now) scene.now.clock) alternatives.now) element (opening_of opening.old) view.old)) }
+    requires well { unwound (value_in around.now.scene.now) around.now.scene.now.clock around.now.names.now parts.now.slots.now (map (opens (value_in around.now.scene.now) around.now.scene.now.clock) parts.now.alternatives.now) element (opening_of opening.old) view.old ≢ Amiss }
+    requires inner { inner.now ≡ around.now.names.now ++ parts.now.slots.now }
+    ensures opened { OnOk result (unwound (value_in around.now.scene.now) around.now.scene.now.clock around.now.names.now parts.now.slots.now (map (opens (value_in around.now.scene.now) around.now.scene.now.clock) parts.now.alternatives.now) element (opening_of opening.old) view.old ≡ Gives (opening_of opening.new) view.new) }
+    ensures stops { IfErr result (λ stop. Stops stop (unwound (value_in around.now.scene.now) around.now.scene.now.clock around.now.names.now parts.now.slots.now (map (opens (value_in around.now.scene.now) around.now.scene.now.clock) parts.now.alternatives.now) element (opening_of opening.old) view.old)) }
     ensures origin { opening.new.origin ≡ opening.old.origin }
 {
-    opening.bind(alloc, slots, element)?;
-    open_each(alloc, scene, alternatives, inner, opening, view)?;
+    let alloc = around.alloc;
+    let scene = around.scene;
+    opening.bind(alloc, parts.slots, element)?;
+    let within = Around {
+        alloc,
+        scene,
+        names: inner,
+    };
+    open_each(&within, parts.alternatives, opening, view)?;
     Ok(())
 }
 
@@ -326,6 +298,11 @@ pub fn open_select<'v, 'a>(
     ensures stops { IfErr result (λ stop. Stops stop (opened (value_in scene.now) scene.now.clock variables.now alternatives.now view.old)) }
 {
     let mut opening = Opening::new(alloc, variables);
-    open_each(alloc, scene, alternatives, &[], &mut opening, view)?;
+    let around = Around {
+        alloc,
+        scene,
+        names: &[],
+    };
+    open_each(&around, alternatives, &mut opening, view)?;
     Ok(opening)
 }

@@ -17,6 +17,22 @@ use chi_plain_eval::{Surroundings, elements_in, spot_of, value_of, values_of};
 use chi_value::Value;
 use std::alloc::Global;
 
+/// What elements are started within, and none of them changes.
+#[derive(Clone, Copy)]
+struct Here<'s, 'a> {
+    alloc: Global,
+    scene: &'s Surroundings<'s>,
+    procs: &'a [ProcDef],
+}
+
+/// The parts of an unwind.
+#[derive(Clone, Copy)]
+struct UnwindParts<'e> {
+    slots: &'e [u32],
+    over: &'e CExpr,
+    elements: &'e [CElem],
+}
+
 /// The process of a number, which takes so many arguments.
 pub fn started_by<'a>(procs: &'a [ProcDef], number: u32, count: usize) -> &'a ProcDef
     requires { started_by procs.now number count ≢ None }
@@ -47,23 +63,23 @@ fn target_of(
 /// An element that makes an instance.
 #[tactic(auto, using(crate::proofs::Going::going, crate::proofs::Making::told_is), unfolding(chi_core::specs::Starting::makes))]
 fn make<'a>(
-    alloc: Global,
-    scene: &Surroundings<'_>,
-    procs: &'a [ProcDef],
+    here: &Here<'_, 'a>,
     target: &Option<CTarget>,
     number: u32,
     arguments: &[CExpr],
     starting: &mut Starting<'_, 'a>,
     view: &mut View,
 ) -> Result<(), Stop>
-    requires { makes (value_in scene.now) procs.now target.now number arguments.now (started_of starting.old) view.old ≢ Amiss }
-    ensures made { OnOk result (makes (value_in scene.now) procs.now target.now number arguments.now (started_of starting.old) view.old ≡ Gives (started_of starting.new) view.new) }
-    ensures stops { IfErr result (λ stop. Stops stop (makes (value_in scene.now) procs.now target.now number arguments.now (started_of starting.old) view.old)) }
+    requires { makes (value_in here.now.scene.now) here.now.procs.now target.now number arguments.now (started_of starting.old) view.old ≢ Amiss }
+    ensures made { OnOk result (makes (value_in here.now.scene.now) here.now.procs.now target.now number arguments.now (started_of starting.old) view.old ≡ Gives (started_of starting.new) view.new) }
+    ensures stops { IfErr result (λ stop. Stops stop (makes (value_in here.now.scene.now) here.now.procs.now target.now number arguments.now (started_of starting.old) view.old)) }
     ensures origin { starting.new.origin ≡ starting.old.origin }
 {
+    let alloc = here.alloc;
+    let scene = here.scene;
     let values = values_of(alloc, scene, starting.variables(), arguments, view)?;
     let spot = target_of(alloc, scene, starting.variables(), target, view)?;
-    let process = started_by(procs, number, values.len());
+    let process = started_by(here.procs, number, values.len());
     starting.make(alloc, number, process, values, spot, view)?;
     Ok(())
 }
@@ -72,40 +88,28 @@ fn make<'a>(
 #[cycle(start)]
 #[tactic(auto, using(crate::proofs::Going::going))]
 fn start<'a>(
-    alloc: Global,
-    scene: &Surroundings<'_>,
-    procs: &'a [ProcDef],
+    here: &Here<'_, 'a>,
     element: &CElem,
     starting: &mut Starting<'_, 'a>,
     view: &mut View,
 ) -> Result<(), Stop>
-    requires { starts (value_in scene.now) procs.now element.now (started_of starting.old) view.old ≢ Amiss }
-    ensures started { OnOk result (starts (value_in scene.now) procs.now element.now (started_of starting.old) view.old ≡ Gives (started_of starting.new) view.new) }
-    ensures stops { IfErr result (λ stop. Stops stop (starts (value_in scene.now) procs.now element.now (started_of starting.old) view.old)) }
+    requires { starts (value_in here.now.scene.now) here.now.procs.now element.now (started_of starting.old) view.old ≢ Amiss }
+    ensures started { OnOk result (starts (value_in here.now.scene.now) here.now.procs.now element.now (started_of starting.old) view.old ≡ Gives (started_of starting.new) view.new) }
+    ensures stops { IfErr result (λ stop. Stops stop (starts (value_in here.now.scene.now) here.now.procs.now element.now (started_of starting.old) view.old)) }
     ensures origin { starting.new.origin ≡ starting.old.origin }
 {
     match element {
-        CElem::Make(target, number, arguments) => Ok(make(
-            alloc,
-            scene,
-            procs,
-            target,
-            *number,
-            arguments.as_slice(),
-            starting,
-            view,
-        )?),
-        CElem::Unwind(slots, over, elements) => Ok(unwind(
-            alloc,
-            scene,
-            procs,
-            element,
-            elements.as_slice(),
-            slots.as_slice(),
-            over,
-            starting,
-            view,
-        )?),
+        CElem::Make(target, number, arguments) => {
+            Ok(make(here, target, *number, arguments.as_slice(), starting, view)?)
+        }
+        CElem::Unwind(slots, over, elements) => {
+            let parts = UnwindParts {
+                slots: slots.as_slice(),
+                over,
+                elements: elements.as_slice(),
+            };
+            Ok(unwind(here, element, &parts, starting, view)?)
+        }
     }
 }
 
@@ -113,20 +117,18 @@ fn start<'a>(
 #[cycle(start)]
 #[tactic(auto, using(crate::proofs::Going::going, crate::proofs::Through::mapped))]
 fn start_each<'a>(
-    alloc: Global,
-    scene: &Surroundings<'_>,
-    procs: &'a [ProcDef],
+    here: &Here<'_, 'a>,
     elements: &[CElem],
     starting: &mut Starting<'_, 'a>,
     view: &mut View,
 ) -> Result<(), Stop>
-    requires { starts_each (map (starts (value_in scene.now) procs.now) elements.now) (started_of starting.old) view.old ≢ Amiss }
-    ensures started { OnOk result (starts_each (map (starts (value_in scene.now) procs.now) elements.now) (started_of starting.old) view.old ≡ Gives (started_of starting.new) view.new) }
-    ensures stops { IfErr result (λ stop. Stops stop (starts_each (map (starts (value_in scene.now) procs.now) elements.now) (started_of starting.old) view.old)) }
+    requires { starts_each (map (starts (value_in here.now.scene.now) here.now.procs.now) elements.now) (started_of starting.old) view.old ≢ Amiss }
+    ensures started { OnOk result (starts_each (map (starts (value_in here.now.scene.now) here.now.procs.now) elements.now) (started_of starting.old) view.old ≡ Gives (started_of starting.new) view.new) }
+    ensures stops { IfErr result (λ stop. Stops stop (starts_each (map (starts (value_in here.now.scene.now) here.now.procs.now) elements.now) (started_of starting.old) view.old)) }
     ensures origin { starting.new.origin ≡ starting.old.origin }
 {
     for element in elements {
-        start(alloc, scene, procs, element, starting, view)?;
+        start(here, element, starting, view)?;
     }
     Ok(())
 }
@@ -134,46 +136,39 @@ fn start_each<'a>(
 /// An element that is an unwind.
 #[cycle(start)]
 fn unwind<'a>(
-    alloc: Global,
-    scene: &Surroundings<'_>,
-    procs: &'a [ProcDef],
+    here: &Here<'_, 'a>,
     element: &CElem,
-    elements: &[CElem],
-    slots: &[u32],
-    over: &CExpr,
+    parts: &UnwindParts<'_>,
     starting: &mut Starting<'_, 'a>,
     view: &mut View,
 ) -> Result<(), Stop>
-    requires well { starts (value_in scene.now) procs.now element.now (started_of starting.old) view.old ≢ Amiss }
-    requires is { element.now ≡ CElem.Unwind slots.now over.now elements.now }
-    ensures started { OnOk result (starts_unwound (value_in scene.now) procs.now slots.now over.now (map (starts (value_in scene.now) procs.now) elements.now) (started_of starting.old) view.old ≡ Gives (started_of starting.new) view.new) }
-    ensures stops { IfErr result (λ stop. Stops stop (starts_unwound (value_in scene.now) procs.now slots.now over.now (map (starts (value_in scene.now) procs.now) elements.now) (started_of starting.old) view.old)) }
+    requires well { starts (value_in here.now.scene.now) here.now.procs.now element.now (started_of starting.old) view.old ≢ Amiss }
+    requires is { element.now ≡ CElem.Unwind parts.now.slots.now parts.now.over.now parts.now.elements.now }
+    ensures started { OnOk result (starts_unwound (value_in here.now.scene.now) here.now.procs.now parts.now.slots.now parts.now.over.now (map (starts (value_in here.now.scene.now) here.now.procs.now) parts.now.elements.now) (started_of starting.old) view.old ≡ Gives (started_of starting.new) view.new) }
+    ensures stops { IfErr result (λ stop. Stops stop (starts_unwound (value_in here.now.scene.now) here.now.procs.now parts.now.slots.now parts.now.over.now (map (starts (value_in here.now.scene.now) here.now.procs.now) parts.now.elements.now) (started_of starting.old) view.old)) }
     ensures origin { starting.new.origin ≡ starting.old.origin }
 {
-    Ok(unwind_over(alloc, scene, procs, elements, slots, over, starting, view)?)
+    Ok(unwind_over(here, parts, starting, view)?)
 }
 
 /// Elements once more for each element of a container.
 #[cycle(start)]
 #[tactic(auto, using(crate::proofs::Going::going))]
 fn unwind_over<'a>(
-    alloc: Global,
-    scene: &Surroundings<'_>,
-    procs: &'a [ProcDef],
-    elements: &[CElem],
-    slots: &[u32],
-    over: &CExpr,
+    here: &Here<'_, 'a>,
+    parts: &UnwindParts<'_>,
     starting: &mut Starting<'_, 'a>,
     view: &mut View,
 ) -> Result<(), Stop>
-    requires { starts_unwound (value_in scene.now) procs.now slots.now over.now (map (starts (value_in scene.now) procs.now) elements.now) (started_of starting.old) view.old ≢ Amiss }
-    ensures started { OnOk result (starts_unwound (value_in scene.now) procs.now slots.now over.now (map (starts (value_in scene.now) procs.now) elements.now) (started_of starting.old) view.old ≡ Gives (started_of starting.new) view.new) }
-    ensures stops { IfErr result (λ stop. Stops stop (starts_unwound (value_in scene.now) procs.now slots.now over.now (map (starts (value_in scene.now) procs.now) elements.now) (started_of starting.old) view.old)) }
+    requires { starts_unwound (value_in here.now.scene.now) here.now.procs.now parts.now.slots.now parts.now.over.now (map (starts (value_in here.now.scene.now) here.now.procs.now) parts.now.elements.now) (started_of starting.old) view.old ≢ Amiss }
+    ensures started { OnOk result (starts_unwound (value_in here.now.scene.now) here.now.procs.now parts.now.slots.now parts.now.over.now (map (starts (value_in here.now.scene.now) here.now.procs.now) parts.now.elements.now) (started_of starting.old) view.old ≡ Gives (started_of starting.new) view.new) }
+    ensures stops { IfErr result (λ stop. Stops stop (starts_unwound (value_in here.now.scene.now) here.now.procs.now parts.now.slots.now parts.now.over.now (map (starts (value_in here.now.scene.now) here.now.procs.now) parts.now.elements.now) (started_of starting.old) view.old)) }
     ensures origin { starting.new.origin ≡ starting.old.origin }
 {
-    let container = value_of(alloc, scene, starting.variables(), over, view)?;
+    let alloc = here.alloc;
+    let container = value_of(alloc, here.scene, starting.variables(), parts.over, view)?;
     let inner = elements_in(alloc, container)?;
-    unwind_each(alloc, scene, procs, elements, slots, inner, starting, view)?;
+    unwind_each(here, parts, inner, starting, view)?;
     Ok(())
 }
 
@@ -181,24 +176,19 @@ fn unwind_over<'a>(
 #[cycle(start)]
 #[tactic(auto, using(crate::proofs::Going::going, crate::proofs::Through::moved))]
 fn unwind_each<'a>(
-    alloc: Global,
-    scene: &Surroundings<'_>,
-    procs: &'a [ProcDef],
-    elements: &[CElem],
-    slots: &[u32],
+    here: &Here<'_, 'a>,
+    parts: &UnwindParts<'_>,
     inner: Vec<Value>,
     starting: &mut Starting<'_, 'a>,
     view: &mut View,
 ) -> Result<(), Stop>
-    requires { through (unwound (value_in scene.now) procs.now slots.now (map (starts (value_in scene.now) procs.now) elements.now)) inner.items (started_of starting.old) view.old ≢ Amiss }
-    ensures started { OnOk result (through (unwound (value_in scene.now) procs.now slots.now (map (starts (value_in scene.now) procs.now) elements.now)) inner.items (started_of starting.old) view.old ≡ Gives (started_of starting.new) view.new) }
-    ensures stops { IfErr result (λ stop. Stops stop (through (unwound (value_in scene.now) procs.now slots.now (map (starts (value_in scene.now) procs.now) elements.now)) inner.items (started_of starting.old) view.old)) }
+    requires { through (unwound (value_in here.now.scene.now) here.now.procs.now parts.now.slots.now (map (starts (value_in here.now.scene.now) here.now.procs.now) parts.now.elements.now)) inner.items (started_of starting.old) view.old ≢ Amiss }
+    ensures started { OnOk result (through (unwound (value_in here.now.scene.now) here.now.procs.now parts.now.slots.now (map (starts (value_in here.now.scene.now) here.now.procs.now) parts.now.elements.now)) inner.items (started_of starting.old) view.old ≡ Gives (started_of starting.new) view.new) }
+    ensures stops { IfErr result (λ stop. Stops stop (through (unwound (value_in here.now.scene.now) here.now.procs.now parts.now.slots.now (map (starts (value_in here.now.scene.now) here.now.procs.now) parts.now.elements.now)) inner.items (started_of starting.old) view.old)) }
     ensures origin { starting.new.origin ≡ starting.old.origin }
 {
     for element in inner {
-        unwind_one(
-            alloc, scene, procs, elements, slots, element, starting, view,
-        )?;
+        unwind_one(here, parts, element, starting, view)?;
     }
     Ok(())
 }
@@ -207,22 +197,19 @@ fn unwind_each<'a>(
 #[cycle(start)]
 #[tactic(auto, using(crate::proofs::Going::going))]
 fn unwind_one<'a>(
-    alloc: Global,
-    scene: &Surroundings<'_>,
-    procs: &'a [ProcDef],
-    elements: &[CElem],
-    slots: &[u32],
+    here: &Here<'_, 'a>,
+    parts: &UnwindParts<'_>,
     element: Value,
     starting: &mut Starting<'_, 'a>,
     view: &mut View,
 ) -> Result<(), Stop>
-    requires { unwound (value_in scene.now) procs.now slots.now (map (starts (value_in scene.now) procs.now) elements.now) element (started_of starting.old) view.old ≢ Amiss }
-    ensures started { OnOk result (unwound (value_in scene.now) procs.now slots.now (map (starts (value_in scene.now) procs.now) elements.now) element (started_of starting.old) view.old ≡ Gives (started_of starting.new) view.new) }
-    ensures stops { IfErr result (λ stop. Stops stop (unwound (value_in scene.now) procs.now slots.now (map (starts (value_in scene.now) procs.now) elements.now) element (started_of starting.old) view.old)) }
+    requires { unwound (value_in here.now.scene.now) here.now.procs.now parts.now.slots.now (map (starts (value_in here.now.scene.now) here.now.procs.now) parts.now.elements.now) element (started_of starting.old) view.old ≢ Amiss }
+    ensures started { OnOk result (unwound (value_in here.now.scene.now) here.now.procs.now parts.now.slots.now (map (starts (value_in here.now.scene.now) here.now.procs.now) parts.now.elements.now) element (started_of starting.old) view.old ≡ Gives (started_of starting.new) view.new) }
+    ensures stops { IfErr result (λ stop. Stops stop (unwound (value_in here.now.scene.now) here.now.procs.now parts.now.slots.now (map (starts (value_in here.now.scene.now) here.now.procs.now) parts.now.elements.now) element (started_of starting.old) view.old)) }
     ensures origin { starting.new.origin ≡ starting.old.origin }
 {
-    starting.bind(alloc, slots, element)?;
-    start_each(alloc, scene, procs, elements, starting, view)?;
+    starting.bind(here.alloc, parts.slots, element)?;
+    start_each(here, parts.elements, starting, view)?;
     Ok(())
 }
 
@@ -242,6 +229,11 @@ pub fn start_all<'v, 'a>(
     ensures stops { IfErr result (λ stop. Stops stop (all_started (value_in scene.now) procs.now variables.now elements.now view.old)) }
 {
     let mut starting = Starting::new(alloc, variables);
-    start_each(alloc, scene, procs, elements, &mut starting, view)?;
+    let here = Here {
+        alloc,
+        scene,
+        procs,
+    };
+    start_each(&here, elements, &mut starting, view)?;
     Ok(starting)
 }

@@ -17,15 +17,15 @@ unwind-unwind_over-requires t c = (omega arith, λ e. c.requires.well (starts_un
 pub start-returns-in_err-make-in-Make-clause-stops : goal.start-returns-in_err-make-in-Make-clause-stops
 start-returns-in_err-make-in-Make-clause-stops t c =
     let P : Answer Started → Type 0 = Stops c.in_err-make-in-Make.field-0.0 in
-    let stops : P (starts (value_in c.args.scene.now) c.args.procs.now c.args.element.now (started_of c.args.starting.now) c.args.view.now)
+    let stops : P (starts (value_in c.args.here.now.scene.now) c.args.here.now.procs.now c.args.element.now (started_of c.args.starting.now) c.args.view.now)
     = subst P (sym (makes_is _ _ _ _ c.args.element.now _ _ _ _ c.in-Make.is c.as_slice.ensures.same)) c.in_err-make-in-Make.ensures.stops in
     search (rules, stops)
 
 pub start-returns-in_err-unwind-in-Unwind-clause-stops : goal.start-returns-in_err-unwind-in-Unwind-clause-stops
 start-returns-in_err-unwind-in-Unwind-clause-stops t c =
     let P : Answer Started → Type 0 = Stops c.in_err-unwind-in-Unwind.field-0.0 in
-    let stops : P (starts (value_in c.args.scene.now) c.args.procs.now c.args.element.now (started_of c.args.starting.now) c.args.view.now)
-    = subst P (sym (starts_unwound_is _ _ _ _ c.args.element.now _ _ _ _ _ c.in-Unwind.is c.as_slice-in-Unwind-2.ensures.same c.as_slice-in-Unwind.ensures.same))
+    let stops : P (starts (value_in c.args.here.now.scene.now) c.args.here.now.procs.now c.args.element.now (started_of c.args.starting.now) c.args.view.now)
+    = subst P (sym (starts_unwound_is _ _ _ _ c.args.element.now _ _ _ _ _ c.in-Unwind.is c.as_slice-in-Unwind.ensures.same c.as_slice-in-Unwind-2.ensures.same))
     c.in_err-unwind-in-Unwind.ensures.stops in
     search (rules, stops)
 
@@ -35,5 +35,5 @@ start-returns-in_ok-make-in-Make-clause-started t c =
 
 pub start-returns-in_ok-unwind-in-Unwind-clause-started : goal.start-returns-in_ok-unwind-in-Unwind-clause-started
 start-returns-in_ok-unwind-in-Unwind-clause-started t c =
-    starts_unwound_is _ _ _ _ c.args.element.now _ _ _ _ _ c.in-Unwind.is c.as_slice-in-Unwind-2.ensures.same c.as_slice-in-Unwind.ensures.same
+    starts_unwound_is _ _ _ _ c.args.element.now _ _ _ _ _ c.in-Unwind.is c.as_slice-in-Unwind.ensures.same c.as_slice-in-Unwind-2.ensures.same
     ∙ c.in_ok-unwind-in-Unwind.ensures.started
