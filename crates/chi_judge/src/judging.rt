@@ -113,7 +113,7 @@ fn judge_text(
 pub fn judge(
     alloc: Global,
     core: &Core,
-    args: Vec<Value>,
+    arguments: Vec<Value>,
     seed: u64,
     bound: u64,
     until: Option<i64>,
@@ -121,12 +121,12 @@ pub fn judge(
     out: &mut Vec<u8>,
 ) -> Judged
     requires sound { Sound core.now }
-    requires arguments { (d : ProcDef) → slice_get core.now.procs core.now.model ≡ Some d → AreOf (at_start core.now.names.kinds) args.items (kinds_of d.params) }
+    requires arguments { (d : ProcDef) → slice_get core.now.procs core.now.model ≡ Some d → AreOf (at_start core.now.names.kinds) arguments.items (kinds_of d.params) }
     requires within { length text.now ≤ MOST_LOG_BYTES }
-    ensures { IsJudged core.now (start core.now args.items seed until) bound text.now out.old.items out.new.items result }
+    ensures { IsJudged core.now (start core.now arguments.items seed until) bound text.now out.old.items out.new.items result }
 {
     let written = out.len();
-    let Ok(runner) = Plain::new(alloc, core, args, seed, until) else {
+    let Ok(runner) = Plain::new(alloc, core, arguments, seed, until) else {
         return Judged::NoMemory;
     };
     match judge_text(alloc, core, runner, bound, text, out) {

@@ -14,7 +14,7 @@ use Rattle.chi_core_kinds.specs.Keeps.{GoesKinded, BeginsKinded}
 use Rattle.chi_core_runs.specs.Time.{EachCosts}
 use Rattle.chi_plain_steps.specs.declared.beginning.Begun.{Begun}
 use Rattle.chi_plain_steps.specs.declared.beginning.Begun.TheVariants as begun
-use Rattle.chi_plain.specs.declared.standing.Standing.{Standing}
+use Rattle.chi_plain.specs.declared.progress.Progress.{Progress}
 use Rattle.chi_plain.specs.declared.stepped.Stepped.TheVariants as stepped
 use Rattle.chi_plain.specs.declared.taking.Taken.{Taken}
 use Rattle.chi_plain.specs.declared.taking.Taken.TheVariants as taken
@@ -23,7 +23,7 @@ use Rattle.chi_plain.specs.Stage as stage
 use Rattle.chi_core.specs.VerdictLine.{MayTell}
 use Rattle.chi_core_runs.proofs.Endings as endings
 use Rattle.chi_core_runs.proofs.Endings.{may_tell, breaks_told}
-use Rattle.chi_plain.specs.Standings.{stage_of, standing_at, Stands}
+use Rattle.chi_plain.specs.Progressing.{stage_of, progress_at, Stands}
 use Rattle.chi_plain_steps.specs.Takings.{Appends, IsRight}
 use Rattle.chi_plain.specs.Taken.{TakesTo}
 use Rattle.std.proofs.lemmas.List.{append-nil}
@@ -54,11 +54,11 @@ told_over core o v e good = may_tell core v (subst (GoesKinded core) e good)
 -- where a run stands at its beginning
 
 pub begun_stands : (core : Core) (arguments : List Value) (seed : ℕ) (until : Option ℤ) (b : Begun) → start core arguments seed until ≡ begun_of b
-    → BeginsKinded core (start core arguments seed until) → Stands core (standing_at b)
+    → BeginsKinded core (start core arguments seed until) → Stands core (progress_at b)
 begun_stands core arguments seed until (begun.Begins config) e good = record { known = refl; kinded = kinded_begin core _ config e good }
 begun_stands core arguments seed until (begun.Breaks end) e good = breaks_told core arguments seed until [] core.consts end e
 
-pub begun_stage : (b : Beginning) (kept : Begun) (s : Standing) → b ≡ begun_of kept → s ≡ standing_at kept → stage.Begun b (stage_of s)
+pub begun_stage : (b : Beginning) (kept : Begun) (s : Progress) → b ≡ begun_of kept → s ≡ progress_at kept → stage.Begun b (stage_of s)
 begun_stage b (begun.Begins config) s e is =
     let P : Beginning → Type 0 = λ b. stage.Begun b (stage_of s) in subst P (sym e) (ap stage_of is)
 begun_stage b (begun.Breaks end) s e is =

@@ -2,4 +2,4 @@ pub mod Stage
 pub mod Watching
 pub mod Led
 pub mod Taken
-pub mod Standings
+pub mod Progressing

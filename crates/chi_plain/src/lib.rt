@@ -6,7 +6,7 @@
 mod actors;
 mod ending;
 mod plain;
-mod standing;
+mod progress;
 mod stepped;
 mod taking;
 mod watching;

@@ -12,7 +12,7 @@ ghost use Rattle.chi_trace.specs.declared.event.Event.{Event as AnEvent};
 ghost use Rattle.chi_trace.specs.Events.{Fits};
 ghost use Rattle.chi_trace.specs.Filters.{where_shown};
 
-use crate::standing::{Standing, spent, standing_of, step};
+use crate::progress::{Progress, progress_of, spent, step};
 use crate::stepped::Stepped;
 use chi_base::NoMemory;
 use chi_core::{Core, Label, Verdict};
@@ -30,7 +30,7 @@ use std::mem;
 pub struct Plain<'a> {
     alloc: Global,
     core: &'a Core,
-    standing: Standing<'a>,
+    progress: Progress<'a>,
 }
 
 impl<'a> Model for Plain<'a> {
@@ -47,11 +47,11 @@ impl<'a> Model for Plain<'a> {
 
     ghost coded = { Prim.hlevel (codes, statements.the_row.coded, expressions.the_row.coded, elements.the_row.coded, experiments.the_row.coded, values.the_row.coded, types.the_row.coded) };
 
-    ghost use Rattle.chi_plain.specs.Standings.{stage_of, IsRunner};
+    ghost use Rattle.chi_plain.specs.Progressing.{stage_of, IsRunner};
 
-    ghost view = { λ p. record { core = p.core.now; stage = stage_of p.standing } };
+    ghost view = { λ p. record { core = p.core.now; stage = stage_of p.progress } };
 
-    ghost invariant = { λ p. IsRunner p.core.now p.standing };
+    ghost invariant = { λ p. IsRunner p.core.now p.progress };
 }
 
 impl<'a> Plain<'a> {
@@ -60,21 +60,21 @@ impl<'a> Plain<'a> {
     pub fn new(
         alloc: Global,
         core: &'a Core,
-        args: Vec<Value>,
+        arguments: Vec<Value>,
         seed: u64,
         until: Option<i64>,
     ) -> Result<Plain<'a>, NoMemory>
         requires sound { Sound core.now }
-        requires arguments { (d : ProcDef) → slice_get core.now.procs core.now.model ≡ Some d → AreOf (at_start core.now.names.kinds) args.items (kinds_of d.params) }
+        requires arguments { (d : ProcDef) → slice_get core.now.procs core.now.model ≡ Some d → AreOf (at_start core.now.names.kinds) arguments.items (kinds_of d.params) }
         ensures core { IfOk result (λ plain. plain.core ≡ core.now) }
-        ensures start { IfOk result (λ plain. Begun (start core.now args.items seed until) plain.stage) }
+        ensures start { IfOk result (λ plain. Begun (start core.now arguments.items seed until) plain.stage) }
     {
         kinded_law();
-        let standing = standing_of(alloc, begin(alloc, core, args, seed, until)?)?;
+        let progress = progress_of(alloc, begin(alloc, core, arguments, seed, until)?)?;
         Ok(Plain {
             alloc,
             core,
-            standing,
+            progress,
         })
     }
 
@@ -82,10 +82,10 @@ impl<'a> Plain<'a> {
     pub fn configuration(&self) -> Option<&Configuration<'a>>
         ensures { option_copied result ≡ configuration_at self.now.stage }
     {
-        match &self.standing {
-            Standing::At(watched, _) => Some(watched.configuration()),
-            Standing::Ended(_) => None,
-            Standing::Lost => None,
+        match &self.progress {
+            Progress::At(watched, _) => Some(watched.configuration()),
+            Progress::Ended(_) => None,
+            Progress::Lost => None,
         }
     }
 
@@ -93,10 +93,10 @@ impl<'a> Plain<'a> {
     pub fn actor_count(&self) -> u32
         ensures count { result ≡ length (actors_at self.now.stage) }
     {
-        match &self.standing {
-            Standing::At(watched, _) => watched.actor_count(),
-            Standing::Ended(_) => 0,
-            Standing::Lost => 0,
+        match &self.progress {
+            Progress::At(watched, _) => watched.actor_count(),
+            Progress::Ended(_) => 0,
+            Progress::Lost => 0,
         }
     }
 
@@ -105,10 +105,10 @@ impl<'a> Plain<'a> {
         requires { i < length (actors_at self.now.stage) }
         ensures actor { slice_get (actors_at self.now.stage) i ≡ Some result }
     {
-        match &self.standing {
-            Standing::At(watched, _) => watched.actor_at(i),
-            Standing::Ended(_) => unreachable!(),
-            Standing::Lost => unreachable!(),
+        match &self.progress {
+            Progress::At(watched, _) => watched.actor_at(i),
+            Progress::Ended(_) => unreachable!(),
+            Progress::Lost => unreachable!(),
         }
     }
 
@@ -116,10 +116,10 @@ impl<'a> Plain<'a> {
     pub fn option_count(&self, pid: u32) -> u64
         ensures count { result ≡ length (options_at self.now.stage pid) }
     {
-        match &self.standing {
-            Standing::At(watched, _) => watched.option_count(pid),
-            Standing::Ended(_) => 0,
-            Standing::Lost => 0,
+        match &self.progress {
+            Progress::At(watched, _) => watched.option_count(pid),
+            Progress::Ended(_) => 0,
+            Progress::Lost => 0,
         }
     }
 
@@ -128,10 +128,10 @@ impl<'a> Plain<'a> {
         requires { i < length (options_at self.now.stage pid) }
         ensures option { slice_get (options_at self.now.stage pid) i ≡ Some result }
     {
-        match &self.standing {
-            Standing::At(watched, _) => watched.option_at(pid, i),
-            Standing::Ended(_) => unreachable!(),
-            Standing::Lost => unreachable!(),
+        match &self.progress {
+            Progress::At(watched, _) => watched.option_at(pid, i),
+            Progress::Ended(_) => unreachable!(),
+            Progress::Lost => unreachable!(),
         }
     }
 
@@ -139,10 +139,10 @@ impl<'a> Plain<'a> {
     pub fn can_advance(&self) -> bool
         ensures advance { IsTrue result ↔ Contains (enabled_at self.now.stage) Advance }
     {
-        match &self.standing {
-            Standing::At(watched, _) => watched.can_advance(),
-            Standing::Ended(_) => false,
-            Standing::Lost => false,
+        match &self.progress {
+            Progress::At(watched, _) => watched.can_advance(),
+            Progress::Ended(_) => false,
+            Progress::Lost => false,
         }
     }
 
@@ -151,11 +151,11 @@ impl<'a> Plain<'a> {
         ensures verdict { option_copied result ≡ verdict_at self.now.stage }
         ensures told { IfSome result (λ verdict. MayTell self.now.core verdict.now) }
     {
-        match &self.standing {
-            Standing::At(_, Some(ending)) => Some(ending.verdict()),
-            Standing::At(_, None) => None,
-            Standing::Ended(ending) => Some(ending.verdict()),
-            Standing::Lost => None,
+        match &self.progress {
+            Progress::At(_, Some(ending)) => Some(ending.verdict()),
+            Progress::At(_, None) => None,
+            Progress::Ended(ending) => Some(ending.verdict()),
+            Progress::Lost => None,
         }
     }
 
@@ -163,11 +163,11 @@ impl<'a> Plain<'a> {
     pub fn clock(&self) -> i64
         ensures time { IfSome (clock_at self.now.stage) (λ time. result ≡ time) }
     {
-        match &self.standing {
-            Standing::At(_, Some(ending)) => ending.clock(),
-            Standing::At(watched, None) => watched.clock(),
-            Standing::Ended(ending) => ending.clock(),
-            Standing::Lost => 0,
+        match &self.progress {
+            Progress::At(_, Some(ending)) => ending.clock(),
+            Progress::At(watched, None) => watched.clock(),
+            Progress::Ended(ending) => ending.clock(),
+            Progress::Lost => 0,
         }
     }
 
@@ -182,13 +182,13 @@ impl<'a> Plain<'a> {
         ensures event { IfOk result (λ shown. (e : AnEvent) × IsEventAt self.now.core self.now.stage turn label.now e × (shown ≡ where_shown filter.now e)) }
         ensures fits { IfOk result (λ shown. IfSome shown (λ e. Fits e.label e.detail)) }
     {
-        match &self.standing {
-            Standing::At(watched, _) => {
+        match &self.progress {
+            Progress::At(watched, _) => {
                 let at = watched.configuration();
                 event_of(self.alloc, self.core, at, turn, label, filter)
             }
-            Standing::Ended(_) => unreachable!(),
-            Standing::Lost => Err(NoMemory),
+            Progress::Ended(_) => unreachable!(),
+            Progress::Lost => Err(NoMemory),
         }
     }
 
@@ -197,10 +197,10 @@ impl<'a> Plain<'a> {
         requires { MayStep self.now.stage label.now }
         ensures { IfOk result (λ spent. TellsSpent self.now.core self.now.stage label.now left spent) }
     {
-        match &self.standing {
-            Standing::At(watched, _) => spent(self.alloc, self.core, watched, label, left),
-            Standing::Ended(_) => unreachable!(),
-            Standing::Lost => Err(NoMemory),
+        match &self.progress {
+            Progress::At(watched, _) => spent(self.alloc, self.core, watched, label, left),
+            Progress::Ended(_) => unreachable!(),
+            Progress::Lost => Err(NoMemory),
         }
     }
 
@@ -211,9 +211,9 @@ impl<'a> Plain<'a> {
         ensures same_core { self.new.core ≡ self.old.core }
         ensures steps { Appends out.old.items out.new.items (λ text. Steps self.old.core self.old.stage self.new.stage label.now left text result) }
     {
-        let standing = mem::replace(&mut self.standing, Standing::Lost);
-        let (standing, stepped) = step(self.alloc, self.core, standing, label, left, out);
-        self.standing = standing;
+        let progress = mem::replace(&mut self.progress, Progress::Lost);
+        let (progress, stepped) = step(self.alloc, self.core, progress, label, left, out);
+        self.progress = progress;
         stepped
     }
 }

@@ -20,8 +20,8 @@ use chi_core_frame::{Stop, Variables, copied, insertion_of};
 use chi_value::{Row, Value};
 use std::alloc::Global;
 
-/// An expression that inserts: those of the list and of the element, and the function that says before which others this
-/// stands.
+/// An expression that inserts: those of the list and of the element, and the function that says before which others
+/// this stands.
 #[derive(Clone, Copy)]
 pub struct InsertBy<'e> {
     pub list: &'e CExpr,

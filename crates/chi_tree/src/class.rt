@@ -15,6 +15,7 @@ pub enum Class {
 }
 
 impl Class {
+    /// The kind of a token: a word and a sign by what they are, the others whatever they hold.
     pub fn of(token: &Token) -> Class
         ensures class { result ≡ class_of token.now }
     {

@@ -8,7 +8,7 @@ use Rattle.chi_judge.proofs.judging.judge.Goals as goal
 pub returns-in-Yes : goal.returns-in-Yes
 returns-in-Yes c =
     let core = c.args.core.now in
-    let args = c.args.args.items in
+    let args = c.args.arguments.items in
     let begin = start core args c.args.seed c.args.until in
     let so_far =
     subst (λ (judged : Judged). IsJudgedSoFar core begin c.args.bound c.args.text.now c.args.out.now.items c.judge_text.new.out.items judged) c.in-Yes.is
@@ -19,7 +19,7 @@ pub returns-in-No : goal.returns-in-No
 returns-in-No c =
     let written : vec_len c.args.out.now ≡ length c.args.out.now.items = c.args.out.now.ok.0 in
     let core = c.args.core.now in
-    let args = c.args.args.items in
+    let args = c.args.arguments.items in
     let begin = start core args c.args.seed c.args.until in
     let so_far =
     subst (λ (judged : Judged). IsJudgedSoFar core begin c.args.bound c.args.text.now c.args.out.now.items c.judge_text.new.out.items judged) c.in-No.is
@@ -31,7 +31,7 @@ pub returns-in-NoMemory : goal.returns-in-NoMemory
 returns-in-NoMemory c =
     let written : vec_len c.args.out.now ≡ length c.args.out.now.items = c.args.out.now.ok.0 in
     let core = c.args.core.now in
-    let args = c.args.args.items in
+    let args = c.args.arguments.items in
     let begin = start core args c.args.seed c.args.until in
     let so_far =
     subst (λ (judged : Judged). IsJudgedSoFar core begin c.args.bound c.args.text.now c.args.out.now.items c.judge_text.new.out.items judged) c.in-NoMemory.is

@@ -2,7 +2,7 @@ use Rattle.std.proofs.Common.{◌∙◌, ap, sym, subst}
 use Rattle.std.specs.Prelude.{◌↔◌, IsTrue, Contains}
 use Rattle.chi_core.specs.declared.label.Label.TheVariants.{Advance}
 use Rattle.chi_plain.specs.Stage.{Stage, Runner, enabled_at}
-use Rattle.chi_plain.specs.Standings.{stage_of}
+use Rattle.chi_plain.specs.Progressing.{stage_of}
 use Rattle.chi_plain.proofs.plain.Plain.can_advance.Goals as goal
 
 pub returns-in-At : goal.returns-in-At

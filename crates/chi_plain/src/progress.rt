@@ -5,7 +5,7 @@ ghost use Rattle.chi_core.specs.Sound.{Sound};
 ghost use Rattle.chi_core.specs.Step.{Spent, step};
 ghost use Rattle.chi_plain.specs.Stage.{At, MayStep, Steps};
 ghost use Rattle.chi_plain_steps.specs.Takings.{Appends};
-ghost use Rattle.chi_plain.specs.Standings.{Stands, stage_of, standing_at};
+ghost use Rattle.chi_plain.specs.Progressing.{Stands, stage_of, progress_at};
 
 use crate::stepped::Stepped;
 use crate::taking::Taken;
@@ -18,9 +18,9 @@ use chi_plain_costs::spends;
 use chi_plain_steps::{Begun, Ending};
 use std::alloc::Global;
 
-/// How a run stands.
+/// How far a run is.
 #[derive(Debug, Drop)]
-pub enum Standing<'a> {
+pub enum Progress<'a> {
     /// In a configuration, with the ending where nothing can happen there.
     At(Watched<'a>, Option<Ending>),
     /// The run is over.
@@ -30,16 +30,16 @@ pub enum Standing<'a> {
 }
 
 /// Where a run stands at its beginning.
-pub fn standing_of<'a>(alloc: Global, begun: Begun<'a>) -> Result<Standing<'a>, NoMemory>
-    ensures { IfOk result (λ s. s ≡ standing_at begun.entry) }
+pub fn progress_of<'a>(alloc: Global, begun: Begun<'a>) -> Result<Progress<'a>, NoMemory>
+    ensures { IfOk result (λ s. s ≡ progress_at begun.entry) }
 {
     match begun {
         Begun::Begins(configuration) => {
             let watched = watch(alloc, configuration)?;
             let ending = watched.ending();
-            Ok(Standing::At(watched, ending))
+            Ok(Progress::At(watched, ending))
         }
-        Begun::Breaks(ending) => Ok(Standing::Ended(ending)),
+        Begun::Breaks(ending) => Ok(Progress::Ended(ending)),
     }
 }
 
@@ -51,7 +51,7 @@ fn step_at<'a>(
     label: &Label,
     left: u64,
     out: &mut Vec<u8>,
-) -> (Standing<'a>, Stepped)
+) -> (Progress<'a>, Stepped)
     requires sound { Sound core.now }
     requires kinded { Kinded core.now watched }
     requires may { Contains (enabled watched) label.now }
@@ -64,14 +64,14 @@ fn step_at<'a>(
     match watched.take(alloc, core, label, left, out) {
         Ok(Taken::On(watched, rest)) => {
             let ending = watched.ending();
-            (Standing::At(watched, ending), Stepped::Next(left - rest))
+            (Progress::At(watched, ending), Stepped::Next(left - rest))
         }
-        Ok(Taken::Over(verdict)) => (Standing::Ended(Ending::of(verdict, clock)), Stepped::Over),
+        Ok(Taken::Over(verdict)) => (Progress::Ended(Ending::of(verdict, clock)), Stepped::Over),
         Ok(Taken::Spent(watched)) => {
             let ending = watched.ending();
-            (Standing::At(watched, ending), Stepped::Spent)
+            (Progress::At(watched, ending), Stepped::Spent)
         }
-        Err(NoMemory) => (Standing::Lost, Stepped::NoMemory),
+        Err(NoMemory) => (Progress::Lost, Stepped::NoMemory),
     }
 }
 
@@ -79,21 +79,21 @@ fn step_at<'a>(
 pub fn step<'a>(
     alloc: Global,
     core: &'a Core,
-    standing: Standing<'a>,
+    progress: Progress<'a>,
     label: &Label,
     left: u64,
     out: &mut Vec<u8>,
-) -> (Standing<'a>, Stepped)
+) -> (Progress<'a>, Stepped)
     requires sound { Sound core.now }
-    requires stands { Stands core.now standing }
-    requires may { MayStep (stage_of standing) label.now }
+    requires stands { Stands core.now progress }
+    requires may { MayStep (stage_of progress) label.now }
     ensures stands { Stands core.now result.0 }
-    ensures steps { Appends out.old.items out.new.items (λ text. Steps core.now (stage_of standing.entry) (stage_of result.0) label.now left text result.1) }
+    ensures steps { Appends out.old.items out.new.items (λ text. Steps core.now (stage_of progress.entry) (stage_of result.0) label.now left text result.1) }
 {
-    match standing {
-        Standing::At(watched, _) => step_at(alloc, core, watched, label, left, out),
-        Standing::Ended(_) => unreachable!(),
-        Standing::Lost => (Standing::Lost, Stepped::NoMemory),
+    match progress {
+        Progress::At(watched, _) => step_at(alloc, core, watched, label, left, out),
+        Progress::Ended(_) => unreachable!(),
+        Progress::Lost => (Progress::Lost, Stepped::NoMemory),
     }
 }
 

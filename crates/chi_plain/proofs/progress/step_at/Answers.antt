@@ -1,5 +1,5 @@
 use Rattle.chi_plain.proofs.Running.{on_costs, on_steps}
-use Rattle.chi_plain.proofs.standing.step_at.Goals as goal
+use Rattle.chi_plain.proofs.progress.step_at.Goals as goal
 
 pub overflow_sub-result : goal.overflow_sub-result
 overflow_sub-result c =
