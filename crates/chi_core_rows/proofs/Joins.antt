@@ -23,6 +23,13 @@ waits = refl
 joins : enabled (joining (1 ∷ 1 ∷ []) Finished) ≡ Join 0 ∷ []
 joins = refl
 
+-- one that isn't there never finishes, so who waits for it has no option
+waits_for_none : enabled (joining (7 ∷ []) Finished) ≡ []
+waits_for_none = refl
+
+stuck : ending (joining (7 ∷ []) Finished) ≡ Some (record { verdict = Deadlock; clock = pos 0 })
+stuck = refl
+
 -- with nothing to wait for it joins at once
 joins_none : enabled (joining [] Finished) ≡ Join 0 ∷ []
 joins_none = refl
