@@ -17,11 +17,12 @@ use Rattle.chi_trace.specs.declared.filter.Filter.{Filter}
 use Rattle.chi_machine_traces.specs.declared.passing.PassFault.{PassFault}
 use Rattle.chi_machine_traces.specs.declared.passing.PassFault.TheVariants as fault
 use Rattle.chi_machine_traces.specs.declared.run.Ran.{Ran}
-use Rattle.chi_machine_traces.specs.declared.run.Start.{Start}
 use Rattle.chi_machine_traces.specs.Passing.{OfRun, OfEach, BeginsWith, GoesPast, Fails}
 use Rattle.chi_machine_traces.specs.Told.{IsTold, RunsCode}
 use Rattle.chi_machine_traces.specs.Told as told
 use Rattle.chi_sched.specs.Policies.{Answers}
+use Rattle.chi_terms.specs.declared.terms.Terms.{Terms}
+use Rattle.chi_value.specs.declared.value.Value.{Value}
 use Rattle.chi_engine.proofs.Picked.{begins}
 use Rattle.chi_engine.proofs.Policies.{answers_lawful}
 use Rattle.chi_engine.specs.Courses.{MayHave, Course, ComesToSome, told_with, IsRunOf}
@@ -29,9 +30,9 @@ use Rattle.chi_engine.specs.Running.{RunsTo, LosesRest}
 use Rattle.chi_engine.specs.Settings.{Settings, settings_by}
 
 -- the settings of a run of a sound program's code may be had
-pub start_may_have : (gives : ℕ → ℕ → ℕ → Type 0) (core : Core) (code : Code) (begun : Start) (pick : Pick) (trace : Option Filter) → RunsCode core code begun.arguments.items
-    → begun.bound < 2 ^ 63 → Answers gives pick → MayHave core (settings_by pick trace begun)
-start_may_have gives core code begun pick trace runs bounded answers = record {
+pub terms_may_be_had : {C S : Type 0} (gives : ℕ → ℕ → ℕ → Type 0) (core : Core) (code : Code) (arguments : List Value) (terms : Terms C S) (pick : Pick) (trace : Option Filter)
+    → RunsCode core code arguments → terms.bound < 2 ^ 63 → Answers gives pick → MayHave core (settings_by pick trace arguments terms)
+terms_may_be_had gives core code arguments terms pick trace runs bounded answers = record {
   model = runs.sound.model.0;
   is = runs.sound.model.1;
   arguments = runs.model_takes runs.sound.model.0 runs.sound.model.1;
@@ -95,18 +96,18 @@ module _ (comes : Course → Type 0) (core : Core) (logged : List ℕ → Type 0
   )
 
 -- A run wasn't told to its end: of the one that there is, a part of the output was passed on.
-module _ (some : ComesToSome IsRunOf) (gives : ℕ → ℕ → ℕ → Type 0) (core : Core) (code : Code) (begun : Start) (pick : Pick) (trace : Option Filter)
-    (runs : RunsCode core code begun.arguments.items) (bounded : begun.bound < 2 ^ 63) (answers : Answers gives pick) (took logged : List ℕ → Type 0) (rose : Type 0) (stopped : Bool) where
+module _ {C S : Type 0} (some : ComesToSome IsRunOf) (gives : ℕ → ℕ → ℕ → Type 0) (core : Core) (code : Code) (arguments : List Value) (terms : Terms C S) (pick : Pick) (trace : Option Filter)
+    (runs : RunsCode core code arguments) (bounded : terms.bound < 2 ^ 63) (answers : Answers gives pick) (took logged : List ℕ → Type 0) (rose : Type 0) (stopped : Bool) where
   abbrev pub LostSo : Result Ending PassFault → Type 0
-  LostSo result = RunsTo (IsRunOf core (settings_by pick trace begun)) core took logged rose stopped result
+  LostSo result = RunsTo (IsRunOf core (settings_by pick trace arguments terms)) core took logged rose stopped result
 
-  there : (course : Course) × IsRunOf core (settings_by pick trace begun) course
-  there = some core runs.sound (settings_by pick trace begun) (start_may_have gives core code begun pick trace runs bounded answers)
+  there : (course : Course) × IsRunOf core (settings_by pick trace arguments terms) course
+  there = some core runs.sound (settings_by pick trace arguments terms) (terms_may_be_had gives core code arguments terms pick trace runs bounded answers)
 
-  of_there : (P : OfRun) → OfEach gives code begun P → P core (start core begun.arguments.items begun.seed begun.until) pick begun.bound
+  of_there : (P : OfRun) → OfEach gives code arguments terms P → P core (start core arguments terms.seed terms.until) pick terms.bound
   of_there P of = of core runs pick answers
 
-  pub run_lost : (lost : PassFault) → Fails (OfEach gives code begun) took rose stopped lost → LostSo (Err lost)
+  pub run_lost : (lost : PassFault) → Fails (OfEach gives code arguments terms) took rose stopped lost → LostSo (Err lost)
   run_lost fault.Stopped (halted, rises, passed, part, past) = (
     halted,
     rises,

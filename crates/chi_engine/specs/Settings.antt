@@ -3,8 +3,8 @@ use Rattle.std.specs.Prelude.{ℕ, ℤ, List, Option}
 use Rattle.chi_cli.specs.declared.request.Pick as words
 use Rattle.chi_cli.specs.declared.request.Pick.TheVariants as pick
 use Rattle.chi_core.specs.Picks.{Pick}
-use Rattle.chi_machine_traces.specs.declared.run.Start.{Start}
 use Rattle.chi_sched.specs.Policies.{first, last, spread}
+use Rattle.chi_terms.specs.declared.terms.Terms.{Terms}
 use Rattle.chi_trace.specs.declared.filter.Filter.{Filter}
 use Rattle.chi_value.specs.declared.value.Value.{Value}
 use Rattle.chi_engine.specs.declared.engine.Job.{Job}
@@ -26,10 +26,10 @@ policy_of pick.First = first
 policy_of pick.Last = last
 policy_of (pick.Spread salt) = spread salt
 
+-- those of a run with these arguments on such terms, by a policy and with what is shown of its trace
+abbrev pub settings_by : {P S : Type 0} → Pick → Option Filter → List Value → Terms P S → Settings
+settings_by pick trace arguments terms = record { seed = terms.seed; bound = terms.bound; pick = pick; arguments = arguments; until = terms.until; trace = trace }
+
 -- with what a job of an engine asks for its run
 abbrev pub settings_of : Job → Settings
-settings_of job = record { seed = job.seed; bound = job.bound; pick = policy_of job.pick; arguments = job.arguments.items; until = job.until; trace = job.trace }
-
--- with what a run of the machine starts so, by a policy
-abbrev pub settings_by : Pick → Option Filter → Start → Settings
-settings_by pick trace start = record { seed = start.seed; bound = start.bound; pick = pick; arguments = start.arguments.items; until = start.until; trace = trace }
+settings_of job = settings_by (policy_of job.terms.policy) job.terms.trace job.arguments.items job.terms

@@ -13,7 +13,7 @@ use chi_code::Code;
 use chi_io::Sink;
 use chi_machine_agenda::Ending;
 use chi_machine_traces::PassFault;
-use chi_num::Real;
+use chi_terms::Terms;
 use chi_trace::Filter;
 use chi_value::Value;
 use std::alloc::Global;
@@ -23,16 +23,8 @@ use std::alloc::Global;
 pub struct Job {
     /// Those of the model.
     pub arguments: Vec<Value>,
-    /// That of its draws.
-    pub seed: u64,
-    /// On the costs of all its steps together.
-    pub bound: u64,
-    /// The stopping time.
-    pub until: Option<Real>,
-    /// What picks among the labels that may come.
-    pub pick: Pick,
-    /// Which events of its trace are logged, where that is wanted.
-    pub trace: Option<Filter>,
+    /// With what names the policy, and which events of the trace are logged.
+    pub terms: Terms<Pick, Filter>,
 }
 
 /// What runs a program, by its code.
@@ -50,7 +42,7 @@ pub trait Engine {
         log: &mut Vec<u8>,
         out: &mut O,
     ) -> Result<Ending, PassFault>
-        requires begins { MayBegin code.now job.arguments.items job.bound }
+        requires begins { MayBegin code.now job.arguments.items job.terms.bound }
         requires out_goes { O.stopped out.old ≡ false }
         ensures comes { (core : Core) → RunsCode core code.now job.arguments.items → RunsTo (outcome self.old core (settings_of job)) core
             (Grew (O.taken out.old) (O.taken out.new)) (λ lines. log.new.items ≡ log.old.items ++ lines)

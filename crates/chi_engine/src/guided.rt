@@ -18,21 +18,12 @@ use chi_code::Code;
 use chi_core_runs::{endings_law, picked_law};
 use chi_io::{Sink, put_all};
 use chi_machine_agenda::Ending;
-use chi_machine_traces::{Guide, PassFault, Ran, Start, Telling, run_told};
-use chi_num::Real;
+use chi_machine_traces::{PassFault, Ran, Telling, run_told};
 use chi_sched::Chooser;
+use chi_terms::Terms;
 use chi_trace::Sieve;
+use chi_value::Value;
 use std::alloc::Global;
-
-/// A stopping time in units of a real.
-pub fn units_of(until: Option<Real>) -> Option<i64>
-    ensures { result ≡ until }
-{
-    match until {
-        None => None,
-        Some(time) => Some(time.units()),
-    }
-}
 
 // Lines come to the end of a log; where that is empty they are it, and nothing is copied.
 fn add_lines(log: &mut Vec<u8>, lines: Vec<u8>) -> Result<(), NoMemory>
@@ -69,15 +60,15 @@ fn pass_end<O: Sink>(told: Telling, log: &mut Vec<u8>, out: &mut O) -> Result<()
 pub fn run_guided<C: Chooser, S: Sieve, O: Sink>(
     alloc: Global,
     code: &Code,
-    start: Start,
-    guide: &Guide<C, S>,
+    arguments: Vec<Value>,
+    terms: &Terms<C, S>,
     log: &mut Vec<u8>,
     out: &mut O,
 ) -> Result<Ending, PassFault>
-    requires begins { MayBegin code.now start.arguments.items start.bound }
+    requires begins { MayBegin code.now arguments.items terms.now.bound }
     requires out_goes { O.stopped out.old ≡ false }
-    ensures comes { (core : Core) → RunsCode core code.now start.arguments.items → (pick : Pick) → Answers (C.gives guide.now.chooser) pick
-        → RunsTo (IsRunOf core (settings_by pick (option_map S.keeps_to guide.now.trace) start)) core
+    ensures comes { (core : Core) → RunsCode core code.now arguments.items → (pick : Pick) → Answers (C.gives terms.now.policy) pick
+        → RunsTo (IsRunOf core (settings_by pick (option_map S.keeps_to terms.now.trace) arguments.items terms.now)) core
         (Grew (O.taken out.old) (O.taken out.new)) (λ lines. log.new.items ≡ log.old.items ++ lines)
         (Rose (O.faults out.old) (O.faults out.new)) (O.stopped out.new) result }
     ensures count { O.faults out.old ≤ O.faults out.new }
@@ -85,7 +76,7 @@ pub fn run_guided<C: Chooser, S: Sieve, O: Sink>(
     endings_law();
     picked_law();
     course_law();
-    let ran = run_told(alloc, code, start, guide, out)?;
+    let ran = run_told(alloc, code, arguments, terms, out)?;
     let Ran { ending, told } = ran;
     match pass_end(told, log, out) {
         Ok(()) => Ok(ending),

@@ -6,8 +6,8 @@ mod guided;
 mod laws;
 mod machines;
 
-pub use chi_machine_traces::{Guide, PassFault, Start};
+pub use chi_machine_traces::PassFault;
 pub use engine::{Engine, Job};
-pub use guided::{run_guided, units_of};
+pub use guided::run_guided;
 pub use laws::course_law;
 pub use machines::Machines;

@@ -3,7 +3,7 @@ ghost use Rattle.chi_core.specs.declared.program.Core.{Core};
 ghost use Rattle.chi_core.specs.Picks as picks;
 ghost use Rattle.chi_engine.specs.Courses.{IsRunOf};
 ghost use Rattle.chi_engine.specs.Running.{RunsTo};
-ghost use Rattle.chi_engine.specs.Settings.{settings_of};
+ghost use Rattle.chi_engine.specs.Settings.{settings_by, settings_of};
 ghost use Rattle.chi_io.specs.Counts.{Rose};
 ghost use Rattle.chi_io.specs.Sink.{Grew};
 ghost use Rattle.chi_machine_traces.specs.Below.chi_machine.specs.Calls.{MayBegin};
@@ -11,13 +11,13 @@ ghost use Rattle.chi_machine_traces.specs.Told.{RunsCode};
 ghost use Rattle.chi_sched.specs.Policies.{Answers};
 
 use crate::engine::{Engine, Job};
-use crate::guided::{run_guided, units_of};
+use crate::guided::run_guided;
 use crate::laws::course_law;
 use chi_cli::Pick;
 use chi_code::Code;
 use chi_io::Sink;
 use chi_machine_agenda::Ending;
-use chi_machine_traces::{Guide, PassFault, Start};
+use chi_machine_traces::PassFault;
 use chi_sched::{Chooser, First, Last, Spread};
 use std::alloc::Global;
 
@@ -25,40 +25,26 @@ use std::alloc::Global;
 #[derive(Clone, Copy, Debug)]
 pub struct Machines;
 
-// Runs the code by the machine, whose labels this picks.
-fn run_by<C: Chooser + Drop, O: Sink>(
+// Runs the code by the machine, by this policy in place of what names one.
+fn run_by_policy<C: Chooser + Drop, O: Sink>(
     alloc: Global,
     code: &Code,
     job: Job,
-    chooser: C,
+    policy: C,
     log: &mut Vec<u8>,
     out: &mut O,
 ) -> Result<Ending, PassFault>
-    requires begins { MayBegin code.now job.arguments.items job.bound }
+    requires begins { MayBegin code.now job.arguments.items job.terms.bound }
     requires out_goes { O.stopped out.old ≡ false }
-    ensures comes { (core : Core) → RunsCode core code.now job.arguments.items → (pick : picks.Pick) → Answers (C.gives chooser) pick
-        → RunsTo (IsRunOf core (record { seed = job.seed; bound = job.bound; pick = pick; arguments = job.arguments.items; until = job.until; trace = job.trace })) core
+    ensures comes { (core : Core) → RunsCode core code.now job.arguments.items → (pick : picks.Pick) → Answers (C.gives policy) pick
+        → RunsTo (IsRunOf core (settings_by pick job.terms.trace job.arguments.items job.terms)) core
         (Grew (O.taken out.old) (O.taken out.new)) (λ lines. log.new.items ≡ log.old.items ++ lines)
         (Rose (O.faults out.old) (O.faults out.new)) (O.stopped out.new) result }
     ensures count { O.faults out.old ≤ O.faults out.new }
 {
-    let Job {
-        arguments,
-        seed,
-        bound,
-        until,
-        pick: _,
-        trace,
-    } = job;
-    let until = units_of(until);
-    let start = Start {
-        arguments,
-        seed,
-        until,
-        bound,
-    };
-    let guide = Guide { chooser, trace };
-    run_guided(alloc, code, start, &guide, log, out)
+    let Job { arguments, terms } = job;
+    let terms = terms.with(policy);
+    run_guided(alloc, code, arguments, &terms, log, out)
 }
 
 // The same, with the policy that words name.
@@ -69,17 +55,17 @@ fn run_named<O: Sink>(
     log: &mut Vec<u8>,
     out: &mut O,
 ) -> Result<Ending, PassFault>
-    requires begins { MayBegin code.now job.arguments.items job.bound }
+    requires begins { MayBegin code.now job.arguments.items job.terms.bound }
     requires out_goes { O.stopped out.old ≡ false }
     ensures comes { (core : Core) → RunsCode core code.now job.arguments.items → RunsTo (IsRunOf core (settings_of job)) core
         (Grew (O.taken out.old) (O.taken out.new)) (λ lines. log.new.items ≡ log.old.items ++ lines)
         (Rose (O.faults out.old) (O.faults out.new)) (O.stopped out.new) result }
     ensures count { O.faults out.old ≤ O.faults out.new }
 {
-    match job.pick {
-        Pick::First => run_by(alloc, code, job, First, log, out),
-        Pick::Last => run_by(alloc, code, job, Last, log, out),
-        Pick::Spread(salt) => run_by(alloc, code, job, Spread { salt }, log, out),
+    match job.terms.policy {
+        Pick::First => run_by_policy(alloc, code, job, First, log, out),
+        Pick::Last => run_by_policy(alloc, code, job, Last, log, out),
+        Pick::Spread(salt) => run_by_policy(alloc, code, job, Spread { salt }, log, out),
     }
 }
 

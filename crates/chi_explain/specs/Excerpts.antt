@@ -1,13 +1,14 @@
 -- The line of a source on which a place stands, as it is shown, with a caret under the place.
 use Rattle.std.specs.Prelude.{ℕ, ◌+◌, ◌-◌, ◌==◌, ◌&&◌, ◌||◌, min, nat_lt, nat_le, Bool, true, false, List, [], ◌∷◌, ◌++◌, length, map, codes, drop, slice_range, slice_index_or, if◌then◌else◌}
-use Rattle.std.specs.List.{slice_split}
+use Rattle.std.specs.Char.{is_ascii_whitespace}
+use Rattle.std.specs.List.{prefix_len, slice_split}
 use Rattle.chi_token.specs.declared.place.Place.{Place}
 use Rattle.chi_token.specs.Characters.{tab}
 use Rattle.chi_lex.specs.Gaps.{space}
 use Rattle.chi_lex.specs.Places.{is_line_feed}
 use Rattle.chi_explain.specs.declared.excerpts.TheConstants.{MOST_SHOWN, MOST_BEFORE}
 
--- the line of a number, without its line feed: nothing where the source has no such line
+-- the line of a number, which is 1 or more, without its line feed: nothing where the source has no such line
 abbrev pub numbered_line : List ℕ → ℕ → List ℕ
 numbered_line source number = slice_index_or (slice_split is_line_feed source) (number - 1) []
 
@@ -68,6 +69,20 @@ abbrev pub excerpt : List ℕ → Place → List ℕ
 excerpt source place =
     excerpt_of (line_at source place) (place.column - 1) (first_shown (length (line_at source place)) (place.column - 1))
 
--- the line of a number alone, from its first byte
+-- how many blanks a line begins with
+abbrev pub indentation : List ℕ → ℕ
+indentation line = prefix_len is_ascii_whitespace line
+
+-- a line alone, from the byte of an index on
+abbrev pub alone_from : List ℕ → ℕ → List ℕ
+alone_from line first = ended (margin ++ shown_line line first (first + MOST_SHOWN))
+
+-- the line of a number alone, as it is shown for its first byte that is no blank
 abbrev pub line_alone : List ℕ → ℕ → List ℕ
-line_alone source number = ended (margin ++ shown_line (numbered_line source number) 0 MOST_SHOWN)
+line_alone source number =
+    alone_from (numbered_line source number)
+    (first_shown (length (numbered_line source number)) (indentation (numbered_line source number)))
+
+-- a line from its first byte on, within other words
+abbrev pub front_shown : List ℕ → List ℕ
+front_shown line = shown_line line 0 MOST_SHOWN

@@ -1,7 +1,7 @@
-ghost use Rattle.std.specs.Prelude.{◌≡◌, ◌≤◌, ◌++◌, List, ℕ, drop, map, slice_range, OnOk};
+ghost use Rattle.std.specs.Prelude.{◌≡◌, ◌≤◌, ◌++◌, List, ℕ, drop, length, map, slice_range, OnOk};
 ghost use Rattle.std.specs.List.{before_first};
 ghost use Rattle.chi_lex.specs.Places.{is_line_feed, place_of};
-ghost use Rattle.chi_explain.specs.Excerpts.{below, caret_line, cut, excerpt, first_shown, from_place, line_alone, line_at, numbered_line, shown, shown_line};
+ghost use Rattle.chi_explain.specs.Excerpts.{below, caret_line, cut, excerpt, first_shown, from_place, front_shown, indentation, line_alone, line_at, numbered_line, shown, shown_line};
 
 use chi_base::NoMemory;
 use chi_token::Place;
@@ -12,8 +12,8 @@ pub const MOST_SHOWN: usize = 120;
 /// How many of them stand before the place, where the line is longer and goes on far enough on both sides.
 pub const MOST_BEFORE: usize = 60;
 
-/// The line of a number, without its line feed: nothing where the source has no such line.
-fn numbered_line(source: &[u8], number: u32) -> &[u8]
+/// The line of a number, which is 1 or more, without its line feed: nothing where the source has no such line.
+pub fn numbered_line(source: &[u8], number: u32) -> &[u8]
     ensures { result.now ≡ numbered_line source.now number }
 {
     let before = number.saturating_sub(1) as usize;
@@ -147,15 +147,34 @@ pub fn excerpt(source: &[u8], place: Place, out: &mut Vec<u8>) -> Result<(), NoM
     Ok(())
 }
 
-/// Appends the line of a number as it is shown, from its first byte, without a caret.
+/// How many blanks a line begins with.
+fn indentation(line: &[u8]) -> usize
+    ensures blanks { result ≡ indentation line.now }
+    ensures within { result ≤ length line.now }
+{
+    line.iter()
+        .take_while(|byte| byte.is_ascii_whitespace())
+        .count()
+}
+
+/// Appends the line of a number as it is shown for its first byte that is no blank, without a caret.
 #[tactic(auto)]
 pub fn line_alone(source: &[u8], number: u32, out: &mut Vec<u8>) -> Result<(), NoMemory>
     ensures { OnOk result (out.new.items ≡ out.old.items ++ line_alone source.now number) }
 {
+    let line = numbered_line(source, number);
+    let first = first_shown(line.len(), indentation(line));
     out.extend_from_slice(b"    ")?;
-    put_shown(numbered_line(source, number), 0, MOST_SHOWN, out)?;
+    put_shown(line, first, first + MOST_SHOWN, out)?;
     out.push(b'\n')?;
     Ok(())
+}
+
+/// Appends a line as it is shown from its first byte on, within other words.
+pub fn put_front(line: &[u8], out: &mut Vec<u8>) -> Result<(), NoMemory>
+    ensures { OnOk result (out.new.items ≡ out.old.items ++ front_shown line.now) }
+{
+    put_shown(line, 0, MOST_SHOWN, out)
 }
 
 /// A law of every source: from the place of an offset on there stand on its line the bytes of the source from that offset

@@ -30,7 +30,11 @@ fn byte_words(alloc: Global, byte: u8) -> Result<Vec<u8>, NoMemory>
     ensures { IfOk result (λ words. words.items ≡ byte_words byte) }
 {
     let mut words = Vec::new(alloc);
-    if 32 <= byte && byte <= 126 {
+    if byte == b'\r' {
+        words.extend_from_slice(
+            b"this text isn't closed before a carriage return, which can't stand in it: a text ends on its line, with a quote",
+        )?;
+    } else if 32 <= byte && byte <= 126 {
         words.extend_from_slice(b"no token begins with `")?;
         words.push(byte)?;
         words.push(b'`')?;

@@ -1,3 +1,4 @@
 pub mod Waits
 pub mod Laws
+pub mod Limits
 pub mod Turns

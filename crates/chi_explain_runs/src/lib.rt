@@ -6,4 +6,4 @@ mod notes;
 mod run;
 
 pub use laws::waiting_law;
-pub use run::{Terms, explain_rest};
+pub use run::explain_rest;

@@ -20,19 +20,9 @@ use chi_explain_waiting::explain_waiting;
 use chi_plain::{Plain, Stepped};
 use chi_plain_steps::Configuration;
 use chi_sched::Chooser;
+use chi_terms::Terms;
 use chi_value::Value;
 use std::alloc::Global;
-
-/// With what a program is run, beside its arguments and its policy.
-#[derive(Clone, Copy, Debug)]
-pub struct Terms {
-    /// The seed of its draws.
-    pub seed: u64,
-    /// The most that its labels may cost, all in all.
-    pub bound: u64,
-    /// The time at which it is stopped, in units of a real, where there is one.
-    pub until: Option<i64>,
-}
 
 /// The label that the policy picks at a turn.
 fn picked_label<P: Chooser>(runner: &Plain<'_>, policy: &P, turn: u64) -> Label
@@ -166,24 +156,24 @@ fn rest_of<P: Chooser>(
 }
 
 /// The text that says which instances haven't finished where the run that a policy picks comes to rest, and who waits for what; and
-/// out of steps, which took the most labels; nothing of a run that is over. The core is that of the source.
-pub fn explain_rest<P: Chooser>(
+/// out of steps, which took the most labels; nothing of a run that is over. The core is that of the source. No trace is made.
+pub fn explain_rest<P: Chooser, S>(
     alloc: Global,
     core: &Core,
     source: &[u8],
     arguments: Vec<Value>,
-    terms: Terms,
-    policy: &P,
+    terms: &Terms<P, S>,
 ) -> Result<Vec<u8>, NoMemory>
     requires sound { Sound core.now }
     requires arguments { (d : ProcDef) → slice_get core.now.procs core.now.model ≡ Some d
         → AreOf (at_start core.now.names.kinds) arguments.items (kinds_of d.params) }
-    requires bound { terms.bound < 2 ^ 63 }
-    ensures { IfOk result (λ text. (pick : Pick) → Answers (P.gives policy.now) pick
-        → IsWaitingTold core.now source.now (start core.now arguments.items terms.seed terms.until) pick terms.bound text.items) }
+    requires bound { terms.now.bound < 2 ^ 63 }
+    ensures { IfOk result (λ text. (pick : Pick) → Answers (P.gives terms.now.policy) pick
+        → IsWaitingTold core.now source.now (start core.now arguments.items terms.now.seed terms.now.until) pick terms.now.bound text.items) }
 {
-    let mut runner = Plain::new(alloc, core, arguments, terms.seed, terms.until)?;
-    let text = rest_of(alloc, core, source, &mut runner, policy, terms.bound);
+    let until = terms.units_of_until();
+    let mut runner = Plain::new(alloc, core, arguments, terms.seed, until)?;
+    let text = rest_of(alloc, core, source, &mut runner, &terms.policy, terms.bound);
     drop(runner);
     text
 }

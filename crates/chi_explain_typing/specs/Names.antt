@@ -4,7 +4,8 @@ use Rattle.chi_token.specs.declared.place.Place.{Place}
 use Rattle.chi_token.specs.Characters.{is_name_byte}
 use Rattle.chi_explain.specs.Excerpts.{from_place}
 
--- the letters, digits and underscores from a place on, which are the name, or the word, that begins there: none where none does
+-- the letters, digits and underscores from a place on: the name, or the word, that begins there, or else what is left of one, or of
+-- a number; none where there are none
 abbrev pub name_at : List ℕ → Place → List ℕ
 name_at source place = take_while is_name_byte (from_place source place)
 

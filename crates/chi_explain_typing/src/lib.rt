@@ -1,4 +1,4 @@
-//! Explanations of broken rules of typing: makes of the number of a rule and its place the text that says what the rule is, and
+//! Explanations of broken rules of typing: makes of the number of a rule and its place the words that say what the rule is, and
 //! of which name.
 #![tactic(auto)]
 
@@ -10,5 +10,6 @@ mod rules;
 mod typing;
 
 pub use named::{NAMED, PREDEFINED_NAME};
+pub use names::name_at;
 pub use rules::RULES;
-pub use typing::explain_typing;
+pub use typing::broken_words;

@@ -6,7 +6,7 @@ pub static NAMED: [(u8, &str); 11] = [
     ),
     (
         2,
-        "nothing that is visible here has the name `@`; a `type` or `const` sees only those before it, and enumerations",
+        "nothing that is visible here has the name `@`; a `type` or `const` sees only types and constants before it, and enumerations",
     ),
     (
         3,

@@ -22,7 +22,7 @@ fn name_length(rest: &[u8]) -> usize
     rest.iter().take_while(|byte| is_name_byte(**byte)).count()
 }
 
-/// The name at a place of a source: nothing where none begins there.
+/// The letters, digits and underscores from a place of a source on, which are the name that begins there, where one does.
 pub fn name_at(source: &[u8], place: Place) -> &[u8]
     ensures { result.now ≡ name_at source.now place }
 {

@@ -7,7 +7,7 @@ pub static RULES: [(u8, &str); 42] = [
     ),
     (
         2,
-        "nothing that is visible here has this name; a `type` or `const` sees only those before it, and enumerations",
+        "nothing that is visible here has this name; a `type` or `const` sees only types and constants before it, and enumerations",
     ),
     (
         3,

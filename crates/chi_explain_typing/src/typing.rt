@@ -1,5 +1,4 @@
 ghost use Rattle.std.specs.Prelude.{◌≡◌, ◌++◌, option_map, IfOk, OnOk};
-ghost use Rattle.chi_explain.specs.Explanations.{explained};
 ghost use Rattle.chi_explain_typing.specs.Rules.{broken_words, is_of_predefined, named_words, sentence, words_about, words_of_rule};
 
 use crate::named::{NAMED, PREDEFINED_NAME};
@@ -9,7 +8,7 @@ use crate::rows::words_at;
 use crate::rules::RULES;
 use chi_base::NoMemory;
 use chi_check_types::rules::NEW_NAME;
-use chi_explain::{explained, put_number};
+use chi_explain::put_number;
 use chi_token::Place;
 use std::alloc::Global;
 
@@ -63,9 +62,14 @@ fn put_sentence(rule: u8, name: &[u8], words: &mut Vec<u8>) -> Result<(), NoMemo
     Ok(())
 }
 
-/// What is said of a rule that is broken at a place of a source.
+/// What is said of a rule that is broken at a place of a source, whatever numbers there are.
 #[tactic(auto, unfolding(crate::specs::Rules::broken_words))]
-fn broken_words(alloc: Global, source: &[u8], rule: u8, place: Place) -> Result<Vec<u8>, NoMemory>
+pub fn broken_words(
+    alloc: Global,
+    source: &[u8],
+    rule: u8,
+    place: Place,
+) -> Result<Vec<u8>, NoMemory>
     ensures { IfOk result (λ words. words.items ≡ broken_words source.now rule place) }
 {
     let mut words = Vec::new(alloc);
@@ -73,18 +77,4 @@ fn broken_words(alloc: Global, source: &[u8], rule: u8, place: Place) -> Result<
     words.extend_from_slice(b"rule ")?;
     put_number(alloc, rule as u32, &mut words)?;
     Ok(words)
-}
-
-/// The text that explains the rule that a source breaks first, at its place.
-pub fn explain_typing(
-    alloc: Global,
-    file: &[u8],
-    source: &[u8],
-    rule: u8,
-    place: Place,
-) -> Result<Vec<u8>, NoMemory>
-    ensures { IfOk result (λ text. text.items ≡ explained file.now source.now place (broken_words source.now rule place)) }
-{
-    let words = broken_words(alloc, source, rule, place)?;
-    explained(alloc, file, source, place, &words)
 }

@@ -1,13 +1,14 @@
 -- Whether another instance offers the other side, one instance after another.
-use Rattle.std.proofs.Common.{◌≡◌, ℕ, zero, suc, ◌+◌, ◌<◌, ◌⊎◌, inl, inr, Bool, true, false, [], ◌∷◌, Some, length, get_or, refl, sym, ap, ◌∙◌, subst, arith}
-use Rattle.std.specs.Prelude.{◌||◌}
+use Rattle.std.proofs.Common.{◌≡◌, ℕ, ℤ, zero, suc, ◌+◌, ◌<◌, ◌⊎◌, inl, inr, Bool, true, false, not, eqb, List, [], ◌∷◌, Some, length, get_or, refl, sym, ap, ◌∙◌, subst, arith}
+use Rattle.std.specs.Prelude.{◌&&◌, ◌||◌}
 use Rattle.std.specs.List.{list_any, slice_get}
 use Rattle.std.proofs.lemmas.List.Folds.{list_any-append}
 use Rattle.std.proofs.lemmas.Option.{slice_get_read}
 use Rattle.chi_core.specs.declared.act.Act.{Act}
-use Rattle.chi_core.specs.Config.{Config, Instance}
+use Rattle.chi_core.specs.declared.act.Act.TheVariants.{Delay}
+use Rattle.chi_core.specs.Config.{Config, Instance, Offer}
 use Rattle.chi_core.specs.Options.{numbers}
-use Rattle.chi_explain_waiting.specs.Partners.{answered_by, is_answered}
+use Rattle.chi_explain_waiting.specs.Partners.{answered_by, answers, is_answered, offers_of}
 
 one_more : (test : ℕ → Bool) (n : ℕ) → list_any test (numbers (suc n)) ≡ (list_any test (numbers n) || test n)
 one_more test n = list_any-append test (numbers n) (n ∷ []) ∙ ap (λ (b : Bool). list_any test (numbers n) || b) (last (test n))
@@ -58,5 +59,23 @@ answers_some config p k act i b l is e t = sym (any_below _ k (length config.ins
 pub answers_all : (config : Config) (p n : ℕ) (act : Act) → NoneAnswers config p act n → n ≡ length config.instances → false ≡ is_answered config p act
 answers_all config p n act none same =
     sym (subst (λ (m : ℕ). NoneAnswers config p act m) same none)
+
+-- of a delay nobody offers the other side
+
+no_offer : (offers : List Offer) (due : ℤ) → list_any (λ o. answers (Delay due) o.act) offers ≡ false
+no_offer [] due = refl
+no_offer (o ∷ os) due = no_offer os due
+
+and_none : (a b : Bool) → b ≡ false → (a && b) ≡ false
+and_none true b e = e
+and_none false b e = refl
+
+no_partner : (config : Config) (p : ℕ) (due : ℤ) (ns : List ℕ) → list_any (λ q. answered_by p (Delay due) q (slice_get config.instances q)) ns ≡ false
+no_partner config p due [] = refl
+no_partner config p due (n ∷ ns) =
+    or_none _ _ (and_none (not (eqb n p)) _ (no_offer (offers_of (slice_get config.instances n)) due)) (no_partner config p due ns)
+
+pub answers_delay : (config : Config) (p : ℕ) (act : Act) (due : ℤ) → act ≡ Delay due → false ≡ is_answered config p act
+answers_delay config p act due e = sym (ap (is_answered config p) e ∙ no_partner config p due (numbers (length config.instances)))
 
 pub ruleset answering = (answers_none, answers_more, answers_some, answers_all)

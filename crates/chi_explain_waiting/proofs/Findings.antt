@@ -1,11 +1,13 @@
 -- Instances that are found, one after another, and those that are reached from them.
-use Rattle.std.proofs.Common.{◌≡◌, ℕ, zero, suc, ◌+◌, ◌<◌, ◌≤◌, ◌⊎◌, inl, inr, Bool, true, false, List, [], ◌∷◌, ◌++◌, length, get_or, take, set, replicate, refl, sym, ap, ◌∙◌, subst, arith}
-use Rattle.std.specs.List.{Contains, flat_map}
-use Rattle.std.proofs.lemmas.Bool.{cases_eq, cases_lt, false≢true}
+use Rattle.std.proofs.Common.{◌≡◌, ℕ, zero, suc, ◌+◌, ◌<◌, ◌≤◌, ◌⊎◌, inl, inr, Bool, true, false, List, [], ◌∷◌, ◌++◌, length, get_or, take, set, replicate, cond, eqb, refl, sym, ap, ◌∙◌, subst, arith}
+use Rattle.std.specs.List.{Contains, flat_map, list_any}
+use Rattle.std.proofs.lemmas.Bool.{cases_eq, cases_lt, eq-eqb, eqb-true, false≢true}
 use Rattle.std.proofs.lemmas.List.{get_or_append_left, get_or_default, get_or_past, get_or-replicate, length-replicate, get_or-set_same, get_or-set_other, length-set, length_push, take_more, take_all}
 use Rattle.std.proofs.lemmas.List.Elements.{Contains-append_cases, Contains-append_left, Contains-append_right, Contains-get_or, Contains-push, Contains-push_cases}
+use Rattle.std.proofs.lemmas.List.Folds.{Any-from_list_any, list_any_at}
+use Rattle.std.proofs.lemmas.List.Sums.{fold_more}
 use Rattle.chi_explain_waiting.specs.Finding.{Adds, Begins, IsMarked, Reaches}
-use Rattle.chi_explain_waiting.specs.Joins.{through}
+use Rattle.chi_explain_waiting.specs.Joins.{through, with_number, with_numbers}
 
 none_in : (x : ℕ) → Contains {X = ℕ} [] x → ⊥
 none_in x c = let h = c.1 in omega arith
@@ -16,6 +18,17 @@ one_in x y c = by_place c.0 c.1 c.2
     by_place : (k : ℕ) → k < length (x ∷ []) → get_or (x ∷ []) k y ≡ y → x ≡ y
     by_place zero l e = e
     by_place (suc k) l e = absurd (omega arith)
+
+-- what a test tells of whether a number is in a list
+
+pub any_in : (xs : List ℕ) (p : ℕ) → Contains xs p → list_any (λ q. eqb q p) xs ≡ true
+any_in xs p c = list_any_at (λ q. eqb q p) xs c.0 p c.1 (eq-eqb _ p c.2)
+
+pub in_any : (xs : List ℕ) (p : ℕ) → list_any (λ q. eqb q p) xs ≡ true → Contains xs p
+in_any xs p e =
+    let a = Any-from_list_any (λ q. eqb q p) xs e in
+    let same : a.1 ≡ p = eqb-true a.1 p a.4 in
+    subst (λ (q : ℕ). Contains xs q) same (a.0, a.2, a.3)
 
 -- what a step reaches from the elements of a list
 
@@ -83,6 +96,9 @@ adds_push xs x = record {
   adds = λ y c. Contains-append_right xs (x ∷ []) y c;
 }
 
+pub adds_has : (xs : List ℕ) (p : ℕ) (b : Bool) → b ≡ list_any (λ q. eqb q p) xs → b ≡ true → Adds xs xs (p ∷ [])
+adds_has xs p b is e = adds_known xs p (in_any xs p (sym is ∙ e))
+
 adds_then : (a b c some more : List ℕ) → Adds a b some → Adds b c more → Adds a c (some ++ more)
 adds_then a b c some more p q = record {
   begins = begins_then a b c p.begins q.begins;
@@ -110,6 +126,24 @@ adds_more old mid new pids i x p q l e =
 
 pub adds_all : (old new pids : List ℕ) (i : ℕ) → Adds old new (take i pids) → length pids ≤ i → Adds old new pids
 adds_all old new pids i p l = subst (λ (s : List ℕ). Adds old new s) (take_all i pids l) p
+
+-- each once
+
+pub with_known : (xs : List ℕ) (p : ℕ) (b : Bool) → b ≡ list_any (λ q. eqb q p) xs → b ≡ true → xs ≡ with_number xs p
+with_known xs p b is e = sym (ap (λ (a : Bool). cond a xs (xs ++ p ∷ [])) (sym is ∙ e))
+
+pub with_new : (xs new : List ℕ) (p : ℕ) (b : Bool) → b ≡ list_any (λ q. eqb q p) xs → b ≡ false → new ≡ xs ++ p ∷ [] → new ≡ with_number xs p
+with_new xs new p b is e added = added ∙ sym (ap (λ (a : Bool). cond a xs (xs ++ p ∷ [])) (sym is ∙ e))
+
+pub with_more : (old mid new pids : List ℕ) (i x : ℕ) → mid ≡ with_numbers old (take i pids) → new ≡ with_number mid x → i < length pids
+    → x ≡ get_or pids i 0 → new ≡ with_numbers old (take (i + 1) pids)
+with_more old mid new pids i x before is l e =
+    is ∙ ap (λ (ns : List ℕ). with_number ns x) before
+    ∙ ap (λ (y : ℕ). with_number (with_numbers old (take i pids)) y) e
+    ∙ sym (fold_more with_number old pids i 0 l)
+
+pub with_all : (old new pids : List ℕ) (i : ℕ) → new ≡ with_numbers old (take i pids) → length pids ≤ i → new ≡ with_numbers old pids
+with_all old new pids i is l = is ∙ ap (λ (ns : List ℕ). with_numbers old ns) (take_all i pids l)
 
 -- marks
 
@@ -158,6 +192,19 @@ marked_past numbers marks p m past = record {
     by_place : (q : ℕ) → q < length marks → Contains numbers q ⊎ (p ≡ q) → get_or marks q false ≡ true
     by_place q g (inl c) = m.found q g c
     by_place q g (inr e) = absurd (omega (arith, g, past, e))
+
+-- the mark of a number tells whether it is found
+pub has_mark : (numbers : List ℕ) (marks : List Bool) (p : ℕ) (b : Bool) → IsMarked numbers marks → p < length marks → b ≡ get_or marks p b
+    → b ≡ list_any (λ q. eqb q p) numbers
+has_mark numbers marks p b k l is = by_mark b (is ∙ get_or_default marks p b false l)
+  where
+    by_any : (a : Bool) → list_any (λ q. eqb q p) numbers ≡ a → false ≡ get_or marks p false → false ≡ a
+    by_any false e f = refl
+    by_any true e f = absurd (false≢true (f ∙ k.found p l (in_any numbers p e)))
+
+    by_mark : (a : Bool) → a ≡ get_or marks p false → a ≡ list_any (λ q. eqb q p) numbers
+    by_mark true e = sym (any_in numbers p (k.marked p (sym e)))
+    by_mark false e = by_any (list_any (λ q. eqb q p) numbers) refl e
 
 -- what is reached
 
@@ -255,6 +302,7 @@ round_next step p n first stop old new r q is = subst (λ (m : ℕ). Round step 
       within = omega (arith, is, q.begins.longer);
     }
 
-pub ruleset finding = (adds_none, adds_known, adds_push, adds_more, adds_all, marked_none, marked_push, marked_past)
+pub ruleset finding =
+    (adds_none, adds_known, adds_push, adds_more, adds_all, with_known, with_new, with_more, with_all, marked_none, marked_push, marked_past)
 
 pub ruleset reaching = (reaches_none, reaches_more, round_first, round_next)

@@ -13,6 +13,7 @@ use Rattle.chi_core.specs.Terms.{Walk}
 use Rattle.chi_explain.specs.Excerpts.{ended}
 use Rattle.chi_explain_waiting.specs.Joins.{is_in_ring, through}
 use Rattle.chi_explain_waiting.specs.WaitingText.{waiting_text}
+use Rattle.chi_explain_waiting.specs.Whereabouts.{line_told}
 
 abbrev process : ProcDef
 process = record { name = codes "P"; params = []; exit = None; slots = []; body = [] }
@@ -68,6 +69,21 @@ ring_told : waiting_text core source (3 ∷ 3 ∷ 3 ∷ []) ring
     ++ ended (codes "instance 2 P at line 3: `finish p`") ++ ended (codes "  waits for instances to finish: 1, 0")
 unfolding digits through
 ring_told = refl
+
+-- one that names another twice, and one that joins none
+abbrev twice : Config
+twice = config_of (in_state (Joining (2 ∷ 1 ∷ 2 ∷ [])) ∷ in_state (Joining []) ∷ in_state Running ∷ [])
+
+twice_told : waiting_text core source [] twice
+    ≡ ended (codes "instance 0 P") ++ ended (codes "  waits for instances to finish: 2, 1") ++ ended (codes "instance 1 P")
+    ++ ended (codes "  goes on: there is none for which it waits") ++ ended (codes "instance 2 P at line 1: `model P():`")
+    ++ ended (codes "  runs: this line is next")
+unfolding digits through
+twice_told = refl
+
+-- a line between blanks, of which the last is a carriage return
+between_blanks : line_told (codes "model P():" ++ 13 ∷ 10 ∷ 9 ∷ codes "c!1 " ++ 13 ∷ 10 ∷ []) 2 ≡ codes "c!1"
+between_blanks = refl
 
 -- one that waits for itself, and one that waits for that
 abbrev itself : Config

@@ -5,11 +5,9 @@ use Rattle.std.specs.List.{flat_map}
 use Rattle.std.proofs.lemmas.List.{append_assoc, drop_more}
 use Rattle.chi_core.specs.declared.act.Act.{Act}
 use Rattle.chi_core.specs.Config.{Config, Offer}
-use Rattle.chi_explain.specs.Excerpts.{line_alone}
-use Rattle.chi_explain_waiting.specs.Joins.{is_in_ring, not_over}
+use Rattle.chi_explain_waiting.specs.Joins.{is_in_ring, not_over, once}
 use Rattle.chi_explain_waiting.specs.Partners.{is_answered}
 use Rattle.chi_explain_waiting.specs.WaitingText.{act_words, and_more, joins_told, left_told, listed, offer_told, open_told, ring_told}
-use Rattle.chi_explain_waiting.specs.Whereabouts.{line_told, trimmed}
 
 -- one piece after another
 two : (old a b mid new : List ℕ) → new ≡ mid ++ b → mid ≡ old ++ a → new ≡ old ++ (a ++ b)
@@ -44,15 +42,10 @@ left-told config p left told more ring old a b c d new is d_is c_is b_is a_is fi
     ∙ ap (λ (m : ℕ). old ++ ((((words ++ listed (take 100 left)) ++ 10 ∷ []) ++ and_more (codes "  more instances: ") m) ++ ring_told ring)) rest
     ∙ ap (λ (r : Bool). old ++ ((((words ++ listed (take 100 left)) ++ 10 ∷ []) ++ and_more (codes "  more instances: ") (length left - 100)) ++ ring_told r)) asked
 
-pub joining-told : (config : Config) (p : ℕ) (pids left given old new : List ℕ) → new ≡ old ++ joins_told config p given → given ≡ left
-    → left ≡ not_over config pids → new ≡ old ++ joins_told config p (not_over config pids)
-joining-told config p pids left given old new is same those =
-    is ∙ ap (λ (ns : List ℕ). old ++ joins_told config p ns) (same ∙ those)
-
-pub line-told : (source : List ℕ) (line : ℕ) (none shown text old new : List ℕ) → new ≡ old ++ trimmed text → text ≡ shown
-    → shown ≡ none ++ line_alone source line → none ≡ [] → new ≡ old ++ line_told source line
-line-told source line none shown text old new is same made empty =
-    is ∙ ap (λ (t : List ℕ). old ++ trimmed t) (same ∙ made ∙ ap (λ (e : List ℕ). e ++ line_alone source line) empty)
+pub joining-told : (config : Config) (p : ℕ) (pids some taken left given old new : List ℕ) → new ≡ old ++ joins_told config p pids given → given ≡ left
+    → left ≡ once taken → taken ≡ some → some ≡ not_over config pids → new ≡ old ++ joins_told config p pids (once (not_over config pids))
+joining-told config p pids some taken left given old new is same each that those =
+    is ∙ ap (λ (ns : List ℕ). old ++ joins_told config p pids ns) (same ∙ each ∙ ap once (that ∙ those))
 
 pub texts-more : (f : ℕ → List ℕ) (pids : List ℕ) (i : ℕ) (old new told given all : List ℕ) → old ++ flat_map f (drop i pids) ≡ all → i < length pids
     → new ≡ old ++ given → given ≡ told → told ≡ f (get_or pids i 0) → new ++ flat_map f (drop (i + 1) pids) ≡ all

@@ -10,7 +10,7 @@ use Rattle.chi_core.specs.Options.{numbers}
 use Rattle.chi_core.specs.Step.{name_of}
 use Rattle.chi_explain.specs.Excerpts.{ended}
 use Rattle.chi_explain_waiting.specs.declared.pieces.TheConstants.{MOST_TOLD}
-use Rattle.chi_explain_waiting.specs.Joins.{is_in_ring, not_over}
+use Rattle.chi_explain_waiting.specs.Joins.{is_in_ring, not_over, once}
 use Rattle.chi_explain_waiting.specs.Partners.{is_answered}
 use Rattle.chi_explain_waiting.specs.Whereabouts.{at_line, line_at}
 
@@ -57,20 +57,26 @@ abbrev pub ring_told : Bool → List ℕ
 ring_told true = ended (codes "  waits so for itself, in a ring")
 ring_told false = []
 
--- the instances for which instance p waits that joins, and that haven't finished
+-- the instances for which instance p waits that joins: each is told once
 abbrev pub left_told : Config → ℕ → List ℕ → List ℕ
 left_told config p left =
     ended (codes "  waits for instances to finish: " ++ listed (take MOST_TOLD left))
     ++ and_more (codes "  more instances: ") (length left - MOST_TOLD) ++ ring_told (is_in_ring config p)
 
-abbrev pub joins_told : Config → ℕ → List ℕ → List ℕ
-joins_told config p left =
-    if length left == 0 then ended (codes "  goes on: those for which it waited have finished") else left_told config p left
+-- that an instance goes on that joins these
+abbrev pub goes_on_told : List ℕ → List ℕ
+goes_on_told numbers =
+    if length numbers == 0 then ended (codes "  goes on: there is none for which it waits")
+    else ended (codes "  goes on: those for which it waited have finished")
+
+-- of an instance that joins these, of which some are left
+abbrev pub joins_told : Config → ℕ → List ℕ → List ℕ → List ℕ
+joins_told config p numbers left = if length left == 0 then goes_on_told numbers else left_told config p left
 
 abbrev pub state_told : Config → ℕ → State → List ℕ
 state_told config p Running = ended (codes "  runs: this line is next")
 state_told config p (Waiting offers) = offers_told config p offers
-state_told config p (Joining numbers) = joins_told config p (not_over config numbers)
+state_told config p (Joining numbers) = joins_told config p numbers (once (not_over config numbers))
 state_told config p Finished = []
 
 -- the name of the process

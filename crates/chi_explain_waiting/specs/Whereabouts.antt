@@ -8,7 +8,7 @@ use Rattle.chi_core.specs.declared.label.Label.TheVariants.{Local, Pair, Wake, J
 use Rattle.chi_core.specs.Config.{Config, Instance, State, Running, Waiting, Joining, Finished}
 use Rattle.chi_core.specs.Step.{line_of}
 use Rattle.chi_core_frame.specs.Terms.{first_of}
-use Rattle.chi_explain.specs.Excerpts.{line_alone}
+use Rattle.chi_explain.specs.Excerpts.{front_shown, numbered_line}
 
 -- An instance that waits or joins has done the statement by which it does, and a configuration doesn't know its line. So there are
 -- lines beside it: for each instance that of the item that it did last, where that is known; else 0, or none at its end.
@@ -34,9 +34,9 @@ without_last text = take (length text - suffix_len is_ascii_whitespace text) tex
 abbrev pub trimmed : List ℕ → List ℕ
 trimmed text = without_last (drop (prefix_len is_ascii_whitespace text) text)
 
--- a line of the source, as it is shown alone
+-- a line of the source without the blanks around it, as it is shown
 abbrev pub line_told : List ℕ → ℕ → List ℕ
-line_told source line = trimmed (line_alone source line)
+line_told source line = front_shown (trimmed (numbered_line source line))
 
 -- what is told of a line, where it is known
 abbrev pub at_line : List ℕ → ℕ → List ℕ

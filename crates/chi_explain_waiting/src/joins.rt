@@ -1,16 +1,17 @@
 //! For whom instances wait that join, and whether one waits for itself.
 
-ghost use Rattle.std.specs.Prelude.{◌≡◌, ◌≤◌, ◌<◌, [], ◌∷◌, length, IfOk, OnOk};
+ghost use Rattle.std.specs.Prelude.{◌≡◌, ◌≤◌, ◌<◌, [], ◌∷◌, length, nat_eq, IfOk, OnOk};
+ghost use Rattle.std.specs.List.{list_any};
 ghost use Rattle.chi_plain_open.specs.Instances.{state_of};
 ghost use Rattle.chi_explain_waiting.specs.Finding.{Adds, IsMarked, Reaches};
-ghost use Rattle.chi_explain_waiting.specs.Joins.{is_in_ring, not_over, waited, waited_in};
+ghost use Rattle.chi_explain_waiting.specs.Joins.{is_in_ring, not_over, once, waited, waited_in, with_number, with_numbers};
 
 use chi_base::NoMemory;
 use chi_plain_open::State;
 use chi_plain_steps::Configuration;
 use std::alloc::Global;
 
-/// Instances that were found: their numbers, and a mark for each that is there, which is found once.
+/// Instances that were found: their numbers, each once, and a mark for each that is there.
 #[derive(Drop)]
 pub struct Found {
     numbers: Vec<u32>,
@@ -31,6 +32,19 @@ impl Found {
         })
     }
 
+    /// Whether an instance is found.
+    fn has(&self, pid: u32) -> bool
+        requires { IsMarked self.now.numbers.items self.now.marks.items }
+        ensures { result ≡ list_any (λ q. nat_eq q pid) self.now.numbers.items }
+    {
+        let at = pid as usize;
+        if at < self.marks.len() {
+            self.marks[at]
+        } else {
+            self.numbers.as_slice().contains(&pid)
+        }
+    }
+
     /// Adds an instance, where it isn't found yet.
     #[tactic(auto, using(crate::proofs::Findings::finding))]
     fn add(&mut self, pid: u32) -> Result<(), NoMemory>
@@ -38,12 +52,14 @@ impl Found {
         ensures marked { OnOk result (IsMarked self.new.numbers.items self.new.marks.items) }
         ensures room { OnOk result (length self.new.marks.items ≡ length self.old.marks.items) }
         ensures adds { OnOk result (Adds self.old.numbers.items self.new.numbers.items (pid ∷ [])) }
+        ensures once { OnOk result (self.new.numbers.items ≡ with_number self.old.numbers.items pid) }
     {
+        if self.has(pid) {
+            return Ok(());
+        }
+        self.numbers.push(pid)?;
         let at = pid as usize;
-        if at >= self.marks.len() {
-            self.numbers.push(pid)?;
-        } else if !self.marks[at] {
-            self.numbers.push(pid)?;
+        if at < self.marks.len() {
             self.marks[at] = true;
         }
         Ok(())
@@ -56,6 +72,7 @@ impl Found {
         ensures marked { OnOk result (IsMarked self.new.numbers.items self.new.marks.items) }
         ensures room { OnOk result (length self.new.marks.items ≡ length self.old.marks.items) }
         ensures adds { OnOk result (Adds self.old.numbers.items self.new.numbers.items pids.now) }
+        ensures once { OnOk result (self.new.numbers.items ≡ with_numbers self.old.numbers.items pids.now) }
     {
         for pid in pids {
             self.add(*pid)?;
@@ -64,7 +81,7 @@ impl Found {
     }
 }
 
-/// Those of these instances that haven't finished.
+/// Those of these numbers of which there is no instance that has finished.
 #[tactic(auto, using(crate::proofs::Numbers::numbering))]
 pub fn not_over(
     alloc: Global,
@@ -82,6 +99,16 @@ pub fn not_over(
     Ok(some)
 }
 
+/// Each of these instances once, in the order in which they stand first. So many instances are there.
+pub fn once(alloc: Global, count: usize, pids: &[u32]) -> Result<Vec<u32>, NoMemory>
+    ensures { IfOk result (λ some. some.items ≡ once pids.now) }
+{
+    let mut found = Found::new(alloc, count)?;
+    found.add_all(pids)?;
+    let Found { numbers, .. } = found;
+    Ok(numbers)
+}
+
 /// Those for which an instance waits that is in this state.
 #[tactic(auto, using(crate::proofs::Rings::rings))]
 fn waited_in(
@@ -97,7 +124,7 @@ fn waited_in(
     }
 }
 
-/// The instances for which instance `pid` waits, and that haven't finished.
+/// Those of the numbers for which instance `pid` waits of which there is no instance that has finished.
 #[tactic(auto, using(crate::proofs::Rings::rings))]
 fn waited(alloc: Global, configuration: &Configuration<'_>, pid: u32) -> Result<Vec<u32>, NoMemory>
     ensures { IfOk result (λ some. some.items ≡ waited configuration.now pid) }

@@ -59,9 +59,9 @@ fn answered_by(pid: u32, act: &Act, other: u32, instance: &Instance<'_>) -> bool
     other != pid && has_other(act, instance.offers())
 }
 
-/// Whether another instance than `pid` offers the other side.
+/// Whether an instance other than `pid` offers the other side, when each is looked at.
 #[tactic(auto, using(crate::proofs::Answering::answering))]
-pub fn is_answered(configuration: &Configuration<'_>, pid: u32, act: &Act) -> bool
+fn has_partner(configuration: &Configuration<'_>, pid: u32, act: &Act) -> bool
     ensures { result ≡ is_answered configuration.now pid act.now }
 {
     for (other, instance) in configuration.instances().iter().enumerate() {
@@ -70,4 +70,14 @@ pub fn is_answered(configuration: &Configuration<'_>, pid: u32, act: &Act) -> bo
         }
     }
     false
+}
+
+/// Whether another instance than `pid` offers the other side. A delay has none, so nobody is looked at.
+pub fn is_answered(configuration: &Configuration<'_>, pid: u32, act: &Act) -> bool
+    ensures { result ≡ is_answered configuration.now pid act.now }
+{
+    match act {
+        Act::Send(_, _) | Act::Receive(_, _) => has_partner(configuration, pid, act),
+        Act::Delay(_) => false,
+    }
 }

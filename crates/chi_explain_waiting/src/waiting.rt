@@ -5,10 +5,10 @@ ghost use Rattle.std.specs.Fmt.{decimal};
 ghost use Rattle.chi_explain.specs.Excerpts.{ended};
 ghost use Rattle.chi_explain_waiting.specs.Whereabouts.{at_line};
 ghost use Rattle.chi_plain_open.specs.Instances.{state_of};
-ghost use Rattle.chi_explain_waiting.specs.Joins.{not_over};
-ghost use Rattle.chi_explain_waiting.specs.WaitingText.{instance_told, joins_told, left_told, name_told, ring_told, state_told, unfinished, waiting_text};
+ghost use Rattle.chi_explain_waiting.specs.Joins.{not_over, once};
+ghost use Rattle.chi_explain_waiting.specs.WaitingText.{goes_on_told, instance_told, joins_told, left_told, name_told, ring_told, state_told, unfinished, waiting_text};
 
-use crate::joins::{is_in_ring, not_over};
+use crate::joins::{is_in_ring, not_over, once};
 use crate::offers::put_offers;
 use crate::pieces::{MOST_TOLD, first_numbers, put_listed, put_more};
 use crate::whereabouts::{line_at, put_at_line};
@@ -29,7 +29,7 @@ fn put_ring(ring: bool, out: &mut Vec<u8>) -> Result<(), NoMemory>
     Ok(())
 }
 
-/// Appends the instances for which instance `pid` waits that joins, and that haven't finished.
+/// Appends the instances for which instance `pid` waits that joins.
 fn put_left(
     alloc: Global,
     configuration: &Configuration<'_>,
@@ -51,27 +51,39 @@ fn put_left(
     Ok(())
 }
 
-/// Appends for which instances instance `pid` waits that joins, or that it goes on, where these are those that haven't
-/// finished.
+/// Appends that an instance goes on that joins these.
+fn put_goes_on(pids: &[u32], out: &mut Vec<u8>) -> Result<(), NoMemory>
+    ensures { OnOk result (out.new.items ≡ out.old.items ++ goes_on_told pids.now) }
+{
+    if pids.is_empty() {
+        out.extend_from_slice(b"  goes on: there is none for which it waits\n")?;
+        Ok(())
+    } else {
+        out.extend_from_slice(b"  goes on: those for which it waited have finished\n")?;
+        Ok(())
+    }
+}
+
+/// Appends for which instances instance `pid` waits that joins these, of which some are left, or that it goes on.
 fn put_joins(
     alloc: Global,
     configuration: &Configuration<'_>,
     pid: u32,
+    pids: &[u32],
     left: &[u32],
     out: &mut Vec<u8>,
 ) -> Result<(), NoMemory>
     requires { pid < length configuration.now.instances }
-    ensures { OnOk result (out.new.items ≡ out.old.items ++ joins_told configuration.now pid left.now) }
+    ensures { OnOk result (out.new.items ≡ out.old.items ++ joins_told configuration.now pid pids.now left.now) }
 {
     if left.is_empty() {
-        out.extend_from_slice(b"  goes on: those for which it waited have finished\n")?;
-        Ok(())
+        put_goes_on(pids, out)
     } else {
         put_left(alloc, configuration, pid, left, out)
     }
 }
 
-/// Appends for which of these instances instance `pid` waits that joins.
+/// Appends for which of these instances instance `pid` waits that joins them, each once.
 fn put_joining(
     alloc: Global,
     configuration: &Configuration<'_>,
@@ -80,10 +92,11 @@ fn put_joining(
     out: &mut Vec<u8>,
 ) -> Result<(), NoMemory>
     requires { pid < length configuration.now.instances }
-    ensures { OnOk result (out.new.items ≡ out.old.items ++ joins_told configuration.now pid (not_over configuration.now pids.now)) }
+    ensures { OnOk result (out.new.items ≡ out.old.items ++ joins_told configuration.now pid pids.now (once (not_over configuration.now pids.now))) }
 {
-    let left = not_over(alloc, configuration, pids)?;
-    put_joins(alloc, configuration, pid, &left, out)?;
+    let some = not_over(alloc, configuration, pids)?;
+    let left = once(alloc, configuration.instances().len(), &some)?;
+    put_joins(alloc, configuration, pid, pids, &left, out)?;
     Ok(())
 }
 
@@ -200,7 +213,8 @@ fn instances_text(
 }
 
 /// The text that says who waits for what, and where: of the first instances of a configuration that haven't finished. The
-/// lines are those of the items that instances did last, as `note_line` notes them; where none is known none is told.
+/// lines are those of the items that instances did last, as `note` of `chi_explain_runs` notes them; where none is known
+/// none is told.
 pub fn explain_waiting(
     alloc: Global,
     core: &Core,

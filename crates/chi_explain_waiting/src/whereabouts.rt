@@ -5,7 +5,7 @@ ghost use Rattle.chi_plain_open.specs.Instances.{state_of};
 ghost use Rattle.chi_explain_waiting.specs.Whereabouts.{at_line, line_at, line_in, line_told, next_line, trimmed};
 
 use chi_base::NoMemory;
-use chi_explain::{line_alone, put_number};
+use chi_explain::{numbered_line, put_front, put_number};
 use chi_plain_open::{Instance, State};
 use chi_plain_steps::Configuration;
 use std::alloc::Global;
@@ -64,21 +64,19 @@ pub fn line_at(
     line_in(instance.state(), next, last_line(lines, pid))
 }
 
-/// Appends a text without the blanks around it.
-fn put_trimmed(text: &[u8], out: &mut Vec<u8>) -> Result<(), NoMemory>
-    ensures { OnOk result (out.new.items ≡ out.old.items ++ trimmed text.now) }
+/// A text without the blanks around it.
+fn trimmed(text: &[u8]) -> &[u8]
+    ensures { result.now ≡ trimmed text.now }
 {
-    out.extend_from_slice(text.trim_ascii())?;
-    Ok(())
+    text.trim_ascii()
 }
 
-/// Appends a line of the source as it is shown alone, without the blanks around it.
-fn put_line(alloc: Global, source: &[u8], line: u32, out: &mut Vec<u8>) -> Result<(), NoMemory>
+/// Appends a line of the source without the blanks around it, as it is shown.
+fn put_line(source: &[u8], line: u32, out: &mut Vec<u8>) -> Result<(), NoMemory>
     ensures { OnOk result (out.new.items ≡ out.old.items ++ line_told source.now line) }
 {
-    let mut shown = Vec::new(alloc);
-    line_alone(source, line, &mut shown)?;
-    put_trimmed(shown.as_slice(), out)?;
+    let text = trimmed(numbered_line(source, line));
+    put_front(text, out)?;
     Ok(())
 }
 
@@ -95,7 +93,7 @@ pub fn put_at_line(
         out.extend_from_slice(b" at line ")?;
         put_number(alloc, line, out)?;
         out.extend_from_slice(b": `")?;
-        put_line(alloc, source, line, out)?;
+        put_line(source, line, out)?;
         out.push(b'`')?;
     }
     Ok(())

@@ -8,21 +8,23 @@ use Rattle.chi_core.specs.Runs.{Told}
 use Rattle.chi_code.specs.declared.code.Code.{Code}
 use Rattle.chi_io.specs.Sink.{IsFrontOf, IsProperFrontOf}
 use Rattle.chi_sched.specs.Policies.{Answers}
+use Rattle.chi_terms.specs.declared.terms.Terms.{Terms}
+use Rattle.chi_value.specs.declared.value.Value.{Value}
 use Rattle.chi_machine_traces.specs.declared.passing.PassFault.{PassFault}
 use Rattle.chi_machine_traces.specs.declared.passing.PassFault.TheVariants.{Stopped, NoMemory}
 use Rattle.chi_machine_traces.specs.declared.passing.TheConstants.{PASSED_FROM}
-use Rattle.chi_machine_traces.specs.declared.run.Start.{Start}
 use Rattle.chi_machine_traces.specs.Told.{RunsCode}
 
 -- what may be said of a run that a policy picks from a beginning, within a bound
 abbrev pub OfRun : Type 1
 OfRun = Core → Beginning → Pick → ℕ → Type 0
 
--- P holds of the run of this code, whichever program it is the code of and whichever function tells what the policy answers
-abbrev pub OfEach : (ℕ → ℕ → ℕ → Type 0) → Code → Start → OfRun → Type 0
-OfEach gives code start P =
-    (core : Core) → RunsCode core code start.arguments.items → (pick : Pick) → Answers gives pick
-    → P core (beginnings.start core start.arguments.items start.seed start.until) pick start.bound
+-- P holds of the run of this code with these arguments on such terms, whichever program it is the code of and whichever function
+-- tells what the policy answers
+abbrev pub OfEach : {C S : Type 0} → (ℕ → ℕ → ℕ → Type 0) → Code → List Value → Terms C S → OfRun → Type 0
+OfEach gives code arguments terms P =
+    (core : Core) → RunsCode core code arguments → (pick : Pick) → Answers gives pick
+    → P core (beginnings.start core arguments terms.seed terms.until) pick terms.bound
 
 -- its output begins with these bytes
 abbrev pub BeginsWith : List ℕ → OfRun

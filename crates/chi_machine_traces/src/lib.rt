@@ -7,5 +7,5 @@ mod run;
 mod turn;
 
 pub use passing::{PASSED_FROM, PassFault};
-pub use run::{Guide, Ran, Start, Telling, run_told};
+pub use run::{Ran, Telling, run_told};
 pub use turn::turn_told;

@@ -3,7 +3,7 @@
 ghost use Rattle.std.specs.Prelude.{◌≡◌, ◌≤◌, [], false, IfOk, option_map};
 ghost use Rattle.chi_io.specs.Counts.{Rose};
 ghost use Rattle.chi_io.specs.Sink.{Grew};
-ghost use Rattle.chi_machine_told.specs.Below.chi_machine.specs.Calls.{MayBegin};
+ghost use Rattle.chi_machine_told.specs.Below.chi_machine.specs.Calls.{MayBegin, StartsSo};
 ghost use Rattle.chi_machine_told.specs.Below.chi_machine.specs.Courses.{IsCourse};
 ghost use Rattle.chi_machine_traces.specs.Passing.{OfEach, Passes};
 ghost use Rattle.chi_machine_traces.specs.Told.{IsTold};
@@ -21,6 +21,7 @@ use chi_machine_agenda::Ending;
 use chi_machine_laws::{safe_law, start_law};
 use chi_machine_told::{Course, Machine};
 use chi_sched::Chooser;
+use chi_terms::Terms;
 use chi_trace::Sieve;
 use chi_trace_events::tracing_law;
 use chi_value::Value;
@@ -33,28 +34,6 @@ pub struct Telling {
     pub out: Vec<u8>,
     /// What is logged of it before its verdict.
     pub log: Vec<u8>,
-}
-
-/// How a run starts.
-#[derive(Debug, Drop)]
-pub struct Start {
-    /// Those of the model.
-    pub arguments: Vec<Value>,
-    /// That of its draws.
-    pub seed: u64,
-    /// The time at which it is stopped, in units of a real, where there is one.
-    pub until: Option<i64>,
-    /// What its labels may cost together.
-    pub bound: u64,
-}
-
-/// What a run is given along with its arguments by whoever starts it.
-#[derive(Debug, Drop)]
-pub struct Guide<C, S> {
-    /// What picks among the labels that may come.
-    pub chooser: C,
-    /// What tells which events of its trace are logged, where that is wanted.
-    pub trace: Option<S>,
 }
 
 /// A run that has ended.
@@ -79,14 +58,14 @@ fn run_on<C: Chooser, S: Sieve, O: Sink>(
     alloc: Global,
     code: &Code,
     course: &mut Course,
-    guide: &Guide<C, S>,
+    terms: &Terms<C, S>,
     told: &mut Telling,
     out: &mut O,
 ) -> Result<Ending, PassFault>
     requires course { IsCourse code.now course.old }
     requires out_goes { O.stopped out.old ≡ false }
-    ensures passes { Passes (OfWay (C.gives guide.now.chooser) (option_map S.keeps_to guide.now.trace) code.now course.old told.old)
-        (λ passed end core beginning pick bound. IsTold (option_map S.keeps_to guide.now.trace) core beginning pick bound passed (record { ending = end; told = told.new }))
+    ensures passes { Passes (OfWay (C.gives terms.now.policy) (option_map S.keeps_to terms.now.trace) code.now course.old told.old)
+        (λ passed end core beginning pick bound. IsTold (option_map S.keeps_to terms.now.trace) core beginning pick bound passed (record { ending = end; told = told.new }))
         (Grew (O.taken out.old) (O.taken out.new)) (Rose (O.faults out.old) (O.faults out.new)) (O.stopped out.new) result }
     ensures count { O.faults out.old ≤ O.faults out.new }
 {
@@ -95,7 +74,7 @@ fn run_on<C: Chooser, S: Sieve, O: Sink>(
     run_law();
     picked_law();
     'turn: loop {
-        match turn_told(alloc, code, course, &guide.chooser, &guide.trace, told) {
+        match turn_told(alloc, code, course, &terms.policy, &terms.trace, told) {
             Ok(None) => {}
             Ok(Some(ending)) => return Ok(ending),
             Err(_) => return Err(PassFault::NoMemory),
@@ -109,23 +88,37 @@ fn run_from<C: Chooser, S: Sieve, O: Sink>(
     alloc: Global,
     code: &Code,
     course: Course,
-    guide: &Guide<C, S>,
+    terms: &Terms<C, S>,
     told: Telling,
     out: &mut O,
 ) -> Result<Ran, PassFault>
     requires course { IsCourse code.now course }
     requires out_goes { O.stopped out.old ≡ false }
-    ensures passes { Passes (OfWay (C.gives guide.now.chooser) (option_map S.keeps_to guide.now.trace) code.now course told)
-        (λ passed ran core beginning pick bound. IsTold (option_map S.keeps_to guide.now.trace) core beginning pick bound passed ran)
+    ensures passes { Passes (OfWay (C.gives terms.now.policy) (option_map S.keeps_to terms.now.trace) code.now course told)
+        (λ passed ran core beginning pick bound. IsTold (option_map S.keeps_to terms.now.trace) core beginning pick bound passed ran)
         (Grew (O.taken out.old) (O.taken out.new)) (Rose (O.faults out.old) (O.faults out.new)) (O.stopped out.new) result }
     ensures count { O.faults out.old ≤ O.faults out.new }
 {
     let mut course = course;
     let mut told = told;
-    let ended = run_on(alloc, code, &mut course, guide, &mut told, out);
+    let ended = run_on(alloc, code, &mut course, terms, &mut told, out);
     drop(course);
     let ending = ended?;
     Ok(Ran { ending, told })
+}
+
+// The machine before anything happens, or what a fault in a constant leaves.
+fn begun<C, S>(
+    alloc: Global,
+    code: &Code,
+    arguments: Vec<Value>,
+    terms: &Terms<C, S>,
+) -> Result<Machine, NoMemory>
+    requires { MayBegin code.now arguments.items terms.now.bound }
+    ensures { IfOk result (λ machine. StartsSo code.now arguments.items terms.now.seed terms.now.until terms.now.bound machine) }
+{
+    let until = terms.units_of_until();
+    Machine::begin(alloc, code, arguments, terms.seed, until, terms.bound)
 }
 
 /// The run of a program's code to its end, by a policy, with what a trace shows of it. Its output is passed on as it goes,
@@ -133,14 +126,14 @@ fn run_from<C: Chooser, S: Sieve, O: Sink>(
 pub fn run_told<C: Chooser, S: Sieve, O: Sink>(
     alloc: Global,
     code: &Code,
-    start: Start,
-    guide: &Guide<C, S>,
+    arguments: Vec<Value>,
+    terms: &Terms<C, S>,
     out: &mut O,
 ) -> Result<Ran, PassFault>
-    requires begins { MayBegin code.now start.arguments.items start.bound }
+    requires begins { MayBegin code.now arguments.items terms.now.bound }
     requires out_goes { O.stopped out.old ≡ false }
-    ensures passes { Passes (OfEach (C.gives guide.now.chooser) code.now start)
-        (λ passed ran core beginning pick bound. IsTold (option_map S.keeps_to guide.now.trace) core beginning pick bound passed ran)
+    ensures passes { Passes (OfEach (C.gives terms.now.policy) code.now arguments.items terms.now)
+        (λ passed ran core beginning pick bound. IsTold (option_map S.keeps_to terms.now.trace) core beginning pick bound passed ran)
         (Grew (O.taken out.old) (O.taken out.new)) (Rose (O.faults out.old) (O.faults out.new)) (O.stopped out.new) result }
     ensures count { O.faults out.old ≤ O.faults out.new }
 {
@@ -148,18 +141,12 @@ pub fn run_told<C: Chooser, S: Sieve, O: Sink>(
     kinded_law();
     turn_law();
     tracing_law();
-    let Ok(told) = first_told(alloc, &guide.trace) else {
-        drop(start);
+    let Ok(told) = first_told(alloc, &terms.trace) else {
+        drop(arguments);
         return Err(PassFault::NoMemory);
     };
-    let Start {
-        arguments,
-        seed,
-        until,
-        bound,
-    } = start;
-    match Machine::begin(alloc, code, arguments, seed, until, bound)? {
-        Machine::Going(course) => run_from(alloc, code, course, guide, told, out),
+    match begun(alloc, code, arguments, terms)? {
+        Machine::Going(course) => run_from(alloc, code, course, terms, told, out),
         Machine::Ended(ending) => Ok(Ran { ending, told }),
         Machine::Lost => unreachable!(),
     }

@@ -12,8 +12,8 @@ use Rattle.chi_engine.specs.Courses.{Runs}
 use Rattle.chi_explain.specs.Explanations.{explained}
 use Rattle.chi_explain.specs.Lexical as lexical_told
 use Rattle.chi_explain_arguments.specs.Arguments.{argument_text, kind_text}
+use Rattle.chi_explain_counts.specs.Numbers.{told_words}
 use Rattle.chi_explain_syntax.specs.Syntax.{IsSyntaxExplanation}
-use Rattle.chi_explain_typing.specs.Rules.{broken_words}
 use Rattle.chi_check_types.specs.declared.fault.Fault.{Fault}
 use Rattle.chi_grammar.specs.declared.fault.ParseFault.{ParseFault}
 use Rattle.chi_lex.specs.declared.lexer.TheConstants.{MOST_BYTES}
@@ -36,7 +36,7 @@ use Rattle.chi_tool.specs.Settings.{Wanted, MayBeAimedAt, simulates, of_program,
 use Rattle.chi_tool.specs.Sources.{by_lexer, by_parser, unparsed, by_checker, IsNoProgram, ComesTo}
 use Rattle.chi_tool.specs.Syntax.{HasFault}
 use Rattle.chi_tool.proofs.LawClauses.{AnswerLaw, CheckLaw, ExplainLaw, RunLaw, ValuesLaw, comes_sound}
-use Rattle.chi_tool.proofs.Sources.{fault_answer, one_rule, unparsed_or_written, refused_or_comes, one_core}
+use Rattle.chi_tool.proofs.Sources.{fault_answer, one_rule, one_written, unparsed_or_written, refused_or_comes, one_core}
 
 -- the text of a misfit
 
@@ -87,7 +87,7 @@ module _ (answers : AnswerLaw) (law : ExplainLaw) (runs : Runs) where
       → (r : Report) (is : IsReportOfSource runs source (simulates w) r) → (text : List ℕ) × IsExplanation runs file source w r is text
   explanation_some check values_law file source within w bounded r (refused (unparsed (by_lexer fault has is))) = law.lexical_some file source fault has
   explanation_some check values_law file source within w bounded r (refused (unparsed (by_parser tokens fault has is))) = law.syntax_some file source tokens fault (fault_answer tokens fault has.has)
-  explanation_some check values_law file source within w bounded r (refused (by_checker fault has is)) = (explained file source fault.place (broken_words source fault.rule fault.place), refl)
+  explanation_some check values_law file source within w bounded r (refused (by_checker fault has is)) = (explained file source fault.place (told_words source has.tree fault.rule fault.place), refl)
   explanation_some check values_law file source within w bounded r (program core comes (unfit wanted fault misfits is)) = misfit_some law misfits.model.params w.texts fault misfits.read
   explanation_some check values_law file source within w bounded r (program core comes (fit values means of)) =
       let begins : IsBeginning core (start core values w.seed w.until) = record {
@@ -160,7 +160,9 @@ module _ (answers : AnswerLaw) (law : ExplainLaw) (runs : Runs) where
     explanation_one r s (refused (unparsed p)) (refused (by_checker f q j)) text other x y = absurd (unparsed_or_written answers source r q.tree p q.written)
     explanation_one r s (refused (by_checker e p i)) (refused (unparsed q)) text other x y = absurd (unparsed_or_written answers source s p.tree q p.written)
     explanation_one r s (refused (by_checker e p i)) (refused (by_checker f q j)) text other x y =
-        x ∙ ap (λ (g : Fault). explained file source g.place (broken_words source g.rule g.place)) (one_rule answers source e f p q) ∙ sym y
+        let faults : e ≡ f = one_rule answers source e f p q in
+        let trees : p.tree ≡ q.tree = one_written answers source p.tree q.tree p.written q.written in
+        x ∙ (λ i. explained file source (faults i).place (told_words source (trees i) (faults i).rule (faults i).place)) ∙ sym y
     explanation_one r s (refused p) (program core q b) text other x y = absurd (refused_or_comes answers source r core p q)
     explanation_one r s (program core p a) (refused q) text other x y = absurd (refused_or_comes answers source s core q p)
     explanation_one r s (program core p a) (program another q b) text other x y =
@@ -188,9 +190,16 @@ refusal_explained runs file source w (refusal_by.Unparsed (reason.Syntax tokens 
   explains = told.1;
   told = told.2;
 }
-refusal_explained runs file source w (refusal_by.Broken rule place) has r told =
+refusal_explained runs file source w (refusal_by.Broken rule place tree) has r told =
     let broken : Fault = record { rule = rule; place = place } in
-    record { plain = refusal.typing broken; is = refused (by_checker broken has refl); text = told.0; explains = told.1; told = told.2 }
+    let says : Program → List ℕ = λ t. explained file source place (told_words source t rule place) in
+    record {
+      plain = refusal.typing broken;
+      is = refused (by_checker broken has.0 refl);
+      text = told.0;
+      explains = told.1 ∙ ap says (sym has.1);
+      told = told.2;
+    }
 
 pub program_explained : (runs : Runs) (file source : List ℕ) (w : Wanted) (core : Core) → ComesTo source core → (r : Report) → IsProgramTold runs source core w r
     → IsExplained runs file w source r

@@ -38,7 +38,7 @@ use Rattle.chi_sched.specs.Policies.{listed}
 use Rattle.chi_types.specs.declared.ty.Ty.{Ty}
 use Rattle.chi_value.specs.declared.value.Value.{Value}
 use Rattle.chi_xper_machines.specs.declared.tale.Ended.{Ended}
-use Rattle.chi_xper_machines.specs.declared.terms.Terms.{Terms}
+use Rattle.chi_xper_machines.specs.declared.terms.ExperimentTerms.{ExperimentTerms}
 use Rattle.chi_xper_machines.specs.Trials.{Trial, IsTrial, EndsSo, Logs}
 use Rattle.chi_tool.specs.declared.task.Asked.{Asked}
 use Rattle.chi_tool.specs.declared.task.ProgramPurpose.TheVariants.{Experiment}
@@ -156,6 +156,6 @@ pub record ReportLaw (runs : Runs) : Type 0 where
   pub explained : (words : List (List ℕ)) (file : List ℕ) (a : Asked request.Pick) → wish_of words ≡ of_task (OfFile file (Explain a))
       → (source : List ℕ) → length source ≤ MOST_BYTES → (plain : Report) → IsReportOfSource runs source (simulates (wanted_of a)) plain
       → (r : Report) × IsExplained runs file (wanted_of a) source r × (r.status ≡ plain.status)
-  pub tried : (words : List (List ℕ)) (file : List ℕ) (t : Terms) → wish_of words ≡ of_task (OfFile file (OfProgram (Experiment t)))
+  pub tried : (words : List (List ℕ)) (file : List ℕ) (t : ExperimentTerms) → wish_of words ≡ of_task (OfFile file (OfProgram (Experiment t)))
       → (source : List ℕ) → length source ≤ MOST_BYTES → (core : Core) → ComesTo source core
       → (trial : Trial) → IsTrial core t.seed (policy_of t.pick) t.bound trial → (line : List ℕ) × Logs core trial line

@@ -75,9 +75,9 @@ module _ (source : List ℕ) (program : tree.Program) (written : IsWritten sourc
       record { comes = comes; sound = comes_sound law source core within comes }
 
   pub rule_broken : (fault : TypeFault) (rule : ℕ) (place : Place) → fault ≡ Broken rule place → Answers (Err fault) (checked program)
-      → BreaksRule source (broken rule place)
+      → (there : BreaksRule source (broken rule place)) × (there.tree ≡ program)
   rule_broken fault rule place e answer =
-      record { tree = program; written = written; first = subst (λ f. Answers (Err f) (checked program)) e answer }
+      (record { tree = program; written = written; first = subst (λ f. Answers (Err f) (checked program)) e answer }, refl)
 
 -- a source that is refused so has the report of that
 
@@ -87,4 +87,4 @@ unparsed_is source (reason.Syntax tokens fault) has = by_parser tokens.items fau
 
 pub refused_is : (source : List ℕ) (it : Refusal) → IsRefusedAs source it → IsRefused source (refusal_report source it)
 refused_is source (refusal_by.Unparsed it) has = unparsed (unparsed_is source it has)
-refused_is source (refusal_by.Broken rule place) has = by_checker (broken rule place) has refl
+refused_is source (refusal_by.Broken rule place tree) has = by_checker (broken rule place) has.0 refl

@@ -1,5 +1,5 @@
 -- What is told of where the run comes to rest that words ask for.
-use Rattle.std.proofs.Common.{◌≡◌, ℕ, ◌<◌, ◌^◌, ℤ, List, [], Option, Some, sym, ◌∙◌, ap, subst, refl}
+use Rattle.std.proofs.Common.{◌≡◌, ℕ, ◌<◌, ◌^◌, List, [], Some, sym, ◌∙◌, ap, subst, refl}
 use Rattle.std.specs.Prelude.{Result, IfOk, slice_get}
 use Rattle.chi_base.specs.declared.no_memory.NoMemory.{NoMemory}
 use Rattle.chi_cli.specs.declared.request.Pick as words
@@ -28,16 +28,15 @@ use Rattle.chi_tool.proofs.Runs.{if_ok}
 
 -- by the policy that words name, whichever function tells what it answers
 pub rest_named : {T : Type 0} (core : Core) (source : List ℕ) (arguments : List Value) (asked : Asked words.Pick) (p : words.Pick) (result : Result T NoMemory) (items : T → List ℕ)
-    → asked.terms.policy ≡ p → {until : Option ℤ} → until ≡ asked.terms.until
+    → asked.terms.policy ≡ p
     → IfOk result (λ text. (pick : Pick) → Answers (λ question count answer. answer ≡ policy_of p question count) pick
-    → IsWaitingTold core source (start core arguments asked.terms.seed until) pick asked.terms.bound (items text))
+    → IsWaitingTold core source (start core arguments asked.terms.seed asked.terms.until) pick asked.terms.bound (items text))
     → IfOk result (λ text. IsRestTold core source (settings_with (wanted_of asked) arguments) (items text))
-rest_named core source arguments asked p result items same {until} times told =
+rest_named core source arguments asked p result items same told =
     if_ok result
     (λ text told'.
     subst (λ (q : words.Pick). IsWaitingTold core source (start core arguments asked.terms.seed asked.terms.until) (policy_of q) asked.terms.bound (items text)) (sym same)
-    (subst (λ (u : Option ℤ). IsWaitingTold core source (start core arguments asked.terms.seed u) (policy_of p) asked.terms.bound (items text)) times
-    (told' (policy_of p) (formula_given (policy_of p) (named_lawful p)))))
+    (told' (policy_of p) (formula_given (policy_of p) (named_lawful p))))
     told
 
 -- there is such a text

@@ -6,8 +6,8 @@ use Rattle.chi_core.specs.Options.{Ending}
 use Rattle.chi_engine.specs.Courses.{Course, Runs}
 use Rattle.chi_explain.specs.Explanations.{explained}
 use Rattle.chi_explain.specs.Lexical as lexical
+use Rattle.chi_explain_counts.specs.Numbers.{told_words}
 use Rattle.chi_explain_syntax.specs.Syntax.{IsSyntaxExplanation}
-use Rattle.chi_explain_typing.specs.Rules.{broken_words}
 use Rattle.chi_value.specs.declared.value.Value.{Value}
 use Rattle.chi_tool.specs.declared.reading.Unparsed.{Unparsed}
 use Rattle.chi_tool.specs.declared.reading.Unparsed.TheVariants as unparsed
@@ -28,12 +28,12 @@ IsUnparsedText file source (unparsed.Syntax tokens fault) text = IsSyntaxExplana
 -- or why it is no program that can be run
 abbrev pub IsRefusalText : List ℕ → List ℕ → Refusal → List ℕ → Type 0
 IsRefusalText file source (refused.Unparsed it) text = IsUnparsedText file source it text
-IsRefusalText file source (refused.Broken rule place) text = text ≡ explained file source place (broken_words source rule place)
+IsRefusalText file source (refused.Broken rule place tree) text = text ≡ explained file source place (told_words source tree rule place)
 
 abbrev pub refusal_status : Refusal → ℕ
 refusal_status (refused.Unparsed (unparsed.Lexical fault)) = statuses.lexical
 refusal_status (refused.Unparsed (unparsed.Syntax tokens fault)) = statuses.syntax
-refusal_status (refused.Broken rule place) = statuses.typing
+refusal_status (refused.Broken rule place tree) = statuses.typing
 
 -- nothing but a text, in the log
 abbrev pub text_alone : ℕ → List ℕ → Report

@@ -1,10 +1,11 @@
 -- The limits of the program, to be held against `docs/LANGUAGE.md`: what each constant is that the definitions cite. Those of a run
--- are the core's.
+-- are the core's, and those of what is told of its instances stand where that is told.
 use Rattle.std.specs.Prelude.{◌≡◌}
 use Rattle.chi_check_types.specs.declared.type_rules.TheConstants.{MOST_TYPE_DEPTH}
 use Rattle.chi_cli.specs.declared.words.TheConstants.{STEPS, MOST_STEPS}
 use Rattle.chi_core.specs.Limits as core
 use Rattle.chi_explain.specs.declared.excerpts.TheConstants as excerpt
+use Rattle.chi_explain_runs.specs.Limits as instances
 use Rattle.chi_explain_syntax.specs.declared.fault.TheConstants.{MOST_TOKENS}
 use Rattle.chi_lex.specs.declared.lexer.TheConstants.{MOST_BYTES}
 use Rattle.chi_load.specs.declared.source.TheConstants.{MOST_MACHINES}
@@ -18,6 +19,7 @@ use Rattle.chi_tree.specs.declared.limits.TheConstants.{MOST_BLOCKS, MOST_EXPRES
 -- line that an explanation shows, and of these before the place; tokens up to which it lists what could stand
 pub record LimitsAre : Type 0 where
   pub of_a_run : core.LimitsAre
+  pub of_instances : instances.LimitsAre
   pub source : MOST_BYTES ≡ 1_048_576
   pub blocks : MOST_BLOCKS ≡ 64
   pub expressions : MOST_EXPRESSIONS ≡ 200

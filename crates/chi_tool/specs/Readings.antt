@@ -49,11 +49,11 @@ unparsed_report source (unparsed.Syntax tokens fault) = refusal.syntax source to
 -- or this fault
 abbrev pub IsRefusedAs : List ℕ → Refusal → Type 0
 IsRefusedAs source (refused.Unparsed it) = IsUnparsedAs source it
-IsRefusedAs source (refused.Broken rule place) = BreaksRule source (broken rule place)
+IsRefusedAs source (refused.Broken rule place tree) = (there : BreaksRule source (broken rule place)) × (there.tree ≡ tree)
 
 abbrev pub refusal_report : List ℕ → Refusal → Report
 refusal_report source (refused.Unparsed it) = unparsed_report source it
-refusal_report source (refused.Broken rule place) = refusal.typing (broken rule place)
+refusal_report source (refused.Broken rule place tree) = refusal.typing (broken rule place)
 
 -- it has this fault, or has these tokens, which are this program
 abbrev pub IsSpelledAs : List ℕ → Spelling → Type 0

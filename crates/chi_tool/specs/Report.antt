@@ -10,8 +10,8 @@ use Rattle.chi_core.specs.declared.program.Core.{Core}
 use Rattle.chi_engine.specs.Courses.{Runs, IsRunOf}
 use Rattle.chi_explain.specs.Explanations.{explained}
 use Rattle.chi_explain.specs.Lexical as lexical
+use Rattle.chi_explain_counts.specs.Numbers.{told_words}
 use Rattle.chi_explain_syntax.specs.Syntax.{IsSyntaxExplanation}
-use Rattle.chi_explain_typing.specs.Rules.{broken_words}
 use Rattle.chi_trace.specs.declared.log.TheConstants.{MOST_LOG_BYTES}
 use Rattle.chi_trace.specs.Logs as logs
 use Rattle.chi_value.specs.declared.value.Value.{Value}
@@ -86,7 +86,7 @@ pub data IsReportOfSource (runs : Runs) (source : List ℕ) (aim : ProgramAim) (
 abbrev pub IsExplanation : (runs : Runs) (file source : List ℕ) (w : Wanted) (r : Report) → IsReportOfSource runs source (simulates w) r → List ℕ → Type 0
 IsExplanation runs file source w r (refused (unparsed (by_lexer fault has is))) text = lexical.IsExplanation file source fault text
 IsExplanation runs file source w r (refused (unparsed (by_parser tokens fault has is))) text = IsSyntaxExplanation file source tokens fault text
-IsExplanation runs file source w r (refused (by_checker fault has is)) text = text ≡ explained file source fault.place (broken_words source fault.rule fault.place)
+IsExplanation runs file source w r (refused (by_checker fault has is)) text = text ≡ explained file source fault.place (told_words source has.tree fault.rule fault.place)
 IsExplanation runs file source w r (program core comes (unfit wanted fault misfits is)) text = IsMisfitExplained misfits.model.params w.texts fault text
 IsExplanation runs file source w r (program core comes (fit values means of)) text =
     (rest : List ℕ) × IsRestTold core source (settings_with w values) rest × (text ≡ of.course.log ++ end_told source core rest of.course.ending)

@@ -8,7 +8,7 @@ use Rattle.chi_trace.specs.declared.filter.Filter.{Filter}
 use Rattle.chi_value.specs.declared.value.Value.{Value}
 use Rattle.chi_core.specs.Picks.{Pick, IsLawful}
 use Rattle.chi_engine.specs.Settings.{Settings, policy_of}
-use Rattle.chi_xper_machines.specs.declared.terms.Terms.{Terms}
+use Rattle.chi_xper_machines.specs.declared.terms.ExperimentTerms.{ExperimentTerms}
 use Rattle.chi_tool.specs.declared.task.Asked.{Asked}
 use Rattle.chi_tool.specs.declared.settings.ByPicks.{ByPicks}
 use Rattle.chi_tool.specs.declared.task.LogPurpose.{LogPurpose}
@@ -74,7 +74,7 @@ wanted_of a = record { seed = a.terms.seed; bound = a.terms.bound; pick = policy
 abbrev pub unpicked_of : Asked ByPicks → Unpicked
 unpicked_of a = record { seed = a.terms.seed; bound = a.terms.bound; texts = a.texts; until = a.terms.until; trace = a.terms.trace }
 
-abbrev pub trying_of : Terms → Trying
+abbrev pub trying_of : ExperimentTerms → Trying
 trying_of t = record { seed = t.seed; bound = t.bound; pick = policy_of t.pick }
 
 abbrev pub program_aim : ProgramPurpose → ProgramAim

@@ -47,7 +47,7 @@ fn run_job<E: Engine, O: Sink>(
     requires codes { Codes core.now code.now }
     requires arguments { (d : ProcDef) → slice_get core.now.procs core.now.model ≡ Some d
         → AreOf (at_start core.now.names.kinds) job.arguments.items (kinds_of d.params) }
-    requires bound { job.bound < 2 ^ 63 }
+    requires bound { job.terms.bound < 2 ^ 63 }
     requires out_goes { O.stopped out.old ≡ false }
     ensures { RunsAs (E.outcome engine.old) core.now (settings_of job) (sink_use O.taken O.faults O.stopped out.old out.new) result }
 {
@@ -58,7 +58,7 @@ fn run_job<E: Engine, O: Sink>(
 }
 
 /// Runs a program by an engine as words ask, with these arguments.
-pub fn run_with<E: Engine, O: Sink>(
+pub fn run_by_engine<E: Engine, O: Sink>(
     alloc: Global,
     core: &Core,
     arguments: Vec<Value>,
@@ -75,15 +75,8 @@ pub fn run_with<E: Engine, O: Sink>(
         (sink_use O.taken O.faults O.stopped out.old out.new) result }
 {
     let code = generate(alloc, core)?;
-    let terms = &asked.terms;
-    let job = Job {
-        arguments,
-        seed: terms.seed,
-        bound: terms.bound,
-        until: terms.until,
-        pick: terms.policy,
-        trace: terms.trace,
-    };
+    let terms = asked.terms.with(asked.terms.policy);
+    let job = Job { arguments, terms };
     let ran = run_job(alloc, core, &code, job, out, engine);
     drop(code);
     ran
@@ -106,7 +99,7 @@ fn report_with<E: Engine, O: Sink>(
     ensures { Makes (IsRunReport (E.outcome engine.old) core.now (settings_with (wanted_of asked.now) arguments.items))
         (sink_use O.taken O.faults O.stopped out.old out.new) result }
 {
-    let ran = run_with(alloc, core, arguments, asked, out, engine)?;
+    let ran = run_by_engine(alloc, core, arguments, asked, out, engine)?;
     unpassed(reported(alloc, core, ran.ending, ran.log))
 }
 

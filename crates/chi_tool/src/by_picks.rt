@@ -37,7 +37,7 @@ fn mispicked(alloc: Global, number: u64) -> Result<Reported, NoMemory>
 }
 
 /// The report of a program that is to be run with these arguments by the picks of a text.
-fn run_by<O: Sink>(
+fn report_by_picks<O: Sink>(
     alloc: Global,
     core: &Core,
     arguments: Vec<Value>,
@@ -77,6 +77,6 @@ pub fn report_of_replay<O: Sink>(
 {
     match arguments_of(alloc, core, asked.texts.as_slice())? {
         Arguments::Unfit(refusal) => Ok(refusal),
-        Arguments::Fit(arguments) => run_by(alloc, core, arguments, asked, text, out),
+        Arguments::Fit(arguments) => report_by_picks(alloc, core, arguments, asked, text, out),
     }
 }

@@ -20,7 +20,7 @@ ghost use Rattle.chi_tool.specs.Serving.{Makes};
 ghost use Rattle.chi_tool.specs.Settings.{settings_with, wanted_of};
 
 use crate::arguments::{Fitting, Misfit, fitting_of};
-use crate::by_engine::{Ran, run_with};
+use crate::by_engine::{Ran, run_by_engine};
 use crate::reading::{Reading, Refusal, Unparsed, reading_of};
 use crate::report::{Reported, unpassed};
 use crate::rest::{copies_of, rest_told};
@@ -32,10 +32,10 @@ use chi_core::{Core, ProcDef};
 use chi_engine::{Engine, PassFault};
 use chi_explain::explain_lexical;
 use chi_explain_arguments::{explain_argument, explain_count, explain_kind};
+use chi_explain_counts::explain_rule;
 use chi_explain_endings::explain_ending;
 use chi_explain_runs::waiting_law;
 use chi_explain_syntax::explain_syntax;
-use chi_explain_typing::explain_typing;
 use chi_io::Sink;
 use chi_lex::MOST_BYTES;
 use chi_machine_agenda::Ending;
@@ -85,7 +85,9 @@ fn text_of_refusal(
 {
     match refusal {
         Refusal::Unparsed(unparsed) => text_of_unparsed(alloc, file, source, unparsed),
-        Refusal::Broken { rule, place } => explain_typing(alloc, file, source, rule, place),
+        Refusal::Broken { rule, place, tree } => {
+            explain_rule(alloc, file, source, &tree, rule, place)
+        }
     }
 }
 
@@ -268,7 +270,7 @@ fn program_told<E: Engine, O: Sink>(
         Fitting::Unfit(misfit) => unpassed(misfit_told(alloc, core, texts, misfit)),
         Fitting::Fit(arguments) => {
             let again = copies_of(alloc, &arguments)?;
-            let ran = run_with(alloc, core, arguments, asked, out, engine)?;
+            let ran = run_by_engine(alloc, core, arguments, asked, out, engine)?;
             unpassed(course_told(alloc, source, core, again, asked, ran))
         }
     }

@@ -23,7 +23,7 @@ ghost use Rattle.chi_tool.specs.Report.{IsExplained, IsReport, IsReportFor, IsRe
 ghost use Rattle.chi_tool.specs.RuleNumbers.{RulesAre};
 ghost use Rattle.chi_tool.specs.Running.{runs_for};
 ghost use Rattle.chi_xper_machines.specs.declared.tale.Ended.{Ended};
-ghost use Rattle.chi_xper_machines.specs.declared.terms.Terms.{Terms};
+ghost use Rattle.chi_xper_machines.specs.declared.terms.ExperimentTerms.{ExperimentTerms};
 ghost use Rattle.chi_xper_machines.specs.Trials.{Trial, IsTrial, EndsSo, Logs};
 ghost use Rattle.chi_tool.specs.declared.task.ProgramPurpose.TheVariants.{Experiment};
 ghost use Rattle.chi_tool.specs.declared.task.Asked.{Asked};
@@ -132,7 +132,7 @@ pub fn report_law<E: Engine>(engine: &E)
     ensures explained { (words : List (List ℕ)) (file : List ℕ) (a : Asked Pick) → wish_of words ≡ of_task (OfFile file (Explain a))
         → (source : List ℕ) → length source ≤ MOST_BYTES → (plain : Report) → IsReportOfSource (E.outcome engine.now) source (simulates (wanted_of a)) plain
         → (r : Report) × IsExplained (E.outcome engine.now) file (wanted_of a) source r × (r.status ≡ plain.status) }
-    ensures tried { (words : List (List ℕ)) (file : List ℕ) (t : Terms) → wish_of words ≡ of_task (OfFile file (OfProgram (Experiment t)))
+    ensures tried { (words : List (List ℕ)) (file : List ℕ) (t : ExperimentTerms) → wish_of words ≡ of_task (OfFile file (OfProgram (Experiment t)))
         → (source : List ℕ) → length source ≤ MOST_BYTES → (core : Core) → ComesTo source core
         → (trial : Trial) → IsTrial core t.seed (policy_of t.pick) t.bound trial → (line : List ℕ) × Logs core trial line }
 {
@@ -183,9 +183,11 @@ pub fn limits_law()
     ensures { LimitsAre }
 {
     chi_core::limits_law();
+    waiting_law();
 }
 
-/// The numbers of the rules of typing, which the definitions cite by their constants, and that each has its words.
+/// The numbers of the rules of typing, which the definitions cite by their constants, that each has its words, and which have
+/// words about a name.
 pub fn rules_law()
     ensures { RulesAre }
 {}

@@ -18,7 +18,6 @@ use crate::status::{JUDGED, NO_LOG, PICKS_TOLD};
 use crate::task::{Asked, LogPurpose, MOST_BESIDE};
 use chi_base::NoMemory;
 use chi_core::Core;
-use chi_engine::units_of;
 use chi_judge::{Judged, judge};
 use chi_picks::picks_text;
 use chi_value::Value;
@@ -71,7 +70,7 @@ fn judged(
     ensures { IfOk result (λ r. IsReportOnLog core.now purpose (unpicked_of asked.now) text.now arguments.items (report_in r)) }
 {
     let terms = &asked.terms;
-    let until = units_of(terms.until);
+    let until = terms.units_of_until();
     let mut output = Vec::new(alloc);
     match judge(
         alloc,

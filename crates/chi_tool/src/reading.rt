@@ -34,8 +34,12 @@ pub enum Unparsed {
 #[derive(Drop)]
 pub enum Refusal {
     Unparsed(Unparsed),
-    /// It breaks this rule first, there.
-    Broken { rule: u8, place: Place },
+    /// It is this program, which breaks this rule first, there.
+    Broken {
+        rule: u8,
+        place: Place,
+        tree: Program,
+    },
 }
 
 /// What a source is, as it is written.
@@ -101,21 +105,21 @@ pub fn reading_of(alloc: Global, source: &[u8]) -> Result<Reading, NoMemory>
 {
     match spelling_of(alloc, source)? {
         Spelling::Unparsed(unparsed) => Ok(Reading::Refused(Refusal::Unparsed(unparsed))),
-        Spelling::Written { tree, .. } => read_tree(alloc, source, &tree),
+        Spelling::Written { tree, .. } => read_tree(alloc, source, tree),
     }
 }
 
-fn read_tree(alloc: Global, source: &[u8], tree: &Program) -> Result<Reading, NoMemory>
+fn read_tree(alloc: Global, source: &[u8], tree: Program) -> Result<Reading, NoMemory>
     requires within { length source.now ≤ MOST_BYTES }
-    requires written { IsWritten source.now tree.now }
+    requires written { IsWritten source.now tree }
     ensures { IfOk result (IsReadingOf source.now) }
 {
     let _source = source;
     parsed_programs_are_sound();
-    match check(alloc, tree) {
+    match check(alloc, &tree) {
         Ok(core) => Ok(Reading::Program(core)),
         Err(TypeFault::Broken { rule, place }) => {
-            Ok(Reading::Refused(Refusal::Broken { rule, place }))
+            Ok(Reading::Refused(Refusal::Broken { rule, place, tree }))
         }
         Err(TypeFault::NoMemory) => Err(NoMemory),
     }

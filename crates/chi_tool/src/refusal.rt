@@ -122,6 +122,6 @@ pub fn told(alloc: Global, source: &[u8], refusal: Refusal) -> Result<Reported, 
 {
     match refusal {
         Refusal::Unparsed(unparsed) => told_unparsed(alloc, source, unparsed),
-        Refusal::Broken { rule, place } => refused_rule(alloc, place, rule),
+        Refusal::Broken { rule, place, .. } => refused_rule(alloc, place, rule),
     }
 }

@@ -12,8 +12,7 @@ use crate::task::Asked;
 use chi_base::NoMemory;
 use chi_cli::Pick;
 use chi_core::Core;
-use chi_engine::units_of;
-use chi_explain_runs::{Terms, explain_rest};
+use chi_explain_runs::explain_rest;
 use chi_sched::{First, Last, Spread};
 use chi_value::Value;
 use std::alloc::Global;
@@ -44,16 +43,18 @@ pub fn rest_told(
     requires bound { asked.now.terms.bound < 2 ^ 63 }
     ensures { IfOk result (λ text. IsRestTold core.now source.now (settings_with (wanted_of asked.now) arguments.items) text.items) }
 {
-    let terms = Terms {
-        seed: asked.terms.seed,
-        bound: asked.terms.bound,
-        until: units_of(asked.terms.until),
-    };
     match asked.terms.policy {
-        Pick::First => explain_rest(alloc, core, source, arguments, terms, &First),
-        Pick::Last => explain_rest(alloc, core, source, arguments, terms, &Last),
+        Pick::First => {
+            let terms = asked.terms.with(First);
+            explain_rest(alloc, core, source, arguments, &terms)
+        }
+        Pick::Last => {
+            let terms = asked.terms.with(Last);
+            explain_rest(alloc, core, source, arguments, &terms)
+        }
         Pick::Spread(salt) => {
-            explain_rest(alloc, core, source, arguments, terms, &Spread { salt })
+            let terms = asked.terms.with(Spread { salt });
+            explain_rest(alloc, core, source, arguments, &terms)
         }
     }
 }

@@ -16,16 +16,16 @@ ghost use Rattle.chi_tool.specs.Running.{IsRunReport, run_report};
 ghost use Rattle.chi_tool.specs.Serving.{Makes};
 
 use crate::report::{Reported, unpassed};
-use crate::settings::Terms;
 use crate::status::status_of;
 use chi_base::NoMemory;
 use chi_code::Code;
 use chi_core::{Core, verdict_line};
-use chi_engine::{Guide, PassFault, Start, run_guided, units_of};
+use chi_engine::{PassFault, run_guided};
 use chi_gen::generate;
 use chi_io::Sink;
 use chi_machine_agenda::Ending;
 use chi_sched::{Chooser, chooser_law};
+use chi_terms::Terms;
 use chi_trace::Sieve;
 use chi_value::{TextFault, Value};
 use std::alloc::Global;
@@ -80,27 +80,9 @@ fn run_code<P: Chooser + Drop, S: Sieve + Drop, O: Sink>(
         → Makes (IsRunReport IsRunOf core.now (record { seed = terms.seed; bound = terms.bound; pick = pick; arguments = arguments.items; until = terms.until; trace = option_map S.keeps_to terms.trace }))
         (sink_use O.taken O.faults O.stopped out.old out.new) result }
 {
-    let Terms {
-        seed,
-        bound,
-        policy,
-        until,
-        trace,
-    } = terms;
-    chooser_law(&policy);
-    let until = units_of(until);
-    let start = Start {
-        arguments,
-        seed,
-        until,
-        bound,
-    };
-    let guide = Guide {
-        chooser: policy,
-        trace,
-    };
+    chooser_law(&terms.policy);
     let mut log = Vec::new(alloc);
-    let ending = run_guided(alloc, code, start, &guide, &mut log, out)?;
+    let ending = run_guided(alloc, code, arguments, &terms, &mut log, out)?;
     unpassed(reported(alloc, core, ending, log))
 }
 

@@ -1,12 +1,14 @@
 ghost use Rattle.std.specs.Prelude.{◌≡◌, IfOk};
 ghost use Rattle.chi_tool.specs.Settings.{plain};
 
-use crate::settings::{ByPicks, Terms};
+use crate::settings::ByPicks;
 use chi_base::{Items, NoMemory};
 use chi_cli::{Pick, STEPS};
 use chi_cli_help::Topic;
+use chi_terms::Terms;
 use chi_token::Bytes;
 use chi_trace::Filter;
+use chi_xper_machines::ExperimentTerms;
 use std::alloc::Global;
 
 /// The most bytes of a second file.
@@ -45,7 +47,7 @@ pub enum ProgramPurpose {
     /// Its code is listed.
     ListCode,
     /// Its first experiment is run, on these terms.
-    Experiment(chi_xper_machines::Terms),
+    Experiment(ExperimentTerms),
 }
 
 /// What is done with a source.

@@ -18,7 +18,8 @@ use chi_io::{Shelf, Sink};
 use std::alloc::Global;
 
 /// Does what the words ask for, and answers the status. `words` are those of the command line without
-/// the program's name. What they ask to be simulated is run by the engine, and by nothing else.
+/// the program's name. What they ask to be simulated is run by the engine; what `explain` tells of where
+/// it came to rest is of the run of the meaning.
 pub fn chi<E: Engine, H: Shelf, O: Sink, L: Sink>(
     alloc: Global,
     words: &[&str],

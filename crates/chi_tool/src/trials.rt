@@ -10,11 +10,15 @@ use crate::report::Reported;
 use crate::status::status_of_trial;
 use chi_base::NoMemory;
 use chi_core::Core;
-use chi_xper_machines::{Terms, tell_experiment};
+use chi_xper_machines::{ExperimentTerms, tell_experiment};
 use std::alloc::Global;
 
 /// The report of a program whose first experiment is to be run on these terms.
-pub fn report_of_trial(alloc: Global, core: &Core, terms: Terms) -> Result<Reported, NoMemory>
+pub fn report_of_trial(
+    alloc: Global,
+    core: &Core,
+    terms: ExperimentTerms,
+) -> Result<Reported, NoMemory>
     requires sound { Sound core.now }
     requires bound { terms.bound < 2 ^ 63 }
     ensures { IfOk result (λ r. IsReportOfTrial core.now (trying_of terms) (report_in r)) }

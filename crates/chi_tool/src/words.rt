@@ -1,13 +1,15 @@
 ghost use Rattle.std.specs.Prelude.{◌≡◌};
 ghost use Rattle.chi_tool.specs.Words.{is_refusal, task_of, unpicked};
 
-use crate::settings::{ByPicks, Terms, trace_by};
+use crate::settings::{ByPicks, trace_by};
 use crate::task::{Asked, LogPurpose, Pair, PairPurpose, ProgramPurpose, Purpose, Task};
 use chi_base::Items;
 use chi_cli::{CliFault, Request};
 use chi_num::Real;
+use chi_terms::Terms;
 use chi_token::Bytes;
 use chi_trace::Filter;
+use chi_xper_machines::ExperimentTerms;
 
 /// What a request wants to be done.
 pub fn task_of(request: Request) -> Task
@@ -63,7 +65,7 @@ pub fn task_of(request: Request) -> Task
             bound,
             pick,
         } => {
-            let terms = chi_xper_machines::Terms { seed, bound, pick };
+            let terms = ExperimentTerms { seed, bound, pick };
             Task::OfFile {
                 file,
                 purpose: Purpose::OfProgram(ProgramPurpose::Experiment(terms)),

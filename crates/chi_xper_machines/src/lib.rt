@@ -12,5 +12,5 @@ mod whole;
 
 pub use laws::trial_law;
 pub use tale::{Ended, Tale};
-pub use terms::Terms;
+pub use terms::ExperimentTerms;
 pub use whole::tell_experiment;

@@ -19,6 +19,7 @@ use chi_core::{Core, Verdict};
 use chi_core_runs::picked_law;
 use chi_engine::{Engine, Job, Machines};
 use chi_machine_agenda::Ending;
+use chi_terms::Terms;
 use chi_value::Value;
 use chi_xper::{RunEnd, Runner};
 use std::alloc::Global;
@@ -60,7 +61,7 @@ fn append(alloc: Global, text: &[u8], ending: &Ending, out: &mut Vec<u8>) -> Run
 
 /// Runs the code of whichever program it is, and gathers what the run writes.
 fn gather(alloc: Global, code: &Code, job: Job, sink: &mut Gathered) -> Result<Ending, NoMemory>
-    requires begins { MayBegin code.now job.arguments.items job.bound }
+    requires begins { MayBegin code.now job.arguments.items job.terms.bound }
     requires empty { sink.old.bytes.items ≡ [] }
     requires going { sink.old.faults ≡ 0 }
     ensures { IfOk result (λ ending. (core : Core) → RunsCode core code.now job.arguments.items → Wrote (IsRunOf core (settings_of job)) sink.new.bytes.items ending) }
@@ -78,9 +79,9 @@ fn gather(alloc: Global, code: &Code, job: Job, sink: &mut Gathered) -> Result<E
 /// The run of a program, which differs from this one in its model alone, by its code.
 fn run_code(alloc: Global, core: &Core, code: &Code, job: Job, out: &mut Vec<u8>) -> RunEnd
     requires runs { RunsCode (with_model core.now code.now.model) code.now job.arguments.items }
-    requires bound { job.bound < 2 ^ 63 }
-    requires until { job.until ≡ None }
-    ensures { (outcome : Outcome) → IsOutcome core.now (policy_of job.pick) job.bound code.now.model job.arguments.items job.seed outcome → ComesTo outcome out.old.items out.new.items result }
+    requires bound { job.terms.bound < 2 ^ 63 }
+    requires until { job.terms.until ≡ None }
+    ensures { (outcome : Outcome) → IsOutcome core.now (policy_of job.terms.policy) job.terms.bound code.now.model job.arguments.items job.terms.seed outcome → ComesTo outcome out.old.items out.new.items result }
 {
     picked_law();
     let _core = core;
@@ -112,14 +113,14 @@ impl Runner for Machinery<'_> {
     fn run(&mut self, model: u32, arguments: Vec<Value>, seed: u64, out: &mut Vec<u8>) -> RunEnd {
         picked_law();
         self.code.model = model;
-        let job = Job {
-            arguments,
+        let terms = Terms {
             seed,
             bound: self.bound,
+            policy: self.pick,
             until: None,
-            pick: self.pick,
             trace: None,
         };
+        let job = Job { arguments, terms };
         run_code(self.alloc, self.core, &self.code, job, out)
     }
 }

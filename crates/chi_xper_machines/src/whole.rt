@@ -15,7 +15,7 @@ use crate::constants::{Constants, set_constants};
 use crate::lines::{line_for, verdict_told, word_for};
 use crate::runner::Machinery;
 use crate::tale::{Ended, Tale};
-use crate::terms::Terms;
+use crate::terms::ExperimentTerms;
 use chi_base::NoMemory;
 use chi_core::Core;
 use chi_core_runs::picked_law;
@@ -54,7 +54,13 @@ fn tell_broken(alloc: Global, core: &Core, ending: &Ending) -> Result<Tale, NoMe
 }
 
 /// Makes the experiment, with these values of the constants.
-fn make(alloc: Global, core: &Core, values: &[Value], terms: Terms, out: &mut Vec<u8>) -> XEnd
+fn make(
+    alloc: Global,
+    core: &Core,
+    values: &[Value],
+    terms: ExperimentTerms,
+    out: &mut Vec<u8>,
+) -> XEnd
     requires sound { Sound core.now }
     requires some { slice_get core.now.xpers 0 ≢ None }
     requires constants { KindedConstants core.now values.now }
@@ -85,7 +91,12 @@ fn make(alloc: Global, core: &Core, values: &[Value], terms: Terms, out: &mut Ve
 }
 
 /// What is told of the experiment, with these values of the constants.
-fn tell_made(alloc: Global, core: &Core, values: &[Value], terms: Terms) -> Result<Tale, NoMemory>
+fn tell_made(
+    alloc: Global,
+    core: &Core,
+    values: &[Value],
+    terms: ExperimentTerms,
+) -> Result<Tale, NoMemory>
     requires sound { Sound core.now }
     requires some { slice_get core.now.xpers 0 ≢ None }
     requires constants { KindedConstants core.now values.now }
@@ -105,7 +116,7 @@ fn tell_made(alloc: Global, core: &Core, values: &[Value], terms: Terms) -> Resu
 }
 
 /// Makes the first experiment of a sound program, whose models are run by machines, and tells of it.
-pub fn tell_experiment(alloc: Global, core: &Core, terms: Terms) -> Result<Tale, NoMemory>
+pub fn tell_experiment(alloc: Global, core: &Core, terms: ExperimentTerms) -> Result<Tale, NoMemory>
     requires sound { Sound core.now }
     requires bound { terms.bound < 2 ^ 63 }
     ensures { IfOk result (IsTale core.now terms.seed (policy_of terms.pick) terms.bound) }

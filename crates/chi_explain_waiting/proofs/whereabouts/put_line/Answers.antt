@@ -1,7 +1,9 @@
-use Rattle.chi_explain_waiting.proofs.Writing.{line-told}
+use Rattle.std.proofs.Common.{ℕ, List, ◌++◌, ap, ◌∙◌}
+use Rattle.chi_explain.specs.Excerpts.{front_shown}
+use Rattle.chi_explain_waiting.specs.Whereabouts.{trimmed}
 use Rattle.chi_explain_waiting.proofs.whereabouts.put_line.Goals as goal
 
 pub returns : goal.returns
 returns c =
-    line-told c.args.source.now c.args.line _ _ _ c.args.out.now.items _ c.in_ok-put_trimmed.ensures c.as_slice.ensures.value c.in_ok-line_alone.ensures
-    c.new-shown.ensures.items
+    c.in_ok-put_front.ensures
+    ∙ ap (λ (t : List ℕ). c.args.out.now.items ++ front_shown t) (c.trimmed-text.ensures ∙ ap trimmed c.numbered_line.ensures)

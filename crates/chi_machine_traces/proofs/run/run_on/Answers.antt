@@ -8,7 +8,7 @@ use Rattle.chi_machine_traces.proofs.run.run_on.Goals as goal
 
 pub turn-init : goal.turn-init
 turn-init g c = record {
-  runs = running_first (g.C.Chooser.gives c.args.guide.now.chooser) (option_map g.S.Sieve.keeps_to c.args.guide.now.trace) c.args.code.now c.args.course.now c.args.told.now (g.O.Sink.taken c.args.out.now) c.requires.course;
+  runs = running_first (g.C.Chooser.gives c.args.terms.now.policy) (option_map g.S.Sieve.keeps_to c.args.terms.now.trace) c.args.code.now c.args.course.now c.args.told.now (g.O.Sink.taken c.args.out.now) c.requires.course;
   goes = c.requires.out_goes;
   count = omega arith;
 }
@@ -25,14 +25,14 @@ returns-in-Err-clause-passes g c =
       once = c.picked_law.ensures.once;
     } in
     let p =
-    running_short (g.C.Chooser.gives c.args.guide.now.chooser) (option_map g.S.Sieve.keeps_to c.args.guide.now.trace) c.args.code.now c.args.course.now c.args.told.now (g.O.Sink.taken c.args.out.now)
+    running_short (g.C.Chooser.gives c.args.terms.now.policy) (option_map g.S.Sieve.keeps_to c.args.terms.now.trace) c.args.code.now c.args.course.now c.args.told.now (g.O.Sink.taken c.args.out.now)
     (g.O.Sink.taken c.turn.out) c.turn.course c.turn.told c.turn.invariant.runs law in
     (c.turn.invariant.goes, p.0, p.1, p.2)
 
 pub returns-in-Ok-Some-clause-passes : goal.returns-in-Ok-Some-clause-passes
 returns-in-Ok-Some-clause-passes g c =
-    let gives = g.C.Chooser.gives c.args.guide.now.chooser in
-    let trace = option_map g.S.Sieve.keeps_to c.args.guide.now.trace in
+    let gives = g.C.Chooser.gives c.args.terms.now.policy in
+    let trace = option_map g.S.Sieve.keeps_to c.args.terms.now.trace in
     let code = c.args.code.now in
     let before = c.turn.invariant in
     let turned : Turned gives trace code c.args.course.now c.args.told.now (g.O.Sink.taken c.args.out.now) (g.O.Sink.taken c.turn.out) c.turn.course c.turn.told before.runs c.turn_told.new.course c.turn_told.new.told (Some c.in-Ok-Some.ending) =
@@ -44,8 +44,8 @@ returns-in-Ok-Some-clause-passes g c =
 
 pub turn-preserved : goal.turn-preserved
 turn-preserved g c =
-    let gives = g.C.Chooser.gives c.args.guide.now.chooser in
-    let trace = option_map g.S.Sieve.keeps_to c.args.guide.now.trace in
+    let gives = g.C.Chooser.gives c.args.terms.now.policy in
+    let trace = option_map g.S.Sieve.keeps_to c.args.terms.now.trace in
     let code = c.args.code.now in
     let before = c.turn.invariant in
     let p = c.in_ok-pass_enough.ensures.passes in
@@ -69,8 +69,8 @@ returns-in_err-pass_enough-clause-passes g c =
       at_rest = c.run_law.ensures.at_rest;
       once = c.picked_law.ensures.once;
     } in
-    let gives = g.C.Chooser.gives c.args.guide.now.chooser in
-    let trace = option_map g.S.Sieve.keeps_to c.args.guide.now.trace in
+    let gives = g.C.Chooser.gives c.args.terms.now.policy in
+    let trace = option_map g.S.Sieve.keeps_to c.args.terms.now.trace in
     let code = c.args.code.now in
     let before = c.turn.invariant in
     let turned : Turned gives trace code c.args.course.now c.args.told.now (g.O.Sink.taken c.args.out.now) (g.O.Sink.taken c.turn.out) c.turn.course c.turn.told before.runs c.turn_told.new.course c.turn_told.new.told None =

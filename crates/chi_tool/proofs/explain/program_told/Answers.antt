@@ -18,8 +18,8 @@ use Rattle.chi_tool.proofs.explain.program_told.Goals as goal
 pub misfit_told-requires : goal.misfit_told-requires
 misfit_told-requires g c = subst (AreFittedAs c.args.core.now c.as_slice-texts.result.now) c.in-Unfit.is c.in_ok-misfit.ensures
 
-pub run_with-requires-clause-arguments : goal.run_with-requires-clause-arguments
-run_with-requires-clause-arguments g c =
+pub run_by_engine-requires-clause-arguments : goal.run_by_engine-requires-clause-arguments
+run_by_engine-requires-clause-arguments g c =
     let means = subst (AreFittedAs c.args.core.now c.as_slice-texts.result.now) c.in-Fit.is c.in_ok-misfit.ensures in means.1
 
 pub course_told-requires-clause-arguments : goal.course_told-requires-clause-arguments
@@ -44,7 +44,7 @@ returns-in_ok-ran-in-Fit g c =
     let core = c.args.core.now in
     let w = wanted_of c.args.asked.now in
     let rest = rest_of c.waiting_law.ensures.some core c.args.source.now c.requires.sound c.args.asked.now c.requires.bound c.in-Fit.arguments.items means.0 means.1 in
-    told_makes runs core (settings_with w c.in-Fit.arguments.items) (sink_use g.O.Sink.taken g.O.Sink.faults g.O.Sink.stopped c.args.out.now c.run_with.new.out)
+    told_makes runs core (settings_with w c.in-Fit.arguments.items) (sink_use g.O.Sink.taken g.O.Sink.faults g.O.Sink.stopped c.args.out.now c.run_by_engine.new.out)
     (λ lines. c.in_ok-ran-in-Fit.ran.log.items ≡ lines) (end_told c.args.source.now core rest.0) (IsProgramTold runs c.args.source.now core w) c.in_ok-ran-in-Fit.ran.ending c.in_ok-ran-in-Fit.ran.log.items (λ lines e. e) c.in_ok-ran-in-Fit.ensures.0
     c.in_ok-ran-in-Fit.ensures.1 (ran c.in-Fit.arguments.items means.0 c.in_ok-ran-in-Fit.ensures.1.1.course c.in_ok-ran-in-Fit.ensures.1.1.run rest.0 rest.1 refl) c.course_told.result c.unpassed-in-Fit.result
     c.unpassed-in-Fit.ensures
@@ -60,7 +60,7 @@ returns-in_err-ran-in-Fit g c =
     let runs = g.E.Engine.outcome c.args.engine.now in
     let core = c.args.core.now in
     let w = wanted_of c.args.asked.now in
-    let out = sink_use g.O.Sink.taken g.O.Sink.faults g.O.Sink.stopped c.args.out.now c.run_with.new.out in
+    let out = sink_use g.O.Sink.taken g.O.Sink.faults g.O.Sink.stopped c.args.out.now c.run_by_engine.new.out in
     let rest = rest_of c.waiting_law.ensures.some core c.args.source.now c.requires.sound c.args.asked.now c.requires.bound c.in-Fit.arguments.items means.0 means.1 in
     makes_fault (IsProgramTold runs c.args.source.now core w) out c.from_residual-in_err-ran-in-Fit.result c.in_err-ran-in-Fit.field-0.0 c.from_residual-in_err-ran-in-Fit.ensures.1
     (runs_fault runs core (settings_with w c.in-Fit.arguments.items) out (end_told c.args.source.now core rest.0) (IsProgramTold runs c.args.source.now core w)

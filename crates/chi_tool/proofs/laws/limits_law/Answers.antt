@@ -4,6 +4,7 @@ use Rattle.chi_tool.proofs.laws.limits_law.Goals as goal
 pub returns : goal.returns
 returns c = record {
   of_a_run = c.limits_law.ensures.limits;
+  of_instances = c.waiting_law.ensures.limits;
   source = refl;
   blocks = refl;
   expressions = refl;

@@ -8,7 +8,7 @@ returns-in-Yes c =
     let u = unpicked_of c.args.asked.now in
     let values = c.args.arguments.items in
     let said =
-    judged_from core values u.seed u.bound c.args.text.now c.judge.new.out.items _ u.until _ _ _ c.units_of-until.ensures c.new-output.ensures.items
+    judged_from core values u.seed u.bound c.args.text.now c.judge.new.out.items _ u.until _ _ _ c.units_of_until-until.ensures c.new-output.ensures.items
     c.in-Yes.is c.judge.ensures in
     yes_told core c.args.purpose u c.args.text.now values c.told.result said.0 c.in-Yes.picks.items c.judge.new.out.items said.1 said.2 (rw (c.as_slice.ensures.value) at c.told.ensures)
 
@@ -18,6 +18,6 @@ returns-in-No c =
     let u = unpicked_of c.args.asked.now in
     let values = c.args.arguments.items in
     let said =
-    judged_from core values u.seed u.bound c.args.text.now c.judge.new.out.items _ u.until _ _ _ c.units_of-until.ensures c.new-output.ensures.items
+    judged_from core values u.seed u.bound c.args.text.now c.judge.new.out.items _ u.until _ _ _ c.units_of_until-until.ensures c.new-output.ensures.items
     c.in-No.is c.judge.ensures in
     no_told core c.args.purpose u c.args.text.now values c.no_log.result c.in-No.line said.1 c.no_log.ensures

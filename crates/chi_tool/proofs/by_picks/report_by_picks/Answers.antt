@@ -5,7 +5,7 @@ use Rattle.chi_tool.specs.Call.{sink_use}
 use Rattle.chi_tool.specs.Settings.{unpicked_of}
 use Rattle.chi_tool.specs.Report.{IsReportByPicks}
 use Rattle.chi_tool.proofs.Made.{makes_apart, makes_none, listed_ran, mispicked_told}
-use Rattle.chi_tool.proofs.by_picks.run_by.Goals as goal
+use Rattle.chi_tool.proofs.by_picks.report_by_picks.Goals as goal
 
 pub returns-in-Ok : goal.returns-in-Ok
 returns-in-Ok g c =

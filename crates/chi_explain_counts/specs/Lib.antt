@@ -1,0 +1,5 @@
+pub mod Found
+pub mod Expressions
+pub mod Statements
+pub mod Programs
+pub mod Numbers
