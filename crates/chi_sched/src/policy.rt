@@ -11,7 +11,8 @@ pub type Closure = Box<dyn Fn(u64, u64) -> u64>;
 /// has one answer to it, which is one of the choices.
 #[derive(Drop)]
 pub struct Policy {
-    pick: Closure,
+    /// What it asks.
+    pub pick: Closure,
     ghost callable: { (question count : ℕ) → question < 2 ^ 64 → 0 < count → count < 2 ^ 64 → Closure.pre pick question count },
     ghost lawful: { ∥ Lawful (Closure.pre pick) (Closure.post pick) ∥₁ },
 }
